@@ -1,0 +1,101 @@
+-- THE THEOREMS OF DEMAND 3, for every list s of octets. The rules of writing (crate format) know no reader; the reading definition (crate reader) is what
+-- the code is held to. Here the two meet. Each proof is a line or two; the files beside this one have what it rests on.
+use Prim.Native.Nat.{ℕ, _+_, _≤_, _<_}
+use mathlib.Core.Path.{_≡_, sym, ap, _∙_, subst, subst₂}
+use mathlib.Core.Logic.{_↔_}
+use mathlib.Core.List.{List, [], map}
+use native.Mathlib.Omega.{arith}
+use lib.ListN.{length, getD}
+use Rattle.format.specs.Numbers.{AreOctets}
+use Rattle.format.specs.Events.{Item, IsDocument}
+use Rattle.format.specs.Tables.{strings, starting, xmlPrefix, xmlNamespace, link, standard}
+use Rattle.format.specs.Items.{State}
+use Rattle.format.specs.Document.{knownAfter, Document, header, Writes}
+use Rattle.format.specs.Uses.{acts, Known}
+use Rattle.format.specs.Allowed.{All, Allowed}
+use Rattle.tables.specs.Located.{plain, plainState, start}
+use Rattle.reader.specs.Items.{Stand}
+use Rattle.reader.specs.Reading.{accepted, refusal, Mark, run, onward, opening, origin, fuelOf, reading, marks, numberOf, checkOf, Accepts}
+use Rattle.demands.proofs.Document as Whole
+use Rattle.demands.proofs.Fits.{accepted-fits}
+use Rattle.demands.proofs.OneWriting as One
+use Rattle.demands.proofs.Earlier as Before
+use Rattle.demands.proofs.Wider as Wider
+use Rattle.demands.proofs.Documents as Tree
+use Rattle.demands.proofs.Plain as Plain
+
+module _ (s : List ℕ) (bytes : AreOctets s) where
+  -- 1. SOUND: octets that are accepted are what the rules write, from the items handed out, and the tables at the end are the rules'.
+  pub accepted-is-written : (room : ℕ) (items : List (Item (List ℕ))) (z : State (List ℕ)) → Accepts s room items z → Writes items z s
+  accepted-is-written room items z a =
+      subst₂ (λ (l : List (Item (List ℕ))) (y : State (List ℕ)). Writes l y s) (a .are) (a .end-is) (subst (Whole.Means s bytes) (a .reads) (Whole.means s bytes room))
+
+  --    COMPLETE: what the rules write is accepted, with those items, if there is a record for each event.
+  pub written-is-accepted : (room : ℕ) (items : List (Item (List ℕ))) (z : State (List ℕ)) → Writes items z s → length items ≤ room → Accepts s room items z
+  written-is-accepted room items z w h = Whole.accepts s items z w room h
+
+  --    EXACTLY: the octets are accepted with these events, choices and tables exactly when the rules write them so, within the limits and the room.
+  pub exactly : (room : ℕ) (items : List (Item (List ℕ))) (z : State (List ℕ)) → Accepts s room items z ↔ (Writes items z s × (length items ≤ room))
+  exactly room items z = (λ a. (accepted-is-written room items z a, accepted-fits s room items z a), λ w. written-is-accepted room items z (w .0) (w .1))
+
+  -- 2. UNIQUE: two pairs of events and choices that the rules write as the same octets are the same pair.
+  pub one-pair : (items others : List (Item (List ℕ))) (y z : State (List ℕ)) → Writes items y s → Writes others z s → (items ≡ others) × (y ≡ z)
+  one-pair items others y z w u =
+      let a = written-is-accepted (length items + length others) items y w (omega arith) in
+      let b = written-is-accepted (length items + length others) others z u (omega arith) in
+      let e : accepted (a .events) (a .last) ≡ accepted (b .events) (b .last) = sym (a .reads) ∙ b .reads in
+      let p : a .events ≡ b .events = cc in
+      let q : a .last ≡ b .last = cc in
+      (sym (a .are) ∙ ap (map (plain s)) p ∙ b .are, sym (a .end-is) ∙ ap (λ (m : Stand). plainState s (m .state)) q ∙ b .end-is)
+
+  -- 6. REFUSED means refused by a number that 01 gives a reader, at a place in the document or at its end.
+  pub refused : (room n p : ℕ) → reading s room ≡ refusal n p → (1 ≤ n) × (n ≤ 15) × (p ≤ length s)
+  refused room n p e = subst (Whole.Means s bytes) e (Whole.means s bytes room)
+
+  --    The events are few, so the check's 32,768 records never run out, and it need not hold them.
+  pub events-few : length (marks s) ≤ 21838
+  events-few = Whole.marks-few s bytes
+
+  pub check-needs-none : (room : ℕ) → 21838 ≤ room → checkOf s ≡ numberOf (reading s room)
+  unfolding checkOf
+  check-needs-none room h =
+      let f = events-few in
+      ap numberOf (Whole.long-enough s 32768 (omega arith) ∙ sym (Whole.long-enough s room (omega arith)))
+
+  --    The bound on the steps never decides: behind a right header, more fuel changes nothing.
+  pub steps-enough : (more room : ℕ) → opening link header s ≡ onward → run link s (more + fuelOf s) room (origin start) ≡ run link s (fuelOf s) room (origin start)
+  steps-enough more room e = Whole.more-fuel s bytes more room e
+
+-- 2. And one pair is written as one run of octets only.
+pub one-document : (items : List (Item (List ℕ))) (y z : State (List ℕ)) (s t : List ℕ) → Writes items y s → Writes items z t → (s ≡ t) × (y ≡ z)
+one-document items y z s t w u = One.one-document w u
+
+-- 3. ROOM: with too few records the answer is 14, at the place of the first event that has none (`marks` ends at the first fault, so no field before it is
+--    faulty); with a record for each event, more room changes nothing.
+pub room-short : (s : List ℕ) (room : ℕ) → room < length (marks s) → reading s room ≡ refusal 14 (getD (map (λ (k : Mark). k .place) (marks s)) room 0)
+room-short s room h = Whole.too-short s room h
+
+pub room-enough : (s : List ℕ) (room : ℕ) → length (marks s) ≤ room → reading s room ≡ reading s (length (marks s))
+room-enough s room h = Whole.long-enough s room h
+
+-- 4. MADE EARLIER: every number, save the 0 of the empty string, is, when it is used, that of an entry made earlier in the document or built in; and the
+--    entry is the very string, or the whole name, that the event says.
+pub made-earlier : (items : List (Item (List ℕ))) (z : State (List ℕ)) (s : List ℕ) → Writes items z s → Known (strings (starting xmlPrefix xmlNamespace)) (λ t. []) (acts items)
+made-earlier items z s w = Before.earlier-on-link w
+
+-- 5. TABLES: what the reader knows after each event is what the rules know then.
+pub tables : (items : List (Item (List ℕ))) (z : State (List ℕ)) (s : List ℕ) (w : Writes items z s) → map (λ (k : Mark). plainState s (k .stand .state)) (marks s) ≡ knownAfter link (w .rule)
+tables items z s w = Whole.known-is s items z w
+
+-- 7. The link's rules are a part of the standard's: what they write is written within the standard's own limits.
+pub by-the-standard : (items : List (Item (List ℕ))) (z : State (List ℕ)) (s : List ℕ) (depth octets : ℕ) → link .octets ≤ octets → link .depth ≤ depth
+    → Writes items z s → Document (standard depth octets) header (starting xmlPrefix xmlNamespace) items z s
+by-the-standard items z s depth octets long deep w = Wider.link-in-standard depth octets long deep w
+
+-- 8. What the rules write are documents in the sense of 01: comments and instructions, one root element, comments and instructions.
+pub a-document : (items : List (Item (List ℕ))) (z : State (List ℕ)) (s : List ℕ) → Writes items z s → IsDocument (map (λ (i : Item (List ℕ)). i .event) items)
+a-document items z s w = Tree.is-document w
+
+-- 9. Their strings are as 01 allows: text; empty only where 01 says so; a prefix only with a namespace.
+pub allowed : (items : List (Item (List ℕ))) (z : State (List ℕ)) (s : List ℕ) → Writes items z s → All (λ (i : Item (List ℕ)). Allowed (i .event)) items
+allowed items z s w = Plain.plain-on-link w

@@ -1,0 +1,83 @@
+-- Tables by places and tables by octets: the plain form of what is looked up and of what is added.
+use mathlib.Core.Path.{_≡_, refl, sym, ap, _∙_}
+use mathlib.Core.Bool.{Bool, true, false}
+use mathlib.Core.Option.{Option, none, some, Option·map}
+use mathlib.Core.List.{List, [], _∷_, _++_, map}
+use Prim.Native.Nat.{ℕ, zero, suc, _-_, _<_}
+use native.Mathlib.Omega.{arith}
+use lib.Dec.{eqb}
+use lib.ListN.{length, getD, length-map, List·getD-map}
+use Rattle.format.specs.Events.{Name, nameMap}
+use Rattle.format.specs.Tables.{StringTable, PREFIX, NAMESPACE-NAME, LOCAL-NAME, OTHER-NCNAME, OTHER-URI, ATTRIBUTE-VALUE, CONTENT-CHARACTER-CHUNK, OTHER-STRING, NameTable, ELEMENT-NAME, ATTRIBUTE-NAME, Triple, Vocabulary, strings, names, place, extended, adding, addingName, vocabularyMap, starting, Entry, partOf, nameOf}
+use Rattle.format.specs.Strings.{keeping}
+
+map-append : {A B : Type 0} (f : A → B) (a b : List A) → map f (a ++ b) ≡ map f a ++ map f b
+map-append f [] b = refl
+map-append f (x ∷ a) b = ap (λ (l : List _). f x ∷ l) (map-append f a b)
+
+module _ {S T : Type 0} (f : S → T) where
+  pub strings-map : (v : Vocabulary S) (t : StringTable) → strings (vocabularyMap f v) t ≡ map f (strings v t)
+  unfolding strings vocabularyMap
+  strings-map v PREFIX = refl
+  strings-map v NAMESPACE-NAME = refl
+  strings-map v LOCAL-NAME = refl
+  strings-map v OTHER-NCNAME = refl
+  strings-map v OTHER-URI = refl
+  strings-map v ATTRIBUTE-VALUE = refl
+  strings-map v CONTENT-CHARACTER-CHUNK = refl
+  strings-map v OTHER-STRING = refl
+
+  pub length-strings : (v : Vocabulary S) (t : StringTable) → length (strings (vocabularyMap f v) t) ≡ length (strings v t)
+  length-strings v t = ap length (strings-map v t) ∙ length-map (strings v t) f
+
+  pub names-map : (v : Vocabulary S) (t : NameTable) → names (vocabularyMap f v) t ≡ names v t
+  unfolding names vocabularyMap
+  names-map v ELEMENT-NAME = refl
+  names-map v ATTRIBUTE-NAME = refl
+
+  extended-map : (t : Bool) (l : List S) (x : S) → map f (extended t l x) ≡ extended t (map f l) (f x)
+  extended-map true l x = map-append f l (x ∷ [])
+  extended-map false l x = refl
+
+  pub adding-map : (v : Vocabulary S) (t : StringTable) (x : S) → vocabularyMap f (adding v t x) ≡ adding (vocabularyMap f v) t (f x)
+  unfolding vocabularyMap adding
+  adding-map v t x =
+      λ i. record {
+        prefixes = extended-map (eqb (place t) 0) (v .prefixes) x i;
+        namespaces = extended-map (eqb (place t) 1) (v .namespaces) x i;
+        locals = extended-map (eqb (place t) 2) (v .locals) x i;
+        ncnames = extended-map (eqb (place t) 3) (v .ncnames) x i;
+        uris = extended-map (eqb (place t) 4) (v .uris) x i;
+        values = extended-map (eqb (place t) 5) (v .values) x i;
+        chunks = extended-map (eqb (place t) 6) (v .chunks) x i;
+        others = extended-map (eqb (place t) 7) (v .others) x i;
+        elements = v .elements;
+        attributes = v .attributes;
+      }
+
+  pub keeping-map : (added : Bool) (v : Vocabulary S) (t : StringTable) (x : S) → vocabularyMap f (keeping added v t x) ≡ keeping added (vocabularyMap f v) t (f x)
+  keeping-map true v t x = adding-map v t x
+  keeping-map false v t x = refl
+
+  pub adding-name-map : (v : Vocabulary S) (t : NameTable) (x : Triple) → vocabularyMap f (addingName v t x) ≡ addingName (vocabularyMap f v) t x
+  unfolding vocabularyMap addingName
+  adding-name-map v ELEMENT-NAME x = refl
+  adding-name-map v ATTRIBUTE-NAME x = refl
+
+  pub starting-map : (p n : S) → vocabularyMap f (starting p n) ≡ starting (f p) (f n)
+  unfolding vocabularyMap starting
+  starting-map p n = refl
+
+  -- an entry, a part of a name, a name
+  pub entry-map : (v : Vocabulary S) (t : StringTable) (k : ℕ) (d : S) → k < length (strings v t) → Entry (strings (vocabularyMap f v) t) k (f d) (f (getD (strings v t) k d))
+  entry-map v t k d h =
+      record { made = let l = length-strings v t in omega arith; is = ap (λ (l : List T). getD l k (f d)) (strings-map v t) ∙ List·getD-map f (strings v t) k d }
+
+  part-map : (l : List S) (d : S) (n : ℕ) → Option·map f (partOf l d n) ≡ partOf (map f l) (f d) n
+  part-map l d zero = refl
+  part-map l d (suc k) = ap (λ (x : T). some x) (sym (List·getD-map f l k d))
+
+  pub name-map : (v : Vocabulary S) (d : S) (x : Triple) → nameMap f (nameOf v d x) ≡ nameOf (vocabularyMap f v) (f d) x
+  unfolding nameOf vocabularyMap
+  name-map v d x =
+      λ i. record { prefix = part-map (v .prefixes) d (x .prefix) i; namespace = part-map (v .namespaces) d (x .namespace) i; local = sym (List·getD-map f (v .locals) (x .local - 1) d) i }

@@ -1,0 +1,247 @@
+// One field of a document at a time: numbers and lengths by a cursor, with an enum for the answer; and text.
+// May depend on format alone.
+ghost use mathlib.Core.Path.{_≡_};
+ghost use Prim.Native.Nat.{_+_, _-_, _^_, _<_, _≤_};
+ghost use lib.ListN.{length, take, drop};
+ghost use Rattle.format.specs.Numbers.{lengths, numbers, c25, top};
+ghost use Rattle.format.specs.Text.{between, astray, rows, first, next, isText};
+ghost use Rattle.fields.specs.Fields.{bitsOf, valueFrom, behind, fieldAt, noTop};
+ghost use Rattle.fields.specs.Text.{within};
+
+pub const TRUNCATED: u32 = 2;
+
+pub const CODE: u32 = 5;
+
+pub const PADDING: u32 = 6;
+
+pub const RANGE: u32 = 7;
+
+// The highest number.
+pub const TOP: u64 = 1048576;
+
+// Above every length.
+pub const NO_TOP: u64 = 0x2_0000_0000;
+
+// Where the next field starts.
+pub struct Cursor {
+    pub at: usize,
+}
+
+// A number or a length and the cursor behind it, or the refusal and its place.
+pub enum Number {
+    Got(u64, Cursor),
+    Refused(u32, usize),
+}
+
+// Bits `first` to `last` of an octet, bit 1 the highest: at most seven of them, and none where `last` stands before `first`.
+pub fn bits(o: u8, first: u32, last: u32) -> u8
+    requires { ⌜ (1 ≤ last) × (last ≤ 8) × (first ≤ last + 1) × (last < first + 7) ⌝ }
+    ensures { λ r. ⌜ r ≡ bitsOf o first last ⌝ }
+{
+    (o >> (8 - last)) & ((1u8 << (last + 1 - first)) - 1)
+}
+
+// How many values k bits have.
+fn values(k: u32) -> u64
+    requires { ⌜ k ≤ 32 ⌝ }
+    ensures { λ r. ⌜ (r ≡ 2 ^ k) × (r ≤ 2 ^ 32) ⌝ }
+{
+    1u64 << k
+}
+
+fn wide(x: u8) -> u64
+    ensures { λ r. ⌜ (r ≡ x) × (r < 256) ⌝ }
+{
+    x as u64
+}
+
+// The value that x and then the `more` octets from `at` spell, the higher first.
+fn value_from(s: &[u8], at: usize, x: u8, more: usize) -> u64
+    requires { ⌜ (more ≤ 4) × (at + more ≤ length (now s)) ⌝ }
+    ensures { λ r. ⌜ (r ≡ valueFrom (now (s .entry)) at x more) × (r < 2 ^ 40) ⌝ }
+{
+    let mut v = wide(x);
+    let mut i = 0;
+    while i < more {
+        v = v * 256 + wide(s[at + i]);
+        i += 1;
+    }
+    v
+}
+
+impl Cursor {
+    // The octets behind the field's first one, which holds x of the value. The form spells `size` numbers from `low` on.
+    fn behind(self, s: &[u8], x: u8, more: usize, low: u64, size: u64, top: u64) -> Number
+        requires { ⌜ (more ≤ 4) × (self .at < length (now s)) × (low < 2 ^ 40) ⌝ }
+        ensures { λ r. ⌜ r ≡ behind (now (s .entry)) (self .at) x more low size top ⌝ }
+    {
+        let at = self.at;
+        if s.len() - at <= more {
+            return Number::Refused(TRUNCATED, at);
+        }
+        let v = value_from(s, at + 1, x, more);
+        if size <= v {
+            return Number::Refused(PADDING, at);
+        }
+        if top < low + v {
+            return Number::Refused(RANGE, at);
+        }
+        Number::Got(low + v, Cursor { at: at + 1 + more })
+    }
+
+    // C.25: a number from bit 2, coded 0, 10 or 110.
+    pub fn number_at_bit_2(self, s: &[u8]) -> Number
+        ensures { λ r. ⌜ r ≡ fieldAt c25 top 2 (now (s .entry)) (self .at) ⌝ }
+    {
+        let at = self.at;
+        if s.len() <= at {
+            return Number::Refused(TRUNCATED, at);
+        }
+        let o = s[at];
+        if bits(o, 2, 2) == 0 {
+            return self.behind(s, bits(o, 3, 8), 0, 1, 64, TOP);
+        }
+        if bits(o, 2, 3) == 2 {
+            return self.behind(s, bits(o, 4, 8), 1, 65, 8192, TOP);
+        }
+        if bits(o, 2, 4) == 6 {
+            return self.behind(s, bits(o, 5, 8), 2, 8257, 1048576, TOP);
+        }
+        Number::Refused(CODE, at)
+    }
+
+    // C.27, C.28: a number from bit 3 or 4, coded 0, 100, 101, or 110 and padding.
+    pub fn number(self, s: &[u8], bit: u32) -> Number
+        requires { ⌜ (1 ≤ bit) × (bit ≤ 6) ⌝ }
+        ensures { λ r. ⌜ r ≡ fieldAt (numbers bit) top bit (now (s .entry)) (self .at) ⌝ }
+    {
+        let at = self.at;
+        if s.len() <= at {
+            return Number::Refused(TRUNCATED, at);
+        }
+        let o = s[at];
+        let short = values(8 - bit);
+        if bits(o, bit, bit) == 0 {
+            return self.behind(s, bits(o, bit + 1, 8), 0, 1, short, TOP);
+        }
+        let code = bits(o, bit, bit + 2);
+        let rest = bits(o, bit + 3, 8);
+        let middle = values(14 - bit);
+        if code == 4 {
+            return self.behind(s, rest, 1, short + 1, middle, TOP);
+        }
+        let long = values(22 - bit);
+        if code == 5 {
+            return self.behind(s, rest, 2, short + middle + 1, long, TOP);
+        }
+        if code != 6 {
+            return Number::Refused(CODE, at);
+        }
+        if rest != 0 {
+            return Number::Refused(PADDING, at);
+        }
+        self.behind(s, 0, 3, short + middle + long + 1, 1048576, TOP)
+    }
+
+    // C.22, C.23, C.24: a length from bit 2, 5 or 7, coded 0, or 10 or 11 and padding.
+    pub fn length(self, s: &[u8], bit: u32) -> Number
+        requires { ⌜ (1 ≤ bit) × (bit ≤ 7) ⌝ }
+        ensures { λ r. ⌜ r ≡ fieldAt (lengths bit) noTop bit (now (s .entry)) (self .at) ⌝ }
+    {
+        let at = self.at;
+        if s.len() <= at {
+            return Number::Refused(TRUNCATED, at);
+        }
+        let o = s[at];
+        let short = values(8 - bit);
+        if bits(o, bit, bit) == 0 {
+            return self.behind(s, bits(o, bit + 1, 8), 0, 1, short, NO_TOP);
+        }
+        if bits(o, bit + 2, 8) != 0 {
+            return Number::Refused(PADDING, at);
+        }
+        if bits(o, bit, bit + 1) == 2 {
+            return self.behind(s, 0, 1, short + 1, 256, NO_TOP);
+        }
+        self.behind(s, 0, 4, short + 257, 0x1_0000_0000, NO_TOP)
+    }
+}
+
+// Within a character: how many octets are still to come, and from which to which the next may be.
+struct Within {
+    left: u8,
+    low: u8,
+    high: u8,
+}
+
+// Between two characters.
+const BETWEEN: Within = Within {
+    left: 0,
+    low: 0,
+    high: 0,
+};
+
+// Where no octet may follow: none is from 1 to 0.
+const ASTRAY: Within = Within {
+    left: 4,
+    low: 1,
+    high: 0,
+};
+
+impl Within {
+    fn coming(left: u8, low: u8, high: u8) -> Within
+        ensures { λ r. ⌜ within r ≡ record { left = left; low = low; high = high } ⌝ }
+    {
+        Within { left, low, high }
+    }
+
+    // After a character's first octet: the rows of RFC 3629.
+    fn first(b: u8) -> Within
+        ensures { λ r. ⌜ within r ≡ first rows b ⌝ }
+    {
+        match b {
+            0x00..=0x7F => BETWEEN,
+            0xC2..=0xDF => Within::coming(1, 0x80, 0xBF),
+            0xE0 => Within::coming(2, 0xA0, 0xBF),
+            0xE1..=0xEC => Within::coming(2, 0x80, 0xBF),
+            0xED => Within::coming(2, 0x80, 0x9F),
+            0xEE..=0xEF => Within::coming(2, 0x80, 0xBF),
+            0xF0 => Within::coming(3, 0x90, 0xBF),
+            0xF1..=0xF3 => Within::coming(3, 0x80, 0xBF),
+            0xF4 => Within::coming(3, 0x80, 0x8F),
+            _ => ASTRAY,
+        }
+    }
+
+    // After one more octet.
+    fn next(self, b: u8) -> Within
+        ensures { λ r. ⌜ within r ≡ next (within self) b ⌝ }
+    {
+        if self.left == 0 {
+            return Within::first(b);
+        }
+        if b < self.low || self.high < b {
+            return ASTRAY;
+        }
+        Within::coming(self.left - 1, 0x80, 0xBF)
+    }
+}
+
+// The octets from `from` to before `to` are text.
+pub fn is_text(s: &[u8], from: usize, to: usize) -> bool
+    requires { ⌜ (from ≤ to) × (to ≤ length (now s)) ⌝ }
+    ensures { λ r. ⌜ r ≡ isText (take (to - from) (drop from (now (s .entry)))) ⌝ }
+{
+    let mut u = BETWEEN;
+    let mut i = from;
+    while i < to {
+        let b = s[i];
+        i += 1;
+        // Most octets are characters by themselves.
+        if u.left == 0 && b < 0x80 {
+            continue;
+        }
+        u = u.next(b);
+    }
+    u.left == 0
+}

@@ -1,0 +1,183 @@
+-- The reading definition: what a reader answers and leaves in the lent room, for every input.
+use Prim.Native.Nat.{ℕ, zero, suc, _+_, _-_, _*_, _/_, _%_}
+use mathlib.Core.Path.{_≡_}
+use mathlib.Core.Bool.{Bool, true, false, _&&_, _||_}
+use mathlib.Core.List.{List, [], _∷_, _++_, map}
+use lib.ListN.{length, getD, take, drop, replicate}
+use lib.Dec.{eqb, ltb, leb}
+use Rattle.format.specs.Numbers.{pick}
+use Rattle.format.specs.Events.{End, forEnd, Item, _by_}
+use Rattle.format.specs.Tables.{Vocabulary, same, Limits, link}
+use Rattle.format.specs.Items.{Mode, content, declaring, listing, State, moved}
+use Rattle.format.specs.Document.{halves, aligned, closed, beginning, header}
+use Rattle.tables.specs.Counts.{countsOf, words, entryWords, wordsOf}
+use Rattle.events.specs.declared.Event.{Event}
+use Rattle.tables.specs.Located.{Located, plain, plainState, start}
+use Rattle.events.specs.Records.{blank, recordOf}
+use Rattle.reader.specs.declared.Answer as A
+use Rattle.reader.specs.declared.Answer.the-variants.{Accepted, Refused}
+use Rattle.reader.specs.Items.{Stand, Step, more, quiet, done, stop, itemAt}
+
+-- The half at a place counted in halves; 16 where there is none.
+unfoldable pub halfAt : List ℕ → ℕ → ℕ
+halfAt s at = getD (halves (take 1 (drop (at / 2) s))) (at % 2) 16
+
+-- An end stands there; the padding that is due there is right.
+unfoldable pub endsAt : List ℕ → ℕ → Bool
+endsAt s at = eqb (halfAt s at) 15
+
+unfoldable pub padsAt : List ℕ → ℕ → Bool
+padsAt s at = eqb (at % 2) 0 || eqb (halfAt s at) 0
+
+-- The document's end: no root (15); bits 5 to 8 (6); octets behind it (15).
+unfoldable pub documentEnd : List ℕ → Stand → Step
+documentEnd s m =
+    pick (m .state .root)
+    (pick (padsAt s (suc (m .at)))
+    (pick (eqb (aligned (suc (m .at))) (2 * length s)) done (stop 15 (aligned (suc (m .at)) / 2)))
+    (stop 6 (m .at / 2)))
+    (stop 15 (m .at / 2))
+
+-- 1111 ends an attribute list, which has a member (15), an element, or the document.
+unfoldable pub endAt : List ℕ → Stand → Mode → Step
+endAt s m (listing true) = quiet (record { at = suc (m .at); state = moved (m .state) (m .state .words) content })
+endAt s m (listing false) = stop 15 (m .at / 2)
+endAt s m (declaring a) = stop 5 (m .at / 2)
+endAt s m content = pick (ltb 0 (m .state .level)) (more (m .at / 2) (End by forEnd) (record { at = suc (m .at); state = closed (m .state) })) (documentEnd s m)
+
+-- Declarations are ended by an octet, F0, and not by a half.
+abbrev pub byHalves : Mode → Bool
+byHalves content = true
+byHalves (declaring a) = false
+byHalves (listing some) = true
+
+-- Items in order and where the reader stands at the end; or a refusal.
+pub data Result : Type 0 where
+  accepted : List (Item Located) → Stand → Result
+  refusal : (number place : ℕ) → Result
+
+abbrev pub plus : Item Located → Result → Result
+plus i (accepted is m) = accepted (i ∷ is) m
+plus i (refusal n p) = refusal n p
+
+-- A step's answer, and how to go on: the first event without a record is refused (14) at its place.
+abbrev pub turn : (ℕ → Stand → Result) → ℕ → Stand → Step → Result
+turn go zero m (more p i n) = refusal 14 p
+turn go (suc left) m (more p i n) = plus i (go left n)
+turn go room m (quiet n) = go room n
+turn go room m done = accepted [] m
+turn go room m (stop n p) = refusal n p
+
+-- An event's place, and where the reader stands behind the event.
+pub record Mark : Type 0 where
+  pub place : ℕ
+  pub stand : Stand
+
+abbrev pub marked : (Stand → List Mark) → Step → List Mark
+marked go (more p i n) = record { place = p; stand = n } ∷ go n
+marked go (quiet n) = go n
+marked go done = []
+marked go (stop n p) = []
+
+module _ (L : Limits) where
+  -- One step: an end, or the item at the next octet behind padding that is right (6).
+  unfoldable pub step : List ℕ → Stand → Step
+  step s m =
+      pick (byHalves (m .state .mode) && endsAt s (m .at)) (endAt s m (m .state .mode))
+      (pick (padsAt s (m .at)) (itemAt L s (aligned (m .at) / 2) (m .state) (m .state .mode)) (stop 6 (m .at / 2)))
+
+  -- Steps until the document's end, with records for `room` events. `fuel` bounds the steps.
+  unfoldable pub run : List ℕ → (fuel room : ℕ) → Stand → Result
+  run s zero room m = refusal 2 (m .at / 2)
+  run s (suc fuel) room m = turn (λ left n. run s fuel left n) room m (step s m)
+
+  -- The marks of the events, up to the document's end or the first fault.
+  unfoldable pub trace : List ℕ → (fuel : ℕ) → Stand → List Mark
+  trace s zero m = []
+  trace s (suc fuel) m = marked (λ n. trace s fuel n) (step s m)
+
+-- SIZE: a document is not empty, and not over the limit.
+unfoldable pub sized : Limits → List ℕ → Bool
+sized L s = leb 1 (length s) && leb (length s) (L .octets)
+
+-- What stands before the first item: go on, or a refusal.
+pub data Opening : Type 0 where
+  onward : Opening
+  halt : (number place : ℕ) → Opening
+
+-- SIZE (1). The first four octets: missing (2), others (3). The fifth: missing (2), its padding bit (6), a presence bit (4).
+unfoldable pub opening : Limits → List ℕ → List ℕ → Opening
+opening L head s =
+    pick (sized L s)
+    (pick (leb 4 (length s))
+    (pick (same (take 4 s) (take 4 head))
+    (pick (leb 5 (length s))
+    (pick (ltb (getD s 4 0) 0x80) (pick (eqb (getD s 4 0) 0) onward (halt 4 4)) (halt 6 4))
+    (halt 2 4))
+    (halt 3 0))
+    (halt 2 0))
+    (halt 1 0)
+
+-- Before the first item; each step takes a half, so the fuel suffices.
+abbrev pub origin : Vocabulary Located → Stand
+origin words = record { at = 10; state = beginning words }
+
+abbrev pub fuelOf : List ℕ → ℕ
+fuelOf s = suc (2 * length s)
+
+-- On the link, with these octets and records for `room` events: what the opening lets be read.
+abbrev pub resultFrom : List ℕ → ℕ → Opening → Result
+resultFrom s room onward = run link s (fuelOf s) room (origin start)
+resultFrom s room (halt n p) = refusal n p
+
+unfoldable pub reading : List ℕ → (room : ℕ) → Result
+reading s room = resultFrom s room (opening link header s)
+
+-- The marks of the events that the document hands out.
+abbrev pub marksFrom : List ℕ → Opening → List Mark
+marksFrom s onward = trace link s (fuelOf s) (origin start)
+marksFrom s (halt n p) = []
+
+unfoldable pub marks : List ℕ → List Mark
+marks s = marksFrom s (opening link header s)
+
+-- The octets s are accepted, with records for `room` events; these are the items handed out, and this is known at the end, with octets in place of places.
+pub record Accepts (s : List ℕ) (room : ℕ) (items : List (Item (List ℕ))) (z : State (List ℕ)) : Type 0 where
+  pub events : List (Item Located)
+  pub last : Stand
+  pub reads : reading s room ≡ accepted events last
+  pub are : map (plain s) events ≡ items
+  pub end-is : plainState s (last .state) ≡ z
+
+-- What a call answers and leaves: the answer, every event record, every table word.
+pub record Outcome : Type 0 where
+  pub answer : A.Answer
+  pub row : List Event
+  pub tables : List ℕ
+
+-- A refusal blanks all the room that was lent.
+abbrev pub refusing : ℕ → ℕ → ℕ → ℕ → Outcome
+refusing n p room table = record { answer = Refused n p; row = replicate room blank; tables = replicate table 0 }
+
+abbrev pub accepting : List Event → Vocabulary Located → ℕ → Outcome
+accepting es v room = record { answer = Accepted (length es) (countsOf v); row = es ++ replicate (room - length es) blank; tables = wordsOf entryWords v }
+
+abbrev pub outcome : Result → ℕ → Outcome
+outcome (accepted is m) room = accepting (map (λ (i : Item Located). recordOf (i .event)) is) (m .state .words) room
+outcome (refusal n p) room = refusing n p room words
+
+-- Reading on the link, with `room` event records and `table` table words lent: SIZE, then the table room (14), both at place 0, then the fields.
+unfoldable pub readOf : List ℕ → (room table : ℕ) → Outcome
+readOf s room table =
+    pick (sized link s)
+    (pick (eqb table words) (outcome (reading s room) room) (refusing 14 0 room table))
+    (refusing 1 0 room table)
+
+-- The number that comes back to C: 0, or the place times 32 plus the refusal's number.
+abbrev pub numberOf : Result → ℕ
+numberOf (accepted is m) = 0
+numberOf (refusal n p) = p * 32 + n
+
+-- The check: as a reader with 32,768 event records.
+unfoldable pub checkOf : List ℕ → ℕ
+checkOf s = numberOf (reading s 32768)

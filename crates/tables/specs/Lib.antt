@@ -1,0 +1,4 @@
+pub mod Located
+pub mod Counts
+pub mod Search
+pub mod Rows

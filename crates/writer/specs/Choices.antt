@@ -1,0 +1,72 @@
+-- The choices that 01 fixes for the writer: the lowest number where the table holds the string, else spelled; and the octets by them.
+use Prim.Native.Nat.{ℕ, zero, suc, _+_, _-_, _*_}
+use mathlib.Core.Bool.{Bool, true, false, _&&_}
+use mathlib.Core.Option.{Option, none, some}
+use mathlib.Core.List.{List, [], _∷_, _++_, map}
+use lib.ListN.{length}
+use lib.Dec.{eqb, ltb, leb}
+use Rattle.format.specs.Numbers.{pick, lengths, spell, c25}
+use Rattle.format.specs.Events.{Name, How, spelled, numbered, NameHow, inParts, byNumber}
+use Rattle.format.specs.Tables.{StringTable, PREFIX, NAMESPACE-NAME, LOCAL-NAME, Triple, Vocabulary, strings, names, adding, addingName, Limits}
+use Rattle.format.specs.Strings.{withLength, bit, Layout, c14, keeping}
+use Rattle.format.specs.Names.{has, NameLayout}
+use Rattle.tables.specs.Located.{Located, octetsOf}
+use Rattle.tables.specs.Search.{numberIn, numberOfTriple}
+
+-- What a field is written as: its octets, how, the tables then; and the string's number, where it has one.
+pub record Wrote (H : Type 0) : Type 0 where
+  pub octets : List ℕ
+  pub how : H
+  pub number : ℕ
+  pub words : Vocabulary Located
+
+-- An identifying string (C.13): numbered if its table holds it, else spelled and added.
+unfoldable pub writeId : List ℕ → StringTable → Vocabulary Located → Located → Wrote How
+writeId text t v x =
+    let k : ℕ = numberIn (map (octetsOf text) (strings v t)) (octetsOf text x) in
+    pick (eqb k 0)
+    (record { octets = withLength (lengths 2) 0 (octetsOf text x); how = spelled true; number = suc (length (strings v t)); words = adding v t x })
+    (record { octets = spell c25 0x80 (k - 1); how = numbered k; number = k; words = v })
+
+unfoldable pub writeOptional : List ℕ → StringTable → Vocabulary Located → Option Located → Wrote (Option How)
+writeOptional text t v none = record { octets = []; how = none; number = 0; words = v }
+writeOptional text t v (some x) =
+    let w : Wrote How = writeId text t v x in
+    record { octets = w .octets; how = some (w .how); number = w .number; words = w .words }
+
+-- A name (C.17, C.18), behind the bits `lead`: by number if its table holds the triple, else in parts and added.
+unfoldable pub writeName : NameLayout → ℕ → List ℕ → Vocabulary Located → Name Located → Wrote NameHow
+writeName q lead text v x =
+    let p : Wrote (Option How) = writeOptional text PREFIX v (x .prefix) in
+    let n : Wrote (Option How) = writeOptional text NAMESPACE-NAME (p .words) (x .namespace) in
+    let l : Wrote How = writeId text LOCAL-NAME (n .words) (x .local) in
+    let triple : Triple = record { prefix = p .number; namespace = n .number; local = l .number } in
+    let k : ℕ = numberOfTriple (names (l .words) (q .table)) triple in
+    pick (eqb k 0)
+    (record {
+      octets = (lead + q .inPartsBits + 2 * has (x .prefix) + has (x .namespace)) ∷ (p .octets ++ (n .octets ++ l .octets));
+      how = inParts (p .how) (n .how) (l .how);
+      number = suc (length (names (l .words) (q .table)));
+      words = addingName (l .words) (q .table) triple;
+    })
+    (record { octets = spell (q .numberForms) lead (k - 1); how = byNumber k; number = k; words = v })
+
+module _ (L : Limits) where
+  -- A string of 1 to 5 octets is added where its table has room.
+  unfoldable pub worthAdding : {S : Type 0} → List S → List ℕ → Bool
+  worthAdding table x = leb (length x) 5 && ltb (length table) (L .entries)
+
+  -- C.14, C.15: numbered if its table holds it, else spelled.
+  unfoldable pub writeLiteral : Layout → List ℕ → StringTable → Vocabulary Located → Located → Wrote How
+  writeLiteral q text t v x =
+      let o : List ℕ = octetsOf text x in
+      let k : ℕ = numberIn (map (octetsOf text) (strings v t)) o in
+      let added : Bool = worthAdding (strings v t) o in
+      pick (eqb k 0)
+      (record { octets = withLength (lengths (q .lengthBit)) (q .spelledBits + q .addBit * bit added) o; how = spelled added; number = 0; words = keeping added v t x })
+      (record { octets = spell (q .numberForms) (q .numberedBits) (k - 1); how = numbered k; number = k; words = v })
+
+  -- A value, comment or content: FF for the empty string.
+  unfoldable pub writeValue : List ℕ → StringTable → Vocabulary Located → Located → Wrote How
+  writeValue text t v x =
+      pick (eqb (length (octetsOf text x)) 0) (record { octets = 0xFF ∷ []; how = numbered 0; number = 0; words = v }) (writeLiteral c14 text t v x)

@@ -1,0 +1,74 @@
+-- One event as octets, by 01's choices, and what is known then. `a` says whether the element's Start is followed by an attribute.
+use Prim.Native.Nat.{ℕ, zero, suc, _+_, _*_, _≤_}
+use mathlib.Core.Bool.{Bool, true, false, _&&_}
+use mathlib.Core.Option.{Option}
+use mathlib.Core.List.{List, [], _∷_, _++_}
+use lib.ListN.{length}
+use lib.Dec.{leb}
+use Rattle.format.specs.Events as E
+use Rattle.format.specs.Events.{Choice, forNamespace, forStart, forAttribute, forText, forComment, forInstruction, forEnd, How, NameHow}
+use Rattle.format.specs.Tables.{PREFIX, NAMESPACE-NAME, OTHER-NCNAME, ATTRIBUTE-VALUE, CONTENT-CHARACTER-CHUNK, OTHER-STRING, Vocabulary, Limits}
+use Rattle.format.specs.Strings.{bit, c15}
+use Rattle.format.specs.Names.{has, ofElement, ofAttribute}
+use Rattle.format.specs.Items.{Mode, content, declaring, listing, State, knowing, moved, opened}
+use Rattle.format.specs.Document.{closed}
+use Rattle.tables.specs.Located.{Located}
+use Rattle.writer.specs.Choices.{Wrote, writeId, writeOptional, writeName, writeLiteral, writeValue}
+
+pub record WroteItem : Type 0 where
+  pub octets : List ℕ
+  pub choice : Choice
+  pub state : State Located
+
+-- The octet in front of an element's first declaration, and F0 behind its last.
+abbrev pub beforeDeclaration : Mode → Bool → List ℕ
+beforeDeclaration content a = (64 * bit a + 0x38) ∷ []
+beforeDeclaration (declaring b) a = []
+beforeDeclaration (listing any) a = []
+
+abbrev pub beforeName : Mode → List ℕ
+beforeName content = []
+beforeName (declaring b) = 0xF0 ∷ []
+beforeName (listing any) = []
+
+-- The bits before an element's name: the attribute bit, but 00 behind declarations.
+abbrev pub nameLead : Mode → Bool → ℕ
+nameLead content a = 64 * bit a
+nameLead (declaring b) a = 0
+nameLead (listing any) a = 0
+
+module _ (L : Limits) (text : List ℕ) where
+  -- The end of an attribute list is behind us: the mode is content or declaring or, for an attribute, listing. An End has no octets of its own.
+  unfoldable pub writeItem : Bool → State Located → E.Event Located → WroteItem
+  writeItem a v (E.Namespace p n) =
+      let x : Wrote (Option How) = writeOptional text PREFIX (v .words) p in
+      let y : Wrote (Option How) = writeOptional text NAMESPACE-NAME (x .words) n in
+      record {
+        octets = beforeDeclaration (v .mode) a ++ ((0xCC + 2 * has p + has n) ∷ (x .octets ++ y .octets));
+        choice = forNamespace (x .how) (y .how);
+        state = moved v (y .words) (declaring a);
+      }
+  writeItem a v (E.Start x) =
+      let w : Wrote NameHow = writeName ofElement (nameLead (v .mode) a) text (v .words) x in
+      record { octets = beforeName (v .mode) ++ w .octets; choice = forStart (w .how); state = opened v (w .words) a }
+  writeItem a v (E.Attribute x y) =
+      let w : Wrote NameHow = writeName ofAttribute 0 text (v .words) x in
+      let z : Wrote How = writeValue L text ATTRIBUTE-VALUE (w .words) y in
+      record { octets = w .octets ++ z .octets; choice = forAttribute (w .how) (z .how); state = moved v (z .words) (listing true) }
+  writeItem a v (E.Text y) =
+      let w : Wrote How = writeLiteral L c15 text CONTENT-CHARACTER-CHUNK (v .words) y in
+      record { octets = w .octets; choice = forText (w .how); state = knowing v (w .words) }
+  writeItem a v (E.Comment y) =
+      let w : Wrote How = writeValue L text OTHER-STRING (v .words) y in
+      record { octets = 0xE2 ∷ w .octets; choice = forComment (w .how); state = knowing v (w .words) }
+  writeItem a v (E.Instruction x y) =
+      let w : Wrote How = writeId text OTHER-NCNAME (v .words) x in
+      let z : Wrote How = writeValue L text OTHER-STRING (w .words) y in
+      record { octets = 0xE1 ∷ (w .octets ++ z .octets); choice = forInstruction (w .how) (z .how); state = knowing v (z .words) }
+  writeItem a v E.End = record { octets = []; choice = forEnd; state = closed v }
+
+-- No table has an entry too many (12).
+unfoldable pub within : {S : Type 0} → Limits → Vocabulary S → Bool
+within L v =
+    leb (length (v .prefixes)) (L .entries) && (leb (length (v .namespaces)) (L .entries) && (leb (length (v .locals)) (L .entries)
+    && (leb (length (v .ncnames)) (L .entries) && (leb (length (v .elements)) (L .entries) && leb (length (v .attributes)) (L .entries)))))

@@ -1,0 +1,146 @@
+-- The writer's definition: what it answers and leaves in the lent room, for every input.
+use Prim.Native.Nat.{ℕ, zero, suc, _+_, _-_, _*_, _/_, min}
+use mathlib.Core.Bool.{Bool, true, false, not, _&&_, _||_}
+use mathlib.Core.List.{List, [], _∷_, _++_}
+use lib.ListN.{length, replicate}
+use lib.Dec.{eqb, ltb, leb}
+use Rattle.format.specs.Numbers.{pick}
+use Rattle.format.specs.Events as E
+use Rattle.format.specs.Events.{Item, _by_, forEnd}
+use Rattle.format.specs.Tables.{Vocabulary, Limits, link}
+use Rattle.format.specs.Items.{Mode, content, declaring, listing, State, moved}
+use Rattle.format.specs.Document.{halves, pad, aligned, closed, beginning, header}
+use Rattle.tables.specs.Counts.{countsOf, words, entryWords, wordsOf}
+use Rattle.events.specs.declared.Kind.{Kind}
+use Rattle.events.specs.declared.Kind.the-variants.{Blank, Namespace, Start, Attribute, Chunk, Comment, Instruction, End}
+use Rattle.events.specs.declared.Event.{Event}
+use Rattle.tables.specs.Located.{Located, start}
+use Rattle.writer.specs.declared.Answer as A
+use Rattle.writer.specs.declared.Answer.the-variants.{Accepted, Refused}
+use Rattle.writer.specs.Events.{wellMade, eventOf, isContent, isDeclaring, isListing, goesOn, allText}
+use Rattle.writer.specs.Items.{WroteItem, writeItem, within}
+
+-- The next event is an attribute; the element's Start, behind its declarations, is followed by one.
+abbrev pub attributeNext : List Event → Bool
+attributeNext [] = false
+attributeNext (e ∷ es) = elim (e .kind) [ Blank ↦ false | Namespace ↦ false | Start ↦ false | Attribute ↦ true | Chunk ↦ false | Comment ↦ false | Instruction ↦ false | End ↦ false ]
+
+unfoldable pub announced : List Event → Bool
+announced [] = false
+announced (e ∷ es) =
+    elim (e .kind) [ Blank ↦ false | Namespace ↦ announced es | Start ↦ attributeNext es | Attribute ↦ false | Chunk ↦ false | Comment ↦ false | Instruction ↦ false | End ↦ false ]
+
+-- Items with their choices, the halves they are written as, and what is known at the end; or the refusal and the event's number.
+pub data Result : Type 0 where
+  written : List (Item Located) → List ℕ → State Located → Result
+  refusal : (number place : ℕ) → Result
+
+abbrev pub plus : Item Located → List ℕ → Result → Result
+plus i hs (written is rest z) = written (i ∷ is) (hs ++ rest) z
+plus i hs (refusal n p) = refusal n p
+
+abbrev pub isAttribute : {S : Type 0} → E.Event S → Bool
+isAttribute (E.Namespace p n) = false
+isAttribute (E.Start x) = false
+isAttribute (E.Attribute x y) = true
+isAttribute (E.Text y) = false
+isAttribute (E.Comment y) = false
+isAttribute (E.Instruction x y) = false
+isAttribute E.End = false
+
+abbrev pub isEnd : {S : Type 0} → E.Event S → Bool
+isEnd (E.Namespace p n) = false
+isEnd (E.Start x) = false
+isEnd (E.Attribute x y) = false
+isEnd (E.Text y) = false
+isEnd (E.Comment y) = false
+isEnd (E.Instruction x y) = false
+isEnd E.End = true
+
+-- The first event of an element.
+abbrev pub opens : {S : Type 0} → Mode → E.Event S → Bool
+opens m (E.Namespace p n) = not (isDeclaring m)
+opens m (E.Start x) = not (isDeclaring m)
+opens m (E.Attribute x y) = false
+opens m (E.Text y) = false
+opens m (E.Comment y) = false
+opens m (E.Instruction x y) = false
+opens m E.End = false
+
+-- The end of an attribute list is owed before the next event that is no attribute; then the list is behind us.
+unfoldable pub owed : Mode → E.Event Located → List ℕ
+owed m e = pick (isListing m && not (isAttribute e)) (15 ∷ []) []
+
+unfoldable pub settled : State Located → E.Event Located → State Located
+settled v e = pick (isListing (v .mode) && not (isAttribute e)) (moved v (v .words) content) v
+
+module _ (L : Limits) (text : List ℕ) (room : ℕ) where
+  -- So many halves, in whole octets, fit the output lent and the limit of a document.
+  unfoldable pub fits : ℕ → Bool
+  fits at = leb (aligned at / 2) (min room (L .octets))
+
+  -- An event's halves from the half `at`: the end owed; then 1111 for an End, or the octets from the next whole octet.
+  unfoldable pub halvesOf : ℕ → State Located → E.Event Located → WroteItem → List ℕ
+  halvesOf at v e w = owed (v .mode) e ++ pick (isEnd e) (15 ∷ []) (pad (at + length (owed (v .mode) e)) ++ halves (w .octets))
+
+  -- One event: not well made or not in its place (16), not text (9), too deep (13), a table full (12), no room (14).
+  unfoldable pub judge : ℕ → State Located → Event → WroteItem → List ℕ → ℕ
+  judge at v e w hs =
+      pick (wellMade text (e .kind) e && goesOn v (eventOf (e .kind) e))
+      (pick (allText text (eventOf (e .kind) e))
+      (pick (opens (v .mode) (eventOf (e .kind) e) && leb (L .depth) (v .level)) 13
+      (pick (within L (w .state .words)) (pick (fits (at + length hs)) 0 14) 12))
+      9)
+      16
+
+  -- The document's end behind the last event, number i: owed too soon (16), no room (14).
+  unfoldable pub finish : ℕ → State Located → ℕ → Result
+  finish at v i =
+      pick (isContent (v .mode) && (eqb (v .level) 0 && v .root))
+      (pick (fits (suc at)) (written [] (15 ∷ pad (suc at)) v) (refusal 14 i))
+      (refusal 16 i)
+
+  -- The events from number i on, from the half `at`.
+  unfoldable pub run : ℕ → State Located → ℕ → List Event → Result
+  run at v i [] = finish at v i
+  run at v i (e ∷ es) =
+      let w : WroteItem = writeItem L text (announced (e ∷ es)) (settled v (eventOf (e .kind) e)) (eventOf (e .kind) e) in
+      let hs : List ℕ = halvesOf at v (eventOf (e .kind) e) w in
+      elim (judge at v e w hs) [
+        | zero ↦ plus (eventOf (e .kind) e by w .choice) hs (run (at + length hs) (w .state) (suc i) es)
+        | suc n ↦ refusal (suc n) i
+      ]
+
+-- Octets of halves.
+unfoldable pub joined : List ℕ → List ℕ
+joined [] = []
+joined (h ∷ []) = (16 * h) ∷ []
+joined (h ∷ l ∷ hs) = (16 * h + l) ∷ joined hs
+
+-- What a call answers and leaves: the answer, every octet of the output, every table word.
+pub record Outcome : Type 0 where
+  pub answer : A.Answer
+  pub out : List ℕ
+  pub tables : List ℕ
+
+-- A refusal blanks all the room that was lent.
+abbrev pub refusing : ℕ → ℕ → ℕ → ℕ → Outcome
+refusing n p room table = record { answer = Refused n p; out = replicate room 0; tables = replicate table 0 }
+
+abbrev pub accepting : List ℕ → Vocabulary Located → ℕ → Outcome
+accepting s v room = record { answer = Accepted (length s) (countsOf v); out = s ++ replicate (room - length s) 0; tables = wordsOf entryWords v }
+
+abbrev pub outcome : Result → ℕ → Outcome
+outcome (written is hs z) room = accepting (header ++ joined hs) (z .words) room
+outcome (refusal n p) room = refusing n p room words
+
+-- On the link, from these events over this text area, with so much output lent: the header is event 0's.
+unfoldable pub writing : List ℕ → ℕ → List Event → Result
+writing text room es = run link text room (2 * length header) (beginning start) 0 es
+
+-- Writing on the link, with `room` octets of output and `table` table words lent: SIZE (1), then the table room (14), both at place 0, then the events.
+unfoldable pub writeOf : List Event → List ℕ → (room table : ℕ) → Outcome
+writeOf es text room table =
+    pick (leb (length text) 16384)
+    (pick (eqb table words) (outcome (writing text room es) room) (refusing 14 0 room table))
+    (refusing 1 0 room table)
