@@ -3,9 +3,9 @@
 use Prim.Native.Nat.{ℕ, _+_, _≤_, _<_}
 use mathlib.Core.Path.{_≡_, sym, ap, _∙_, subst, subst₂}
 use mathlib.Core.Logic.{_↔_}
-use mathlib.Core.List.{List, [], map}
+use mathlib.Core.List.{List, [], _++_, map}
 use native.Mathlib.Omega.{arith}
-use lib.ListN.{length, getD}
+use lib.ListN.{length, getD, length-map}
 use Rattle.format.specs.Numbers.{AreOctets}
 use Rattle.format.specs.Events.{Item, IsDocument}
 use Rattle.format.specs.Tables.{strings, starting, xmlPrefix, xmlNamespace, link, standard}
@@ -13,9 +13,12 @@ use Rattle.format.specs.Items.{State}
 use Rattle.format.specs.Document.{knownAfter, Document, header, Writes}
 use Rattle.format.specs.Uses.{acts, Known}
 use Rattle.format.specs.Allowed.{All, Allowed}
-use Rattle.tables.specs.Located.{plain, plainState, start}
+use Rattle.tables.specs.Located.{Located, plain, plainState, start}
 use Rattle.reader.specs.Items.{Stand}
 use Rattle.reader.specs.Reading.{accepted, refusal, Mark, run, onward, opening, origin, fuelOf, reading, marks, numberOf, checkOf, Accepts}
+use Rattle.events.specs.declared.Event.{Event}
+use Rattle.events.specs.Records.{recordOf}
+use Rattle.writer.specs.Writing.{written, joined, writing}
 use Rattle.demands.proofs.Document as Whole
 use Rattle.demands.proofs.Fits.{accepted-fits}
 use Rattle.demands.proofs.OneWriting as One
@@ -23,6 +26,8 @@ use Rattle.demands.proofs.Earlier as Before
 use Rattle.demands.proofs.Wider as Wider
 use Rattle.demands.proofs.Documents as Tree
 use Rattle.demands.proofs.Plain as Plain
+use Rattle.demands.proofs.WriterDocument as Made
+use Rattle.demands.proofs.Given as Given
 
 module _ (s : List ℕ) (bytes : AreOctets s) where
   -- 1. SOUND: octets that are accepted are what the rules write, from the items handed out, and the tables at the end are the rules'.
@@ -99,3 +104,21 @@ a-document items z s w = Tree.is-document w
 -- 9. Their strings are as 01 allows: text; empty only where 01 says so; a prefix only with a namespace.
 pub allowed : (items : List (Item (List ℕ))) (z : State (List ℕ)) (s : List ℕ) → Writes items z s → All (λ (i : Item (List ℕ)). Allowed (i .event)) items
 allowed items z s w = Plain.plain-on-link w
+
+-- DEMAND 2, of the definitions: what the writer makes of records over a text area (of at most 16,384 octets).
+-- 10. WRITTEN BY THE RULES: its octets are those that the rules write from the plain events and 01's choices, its tables are the rules', and they fit the output.
+pub written-by-the-rules : (text : List ℕ) (room : ℕ) (es : List Event) (items : List (Item Located)) (hs : List ℕ) (z : State Located) → length text ≤ 16384 → writing text room es ≡ written items hs z
+    → Writes (map (plain text) items) (plainState text z) (header ++ joined hs) × (length (header ++ joined hs) ≤ room)
+written-by-the-rules text room es items hs z short e = subst (Made.Means text short room) e (Made.means text short room es)
+
+-- 11. ROUND TRIP: reading what the writer wrote, with a record for each event, gives back the same events, and the reader's tables are the writer's.
+pub round-trip : (text : List ℕ) (room : ℕ) (es : List Event) (items : List (Item Located)) (hs : List ℕ) (z : State Located) → length text ≤ 16384 → writing text room es ≡ written items hs z
+    → (records : ℕ) → length items ≤ records → Accepts (header ++ joined hs) records (map (plain text) items) (plainState text z)
+round-trip text room es items hs z short e records h =
+    let l = length-map items (plain text) in
+    Whole.accepts (header ++ joined hs) (map (plain text) items) (plainState text z) (written-by-the-rules text room es items hs z short e .0) records (omega arith)
+
+--     GIVEN: the events that were written are, as records, the very list that was given.
+pub the-events-given : (text : List ℕ) (room : ℕ) (es : List Event) (items : List (Item Located)) (hs : List ℕ) (z : State Located) → writing text room es ≡ written items hs z
+    → map (λ (i : Item Located). recordOf (i .event)) items ≡ es
+the-events-given text room es items hs z e = Given.given-back text room es items hs z e

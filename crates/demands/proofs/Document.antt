@@ -17,7 +17,7 @@ use Rattle.demands.proofs.Words.{starting-map}
 use Rattle.demands.proofs.Run.{Right, run-right, fuel-free, trace-few, placesOf, room-short, room-enough, Reads, run-complete}
 use Rattle.demands.proofs.Opening.{Opened, opening-sound, opening-complete}
 
-plain-start : (s : List ℕ) → plainState s (beginning start) ≡ beginning (starting xmlPrefix xmlNamespace)
+pub plain-start : (s : List ℕ) → plainState s (beginning start) ≡ beginning (starting xmlPrefix xmlNamespace)
 unfolding beginning start octetsOf
 plain-start s = λ i. record { words = starting-map (octetsOf s) builtInPrefix builtInNamespace i; level = 0; root = false; mode = content }
 

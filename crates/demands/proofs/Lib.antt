@@ -15,4 +15,10 @@ mod Earlier
 mod Wider
 mod Documents
 mod Plain
+mod Chosen
+mod Sayable
+mod Produced
+mod WriterRun
+mod WriterDocument
+mod Given
 pub mod Demands

@@ -16,6 +16,9 @@ use Rattle.format.specs.Document.{halves, pad, aligned}
 use Rattle.reader.specs.Reading.{halfAt, endsAt, padsAt}
 
 -- ---- tests
+pub clash : {X : Type 0} → false ≡ true → X
+clash e = absurd (let y : _≡_ {A = ℕ} 0 1 = cc in omega arith)
+
 pub both-true : (a b : Bool) → (a && b) ≡ true → (a ≡ true) × (b ≡ true)
 both-true true b e = (refl, e)
 both-true false b e = (e, cc)
@@ -200,7 +203,7 @@ unfolding endsAt
 ends-complete s at t e = eq-eqb (halfAt s at) 15 (sym (half-is s at) ∙ half-there (halves s) at 15 t e)
 
 -- the padding, whether there is any or not
-parity : {X : Type 0} (at : ℕ) → (at % 2 ≡ 0 → X) → (at % 2 ≡ 1 → X) → X
+pub parity : {X : Type 0} (at : ℕ) → (at % 2 ≡ 0 → X) → (at % 2 ≡ 1 → X) → X
 parity at f g = elim (ℕ-discrete (at % 2) 0) [ yes h ↦ f h | no h ↦ g (let k : ¬ (at % 2 ≡ 0) = h in omega arith) ]
 
 pub pads-sound : (s : List ℕ) (at : ℕ) → padsAt s at ≡ true → drop at (halves s) ≡ pad at ++ drop (aligned at) (halves s)

@@ -1,18 +1,37 @@
--- Event records: which record stands for an event, and the blank one.
+-- Event records: the blank one, the record of each kind, and which record stands for an event.
 use mathlib.Core.Option.{Option, none, some}
-use Prim.Native.Nat.{ℕ}
-use mathlib.Core.List.{List, [], _∷_}
 use Rattle.format.specs.Events as E
 use Rattle.tables.specs.Located.{Located, empty, stretch, builtInPrefix, builtInNamespace}
 use Rattle.events.specs.declared.Text.{Text}
 use Rattle.events.specs.declared.Text.the-variants.{Absent, Empty, Stretch, XmlPrefix, XmlNamespace}
-use Rattle.events.specs.declared.Kind.{Kind}
 use Rattle.events.specs.declared.Kind.the-variants.{Blank, Namespace, Start, Attribute, Chunk, Comment, Instruction, End}
 use Rattle.events.specs.declared.Event.{Event}
 
 -- No kind, and all strings absent.
 abbrev pub blank : Event
 blank = record { kind = Blank; prefix = Absent; namespace = Absent; name = Absent; value = Absent }
+
+-- The record of each kind, from its strings.
+abbrev pub namespaceRecord : Text → Text → Event
+namespaceRecord p n = record { kind = Namespace; prefix = p; namespace = n; name = Absent; value = Absent }
+
+abbrev pub startRecord : Text → Text → Text → Event
+startRecord p n l = record { kind = Start; prefix = p; namespace = n; name = l; value = Absent }
+
+abbrev pub attributeRecord : Text → Text → Text → Text → Event
+attributeRecord p n l v = record { kind = Attribute; prefix = p; namespace = n; name = l; value = v }
+
+abbrev pub chunkRecord : Text → Event
+chunkRecord v = record { kind = Chunk; prefix = Absent; namespace = Absent; name = Absent; value = v }
+
+abbrev pub commentRecord : Text → Event
+commentRecord v = record { kind = Comment; prefix = Absent; namespace = Absent; name = Absent; value = v }
+
+abbrev pub instructionRecord : Text → Text → Event
+instructionRecord t v = record { kind = Instruction; prefix = Absent; namespace = Absent; name = t; value = v }
+
+abbrev pub endRecord : Event
+endRecord = record { kind = End; prefix = Absent; namespace = Absent; name = Absent; value = Absent }
 
 abbrev pub textOf : Located → Text
 textOf empty = Empty
@@ -25,11 +44,10 @@ optionalText none = Absent
 optionalText (some x) = textOf x
 
 unfoldable pub recordOf : E.Event Located → Event
-recordOf (E.Namespace p n) = record { kind = Namespace; prefix = optionalText p; namespace = optionalText n; name = Absent; value = Absent }
-recordOf (E.Start x) = record { kind = Start; prefix = optionalText (x .prefix); namespace = optionalText (x .namespace); name = textOf (x .local); value = Absent }
-recordOf (E.Attribute x y) =
-    record { kind = Attribute; prefix = optionalText (x .prefix); namespace = optionalText (x .namespace); name = textOf (x .local); value = textOf y }
-recordOf (E.Text y) = record { kind = Chunk; prefix = Absent; namespace = Absent; name = Absent; value = textOf y }
-recordOf (E.Comment y) = record { kind = Comment; prefix = Absent; namespace = Absent; name = Absent; value = textOf y }
-recordOf (E.Instruction x y) = record { kind = Instruction; prefix = Absent; namespace = Absent; name = textOf x; value = textOf y }
-recordOf E.End = record { kind = End; prefix = Absent; namespace = Absent; name = Absent; value = Absent }
+recordOf (E.Namespace p n) = namespaceRecord (optionalText p) (optionalText n)
+recordOf (E.Start x) = startRecord (optionalText (x .prefix)) (optionalText (x .namespace)) (textOf (x .local))
+recordOf (E.Attribute x y) = attributeRecord (optionalText (x .prefix)) (optionalText (x .namespace)) (textOf (x .local)) (textOf y)
+recordOf (E.Text y) = chunkRecord (textOf y)
+recordOf (E.Comment y) = commentRecord (textOf y)
+recordOf (E.Instruction x y) = instructionRecord (textOf x) (textOf y)
+recordOf E.End = endRecord

@@ -1,6 +1,15 @@
 // The ten tables in lent room: how many entries each has, and what is found and added there.
 // May depend on format.
 ghost use mathlib.Core.Path.{_≡_};
+ghost use mathlib.Core.List.{map};
+ghost use Prim.Native.Nat.{_+_, _*_, _<_, _≤_};
+ghost use lib.ListN.{length, replicate};
+ghost use Rattle.format.specs.Tables.{same, sameTriple};
+ghost use Rattle.tables.specs.Located.{stretch, octetsOf, start};
+ghost use Rattle.tables.specs.Counts.{countsOf};
+ghost use Rattle.tables.specs.Rows.{tableOf, builtIn, stringAt, tripleAt, entries};
+ghost use Rattle.tables.specs.Search.{numberIn, numberOfTriple};
+ghost use Rattle.tables.specs.Kept.{countOf, oneMore, rowAt, stored, Ends, Inside};
 
 // How many entries each table has, in 01's order.
 pub struct Counts {
@@ -14,4 +23,220 @@ pub struct Counts {
     pub other: u32,
     pub element: u32,
     pub attribute: u32,
+}
+
+impl Counts {
+    // Entries in each table, the built-in ones counted.
+    pub const ENTRIES: u32 = 256;
+    // Words in the room of all ten tables, three for an entry.
+    pub const WORDS: usize = 7680;
+
+    // PREFIX and NAMESPACE NAME start with their built-in entry, the others empty.
+    pub fn start() -> Counts
+        ensures { λ r. ⌜ r ≡ countsOf start ⌝ }
+    {
+        Counts {
+            prefix: 1,
+            namespace: 1,
+            local: 0,
+            ncname: 0,
+            uri: 0,
+            value: 0,
+            chunk: 0,
+            other: 0,
+            element: 0,
+            attribute: 0,
+        }
+    }
+
+    // The count of a table by its number, from 0 in 01's order.
+    pub fn of(self, table: usize) -> u32
+        requires { ⌜ table < 10 ⌝ }
+        ensures { λ r. ⌜ r ≡ countOf self table ⌝ }
+    {
+        match table {
+            0 => self.prefix,
+            1 => self.namespace,
+            2 => self.local,
+            3 => self.ncname,
+            4 => self.uri,
+            5 => self.value,
+            6 => self.chunk,
+            7 => self.other,
+            8 => self.element,
+            _ => self.attribute,
+        }
+    }
+
+    // One entry more.
+    pub fn more(mut self, table: usize) -> Counts
+        requires { ⌜ (table < 10) × (countOf self table < 256) ⌝ }
+        ensures { λ r. ⌜ r ≡ oneMore self table ⌝ }
+    {
+        let n = self.of(table) + 1;
+        match table {
+            0 => self.prefix = n,
+            1 => self.namespace = n,
+            2 => self.local = n,
+            3 => self.ncname = n,
+            4 => self.uri = n,
+            5 => self.value = n,
+            6 => self.chunk = n,
+            7 => self.other = n,
+            8 => self.element = n,
+            _ => self.attribute = n,
+        }
+        self
+    }
+}
+
+// A row's words: a string's place, its length and 0, or the numbers of a name's prefix, namespace and local name.
+pub struct Row {
+    pub a: u32,
+    pub b: u32,
+    pub c: u32,
+}
+
+// A word as a place, so that casts are proved here alone.
+fn wide(x: u32) -> usize
+    ensures { λ r. ⌜ r ≡ x ⌝ }
+{
+    x as usize
+}
+
+// The word where a table's row starts.
+fn at(table: usize, i: u32) -> usize
+    requires { ⌜ (table < 10) × (i < 256) ⌝ }
+    ensures { λ r. ⌜ r ≡ 768 * table + 3 * i ⌝ }
+{
+    768 * table + 3 * wide(i)
+}
+
+// Entry i of a table, from 0.
+pub fn entry(t: &[u32], table: usize, i: u32) -> Row
+    requires { ⌜ (length (now t) ≡ 7680) × (table < 10) × (i < 256) ⌝ }
+    ensures { λ r. ⌜ r ≡ rowAt (now (t .entry)) (768 * table + 3 * i) ⌝ }
+{
+    let j = at(table, i);
+    Row {
+        a: t[j],
+        b: t[j + 1],
+        c: t[j + 2],
+    }
+}
+
+// One entry more behind a table's n.
+pub fn add(t: &mut [u32], table: usize, n: u32, a: u32, b: u32, c: u32)
+    requires { ⌜ (length (now t) ≡ 7680) × (table < 10) × (n < 256) ⌝ }
+    ensures { λ _. ⌜ now (t .exit) ≡ stored (now (t .entry)) table n a b c ⌝ }
+{
+    let j = at(table, n);
+    t[j] = a;
+    t[j + 1] = b;
+    t[j + 2] = c;
+}
+
+// Every word is 0.
+pub fn clear(t: &mut [u32])
+    ensures { λ _. ⌜ now (t .exit) ≡ replicate (length (now (t .entry))) 0 ⌝ }
+{
+    let mut i = 0;
+    while i < t.len() {
+        t[i] = 0;
+        i += 1;
+    }
+}
+
+// Whether m octets of x, from a on, are n octets of y, from b on. Lengths are compared before octets.
+fn same_octets(x: &[u8], a: usize, m: usize, y: &[u8], b: usize, n: usize) -> bool
+    requires { ⌜ (a + m ≤ length (now x)) × (b + n ≤ length (now y)) ⌝ }
+    ensures { λ r. ⌜ r ≡ same (octetsOf (now (x .entry)) (stretch a m)) (octetsOf (now (y .entry)) (stretch b n)) ⌝ }
+{
+    if m != n {
+        return false;
+    }
+    let mut i = 0;
+    while i < n {
+        if x[a + i] != y[b + i] {
+            return false;
+        }
+        i += 1;
+    }
+    true
+}
+
+// Whether the string that is built into a table, empty where none is, is that of s at place.
+fn is_built_in(s: &[u8], table: usize, place: usize, len: usize) -> bool
+    requires { ⌜ place + len ≤ length (now s) ⌝ }
+    ensures { λ r. ⌜ r ≡ same (octetsOf (now (s .entry)) (builtIn (tableOf table))) (octetsOf (now (s .entry)) (stretch place len)) ⌝ }
+{
+    match table {
+        0 => same_octets(b"xml", 0, 3, s, place, len),
+        1 => same_octets(
+            b"http://www.w3.org/XML/1998/namespace",
+            0,
+            36,
+            s,
+            place,
+            len,
+        ),
+        _ => len == 0,
+    }
+}
+
+// Whether entry i of a table, from 0, is the string of s at place. The length of a built-in entry is 0.
+fn is_string(s: &[u8], t: &[u32], table: usize, i: u32, place: usize, len: usize) -> bool
+    requires { ⌜ (length (now t) ≡ 7680) × (table < 8) × (i < 256) × (place + len ≤ length (now s)) × Ends (now s) (stringAt (tableOf table) (now t) (768 * table + 3 * i)) ⌝ }
+    ensures { λ r. ⌜ r ≡ same (octetsOf (now (s .entry)) (stringAt (tableOf table) (now (t .entry)) (768 * table + 3 * i))) (octetsOf (now (s .entry)) (stretch place len)) ⌝ }
+{
+    let e = entry(t, table, i);
+    if e.b == 0 {
+        return is_built_in(s, table, place, len);
+    }
+    same_octets(s, wide(e.a), wide(e.b), s, place, len)
+}
+
+// The lowest number of a table's first n entries that is the string of s at place; 0 if none is.
+pub fn find(s: &[u8], t: &[u32], table: usize, n: u32, place: usize, len: usize) -> u32
+    requires { ⌜ (length (now t) ≡ 7680) × (table < 8) × (n ≤ 256) × (place + len ≤ length (now s)) × Inside (now s) (entries (stringAt (tableOf table) (now t)) (768 * table) n) ⌝ }
+    ensures { λ r. ⌜ r ≡ numberIn (map (octetsOf (now (s .entry))) (entries (stringAt (tableOf table) (now (t .entry))) (768 * table) n)) (octetsOf (now (s .entry)) (stretch place len)) ⌝ }
+{
+    let mut i = 0;
+    while i < n {
+        if is_string(s, t, table, i, place, len) {
+            return i + 1;
+        }
+        i += 1;
+    }
+    0
+}
+
+// Whether entry i of a table, from 0, is the name with these numbers.
+fn is_name(t: &[u32], table: usize, i: u32, prefix: u32, namespace: u32, local: u32) -> bool
+    requires { ⌜ (length (now t) ≡ 7680) × (table < 10) × (i < 256) ⌝ }
+    ensures { λ r. ⌜ r ≡ sameTriple (tripleAt (now (t .entry)) (768 * table + 3 * i)) (record { prefix = prefix; namespace = namespace; local = local }) ⌝ }
+{
+    let e = entry(t, table, i);
+    if e.a != prefix {
+        return false;
+    }
+    if e.b != namespace {
+        return false;
+    }
+    e.c == local
+}
+
+// The lowest number of a table's first n entries that is the name with these numbers; 0 if none is.
+pub fn find_name(t: &[u32], table: usize, n: u32, prefix: u32, namespace: u32, local: u32) -> u32
+    requires { ⌜ (length (now t) ≡ 7680) × (table < 10) × (n ≤ 256) ⌝ }
+    ensures { λ r. ⌜ r ≡ numberOfTriple (entries (tripleAt (now (t .entry))) (768 * table) n) (record { prefix = prefix; namespace = namespace; local = local }) ⌝ }
+{
+    let mut i = 0;
+    while i < n {
+        if is_name(t, table, i, prefix, namespace, local) {
+            return i + 1;
+        }
+        i += 1;
+    }
+    0
 }

@@ -1,0 +1,5 @@
+pub mod Again
+pub mod Close
+pub mod Local
+pub mod Row
+pub mod Walk
