@@ -53,25 +53,7 @@ module _ (s : List ℕ) (bytes : AreOctets s) where
       let q : a .last ≡ b .last = cc in
       (sym (a .are) ∙ ap (map (plain s)) p ∙ b .are, sym (a .end-is) ∙ ap (λ (m : Stand). plainState s (m .state)) q ∙ b .end-is)
 
-  -- 6. REFUSED means refused by a number that 01 gives a reader, at a place in the document or at its end.
-  pub refused : (room n p : ℕ) → reading s room ≡ refusal n p → (1 ≤ n) × (n ≤ 15) × (p ≤ length s)
-  refused room n p e = subst (Whole.Means s bytes) e (Whole.means s bytes room)
-
-  --    The events are few, so the check's 32,768 records never run out, and it need not hold them.
-  pub events-few : length (marks s) ≤ 21838
-  events-few = Whole.marks-few s bytes
-
-  pub check-needs-none : (room : ℕ) → 21838 ≤ room → checkOf s ≡ numberOf (reading s room)
-  unfolding checkOf
-  check-needs-none room h =
-      let f = events-few in
-      ap numberOf (Whole.long-enough s 32768 (omega arith) ∙ sym (Whole.long-enough s room (omega arith)))
-
-  --    The bound on the steps never decides: behind a right header, more fuel changes nothing.
-  pub steps-enough : (more room : ℕ) → opening link header s ≡ onward → run link s (more + fuelOf s) room (origin start) ≡ run link s (fuelOf s) room (origin start)
-  steps-enough more room e = Whole.more-fuel s bytes more room e
-
--- 2. And one pair is written as one run of octets only.
+--    And one pair is written as one run of octets only.
 pub one-document : (items : List (Item (List ℕ))) (y z : State (List ℕ)) (s t : List ℕ) → Writes items y s → Writes items z t → (s ≡ t) × (y ≡ z)
 one-document items y z s t w u = One.one-document w u
 
@@ -91,6 +73,25 @@ made-earlier items z s w = Before.earlier-on-link w
 -- 5. TABLES: what the reader knows after each event is what the rules know then.
 pub tables : (items : List (Item (List ℕ))) (z : State (List ℕ)) (s : List ℕ) (w : Writes items z s) → map (λ (k : Mark). plainState s (k .stand .state)) (marks s) ≡ knownAfter link (w .rule)
 tables items z s w = Whole.known-is s items z w
+
+module _ (s : List ℕ) (bytes : AreOctets s) where
+  -- 6. REFUSED means refused by a number that 01 gives a reader, at a place in the document or at its end.
+  pub refused : (room n p : ℕ) → reading s room ≡ refusal n p → (1 ≤ n) × (n ≤ 15) × (p ≤ length s)
+  refused room n p e = subst (Whole.Means s bytes) e (Whole.means s bytes room)
+
+  --    The events are few, so the check's 32,768 records never run out, and it need not hold them.
+  pub events-few : length (marks s) ≤ 21838
+  events-few = Whole.marks-few s bytes
+
+  pub check-needs-none : (room : ℕ) → 21838 ≤ room → checkOf s ≡ numberOf (reading s room)
+  unfolding checkOf
+  check-needs-none room h =
+      let f = events-few in
+      ap numberOf (Whole.long-enough s 32768 (omega arith) ∙ sym (Whole.long-enough s room (omega arith)))
+
+  --    The bound on the steps never decides: behind a right header, more fuel changes nothing.
+  pub steps-enough : (more room : ℕ) → opening link header s ≡ onward → run link s (more + fuelOf s) room (origin start) ≡ run link s (fuelOf s) room (origin start)
+  steps-enough more room e = Whole.more-fuel s bytes more room e
 
 -- 7. The link's rules are a part of the standard's: what they write is written within the standard's own limits.
 pub by-the-standard : (items : List (Item (List ℕ))) (z : State (List ℕ)) (s : List ℕ) (depth octets : ℕ) → link .octets ≤ octets → link .depth ≤ depth

@@ -1,5 +1,8 @@
--- The reading definition: read Strings, Names, Items, then Reading.
+-- The reading definition: read Strings, Names, Items, then Reading. Code says how the code's answers stand for it; Stages and NameStages are cuts of it where the code is cut.
 pub mod Strings
 pub mod Names
 pub mod Items
 pub mod Reading
+pub mod Code
+pub mod Stages
+pub mod NameStages

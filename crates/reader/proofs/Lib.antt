@@ -1,0 +1,2 @@
+pub mod StringLaws
+pub mod NameLaws
