@@ -1,2 +1,6 @@
 pub mod StringLaws
 pub mod NameLaws
+pub mod ItemLaws
+pub mod Places
+pub mod RunLaws
+pub mod WordLaws

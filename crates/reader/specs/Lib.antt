@@ -6,3 +6,5 @@ pub mod Reading
 pub mod Code
 pub mod Stages
 pub mod NameStages
+pub mod ItemStages
+pub mod RunStages

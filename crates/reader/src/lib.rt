@@ -1,11 +1,16 @@
 // Reading a document: octets in, events and tables out, or a refusal and its place.
 // May depend on format, fields, tables and events.
+mod ends;
+mod items;
 mod names;
+mod run;
 mod strings;
 
 ghost use mathlib.Core.Path.{_≡_};
 use events::Event;
 use events::Text;
+pub use run::check;
+pub use run::read_words;
 use tables::Counts;
 
 // Accepted, with the number of events and the ten counts; or the refusal's number and place.

@@ -1,0 +1,30 @@
+// The C boundary: any octets, and words that the caller lends. A slice is a pointer and a length.
+// May depend on all below it.
+ghost use mathlib.Core.Path.{_≡_};
+ghost use lib.ListN.{length};
+ghost use Rattle.reader.specs.Reading.{checkOf};
+ghost use Rattle.reader.specs.RunStages.{leaving, readWords};
+
+// 0 for a document of the link, else the place times 32 plus the refusal's number.
+// Ruled out: 0 where there are no octets, which is 1; 2, a refusal with no place, for E0 00 00 01 00 and nothing behind it, which is 2 at 5, so 162.
+#[no_mangle]
+pub extern "C" fn lomphachit_check(octets: &[u8]) -> u32
+    ensures { λ r. ⌜ r ≡ checkOf (now (octets .entry)) ⌝ }
+{
+    reader::check(octets)
+}
+
+// The events, tables and counts of a document into lent words; the answer has the event count above its low 32 bits, and in them what the check says of so
+// much room.
+// Ruled out: a refusal that leaves a word of an event read before the fault; an acceptance that leaves what stood behind the last event before the call.
+#[no_mangle]
+pub extern "C" fn lomphachit_read(
+    octets: &[u8],
+    records: &mut [u32],
+    tables: &mut [u32],
+    counts: &mut [u32],
+) -> u64
+    ensures { λ r. ⌜ leaving r (now (records .exit)) (now (tables .exit)) (now (counts .exit)) ≡ readWords (now (octets .entry)) (length (now (records .entry))) (length (now (tables .entry))) (length (now (counts .entry))) ⌝ }
+{
+    reader::read_words(octets, records, tables, counts)
+}

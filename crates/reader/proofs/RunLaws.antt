@@ -1,0 +1,366 @@
+-- A law for each way out of the functions of a run, on plain values; and what holds while a run is underway.
+-- Assumes nothing.
+use mathlib.Core.Path.{_≡_, refl, sym, ap, _∙_}
+use mathlib.Core.Bool.{Bool, true, false, _&&_}
+use mathlib.Core.List.{List, [], _∷_, _++_}
+use Prim.Native.Nat.{ℕ, zero, suc, _+_, _-_, _*_, _/_, _≤_, _<_}
+use native.Mathlib.Omega.{arith}
+use native.Mathlib.Numerals.{add-one}
+use borrow.Author.Tests.{lt-ltb, le-ltb, le-leb, lt-leb, eq-eqb, ne-eqb, leb-true}
+use lib.Dec.{eqb, ltb, leb, lit<}
+use lib.ListN.{length, getD, take, drop, set, replicate, getD-replicate, length-replicate, length-append}
+use lib.Seq.{drop-cons, sets, length-sets}
+use Rattle.format.specs.Numbers.{pick}
+use Rattle.format.specs.Events.{Item}
+use Rattle.format.specs.Tables.{NameTable, ELEMENT-NAME, ATTRIBUTE-NAME, names, starting, same, link}
+use Rattle.format.specs.Document.{header, beginning}
+use Rattle.tables.specs.Located.{Located, start}
+use Rattle.tables.specs.Counts.{words, countsOf}
+use Rattle.tables.specs.Rows.{vocabulary}
+use Rattle.tables.proofs.Laws.{vocabulary-start, counted-start, clean-start, inside-start}
+use Rattle.events.specs.declared.Event.{Event}
+use Rattle.events.specs.Records.{recordOf}
+use Rattle.events.specs.Words.{kindNumber, textWords, recordWords}
+use Rattle.reader.specs.declared.Answer.{Answer}
+use Rattle.reader.specs.declared.Answer.the-variants.{Accepted, Refused}
+use Rattle.reader.specs.declared.State.{State}
+use Rattle.reader.specs.declared.Step.{Step}
+use Rattle.reader.specs.declared.Step.the-variants.{More, Quiet, Done, Stop}
+use Rattle.reader.specs.Items as I
+use Rattle.reader.specs.Items.{Stand}
+use Rattle.reader.specs.Reading.{Opening, onward, halt, sized, opening, Result, accepted, refusal, plus, turn, step, run, origin, fuelOf, reading, numberOf, checkOf}
+use Rattle.reader.specs.Code.{Ranged, Tidy, standOf, SeenStep, more, quiet, done, stop, seenStep, stepSeen, Good, StepGood}
+use Rattle.reader.specs.RunStages.{fresh, Ending, ended, faulty, endingOf, seenEnding, itemWords, kept, keptFrom, Keeps, Small, numberIn, Settled, Ran}
+use Rattle.reader.proofs.Places.{tests, both-true, Placed, step-placed}
+
+-- ---- the first four octets
+abbrev four : List ℕ
+four = 0xE0 ∷ 0x00 ∷ 0x00 ∷ 0x01 ∷ []
+
+-- from octet i on
+abbrev pub headedFrom : List ℕ → ℕ → Bool
+headedFrom s i = same (take (4 - i) (drop i s)) (drop i four)
+
+pub headed-start : (s : List ℕ) → headedFrom s 0 ≡ same (take 4 s) (take 4 header)
+unfolding header
+headed-start s = refl
+
+module _ (s : List ℕ) (i : ℕ) (w : Bool) (h : i < 4) (l : i < length s) (e : headedFrom s i ≡ w) where
+  split : headedFrom s i ≡ (eqb (getD s i 0) (getD four i 0) && headedFrom s (suc i))
+  unfolding same
+  split = let z : 4 - i ≡ suc (4 - suc i) = omega arith in rw (z, drop-cons s i 0 l, drop-cons four i 0 h)
+
+  pub headed-differs : (getD s i 0 ≡ getD four i 0 → ⊥) → false ≡ w
+  headed-differs n = rw (ne-eqb _ _ n) at (sym split ∙ e)
+
+  pub headed-next : getD s i 0 ≡ getD four i 0 → headedFrom s (i + 1) ≡ w
+  headed-next q = rw (add-one i) (rw (eq-eqb _ _ q) at (sym split ∙ e))
+
+pub headed-end : (s : List ℕ) (i : ℕ) (w : Bool) → i ≤ 4 → 4 ≤ i → headedFrom s i ≡ w → true ≡ w
+unfolding same
+headed-end s i w a b e = let z : i ≡ 4 = omega arith in rw z at e
+
+-- ---- the opening
+module _ (s : List ℕ) where
+  pub size-none : length s ≡ 0 → false ≡ sized link s
+  unfolding sized
+  size-none h = let l : length s < 1 = omega arith in rw (lt-leb _ _ l)
+
+  pub size-some : (length s ≡ 0 → ⊥) → leb (length s) 16384 ≡ sized link s
+  unfolding sized link
+  size-some h = let l : 1 ≤ length s = omega arith in rw (le-leb _ _ l)
+
+  pub open-size : false ≡ sized link s → halt 1 0 ≡ opening link header s
+  unfolding opening
+  open-size e = rw (← e)
+
+  module _ (size : true ≡ sized link s) where
+    pub open-short : length s < 4 → halt 2 0 ≡ opening link header s
+    unfolding opening
+    open-short h = rw (← size, lt-leb _ _ h)
+
+    module _ (l : 4 ≤ length s) where
+      pub open-other : false ≡ same (take 4 s) (take 4 header) → halt 3 0 ≡ opening link header s
+      unfolding opening
+      open-other e = rw (← size, le-leb _ _ l, ← e)
+
+      module _ (e : true ≡ same (take 4 s) (take 4 header)) where
+        pub open-four : length s < 5 → halt 2 4 ≡ opening link header s
+        unfolding opening
+        open-four h = rw (← size, le-leb _ _ l, ← e, lt-leb _ _ h)
+
+        module _ (h : 5 ≤ length s) where
+          pub open-padding : 0x80 ≤ getD s 4 0 → halt 6 4 ≡ opening link header s
+          unfolding opening
+          open-padding b = rw (← size, le-leb _ _ l, ← e, le-leb _ _ h, le-ltb _ _ b)
+
+          pub open-optional : getD s 4 0 < 0x80 → (getD s 4 0 ≡ 0 → ⊥) → halt 4 4 ≡ opening link header s
+          unfolding opening
+          open-optional b n = rw (← size, le-leb _ _ l, ← e, le-leb _ _ h, lt-ltb _ _ b, ne-eqb _ _ n)
+
+          pub open-onward : getD s 4 0 ≡ 0 → onward ≡ opening link header s
+          unfolding opening
+          open-onward z = rw (← size, le-leb _ _ l, ← e, le-leb _ _ h, z)
+
+-- ---- an event's words
+module _ (w : List ℕ) (n : ℕ) (e : Event) where
+  pub kept-not : length w / 13 ≤ n → w ≡ kept w n e
+  unfolding kept
+  kept-not h = rw (le-ltb _ _ h)
+
+  -- the kind, then the four strings, one behind the other
+  pub kept-all : (k : ℕ) (w₁ w₂ w₃ w₄ : List ℕ) → n < length w / 13 → k ≡ kindNumber (e .kind) → w₁ ≡ sets (set w (13 * n) k) (13 * n + 1) (textWords (e .prefix))
+      → w₂ ≡ sets w₁ (13 * n + 4) (textWords (e .namespace)) → w₃ ≡ sets w₂ (13 * n + 7) (textWords (e .name)) → w₄ ≡ sets w₃ (13 * n + 10) (textWords (e .value)) → w₄ ≡ kept w n e
+  unfolding kept
+  kept-all k w₁ w₂ w₃ w₄ h a b c d f =
+      let z : 13 * n + 1 ≡ suc (13 * n) = add-one (13 * n) in
+      let z₄ : 13 * n + 4 ≡ suc (suc (suc (suc (13 * n)))) = omega arith in
+      let z₇ : 13 * n + 7 ≡ suc (suc (suc (suc (suc (suc (suc (13 * n))))))) = omega arith in
+      let z₁₀ : 13 * n + 10 ≡ suc (suc (suc (suc (suc (suc (suc (suc (suc (suc (13 * n)))))))))) = omega arith in
+      rw (lt-ltb _ _ h, f, d, c, b, a, z, z₄, z₇, z₁₀)
+
+-- what every opening keeps to
+abbrev Opens : List ℕ → Opening → Type 0
+Opens s onward = (5 ≤ length s) × (length s ≤ 16384)
+Opens s (halt k p) = (k ≤ 15) × (p ≤ 16384)
+
+pub opens : (s : List ℕ) (o : Opening) → o ≡ opening link header s → Opens s o
+unfolding opening sized link
+opens s o e =
+    rw e
+    (tests (Opens s) (leb 1 (length s) && leb (length s) 16384) _ _
+    (λ a. tests (Opens s) (leb 4 (length s)) _ _
+    (λ _. tests (Opens s) (same (take 4 s) (take 4 header)) _ _
+    (λ _. tests (Opens s) (leb 5 (length s)) _ _
+    (λ b. tests (Opens s) (ltb (getD s 4 0) 0x80) _ _
+    (λ _. tests (Opens s) (eqb (getD s 4 0) 0) _ _ (λ _. (leb-true _ _ b, leb-true (length s) 16384 (both-true (leb 1 (length s)) (leb (length s) 16384) a))) (λ _. omega arith))
+    (λ _. omega arith))
+    (λ _. omega arith))
+    (λ _. omega arith))
+    (λ _. omega arith))
+    (λ _. omega arith))
+
+-- ---- what a turn comes to, by what is seen of its step
+module _ (go : ℕ → Stand → Result) (m : Stand) (n : ℕ) where
+  abbrev endsBy : ℕ → SeenStep → Ending
+  endsBy zero (more p e k) = faulty 14 p
+  endsBy (suc room) (more p e k) = endingOf (n + 1) (go room k)
+  endsBy room (quiet k) = endingOf n (go room k)
+  endsBy room done = ended n (m .state .words)
+  endsBy room (stop j p) = faulty j p
+
+  abbrev keptBy : List ℕ → ℕ → SeenStep → List ℕ
+  keptBy w zero (more p e k) = []
+  keptBy w (suc room) (more p e k) = keptFrom (sets w (13 * n) (recordWords e)) (n + 1) (go room k)
+  keptBy w room (quiet k) = keptFrom w n (go room k)
+  keptBy w room done = w
+  keptBy w room (stop j p) = []
+
+  plus-ends : (i : Item Located) (x : Result) → endingOf n (plus i x) ≡ endingOf (n + 1) x
+  plus-ends i (accepted is k) = ap (λ (j : ℕ). ended j (k .state .words)) (omega arith)
+  plus-ends i (refusal j p) = refl
+
+  sets-append : (w : List ℕ) (at : ℕ) (a b : List ℕ) → sets w at (a ++ b) ≡ sets (sets w at a) (at + length a) b
+  sets-append w at [] b = let z : at + 0 ≡ at = omega arith in rw z
+  sets-append w at (x ∷ a) b = let z : at + suc (length a) ≡ suc at + length a = omega arith in rw (z, sets-append _ (suc at) a b)
+
+  plus-kept : (w : List ℕ) (i : Item Located) (x : Result) → keptFrom w n (plus i x) ≡ keptFrom (sets w (13 * n) (recordWords (recordOf (i .event)))) (n + 1) x
+  unfolding itemWords
+  plus-kept w i (accepted is k) =
+      let z : 13 * (n + 1) ≡ 13 * n + 13 = omega arith in
+      rw z (sets-append w (13 * n) (recordWords (recordOf (i .event))) (itemWords is))
+  plus-kept w i (refusal j p) = refl
+
+  turn-ends : (room : ℕ) (x : I.Step) → endingOf n (turn go room m x) ≡ endsBy room (stepSeen x)
+  turn-ends zero (I.more p i k) = refl
+  turn-ends (suc room) (I.more p i k) = plus-ends i (go room k)
+  turn-ends room (I.quiet k) = refl
+  turn-ends room I.done = let z : n + 0 ≡ n = omega arith in rw z
+  turn-ends room (I.stop j p) = refl
+
+  turn-kept : (w : List ℕ) (room : ℕ) (x : I.Step) → keptFrom w n (turn go room m x) ≡ keptBy w room (stepSeen x)
+  unfolding itemWords
+  turn-kept w zero (I.more p i k) = refl
+  turn-kept w (suc room) (I.more p i k) = plus-kept w i (go room k)
+  turn-kept w room (I.quiet k) = refl
+  turn-kept w room I.done = refl
+  turn-kept w room (I.stop j p) = refl
+
+-- the place of an event, or of a refusal, as it is seen
+abbrev PlacedSeen : List ℕ → SeenStep → Type 0
+PlacedSeen s (more p e k) = p ≤ length s
+PlacedSeen s (quiet k) = Unit {0}
+PlacedSeen s done = Unit {0}
+PlacedSeen s (stop j p) = (j ≤ 15) × (p ≤ length s)
+
+placed-seen : (s : List ℕ) (x : I.Step) → Placed s x → PlacedSeen s (stepSeen x)
+placed-seen s (I.more p i k) h = h
+placed-seen s (I.quiet k) h = tt
+placed-seen s I.done h = tt
+placed-seen s (I.stop j p) h = h
+
+-- ---- a run of a document s with records for `room` events, whose words were v: n events so far, fuel for `left` steps more, where the reader stands, the words of tables and records
+module _ (s v : List ℕ) (room : ℕ) where
+  abbrev whole : Result
+  whole = run link s (fuelOf s) room (origin start)
+
+  pub record Underway (left n : ℕ) (st : State) (t w : List ℕ) : Type 0 where
+    pub good : Good s st t
+    pub fits : n ≤ room
+    pub fuel : n + left ≤ 2 * length s + 1
+    pub ends : endingOf n (run link s left (room - n) (standOf st t)) ≡ endingOf 0 whole
+    pub keeps : 13 * room ≤ length v → keptFrom w n (run link s left (room - n) (standOf st t)) ≡ keptFrom v 0 whole
+    pub same-length : length w ≡ length v
+
+  tables-start : (t : List ℕ) → t ≡ replicate words 0 → vocabulary (countsOf start) t ≡ start
+  tables-start t e = rw e (vocabulary-start (replicate words 0) (getD-replicate {A = ℕ} words 1 0 0 (lit< tt)) (getD-replicate {A = ℕ} words 769 0 0 (lit< tt)))
+
+  start-is : (t : List ℕ) → t ≡ replicate words 0 → standOf fresh t ≡ origin start
+  unfolding beginning
+  start-is t e = rw (tables-start t e)
+
+  ranged-start : (t : NameTable) → Ranged (countsOf start) (names start t)
+  unfolding names start starting
+  ranged-start ELEMENT-NAME = tt
+  ranged-start ATTRIBUTE-NAME = tt
+
+  pub underway-start : 5 ≤ length s → length s ≤ 16384 → (t : List ℕ) → t ≡ replicate words 0 → Underway (2 * length s + 1) 0 fresh t v
+  underway-start l h t e =
+      let z : room - 0 ≡ room = omega arith in
+      record {
+        good = record {
+          tidy = record {
+            size = h;
+            room = ap length e ∙ length-replicate {A = ℕ} words 0;
+            counted = counted-start;
+            clean = rw e clean-start;
+            inside = rw (tables-start t e) (inside-start s);
+            ranged = rw (tables-start t e) ranged-start;
+          };
+          at = omega arith;
+          shallow = omega arith;
+        };
+        fits = omega arith;
+        fuel = omega arith;
+        ends = rw (z, start-is t e, add-one);
+        keeps = λ _. rw (z, start-is t e, add-one);
+        same-length = refl;
+      }
+
+  module _ (left n : ℕ) (st : State) (t w : List ℕ) (u : Underway left n st t w) where
+    pub ran-spent : left ≤ 0 → Ran room v (Refused 2 (st .at / 2)) t w whole
+    unfolding run
+    ran-spent h =
+        let z : left ≡ 0 = omega arith in
+        let g = u .good in
+        record { is = rw z at (u .ends); small = omega arith; settled = tt; keeps = λ _. tt }
+
+    -- a step, and what is seen of its answer
+    module _ (h : 0 < left) (r : Step) (t′ : List ℕ) (p : (seenStep r t′ ≡ stepSeen (step link s (standOf st t))) × StepGood s t r t′) where
+      abbrev onward-from : ℕ → Stand → Result
+      onward-from k m = run link s (left - 1) k m
+
+      one : run link s left (room - n) (standOf st t) ≡ turn onward-from (room - n) (standOf st t) (step link s (standOf st t))
+      unfolding run
+      one = let z : left ≡ suc (left - 1) = omega arith in ap (λ (k : ℕ). run link s k (room - n) (standOf st t)) z
+
+      ends-here : endsBy onward-from (standOf st t) n (room - n) (seenStep r t′) ≡ endingOf 0 whole
+      ends-here = rw (p .0) (sym (ap (endingOf n) one ∙ turn-ends onward-from (standOf st t) n (room - n) (step link s (standOf st t))) ∙ u .ends)
+
+      kept-here : 13 * room ≤ length v → keptBy onward-from (standOf st t) n w (room - n) (seenStep r t′) ≡ keptFrom v 0 whole
+      kept-here k = rw (p .0) (sym (ap (keptFrom w n) one ∙ turn-kept onward-from (standOf st t) n w (room - n) (step link s (standOf st t))) ∙ u .keeps k)
+
+      placed-here : PlacedSeen s (seenStep r t′)
+      placed-here = rw (p .0) (placed-seen s (step link s (standOf st t)) (step-placed s link (standOf st t) (u .good .at)))
+
+      module _ (st′ : State) (q : r ≡ Quiet st′) where
+        pub underway-quiet : Underway (left - 1) n st′ t′ w
+        underway-quiet =
+            let f = u .fuel in
+            record {
+              good = rw q at (p .1);
+              fits = u .fits;
+              fuel = omega arith;
+              ends = rw q at ends-here;
+              keeps = λ k. rw q at (kept-here k);
+              same-length = u .same-length;
+            }
+
+      module _ (place : ℕ) (e : Event) (st′ : State) (q : r ≡ More place e st′) where
+        pub more-place : place ≤ 16384
+        more-place = let l : place ≤ length s = rw q at placed-here in let g = u .good .tidy .size in omega arith
+
+        pub underway-more : (n ≡ room → ⊥) → (w′ : List ℕ) → w′ ≡ kept w n e → length w′ ≡ length w → Underway (left - 1) (n + 1) st′ t′ w′
+        unfolding kept
+        underway-more l w′ k o =
+            let f = u .fuel in
+            let i = u .fits in
+            let j = u .same-length in
+            let z : room - n ≡ suc (room - (n + 1)) = omega arith in
+            record {
+              good = rw q at (p .1);
+              fits = omega arith;
+              fuel = omega arith;
+              ends = rw (q, z) at ends-here;
+              keeps = λ b. let y : n < length w / 13 = omega arith in rw (k, lt-ltb _ _ y) (rw (q, z) at (kept-here b));
+              same-length = o ∙ u .same-length;
+            }
+
+        pub ran-full : n ≡ room → Ran room v (Refused 14 place) t′ w whole
+        ran-full l =
+            let z : room - n ≡ 0 = omega arith in
+            record { is = rw (q, z) at ends-here; small = (omega arith, more-place); settled = tt; keeps = λ _. tt }
+
+      module _ (q : r ≡ Done) where
+        pub ran-done : Ran room v (Accepted n (st .counts)) t′ w whole
+        ran-done =
+            let same : t′ ≡ t = rw q at (p .1) in
+            let g = u .good .tidy .size in
+            let f = u .fuel in
+            record {
+              is = rw same (rw q at ends-here);
+              small = omega arith;
+              settled = (u .fits, rw same (u .good .tidy .clean));
+              keeps = λ k. rw q at (kept-here k);
+            }
+
+      module _ (k place : ℕ) (q : r ≡ Stop k place) where
+        pub stop-place : (k ≤ 15) × (place ≤ 16384)
+        stop-place = let l : (k ≤ 15) × (place ≤ length s) = rw q at placed-here in let g = u .good .tidy .size in omega arith
+
+        pub ran-stop : Ran room v (Refused k place) t′ w whole
+        ran-stop = record { is = rw q at ends-here; small = stop-place; settled = tt; keeps = λ _. tt }
+
+-- ---- a document
+module _ (s v : List ℕ) (room : ℕ) (r : Answer) (t w : List ℕ) where
+  pub ran-halt : (k place : ℕ) → halt k place ≡ opening link header s → r ≡ Refused k place → Ran room v r t w (reading s room)
+  unfolding reading
+  ran-halt k place e q =
+      let o = opens s (halt k place) e in
+      rw (← e, q) (record { is = refl; small = o; settled = tt; keeps = λ _. tt })
+
+  pub ran-onward : onward ≡ opening link header s → Ran room v r t w (run link s (fuelOf s) room (origin start)) → Ran room v r t w (reading s room)
+  unfolding reading
+  ran-onward e p = rw (← e) p
+
+pub small-refused : (r : Answer) (k p : ℕ) → r ≡ Refused k p → Small r → (k ≤ 15) × (p ≤ 16384)
+small-refused r k p q h = rw q at h
+
+abbrev numberFor : Ending → ℕ
+numberFor (ended n x) = 0
+numberFor (faulty k p) = p * 32 + k
+
+number-seen : (r : Answer) (t : List ℕ) → numberIn r ≡ numberFor (seenEnding r t)
+number-seen (Accepted n c) t = refl
+number-seen (Refused k p) t = refl
+
+number-ending : (n : ℕ) (x : Result) → numberFor (endingOf n x) ≡ numberOf x
+number-ending n (accepted is m) = refl
+number-ending n (refusal k p) = refl
+
+pub number-ran : (v : List ℕ) (room : ℕ) (r : Answer) (t w : List ℕ) (x : Result) → Ran room v r t w x → numberIn r ≡ numberOf x
+number-ran v room r t w x p = number-seen r t ∙ ap numberFor (p .is) ∙ number-ending 0 x
+
+pub check-is : (s v : List ℕ) (r : Answer) (t w : List ℕ) → Ran 32768 v r t w (reading s 32768) → numberIn r ≡ checkOf s
+unfolding checkOf
+check-is s v r t w p = number-ran v 32768 r t w (reading s 32768) p

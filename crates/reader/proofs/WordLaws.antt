@@ -1,0 +1,127 @@
+-- What a reading into words leaves, by each way out.
+-- Assumes nothing.
+use mathlib.Core.Path.{_≡_, refl, sym, ap, _∙_}
+use mathlib.Core.Bool.{true, false}
+use mathlib.Core.List.{List, [], _∷_, _++_, append-nil}
+use Prim.Native.Nat.{ℕ, suc, _+_, _-_, _*_, _/_, _%_, _^_, _≤_, _<_}
+use native.Mathlib.Omega.{arith}
+use native.Mathlib.Numerals.{add-one}
+use borrow.Author.Tests.{eq-eqb, ne-eqb}
+use lib.ListN.{length, getD, take, drop, set, replicate, length-append, length-drop, length-replicate, replicate-append-replicate, drop-of-length-le}
+use lib.Seq.{drop-cons, take-suc, take-all, length-take-le, set-at, append-snoc, drop-at, sets, sets-eq}
+use Rattle.format.specs.Events.{Item}
+use Rattle.format.specs.Tables.{Vocabulary, link}
+use Rattle.tables.specs.declared.Counts.{Counts}
+use Rattle.tables.specs.Located.{Located}
+use Rattle.tables.specs.Counts.{words, countsOf, entryWords, wordsOf}
+use Rattle.tables.specs.Rows.{vocabulary}
+use Rattle.tables.specs.Kept.{listed, Clean}
+use Rattle.tables.proofs.Laws.{counts-are}
+use Rattle.events.specs.Records.{recordOf}
+use Rattle.events.specs.Words.{recordWords}
+use Rattle.reader.specs.declared.Answer.{Answer}
+use Rattle.reader.specs.declared.Answer.the-variants.{Accepted, Refused}
+use Rattle.reader.specs.Reading.{Result, accepted, refusal, sized, reading}
+use Rattle.reader.specs.RunStages.{Ending, ended, faulty, endingOf, itemWords, keptFrom, numberIn, Ran, Words, leaving, nothing, wordsFrom, readWords}
+
+-- ---- a list copied over words, up to i
+module _ (l w₀ w : List ℕ) (i : ℕ) (same : length w₀ ≡ length l) (e : w ≡ take i l ++ drop i w₀) where
+  pub copied-length : i ≤ length l → length w ≡ length w₀
+  copied-length h = ap length e ∙ simp (length-append, length-take-le i l h, length-drop) (omega arith)
+
+  pub copied-next : i < length l → set w i (getD l i 0) ≡ take (i + 1) l ++ drop (i + 1) w₀
+  copied-next h =
+      let k : i < length w₀ = omega arith in
+      let f : i ≤ length l = omega arith in
+      rw (e, drop-cons w₀ i 0 k, set-at (take i l) _ (drop (suc i) w₀) (getD l i 0) i (length-take-le i l f), add-one i, take-suc l i 0 h) (sym (append-snoc (take i l) (getD l i 0) (drop (suc i) w₀)))
+
+  pub copied-all : length l ≤ i → w ≡ l
+  copied-all h = let k : length w₀ ≤ i = omega arith in e ∙ rw (take-all i l h, drop-of-length-le w₀ k, append-nil)
+
+-- ---- what a run's end comes to in words
+drop-zeros : (r k : ℕ) → k ≤ r → drop k (replicate {A = ℕ} r 0) ≡ replicate (r - k) 0
+drop-zeros r k h =
+    let y : r ≡ k + (r - k) = omega arith in
+    let z : replicate {A = ℕ} r 0 ≡ replicate k 0 ++ replicate (r - k) 0 = ap (λ (n : ℕ). replicate n 0) y ∙ sym (replicate-append-replicate {A = ℕ} k (r - k) 0) in
+    ap (drop k) z ∙ drop-at (replicate k 0) (replicate (r - k) 0) k (length-replicate {A = ℕ} k 0)
+
+item-length : (is : List (Item Located)) → length (itemWords is) ≡ 13 * length is
+unfolding itemWords
+item-length [] = refl
+item-length (i ∷ is) = let e = item-length is in length-append (recordWords (recordOf (i .event))) (itemWords is) ∙ omega arith
+
+refused-words : (r k place : ℕ) (x : Result) → faulty k place ≡ endingOf 0 x → nothing k place r words 10 ≡ wordsFrom x r
+refused-words r k place (accepted is m) e = let z : _≡_ {A = ℕ} 0 1 = cc in absurd (omega arith)
+refused-words r k place (refusal j p) e =
+    let a : k ≡ j = cc in
+    let b : place ≡ p = cc in
+    rw (a, b)
+
+accepted-words : (r n : ℕ) (d : Counts) (w v : List ℕ) (x : Result) → ended n (vocabulary d w) ≡ endingOf 0 x → n ≤ r / 13 → Clean d w → v ≡ keptFrom (replicate r 0) 0 x
+    → leaving (n * 2 ^ 32) v w (listed d) ≡ wordsFrom x r
+unfolding Clean
+accepted-words r n d w v (refusal j p) e h g k = let z : _≡_ {A = ℕ} 0 1 = cc in absurd (omega arith)
+accepted-words r n d w v (accepted is m) e h g k = λ i. leaving (count i * 2 ^ 32) (record-words i) (table-words i) (listed (counts i))
+  where
+    count₀ : n ≡ 0 + length is
+    count₀ = cc
+
+    count : n ≡ length is
+    count = omega (arith, count₀)
+
+    known : vocabulary d w ≡ m .state .words
+    known = cc
+
+    table-words : w ≡ wordsOf entryWords (m .state .words)
+    table-words = sym g ∙ ap (wordsOf entryWords) known
+
+    counts : d ≡ countsOf (m .state .words)
+    counts = sym (counts-are d w) ∙ ap countsOf known
+
+    record-words : v ≡ itemWords is ++ replicate (r - 13 * length is) 0
+    record-words =
+        let l = item-length is in
+        let f : 13 * length is ≤ r = omega (arith, count) in
+        let y : 0 + length (itemWords is) ≡ 13 * length is = omega arith in
+        k ∙ sets-eq (itemWords is) (replicate r 0) 0 (rw (length-replicate {A = ℕ} r 0) (omega arith)) ∙ ap (λ (q : List ℕ). itemWords is ++ q) (rw y (drop-zeros r (13 * length is) f))
+
+pub zeroed : (x : List ℕ) (n m : ℕ) → x ≡ replicate n 0 → n ≡ m → x ≡ replicate m 0
+zeroed x n m e q = e ∙ ap (λ (k : ℕ). replicate k 0) q
+
+-- ---- by cases
+module _ (s : List ℕ) (r t c : ℕ) where
+  pub words-size : false ≡ sized link s → nothing 1 0 r t c ≡ readWords s r t c
+  unfolding readWords
+  words-size e = rw (← e)
+
+  module _ (size : true ≡ sized link s) where
+    pub words-tables : (t ≡ words → ⊥) → nothing 14 0 r t c ≡ readWords s r t c
+    unfolding readWords
+    words-tables n = rw (← size, ne-eqb _ _ n)
+
+    module _ (a : t ≡ words) where
+      pub words-counts : (c ≡ 10 → ⊥) → nothing 14 0 r t c ≡ readWords s r t c
+      unfolding readWords
+      words-counts n = rw (← size, eq-eqb _ _ a, ne-eqb _ _ n)
+
+      module _ (b : c ≡ 10) where
+        fields-first : wordsFrom (reading s (r / 13)) r ≡ readWords s r t c
+        unfolding readWords
+        fields-first = rw (← size, eq-eqb _ _ a, eq-eqb _ _ b)
+
+        -- a run that came out as a
+        module _ (v : List ℕ) (y : Answer) (w′ v′ : List ℕ) (p : Ran (r / 13) v y w′ v′ (reading s (r / 13))) where
+          pub words-refused : (k place : ℕ) → y ≡ Refused k place → (n : ℕ) → n ≡ numberIn y → leaving n (replicate r 0) (replicate t 0) (replicate c 0) ≡ readWords s r t c
+          words-refused k place q n e =
+              let f : faulty k place ≡ endingOf 0 (reading s (r / 13)) = rw q at (p .is) in
+              let m : n ≡ place * 32 + k = e ∙ ap numberIn q in
+              (λ i. leaving (m i) (replicate r 0) (replicate (a i) 0) (replicate (b i) 0)) ∙ refused-words r k place (reading s (r / 13)) f ∙ fields-first
+
+          pub words-accepted : (n : ℕ) (d : Counts) → y ≡ Accepted n d → v ≡ replicate r 0 → (u : List ℕ) → u ≡ listed d → leaving (n * 2 ^ 32 % 2 ^ 64) v′ w′ u ≡ readWords s r t c
+          words-accepted n d q z u l =
+              let f : ended n (vocabulary d w′) ≡ endingOf 0 (reading s (r / 13)) = rw q at (p .is) in
+              let g : (n ≤ r / 13) × Clean d w′ = rw q at (p .settled) in
+              let h : n ≤ 32769 = rw q at (p .small) in
+              let x : n * 2 ^ 32 % 2 ^ 64 ≡ n * 2 ^ 32 = omega arith in
+              let k : v′ ≡ keptFrom (replicate r 0) 0 (reading s (r / 13)) = rw (q, z) at (p .keeps (rw (z, length-replicate {A = ℕ} r 0) (omega arith))) in
+              rw (x, l) (accepted-words r n d w′ v′ (reading s (r / 13)) f (g .0) (g .1) k ∙ fields-first)

@@ -1,0 +1,114 @@
+-- How a run's answers stand for the reading definition's, and what a reading leaves in lent words.
+use Prim.Native.Nat.{ℕ, _+_, _-_, _*_, _/_, _^_, _≤_}
+use mathlib.Core.Path.{_≡_}
+use mathlib.Core.Bool.{false}
+use mathlib.Core.List.{List, [], _∷_, _++_}
+use lib.ListN.{length, replicate}
+use lib.Seq.{sets}
+use lib.Dec.{eqb, ltb}
+use Rattle.format.specs.Numbers.{pick}
+use Rattle.format.specs.Events.{Item}
+use Rattle.format.specs.Tables.{Vocabulary, link}
+use Rattle.tables.specs.Located.{Located, start}
+use Rattle.tables.specs.Counts.{countsOf, words, entryWords, wordsOf}
+use Rattle.tables.specs.Rows.{vocabulary}
+use Rattle.tables.specs.Kept.{listed, Clean}
+use Rattle.events.specs.declared.Event.{Event}
+use Rattle.events.specs.Records.{recordOf}
+use Rattle.events.specs.Words.{recordWords}
+use Rattle.reader.specs.declared.Answer.{Answer}
+use Rattle.reader.specs.declared.Answer.the-variants.{Accepted, Refused}
+use Rattle.reader.specs.declared.Mode.the-variants.{Content}
+use Rattle.reader.specs.declared.State.{State}
+use Rattle.reader.specs.declared.run.Opening.{Opening}
+use Rattle.reader.specs.declared.run.Opening.the-variants.{Onward, Halt}
+use Rattle.reader.specs.Reading as R
+use Rattle.reader.specs.Reading.{Result, accepted, refusal, sized, reading}
+
+abbrev pub openingOf : Opening → R.Opening
+openingOf Onward = R.onward
+openingOf (Halt n p) = R.halt n p
+
+-- The reader before the first item.
+abbrev pub fresh : State
+fresh = record { at = 10; level = 0; root = false; mode = Content; counts = countsOf start }
+
+-- ---- how a run ends: so many events, and the tables; or a refusal
+pub data Ending : Type 0 where
+  ended : (events : ℕ) → Vocabulary Located → Ending
+  faulty : (number place : ℕ) → Ending
+
+-- With n events before it.
+abbrev pub endingOf : ℕ → Result → Ending
+endingOf n (accepted is m) = ended (n + length is) (m .state .words)
+endingOf n (refusal k p) = faulty k p
+
+abbrev pub seenEnding : Answer → List ℕ → Ending
+seenEnding (Accepted n c) w = ended n (vocabulary c w)
+seenEnding (Refused k p) w = faulty k p
+
+-- ---- events in records of 13 words
+unfoldable pub itemWords : List (Item Located) → List ℕ
+itemWords [] = []
+itemWords (i ∷ is) = recordWords (recordOf (i .event)) ++ itemWords is
+
+-- Words with an event in record n, if they have one.
+unfoldable pub kept : List ℕ → ℕ → Event → List ℕ
+kept w n e = pick (ltb n (length w / 13)) (sets w (13 * n) (recordWords e)) w
+
+-- Words with the events of a run from record n on. A refusal promises nothing of them.
+abbrev pub keptFrom : List ℕ → ℕ → Result → List ℕ
+keptFrom w n (accepted is m) = sets w (13 * n) (itemWords is)
+keptFrom w n (refusal k p) = []
+
+abbrev pub Keeps : Answer → List ℕ → List ℕ → Type 0
+Keeps (Accepted n c) v w = v ≡ w
+Keeps (Refused k p) v w = Unit {0}
+
+-- ---- a run's answer
+-- Its number fits 32 bits.
+abbrev pub Small : Answer → Type 0
+Small (Accepted n c) = n ≤ 32769
+Small (Refused k p) = (k ≤ 15) × (p ≤ 16384)
+
+abbrev pub numberIn : Answer → ℕ
+numberIn (Accepted n c) = 0
+numberIn (Refused k p) = p * 32 + k
+
+-- An accepted document has no more events than records, and its table words say what its tables are and nothing else.
+abbrev pub Settled : ℕ → Answer → List ℕ → Type 0
+Settled room (Accepted n c) w = (n ≤ room) × Clean c w
+Settled room (Refused k p) w = Unit {0}
+
+-- A run with records for `room` events came out as x; v were the words for records before, and w′ and v′ are those of tables and records then.
+pub record Ran (room : ℕ) (v : List ℕ) (r : Answer) (w′ v′ : List ℕ) (x : Result) : Type 0 where
+  pub is : seenEnding r w′ ≡ endingOf 0 x
+  pub small : Small r
+  pub settled : Settled room r w′
+  pub keeps : 13 * room ≤ length v → Keeps r v′ (keptFrom v 0 x)
+
+-- ---- what a reading into words answers and leaves
+pub record Words : Type 0 where
+  pub answer : ℕ
+  pub records : List ℕ
+  pub tables : List ℕ
+  pub counts : List ℕ
+
+abbrev pub leaving : ℕ → (records tables counts : List ℕ) → Words
+leaving answer records tables counts = record { answer = answer; records = records; tables = tables; counts = counts }
+
+-- A refusal leaves every word 0. An acceptance has the event count above the low 32 bits, and leaves 0 behind the last event.
+abbrev pub nothing : (number place : ℕ) → (records tables counts : ℕ) → Words
+nothing k p r t c = leaving (p * 32 + k) (replicate r 0) (replicate t 0) (replicate c 0)
+
+abbrev pub wordsFrom : Result → (records : ℕ) → Words
+wordsFrom (accepted is m) r =
+    leaving (length is * 2 ^ 32) (itemWords is ++ replicate (r - 13 * length is) 0) (wordsOf entryWords (m .state .words)) (listed (countsOf (m .state .words)))
+wordsFrom (refusal k p) r = nothing k p r words 10
+
+-- With so many words lent for records, tables and counts: SIZE, then the room of tables and counts (14), both at place 0, then the fields.
+unfoldable pub readWords : List ℕ → (records tables counts : ℕ) → Words
+readWords s r t c =
+    pick (sized link s)
+    (pick (eqb t words) (pick (eqb c 10) (wordsFrom (reading s (r / 13)) r) (nothing 14 0 r t c)) (nothing 14 0 r t c))
+    (nothing 1 0 r t c)

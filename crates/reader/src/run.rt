@@ -1,0 +1,251 @@
+// A run: the opening, then steps until the document's end. The check and the reader for C are such runs.
+ghost use mathlib.Core.Path.{_≡_};
+ghost use Prim.Native.Nat.{ℕ, _+_, _*_, _<_, _≤_};
+ghost use lib.ListN.{length, take, replicate};
+ghost use lib.Seq.{sets};
+ghost use Rattle.format.specs.Tables.{link, same};
+ghost use Rattle.format.specs.Document.{header};
+ghost use Rattle.tables.specs.Located.{start};
+ghost use Rattle.tables.specs.Counts.{words};
+ghost use Rattle.tables.specs.Kept.{listed};
+ghost use Rattle.events.specs.Words.{textWords, recordWords};
+ghost use Rattle.reader.specs.Reading.{sized, opening, run, origin, fuelOf, reading, checkOf};
+ghost use Rattle.reader.specs.RunStages.{openingOf, fresh, kept, Ran, Small, numberIn, leaving, readWords};
+use crate::Answer;
+use crate::Mode;
+use crate::State;
+use crate::Step;
+use events::Event;
+use events::Text;
+use tables::Counts;
+
+// The refusals that a run has of its own.
+const SIZE: u32 = 1;
+
+const HEADER: u32 = 3;
+
+const OPTIONAL: u32 = 4;
+
+const ROOM: u32 = 14;
+
+// Octets of the longest document; event records that the check counts; words of a record; counts.
+const OCTETS: usize = 16384;
+
+const CHECKED: usize = 32768;
+
+const RECORD: usize = 13;
+
+const COUNTS: usize = 10;
+
+// E0 00 (12.6) and version 1 (12.7).
+const FIRST: [u8; 4] = [0xE0, 0x00, 0x00, 0x01];
+
+// What stands before the first item: go on, or the refusal and its place.
+pub enum Opening {
+    Onward,
+    Halt(u32, usize),
+}
+
+fn sized(s: &[u8]) -> bool
+    ensures { λ r. ⌜ r ≡ sized link (now (s .entry)) ⌝ }
+{
+    if s.len() == 0 {
+        return false;
+    }
+    s.len() <= OCTETS
+}
+
+fn headed(s: &[u8]) -> bool
+    requires { ⌜ 4 ≤ length (now s) ⌝ }
+    ensures { λ r. ⌜ r ≡ same (take 4 (now (s .entry))) (take 4 header) ⌝ }
+{
+    let mut i = 0;
+    while i < 4 {
+        if s[i] != FIRST[i] {
+            return false;
+        }
+        i += 1;
+    }
+    true
+}
+
+// SIZE, the first four octets, the fifth.
+fn opened(s: &[u8]) -> Opening
+    ensures { λ r. ⌜ openingOf r ≡ opening link header (now (s .entry)) ⌝ }
+{
+    if !sized(s) {
+        return Opening::Halt(SIZE, 0);
+    }
+    if s.len() < 4 {
+        return Opening::Halt(fields::TRUNCATED, 0);
+    }
+    if !headed(s) {
+        return Opening::Halt(HEADER, 0);
+    }
+    if s.len() < 5 {
+        return Opening::Halt(fields::TRUNCATED, 4);
+    }
+    let o = s[4];
+    if 0x80 <= o {
+        return Opening::Halt(fields::PADDING, 4);
+    }
+    if o != 0 {
+        return Opening::Halt(OPTIONAL, 4);
+    }
+    Opening::Onward
+}
+
+// Before the first item.
+fn begin() -> State
+    ensures { λ r. ⌜ r ≡ fresh ⌝ }
+{
+    State {
+        at: 10,
+        level: 0,
+        root: false,
+        mode: Mode::Content,
+        counts: Counts::start(),
+    }
+}
+
+// The three words of a string.
+fn put_text(w: &mut [u32], at: usize, x: Text)
+    requires { ⌜ at + 3 ≤ length (now w) ⌝ }
+    ensures { λ _. ⌜ now (w .exit) ≡ sets (now (w .entry)) at (textWords x) ⌝ }
+{
+    w[at] = x.tag();
+    w[at + 1] = x.place();
+    w[at + 2] = x.size();
+}
+
+// An event in record n, where the words have one.
+fn keep(records: &mut [u32], n: usize, e: Event)
+    ensures { λ _. ⌜ now (records .exit) ≡ kept (now (records .entry)) n e ⌝ }
+{
+    if records.len() / RECORD <= n {
+        return;
+    }
+    let at = RECORD * n;
+    let kind = e.kind;
+    records[at] = kind.number();
+    let prefix = e.prefix;
+    put_text(records, at + 1, prefix);
+    let namespace = e.namespace;
+    put_text(records, at + 4, namespace);
+    let name = e.name;
+    put_text(records, at + 7, name);
+    let value = e.value;
+    put_text(records, at + 10, value);
+}
+
+fn refused(k: u32, p: usize) -> Answer
+    requires { ⌜ p ≤ 16384 ⌝ }
+    ensures { λ r. ⌜ r ≡ Answer.Refused k p ⌝ }
+{
+    Answer::Refused(k, p as u32)
+}
+
+// Steps until the document's end, with records for `room` events; `records` keeps those for which it has words.
+fn steps(s: &[u8], t: &mut [u32], records: &mut [u32], room: usize) -> Answer
+    requires { ⌜ (5 ≤ length (now s)) × (length (now s) ≤ 16384) × (now t ≡ replicate words 0) ⌝ }
+    ensures { λ r. ⌜ Ran room (now (records .entry)) r (now (t .exit)) (now (records .exit)) (run link (now (s .entry)) (fuelOf (now (s .entry))) room (origin start)) ⌝ }
+{
+    let mut st = begin();
+    let mut n = 0;
+    let mut left = 2 * s.len() + 1;
+    while 0 < left {
+        left -= 1;
+        match st.step(s, t) {
+            Step::More(p, e, next) => {
+                if n == room {
+                    return refused(ROOM, p);
+                }
+                keep(records, n, e);
+                n += 1;
+                st = next;
+            }
+            Step::Quiet(next) => {
+                st = next;
+            }
+            Step::Done => {
+                let counts = st.counts;
+                return Answer::Accepted(n as u32, counts);
+            }
+            Step::Stop(k, p) => {
+                return refused(k, p);
+            }
+        }
+    }
+    refused(fields::TRUNCATED, st.at / 2)
+}
+
+// A document, with tables that are clear.
+fn reading(s: &[u8], t: &mut [u32], records: &mut [u32], room: usize) -> Answer
+    requires { ⌜ now t ≡ replicate words 0 ⌝ }
+    ensures { λ r. ⌜ Ran room (now (records .entry)) r (now (t .exit)) (now (records .exit)) (reading (now (s .entry)) room) ⌝ }
+{
+    match opened(s) {
+        Opening::Halt(k, p) => refused(k, p),
+        Opening::Onward => steps(s, t, records, room),
+    }
+}
+
+// 0, or the place times 32 plus the refusal.
+fn number(a: Answer) -> u32
+    requires { ⌜ Small a ⌝ }
+    ensures { λ r. ⌜ r ≡ numberIn a ⌝ }
+{
+    match a {
+        Answer::Accepted(_, _) => 0,
+        Answer::Refused(k, p) => p * 32 + k,
+    }
+}
+
+// Any octets, as a reader with 32,768 event records, of which none is held.
+pub fn check(octets: &[u8]) -> u32
+    ensures { λ r. ⌜ r ≡ checkOf (now (octets .entry)) ⌝ }
+{
+    let mut t = [0u32; 7680];
+    let mut none = [0u32; 0];
+    number(reading(octets, &mut t, &mut none, CHECKED))
+}
+
+// The ten counts, in 01's order.
+fn put_counts(w: &mut [u32], c: Counts)
+    requires { ⌜ length (now w) ≡ 10 ⌝ }
+    ensures { λ _. ⌜ now (w .exit) ≡ listed c ⌝ }
+{
+    let mut i = 0;
+    while i < COUNTS {
+        w[i] = c.of(i);
+        i += 1;
+    }
+}
+
+// A document into words: a record for each event, the tables, the ten counts. The answer has the event count above its low 32 bits, and in them 0 or the
+// refusal's number, which leaves every word 0.
+pub fn read_words(octets: &[u8], records: &mut [u32], tables: &mut [u32], counts: &mut [u32]) -> u64
+    ensures { λ r. ⌜ leaving r (now (records .exit)) (now (tables .exit)) (now (counts .exit)) ≡ readWords (now (octets .entry)) (length (now (records .entry))) (length (now (tables .entry))) (length (now (counts .entry))) ⌝ }
+{
+    let room = records.len() / RECORD;
+    tables::clear(records);
+    tables::clear(tables);
+    tables::clear(counts);
+    if !sized(octets) {
+        return SIZE as u64;
+    }
+    if tables.len() != Counts::WORDS {
+        return ROOM as u64;
+    }
+    if counts.len() != COUNTS {
+        return ROOM as u64;
+    }
+    let a = reading(octets, tables, records, room);
+    let Answer::Accepted(n, c) = a else {
+        tables::clear(records);
+        tables::clear(tables);
+        return number(a) as u64;
+    };
+    put_counts(counts, c);
+    (n as u64) << 32
+}
