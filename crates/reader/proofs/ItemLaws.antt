@@ -2,14 +2,14 @@
 -- Assumes nothing.
 use mathlib.Core.Path.{_≡_, refl, sym, ap, _∙_}
 use mathlib.Core.Bool.{Bool, true, false, not, _&&_, _||_, and-false, or-false, true≢false}
-use mathlib.Core.List.{List, [], _∷_}
-use Prim.Native.Nat.{ℕ, zero, suc, _+_, _-_, _*_, _/_, _%_, _≤_, _<_}
+use mathlib.Core.List.{List}
+use Prim.Native.Nat.{ℕ, suc, _+_, _-_, _*_, _/_, _%_, _≤_, _<_}
 use native.Mathlib.Numerals.{add-one}
 use native.Mathlib.Omega.{arith}
 use native.Mathlib.Decide.{decLt}
-use borrow.Author.Tests.{lt-ltb, le-ltb, le-leb, lt-leb, eq-eqb, ne-eqb, eqb-true, not-true, not-false}
-use lib.Dec.{ltb, leb, eqb}
-use lib.ListN.{length, getD, take, drop, drop-of-length-le, List·getD-eq-default}
+use borrow.Author.Tests.{lt-ltb, le-ltb, le-leb, eq-eqb, ne-eqb, eqb-true}
+use lib.Dec.{ltb, eqb}
+use lib.ListN.{length, getD, drop-of-length-le, List·getD-eq-default}
 use lib.Seq.{drop-cons}
 use Rattle.format.specs.Numbers.{pick}
 use Rattle.format.specs.Tables.{Vocabulary, OTHER-NCNAME, ATTRIBUTE-VALUE, CONTENT-CHARACTER-CHUNK, OTHER-STRING, link}
@@ -17,7 +17,7 @@ use Rattle.format.specs.Strings.{c15}
 use Rattle.format.specs.Names.{ofElement, ofAttribute}
 use Rattle.format.specs.Document.{halves, aligned}
 use Rattle.format.specs.Items as F
-use Rattle.format.specs.Items.{content, declaring, listing, mayStart}
+use Rattle.format.specs.Items.{content, mayStart}
 use Rattle.tables.specs.Located.{Located}
 use Rattle.tables.specs.Counts.{words}
 use Rattle.tables.specs.Rows.{vocabulary}
@@ -37,12 +37,12 @@ use Rattle.reader.specs.declared.Step.{Step}
 use Rattle.reader.specs.declared.Step.the-variants.{More, Quiet, Done, Stop}
 use Rattle.reader.specs.Strings as S
 use Rattle.reader.specs.Strings.{IdRead, StringRead, idAt, literalAt, valueAt}
-use Rattle.reader.specs.Names.{NameRead, DeclaredRead, lonePrefix, partsAt, numberedAt, nameAt, declaredAt}
+use Rattle.reader.specs.Names.{NameRead, DeclaredRead, partsAt, numberedAt, nameAt, declaredAt}
 use Rattle.reader.specs.Items as I
-use Rattle.reader.specs.Items.{into, namePadding, startOf, namespaceAt, elementAt, namedAt, attributeAt, chunkAt, commentAt, instructionAt, otherAt, childAt, declaringAt, itemAt}
+use Rattle.reader.specs.Items.{namePadding, startOf, namespaceAt, elementAt, namedAt, attributeAt, chunkAt, commentAt, instructionAt, otherAt, childAt, declaringAt, itemAt}
 use Rattle.reader.specs.Reading.{halfAt, endsAt, padsAt, documentEnd, endAt, byHalves, step}
-use Rattle.reader.specs.Code.{Tidy, Seen, seenField, FieldTidy, idSeen, stringSeen, seenName, NameTidy, nameSeen, declaredSeen, SeenStep, stop, Good, standOf, modeOf, coming, seenStep, stepSeen, StepGood}
-use Rattle.reader.specs.ItemStages.{Meets, movedTo, afterEnd, afterStart, openedAt, refusedBy, faultyBy, nextOf, startBy, numberedStart}
+use Rattle.reader.specs.Code.{Tidy, Seen, seenField, FieldTidy, idSeen, stringSeen, seenName, NameTidy, nameSeen, declaredSeen, stop, Good, standOf, modeOf, coming, stepSeen}
+use Rattle.reader.specs.ItemStages.{Meets, movedTo, afterEnd, afterStart, refusedBy, faultyBy, nextOf, startBy, numberedStart}
 
 -- ---- halves
 module _ (s : List ℕ) (at : ℕ) where

@@ -1,22 +1,21 @@
 -- Names and declarations on plain values: a law for each way out of each method, and that the tables stay in order.
 -- Assumes nothing.
 use mathlib.Core.Path.{_≡_, refl, sym, ap, _∙_}
-use mathlib.Core.Bool.{Bool, true, false, not, _||_}
-use mathlib.Core.Option.{Option, none, some}
+use mathlib.Core.Bool.{Bool, true, false, not}
+use mathlib.Core.Option.{some}
 use mathlib.Core.List.{List, [], _∷_, _++_, map}
-use Prim.Native.Nat.{ℕ, zero, suc, _+_, _-_, _*_, _/_, _%_, _≤_, _<_}
+use Prim.Native.Nat.{ℕ, zero, suc, _+_, _-_, _*_, _%_, _≤_, _<_}
 use native.Mathlib.Omega.{arith}
 use native.Mathlib.Numerals.{add-one}
 use native.Mathlib.Decide.{decLt}
 use borrow.Author.Tests.{lt-ltb, le-ltb, le-leb, lt-leb, eq-eqb, ne-eqb, leb-true}
-use lib.Dec.{eqb, ltb, leb, eqb·suc-zero}
+use lib.Dec.{eqb, ltb, leb}
 use lib.ListN.{length, getD, take, drop, length-append, length-set}
-use lib.Seq.{sets}
 use Rattle.format.specs.Numbers.{pick, Form, numbers, c25, lengths, top}
 use Rattle.format.specs.Text.{isText}
 use Rattle.format.specs.Tables.{StringTable, PREFIX, NAMESPACE-NAME, LOCAL-NAME, OTHER-NCNAME, OTHER-URI, ATTRIBUTE-VALUE, CONTENT-CHARACTER-CHUNK, OTHER-STRING}
-use Rattle.format.specs.Tables.{NameTable, ELEMENT-NAME, ATTRIBUTE-NAME, Triple, noTriple, Vocabulary, strings, names, place, extended, adding, withNames, addingName}
-use Rattle.format.specs.Tables.{holds, sameTriple, holdsName, partOf, nameOf, Limits, link}
+use Rattle.format.specs.Tables.{NameTable, ELEMENT-NAME, ATTRIBUTE-NAME, Triple, noTriple, Vocabulary, strings, names, place, extended, adding, addingName}
+use Rattle.format.specs.Tables.{holds, holdsName, partOf, nameOf, link}
 use Rattle.format.specs.Names.{NameLayout, ofElement, ofAttribute}
 use Rattle.fields.specs.declared.Cursor.{Cursor}
 use Rattle.fields.specs.declared.Number.{Number}
@@ -27,25 +26,23 @@ use Rattle.tables.specs.declared.Counts.{Counts}
 use Rattle.tables.specs.declared.Row.{Row}
 use Rattle.tables.specs.Located.{Located, empty, stretch, octetsOf}
 use Rattle.tables.specs.Counts.{words}
-use Rattle.tables.specs.Search.{lowest, numberOfTriple}
-use Rattle.tables.specs.Rows.{tableOf, builtIn, stringAt, tripleAt, entries, vocabulary}
-use Rattle.tables.specs.Kept.{nameTableOf, countOf, oneMore, Counted, Clean, rowAt, stored, Inside, AllInside}
+use Rattle.tables.specs.Search.{numberOfTriple}
+use Rattle.tables.specs.Rows.{tableOf, stringAt, tripleAt, entries, vocabulary}
+use Rattle.tables.specs.Kept.{nameTableOf, countOf, oneMore, Counted, rowAt, stored}
 use Rattle.tables.proofs.ByNumber.{eight-nine}
-use Rattle.tables.proofs.Laws.{holds-name-number, inside-name, names-are, length-strings, length-names, string-nth, name-nth, counted-more, name-added, clean-name}
+use Rattle.tables.proofs.Laws.{names-are, length-strings, length-names, string-nth, name-nth, counted-more, name-added, clean-name, holds-name-number, inside-name}
 use Rattle.events.specs.declared.Text.{Text}
-use Rattle.events.specs.declared.Text.the-variants.{Absent, Empty, Stretch, XmlPrefix, XmlNamespace}
+use Rattle.events.specs.declared.Text.the-variants.{Absent}
 use Rattle.events.specs.Records.{textOf, optionalText}
-use Rattle.reader.specs.declared.Here.{Here}
 use Rattle.reader.specs.declared.Field.{Field}
-use Rattle.reader.specs.declared.Field.the-variants.{Got, Refused}
+use Rattle.reader.specs.declared.Field.the-variants.{Refused}
 use Rattle.reader.specs.declared.Parts.{Parts}
 use Rattle.reader.specs.declared.Named.{Named}
-use Rattle.reader.specs.declared.Named.the-variants.{Read, Faulty}
 use Rattle.reader.specs.Strings as S
 use Rattle.reader.specs.Strings.{IdRead, OptionalRead, idAt, optionalAt, spelling}
-use Rattle.reader.specs.Names.{NameRead, DeclaredRead, prefixBit, namespaceBit, lonePrefix, partsAt, numberedAt, nameAt, declaredAt}
-use Rattle.reader.specs.Code.{layoutOf, Ranged, Tidy, Seen, seenField, FieldTidy, idSeen, optionalSeen, seenName, NameTidy, nameSeen, declaredSeen}
-use Rattle.reader.specs.NameStages.{stringFault, numberFault, textAt, tripleOf, newName, KeepsTidy}
+use Rattle.reader.specs.Names.{NameRead, prefixBit, namespaceBit, partsAt, numberedAt, nameAt, declaredAt}
+use Rattle.reader.specs.Code.{layoutOf, Ranged, Tidy, Seen, idSeen, optionalSeen, seenName, NameTidy, nameSeen, declaredSeen}
+use Rattle.reader.specs.NameStages.{stringFault, numberFault, textAt, tripleOf, textsAt, newName}
 
 -- ---- a table's layout
 module _ (t : ℕ) (e : t ≡ 8) where
@@ -71,43 +68,23 @@ unfolding layoutOf nameTableOf ofElement ofAttribute
 layout-table = eight-nine (λ (t : ℕ). layoutOf t .table ≡ nameTableOf t) refl refl
 
 -- ---- the string behind a number
-pub text-none : (t : ℕ) (w : List ℕ) (n : ℕ) → n ≡ 0 → Absent ≡ textAt t w n
+pub text-none : (w : List ℕ) (t n : ℕ) → n ≡ 0 → Absent ≡ textAt w t n
 unfolding textAt
-text-none t w n e = rw e
+text-none w t n e = rw e
 
-module _ (t : ℕ) (w : List ℕ) (n : ℕ) (x : Row) (h : 1 ≤ n) (e : x ≡ rowAt w (768 * t + 3 * (n - 1))) where
-  text-there : textAt t w n ≡ textOf (stringAt (tableOf t) w (768 * t + 3 * (n - 1)))
-  unfolding textAt
-  text-there = let z : n ≡ suc (n - 1) = omega arith in ap (textAt t w) z
+pub text-there : (w : List ℕ) (t n : ℕ) (x : Text) → 1 ≤ n → x ≡ textOf (stringAt (tableOf t) w (768 * t + 3 * (n - 1))) → x ≡ textAt w t n
+unfolding textAt
+text-there w t n x h e = let z : suc (n - 1) ≡ n = omega arith in e ∙ ap (textAt w t) z
 
-  pub text-spelled : (x .b ≡ 0 → ⊥) → Stretch (x .a) (x .b) ≡ textAt t w n
-  unfolding stringAt rowAt
-  text-spelled z =
-      let y : getD w (768 * t + 3 * (n - 1) + 1) 0 ≡ 0 → ⊥ = λ q. z (ap (λ (r : Row). r .b) e ∙ q) in
-      rw (text-there, ne-eqb _ 0 y, e)
-
-  pub text-built-in : x .b ≡ 0 → (y : Text) → y ≡ textOf (builtIn (tableOf t)) → y ≡ textAt t w n
-  unfolding stringAt rowAt
-  text-built-in z y q =
-      let u : getD w (768 * t + 3 * (n - 1) + 1) 0 ≡ 0 = sym (ap (λ (r : Row). r .b) e) ∙ z in
-      rw (text-there, eq-eqb _ 0 u) q
-
-pub prefix-built-in : (t : ℕ) → t ≡ 0 → XmlPrefix ≡ textOf (builtIn (tableOf t))
-unfolding tableOf builtIn
-prefix-built-in t e = rw e
-
-pub namespace-built-in : (t : ℕ) → t ≡ 1 → XmlNamespace ≡ textOf (builtIn (tableOf t))
-unfolding tableOf builtIn
-namespace-built-in t e = rw e
-
-pub local-built-in : (t : ℕ) → t ≡ 2 → Empty ≡ textOf (builtIn (tableOf t))
-unfolding tableOf builtIn
-local-built-in t e = rw e
-
-text-is : (c : Counts) (w : List ℕ) (t n : ℕ) → t < 8 → n ≤ countOf c t → textAt t w n ≡ optionalText (partOf (strings (vocabulary c w) (tableOf t)) empty n)
+text-is : (c : Counts) (w : List ℕ) (t n : ℕ) → t < 8 → n ≤ countOf c t → textAt w t n ≡ optionalText (partOf (strings (vocabulary c w) (tableOf t)) empty n)
 unfolding textAt
 text-is c w t zero h l = refl
 text-is c w t (suc k) h l = ap textOf (sym (string-nth c w t k empty h l))
+
+pub texts-are : (w : List ℕ) (x : Triple) (p n l : Text) → p ≡ textAt w 0 (x .prefix) → n ≡ textAt w 1 (x .namespace) → l ≡ textAt w 2 (x .local)
+    → record { prefix = p; namespace = n; local = l } ≡ textsAt w x
+unfolding textsAt
+texts-are w x p n l ep en el = rw (ep, en, el)
 
 -- ---- names by number
 -- the triple's numbers are of entries that are there
@@ -120,9 +97,9 @@ ranged-at c (x ∷ l) zero r h = (r .0, r .1, r .2, r .3)
 ranged-at c (x ∷ l) (suc k) r h = ranged-at c l k (r .4) (omega arith)
 
 name-is : (c : Counts) (w : List ℕ) (x : Triple) → InRange c x
-    → _≡_ {A = Parts} (record { prefix = textAt 0 w (x .prefix); namespace = textAt 1 w (x .namespace); local = textAt 2 w (x .local) })
-    (record { prefix = optionalText (nameOf (vocabulary c w) empty x .prefix); namespace = optionalText (nameOf (vocabulary c w) empty x .namespace); local = textOf (nameOf (vocabulary c w) empty x .local) })
-unfolding nameOf strings tableOf countOf
+    → textsAt w x
+    ≡ record { prefix = optionalText (nameOf (vocabulary c w) empty x .prefix); namespace = optionalText (nameOf (vocabulary c w) empty x .namespace); local = textOf (nameOf (vocabulary c w) empty x .local) }
+unfolding textsAt nameOf strings tableOf countOf
 name-is c w x r =
     λ i. record {
       prefix = text-is c w 0 (x .prefix) (omega arith) (r .0) i;
@@ -170,12 +147,11 @@ module _ (s w : List ℕ) (c : Counts) (k t : ℕ) (low : 8 ≤ t) (high : t < 1
         let l = tidy .counted 2 in
         (omega arith, omega arith, omega arith)
 
-    pub number-read : (p m l : Text) → p ≡ textAt 0 w (x .a) → m ≡ textAt 1 w (x .b) → l ≡ textAt 2 w (x .c)
-        → S.got (record { prefix = p; namespace = m; local = l }) (next .at) (vocabulary c w) ≡ nameSeen (numberedAt link (layoutOf t) s k (vocabulary c w))
+    pub number-read : (y : Parts) → y ≡ textsAt w (tripleOf x) → S.got y (next .at) (vocabulary c w) ≡ nameSeen (numberedAt link (layoutOf t) s k (vocabulary c w))
     unfolding numberedAt
-    number-read p m l ep em el =
-        rw (← e, d, layout-table t low high, length-names c w t low high, le-leb _ _ h, row-is, ep, em, el)
-        (ap (λ (y : Parts). S.got y (next .at) (vocabulary c w)) (name-is c w (tripleOf x) row-ranged))
+    number-read y ey =
+        rw (← e, d, layout-table t low high, length-names c w t low high, le-leb _ _ h, row-is, ey)
+        (ap (λ (z : Parts). S.got z (next .at) (vocabulary c w)) (name-is c w (tripleOf x) row-ranged))
 
 -- ---- a new name
 stored-length : (w : List ℕ) (t n a b c : ℕ) → length (stored w t n a b c) ≡ length w
@@ -343,89 +319,85 @@ module _ {C : Type 0} (z : S.Got C → S.Got Parts) (refusal : (n p : ℕ) → z
   seen-id (S.got x k v) f e = e x k v
   seen-id (S.refused n p) f e = refusal n p
 
+-- the fields as the code reads them, by the bits that say what is there
+abbrev prefixField : List ℕ → (pn k : ℕ) → Vocabulary Located → S.Got Seen
+prefixField s pn k v = optionalSeen (optionalAt link (leb 2 pn) s (tableOf 0) (k + 1) v)
+
+abbrev namespaceField : List ℕ → (m k : ℕ) → Vocabulary Located → S.Got Seen
+namespaceField s m k v = optionalSeen (optionalAt link (eqb m 1) s (tableOf 1) k v)
+
+abbrev localField : List ℕ → ℕ → Vocabulary Located → S.Got Seen
+localField s k v = idSeen (idAt link s (tableOf 2) k v)
+
+prefix-field : (s : List ℕ) (b k : ℕ) (v : Vocabulary Located) (pn : ℕ) → pn ≡ bitsOf b 7 8 → optionalSeen (optionalAt link (prefixBit b) s PREFIX (suc k) v) ≡ prefixField s pn k v
+unfolding tableOf
+prefix-field s b k v pn e = let z : pn ≡ b % 4 = omega arith in rw (z, add-one k)
+
+namespace-field : (s : List ℕ) (b k : ℕ) (v : Vocabulary Located) (m : ℕ) → m ≡ bitsOf b 8 8 → optionalSeen (optionalAt link (namespaceBit b) s NAMESPACE-NAME k v) ≡ namespaceField s m k v
+unfolding tableOf
+namespace-field s b k v m e = let z : m ≡ b % 2 = omega arith in rw z
+
 seen-new : (held room : Bool) (x : NameRead) (k next : ℕ) (v : Vocabulary Located)
     → nameSeen (pick held (S.refused 11 k) (pick room (S.got x next v) (S.refused 12 k))) ≡ pick held (S.refused 11 k) (pick room (nameSeen (S.got x next v)) (S.refused 12 k))
 seen-new true room x k next v = refl
 seen-new false true x k next v = refl
 seen-new false false x k next v = refl
 
+-- a name in parts, of what is seen of its strings
 module _ (q : NameLayout) (s : List ℕ) (b k : ℕ) where
-  abbrev tripleSeen : Seen → Seen → Seen → ℕ → Vocabulary Located → S.Got Parts
-  tripleSeen p n l k₃ v₃ =
+  abbrev behindLocal : Seen → Seen → Seen → ℕ → Vocabulary Located → S.Got Parts
+  behindLocal p n l k₃ v₃ =
       newName link (q .table) (record { prefix = p .number; namespace = n .number; local = l .number }) (record { prefix = p .text; namespace = n .text; local = l .text }) k k₃ v₃
 
-  abbrev localSeen : Seen → Seen → ℕ → Vocabulary Located → S.Got Parts
-  localSeen p n k₂ v₂ = S.then (idSeen (idAt link s LOCAL-NAME k₂ v₂)) λ l k₃ v₃. tripleSeen p n l k₃ v₃
+  abbrev behindNamespace : Seen → Seen → ℕ → Vocabulary Located → S.Got Parts
+  behindNamespace p n k₂ v₂ = S.then (localField s k₂ v₂) λ l k₃ v₃. behindLocal p n l k₃ v₃
 
-  abbrev namespaceSeen : Seen → ℕ → Vocabulary Located → S.Got Parts
-  namespaceSeen p k₁ v₁ = S.then (optionalSeen (optionalAt link (namespaceBit b) s NAMESPACE-NAME k₁ v₁)) λ n k₂ v₂. localSeen p n k₂ v₂
+  abbrev behindPrefix : Seen → ℕ → Vocabulary Located → S.Got Parts
+  behindPrefix p k₁ v₁ = S.then (optionalSeen (optionalAt link (namespaceBit b) s NAMESPACE-NAME k₁ v₁)) λ n k₂ v₂. behindNamespace p n k₂ v₂
 
   parts-seen : (v : Vocabulary Located) → (b % 4 ≡ 2 → ⊥)
-      → nameSeen (partsAt link q s b k v) ≡ S.then (optionalSeen (optionalAt link (prefixBit b) s PREFIX (suc k) v)) namespaceSeen
-  unfolding partsAt newName
+      → nameSeen (partsAt link q s b k v) ≡ S.then (optionalSeen (optionalAt link (prefixBit b) s PREFIX (suc k) v)) behindPrefix
+  unfolding partsAt newName tableOf
   parts-seen v h =
       rw (ne-eqb (b % 4) 2 h)
-      (seen-optional nameSeen (λ n p. refl) namespaceSeen (optionalAt link (prefixBit b) s PREFIX (suc k) v) _
-      λ p k₁ v₁. seen-optional nameSeen (λ n p. refl) (λ n k₂ v₂. localSeen (record { text = optionalText (p .string); number = p .number }) n k₂ v₂) (optionalAt link (namespaceBit b) s NAMESPACE-NAME k₁ v₁) _
-      λ n k₂ v₂. seen-id nameSeen (λ n p. refl) (λ l k₃ v₃. tripleSeen (record { text = optionalText (p .string); number = p .number }) (record { text = optionalText (n .string); number = n .number }) l k₃ v₃) (idAt link s LOCAL-NAME k₂ v₂) _
+      (seen-optional nameSeen (λ n p. refl) behindPrefix (optionalAt link (prefixBit b) s PREFIX (suc k) v) _
+      λ p k₁ v₁. seen-optional nameSeen (λ n p. refl) (behindNamespace (record { text = optionalText (p .string); number = p .number })) (optionalAt link (namespaceBit b) s NAMESPACE-NAME k₁ v₁) _
+      λ n k₂ v₂. seen-id nameSeen (λ n p. refl) (behindLocal (record { text = optionalText (p .string); number = p .number }) (record { text = optionalText (n .string); number = n .number })) (idAt link s LOCAL-NAME k₂ v₂) _
       λ l k₃ v₃.
       let x : Triple = record { prefix = p .number; namespace = n .number; local = l .number } in
       seen-new (holdsName (names v₃ (q .table)) x) (ltb (length (names v₃ (q .table))) (link .entries)) _ k k₃ (addingName v₃ (q .table) x))
-
--- the code's two bits
-p-is : (b pn : ℕ) → pn ≡ bitsOf b 7 8 → leb 2 pn ≡ prefixBit b
-p-is b pn e = let z : pn ≡ b % 4 = omega arith in rw z
-
-n-is : (b m : ℕ) → m ≡ bitsOf b 8 8 → eqb m 1 ≡ namespaceBit b
-n-is b m e = let z : m ≡ b % 2 = omega arith in rw z
 
 module _ (q : NameLayout) (s : List ℕ) (b k : ℕ) (v : Vocabulary Located) (pn : ℕ) (ep : pn ≡ bitsOf b 7 8) where
   pub parts-lone : pn ≡ 2 → S.refused 15 k ≡ nameSeen (partsAt link q s b k v)
   unfolding partsAt
   parts-lone h = let z : b % 4 ≡ 2 = omega arith in rw (eq-eqb (b % 4) 2 z)
 
-  abbrev firstSeen : S.Got Seen
-  firstSeen = optionalSeen (optionalAt link (leb 2 pn) s (tableOf 0) (k + 1) v)
-
   module _ (paired : pn ≡ 2 → ⊥) where
-    parts-first : nameSeen (partsAt link q s b k v) ≡ S.then firstSeen (λ x k₁ v₁. namespaceSeen q s b k x k₁ v₁)
-    unfolding tableOf
-    parts-first = let z : b % 4 ≡ 2 → ⊥ = omega arith in rw (p-is b pn ep, add-one k) (parts-seen q s b k v z)
+    parts-first : nameSeen (partsAt link q s b k v) ≡ S.then (prefixField s pn k v) (behindPrefix q s b k)
+    parts-first = let z : b % 4 ≡ 2 → ⊥ = omega arith in rw (← prefix-field s b k v pn ep) (parts-seen q s b k v z)
 
-    pub parts-prefix : (n p : ℕ) → S.refused n p ≡ firstSeen → S.refused n p ≡ nameSeen (partsAt link q s b k v)
+    pub parts-prefix : (n p : ℕ) → S.refused n p ≡ prefixField s pn k v → S.refused n p ≡ nameSeen (partsAt link q s b k v)
     parts-prefix n p e = rw (parts-first, ← e)
 
-    module _ (m : ℕ) (em : m ≡ bitsOf b 8 8) (x₁ : Seen) (k₁ : ℕ) (v₁ : Vocabulary Located) (e₁ : S.got x₁ k₁ v₁ ≡ firstSeen) where
-      abbrev secondSeen : S.Got Seen
-      secondSeen = optionalSeen (optionalAt link (eqb m 1) s (tableOf 1) k₁ v₁)
+    module _ (m : ℕ) (em : m ≡ bitsOf b 8 8) (x₁ : Seen) (k₁ : ℕ) (v₁ : Vocabulary Located) (e₁ : S.got x₁ k₁ v₁ ≡ prefixField s pn k v) where
+      parts-second : nameSeen (partsAt link q s b k v) ≡ S.then (namespaceField s m k₁ v₁) (behindNamespace q s b k x₁)
+      parts-second = rw (parts-first, ← e₁, namespace-field s b k₁ v₁ m em)
 
-      parts-second : nameSeen (partsAt link q s b k v) ≡ S.then secondSeen (λ x k₂ v₂. localSeen q s b k x₁ x k₂ v₂)
-      unfolding tableOf
-      parts-second = rw (parts-first, ← e₁, n-is b m em)
-
-      pub parts-namespace : (n p : ℕ) → S.refused n p ≡ secondSeen → S.refused n p ≡ nameSeen (partsAt link q s b k v)
+      pub parts-namespace : (n p : ℕ) → S.refused n p ≡ namespaceField s m k₁ v₁ → S.refused n p ≡ nameSeen (partsAt link q s b k v)
       parts-namespace n p e = rw (parts-second, ← e)
 
-      module _ (x₂ : Seen) (k₂ : ℕ) (v₂ : Vocabulary Located) (e₂ : S.got x₂ k₂ v₂ ≡ secondSeen) where
-        abbrev thirdSeen : S.Got Seen
-        thirdSeen = idSeen (idAt link s (tableOf 2) k₂ v₂)
-
-        parts-third : nameSeen (partsAt link q s b k v) ≡ S.then thirdSeen (λ x k₃ v₃. tripleSeen q s b k x₁ x₂ x k₃ v₃)
-        unfolding tableOf
+      module _ (x₂ : Seen) (k₂ : ℕ) (v₂ : Vocabulary Located) (e₂ : S.got x₂ k₂ v₂ ≡ namespaceField s m k₁ v₁) where
+        parts-third : nameSeen (partsAt link q s b k v) ≡ behindNamespace q s b k x₁ x₂ k₂ v₂
         parts-third = rw (parts-second, ← e₂)
 
-        pub parts-local : (n p : ℕ) → S.refused n p ≡ thirdSeen → S.refused n p ≡ nameSeen (partsAt link q s b k v)
+        pub parts-local : (n p : ℕ) → S.refused n p ≡ localField s k₂ v₂ → S.refused n p ≡ nameSeen (partsAt link q s b k v)
         parts-local n p e = rw (parts-third, ← e)
 
-        module _ (x₃ : Seen) (k₃ : ℕ) (v₃ : Vocabulary Located) (e₃ : S.got x₃ k₃ v₃ ≡ thirdSeen) where
-          parts-triple : tripleSeen q s b k x₁ x₂ x₃ k₃ v₃ ≡ nameSeen (partsAt link q s b k v)
-          parts-triple = rw (parts-third, ← e₃)
-
-          -- t is the table's number
-          pub parts-read : (t : ℕ) → q .table ≡ nameTableOf t → (g : S.Got Parts)
-              → g ≡ newName link (nameTableOf t) (record { prefix = x₁ .number; namespace = x₂ .number; local = x₃ .number }) (record { prefix = x₁ .text; namespace = x₂ .text; local = x₃ .text }) k k₃ v₃
-              → g ≡ nameSeen (partsAt link q s b k v)
-          parts-read t e g h = rw (← e) at h ∙ parts-triple
+        -- t is the table's number, and g what adding the name gave
+        pub parts-read : (x₃ : Seen) (k₃ : ℕ) (v₃ : Vocabulary Located) → S.got x₃ k₃ v₃ ≡ localField s k₂ v₂ → (t : ℕ) → q .table ≡ nameTableOf t → (g : S.Got Parts)
+            → g ≡ newName link (nameTableOf t) (record { prefix = x₁ .number; namespace = x₂ .number; local = x₃ .number }) (record { prefix = x₁ .text; namespace = x₂ .text; local = x₃ .text }) k k₃ v₃
+            → g ≡ nameSeen (partsAt link q s b k v)
+        parts-read x₃ k₃ v₃ e₃ t et g h = rw (parts-third, ← e₃, et) h
 
 -- ---- a refusal handed on
 module _ (s w : List ℕ) (g : S.Got Parts) (a : Named) (n p : ℕ) (h : S.refused n p ≡ g) (room : length w ≡ words) where
@@ -474,34 +446,27 @@ module _ (s : List ℕ) (k : ℕ) (v : Vocabulary Located) (there : k < length s
         ])
 
     module _ (is : x ≡ 0x33) (pn : ℕ) (ep : pn ≡ bitsOf (getD s k 0) 7 8) where
-      abbrev firstDeclared : S.Got Seen
-      firstDeclared = optionalSeen (optionalAt link (leb 2 pn) s (tableOf 0) (k + 1) v)
-
-      abbrev behindPrefix : Seen → ℕ → Vocabulary Located → S.Got Parts
-      behindPrefix p k₁ v₁ =
+      abbrev behindFirst : Seen → ℕ → Vocabulary Located → S.Got Parts
+      behindFirst p k₁ v₁ =
           S.then (optionalSeen (optionalAt link (namespaceBit octet) s NAMESPACE-NAME k₁ v₁)) λ n k₂ v₂. S.got (record { prefix = p .text; namespace = n .text; local = Absent }) k₂ v₂
 
-      declared-first : declaredSeen (declaredAt link s k v) ≡ S.then firstDeclared behindPrefix
-      unfolding declaredAt tableOf
+      declared-first : declaredSeen (declaredAt link s k v) ≡ S.then (prefixField s pn k v) behindFirst
+      unfolding declaredAt
       declared-first =
-          rw (lt-ltb k (length s) there, le-ltb octet 0xCC (omega arith), lt-ltb octet 0xD0 (omega arith), p-is octet pn ep, add-one k)
-          (seen-optional declaredSeen (λ n p. refl) behindPrefix (optionalAt link (prefixBit octet) s PREFIX (suc k) v) _
+          rw (lt-ltb k (length s) there, le-ltb octet 0xCC (omega arith), lt-ltb octet 0xD0 (omega arith), ← prefix-field s octet k v pn ep)
+          (seen-optional declaredSeen (λ n p. refl) behindFirst (optionalAt link (prefixBit octet) s PREFIX (suc k) v) _
           λ p k₁ v₁. seen-optional declaredSeen (λ n p. refl) _ (optionalAt link (namespaceBit octet) s NAMESPACE-NAME k₁ v₁) _ λ n k₂ v₂. refl)
 
-      pub declared-prefix : (n p : ℕ) → S.refused n p ≡ firstDeclared → S.refused n p ≡ declaredSeen (declaredAt link s k v)
+      pub declared-prefix : (n p : ℕ) → S.refused n p ≡ prefixField s pn k v → S.refused n p ≡ declaredSeen (declaredAt link s k v)
       declared-prefix n p e = rw (declared-first, ← e)
 
-      module _ (m : ℕ) (em : m ≡ bitsOf (getD s k 0) 8 8) (x₁ : Seen) (k₁ : ℕ) (v₁ : Vocabulary Located) (e₁ : S.got x₁ k₁ v₁ ≡ firstDeclared) where
-        abbrev secondDeclared : S.Got Seen
-        secondDeclared = optionalSeen (optionalAt link (eqb m 1) s (tableOf 1) k₁ v₁)
+      module _ (m : ℕ) (em : m ≡ bitsOf (getD s k 0) 8 8) (x₁ : Seen) (k₁ : ℕ) (v₁ : Vocabulary Located) (e₁ : S.got x₁ k₁ v₁ ≡ prefixField s pn k v) where
+        declared-second : declaredSeen (declaredAt link s k v) ≡ S.then (namespaceField s m k₁ v₁) λ n k₂ v₂. S.got (record { prefix = x₁ .text; namespace = n .text; local = Absent }) k₂ v₂
+        declared-second = rw (declared-first, ← e₁, namespace-field s octet k₁ v₁ m em)
 
-        declared-second : declaredSeen (declaredAt link s k v) ≡ S.then secondDeclared λ n k₂ v₂. S.got (record { prefix = x₁ .text; namespace = n .text; local = Absent }) k₂ v₂
-        unfolding tableOf
-        declared-second = rw (declared-first, ← e₁, n-is octet m em)
-
-        pub declared-namespace : (n p : ℕ) → S.refused n p ≡ secondDeclared → S.refused n p ≡ declaredSeen (declaredAt link s k v)
+        pub declared-namespace : (n p : ℕ) → S.refused n p ≡ namespaceField s m k₁ v₁ → S.refused n p ≡ declaredSeen (declaredAt link s k v)
         declared-namespace n p e = rw (declared-second, ← e)
 
-        pub declared-read : (x₂ : Seen) (k₂ : ℕ) (v₂ : Vocabulary Located) → S.got x₂ k₂ v₂ ≡ secondDeclared
+        pub declared-read : (x₂ : Seen) (k₂ : ℕ) (v₂ : Vocabulary Located) → S.got x₂ k₂ v₂ ≡ namespaceField s m k₁ v₁
             → S.got (record { prefix = x₁ .text; namespace = x₂ .text; local = Absent }) k₂ v₂ ≡ declaredSeen (declaredAt link s k v)
         declared-read x₂ k₂ v₂ e = rw (declared-second, ← e)

@@ -187,13 +187,13 @@ module _ (go : ℕ → Stand → Result) (m : Stand) (n : ℕ) where
   turn-kept w room (I.stop j p) = refl
 
 -- the place of an event, or of a refusal, as it is seen
-abbrev PlacedSeen : List ℕ → SeenStep → Type 0
+abbrev pub PlacedSeen : List ℕ → SeenStep → Type 0
 PlacedSeen s (more p e k) = p ≤ length s
 PlacedSeen s (quiet k) = Unit {0}
 PlacedSeen s done = Unit {0}
 PlacedSeen s (stop j p) = (j ≤ 15) × (p ≤ length s)
 
-placed-seen : (s : List ℕ) (x : I.Step) → Placed s x → PlacedSeen s (stepSeen x)
+pub placed-seen : (s : List ℕ) (x : I.Step) → Placed s x → PlacedSeen s (stepSeen x)
 placed-seen s (I.more p i k) h = h
 placed-seen s (I.quiet k) h = tt
 placed-seen s I.done h = tt
@@ -215,7 +215,7 @@ module _ (s v : List ℕ) (room : ℕ) where
   tables-start : (t : List ℕ) → t ≡ replicate words 0 → vocabulary (countsOf start) t ≡ start
   tables-start t e = rw e (vocabulary-start (replicate words 0) (getD-replicate {A = ℕ} words 1 0 0 (lit< tt)) (getD-replicate {A = ℕ} words 769 0 0 (lit< tt)))
 
-  start-is : (t : List ℕ) → t ≡ replicate words 0 → standOf fresh t ≡ origin start
+  pub start-is : (t : List ℕ) → t ≡ replicate words 0 → standOf fresh t ≡ origin start
   unfolding beginning
   start-is t e = rw (tables-start t e)
 

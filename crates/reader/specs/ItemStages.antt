@@ -1,5 +1,5 @@
 -- What the code of a step hands on: where it stands behind a field, and what an answer has to meet.
-use Prim.Native.Nat.{ℕ, suc, _+_, _*_}
+use Prim.Native.Nat.{ℕ, _+_, _*_}
 use mathlib.Core.Path.{_≡_}
 use mathlib.Core.Bool.{Bool, true, false}
 use mathlib.Core.List.{List}
@@ -17,10 +17,10 @@ use Rattle.reader.specs.declared.Field.the-variants.{Got, Refused}
 use Rattle.reader.specs.declared.Named.{Named}
 use Rattle.reader.specs.declared.Named.the-variants.{Read, Faulty}
 use Rattle.reader.specs.declared.Mode.{Mode}
-use Rattle.reader.specs.declared.Mode.the-variants.{Content, Declaring, Listing}
+use Rattle.reader.specs.declared.Mode.the-variants.{Content, Listing}
 use Rattle.reader.specs.declared.State.{State}
 use Rattle.reader.specs.declared.Step.{Step}
-use Rattle.reader.specs.declared.Step.the-variants.{More, Quiet, Done, Stop}
+use Rattle.reader.specs.declared.Step.the-variants.{More, Stop}
 use Rattle.reader.specs.Names.{numberedAt}
 use Rattle.reader.specs.Items as I
 use Rattle.reader.specs.Items.{Stand}

@@ -8,3 +8,4 @@ pub mod Stages
 pub mod NameStages
 pub mod ItemStages
 pub mod RunStages
+pub mod ReadStages

@@ -1,6 +1,6 @@
 -- How the code takes the reading of a name apart: a refusal handed on, the string behind a number in lent words, and the name behind its strings.
 use Prim.Native.Nat.{ℕ, zero, suc, _+_, _*_, _≤_}
-use mathlib.Core.List.{List, []}
+use mathlib.Core.List.{List}
 use lib.ListN.{length}
 use lib.Dec.{ltb}
 use Rattle.format.specs.Numbers.{pick}
@@ -32,12 +32,16 @@ numberFault (Num n c) = Faulty 0 (c .at)
 numberFault (NoNum n p) = Faulty n p
 
 -- The string behind a number of a table in lent words; 0 is none.
-unfoldable pub textAt : ℕ → List ℕ → ℕ → Text
-textAt table w zero = Absent
-textAt table w (suc k) = textOf (stringAt (tableOf table) w (768 * table + 3 * k))
+unfoldable pub textAt : List ℕ → (table number : ℕ) → Text
+textAt w table zero = Absent
+textAt w table (suc k) = textOf (stringAt (tableOf table) w (768 * table + 3 * k))
 
+-- A name's numbers, and the strings behind them.
 abbrev pub tripleOf : Row → Triple
 tripleOf x = record { prefix = x .a; namespace = x .b; local = x .c }
+
+unfoldable pub textsAt : List ℕ → Triple → Parts
+textsAt w x = record { prefix = textAt w 0 (x .prefix); namespace = textAt w 1 (x .namespace); local = textAt w 2 (x .local) }
 
 -- A name in parts whose strings end before `next`: its triple is there already (11), no room in the table (12), both at k.
 unfoldable pub newName : Limits → NameTable → Triple → Parts → (k next : ℕ) → Vocabulary Located → S.Got Parts

@@ -1,6 +1,6 @@
 // Ends, which stand at halves of an octet, and the padding that is due where an item does not follow at once.
 ghost use mathlib.Core.Path.{_≡_};
-ghost use Prim.Native.Nat.{ℕ, _*_, _<_, _≤_};
+ghost use Prim.Native.Nat.{_*_, _<_, _≤_};
 ghost use mathlib.Core.Bool.{_&&_};
 ghost use lib.ListN.{length};
 ghost use Rattle.reader.specs.Reading.{halfAt, endsAt, padsAt, documentEnd, endAt, byHalves};

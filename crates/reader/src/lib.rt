@@ -1,9 +1,10 @@
 // Reading a document: octets in, events and tables out, or a refusal and its place.
-// May depend on format, fields, tables and events.
+// May depend on format, fields, tables, walk and events.
 mod ends;
 mod items;
 mod names;
-mod run;
+pub mod read;
+pub mod run;
 mod strings;
 
 ghost use mathlib.Core.Path.{_≡_};

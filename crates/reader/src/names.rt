@@ -1,7 +1,7 @@
 // Names, C.17 and C.18, and namespace declarations, C.12. Each method reads one from where it stands.
 ghost use mathlib.Core.Path.{_≡_};
-ghost use mathlib.Core.List.{List, [], _∷_};
-ghost use Prim.Native.Nat.{ℕ, _<_, _≤_};
+ghost use mathlib.Core.List.{[], _∷_};
+ghost use Prim.Native.Nat.{_<_, _≤_};
 ghost use lib.ListN.{length};
 ghost use Rattle.format.specs.Numbers.{top};
 ghost use Rattle.format.specs.Tables.{link};
@@ -11,16 +11,35 @@ ghost use Rattle.tables.specs.Rows.{vocabulary};
 ghost use Rattle.tables.specs.Kept.{nameTableOf, Counted};
 ghost use Rattle.reader.specs.Names.{partsAt, numberedAt, nameAt, declaredAt};
 ghost use Rattle.reader.specs.Code.{layoutOf, Ranged, Tidy, seenName, NameTidy, nameSeen, declaredSeen};
-ghost use Rattle.reader.specs.NameStages.{stringFault, numberFault, textAt, tripleOf, newName, KeepsTidy};
+ghost use Rattle.reader.specs.NameStages.{stringFault, numberFault, textAt, tripleOf, textsAt, newName, KeepsTidy};
 use crate::Field;
 use crate::Here;
 use crate::Named;
 use crate::Parts;
+use crate::strings::FULL;
+use crate::strings::INDEX;
+use crate::strings::REPEAT;
+use crate::strings::text_of;
 use events::Text;
+use fields::CODE;
 use fields::Cursor;
 use fields::Number;
+use fields::PADDING;
+use fields::TRUNCATED;
+use fields::bits;
 use tables::Counts;
 use tables::Row;
+
+pub const STRUCTURE: u32 = 15;
+
+// Tables by number.
+const PREFIX: usize = 0;
+
+const NAMESPACE_NAME: usize = 1;
+
+const LOCAL_NAME: usize = 2;
+
+const ELEMENT_NAME: usize = 8;
 
 // What a string refuses, the name does.
 fn string_fault(r: Field) -> Named
@@ -45,7 +64,7 @@ fn number_fault(r: Number) -> Named
 fn in_parts(table: usize) -> u8
     ensures { λ r. ⌜ r ≡ layoutOf table .inPartsBits ⌝ }
 {
-    if table == 8 {
+    if table == ELEMENT_NAME {
         return 0x3C;
     }
     0x78
@@ -56,83 +75,73 @@ fn number(s: &[u8], at: usize, table: usize) -> Number
     ensures { λ r. ⌜ r ≡ fieldAt (layoutOf table .numberForms) top (layoutOf table .numberBit) (now (s .entry)) at ⌝ }
 {
     let cursor = Cursor { at };
-    if table == 8 {
+    if table == ELEMENT_NAME {
         return cursor.number(s, 3);
     }
     cursor.number_at_bit_2(s)
 }
 
-fn narrow(n: u64) -> u32
-    requires { ⌜ n ≤ 1048576 ⌝ }
-    ensures { λ r. ⌜ r ≡ n ⌝ }
-{
-    n as u32
-}
-
-// The string behind a number of a table. An entry without a length is built in.
+// The string behind a number of a table; 0 is none.
 fn text(t: &[u32], table: usize, number: u32) -> Text
-    requires { ⌜ (length (now t) ≡ words) × (table < 3) × (number ≤ 256) ⌝ }
-    ensures { λ r. ⌜ r ≡ textAt table (now (t .entry)) number ⌝ }
+    requires { ⌜ (length (now t) ≡ words) × (table < 8) × (number ≤ 256) ⌝ }
+    ensures { λ r. ⌜ r ≡ textAt (now (t .entry)) table number ⌝ }
 {
     if number == 0 {
         return Text::Absent;
     }
-    let x = tables::entry(t, table, number - 1);
-    if x.b != 0 {
-        return Text::Stretch(x.a, x.b);
-    }
-    match table {
-        0 => Text::XmlPrefix,
-        1 => Text::XmlNamespace,
-        _ => Text::Empty,
+    text_of(t, table, number - 1)
+}
+
+// The strings behind the numbers of a name.
+fn texts(t: &[u32], x: Row) -> Parts
+    requires { ⌜ (length (now t) ≡ words) × (x .a ≤ 256) × (x .b ≤ 256) × (x .c ≤ 256) ⌝ }
+    ensures { λ r. ⌜ r ≡ textsAt (now (t .entry)) (tripleOf x) ⌝ }
+{
+    Parts {
+        prefix: text(t, PREFIX, x.a),
+        namespace: text(t, NAMESPACE_NAME, x.b),
+        local: text(t, LOCAL_NAME, x.c),
     }
 }
 
 impl Here {
-    // A name whose strings end here: its triple is added, and is new.
-    fn triple(self, t: &mut [u32], table: usize, place: usize, name: Parts, x: Row) -> Named
+    // A name whose strings end here: its triple is new, and is added.
+    fn triple(mut self, t: &mut [u32], table: usize, place: usize, name: Parts, x: Row) -> Named
         requires { ⌜ (length (now t) ≡ words) × Counted (self .counts) × (8 ≤ table) × (table < 10) × Ranged (self .counts) (tripleOf x ∷ []) ⌝ }
         ensures { λ r. ⌜ (seenName r (now (t .exit)) ≡ newName link (nameTableOf table) (tripleOf x) name place (self .at) (vocabulary (self .counts) (now (t .entry)))) × KeepsTidy self (now (t .entry)) r (now (t .exit)) ⌝ }
     {
         let n = self.counts.of(table);
         if tables::find_name(t, table, n, x.a, x.b, x.c) != 0 {
-            return Named::Faulty(11, place);
+            return Named::Faulty(REPEAT, place);
         }
         if Counts::ENTRIES <= n {
-            return Named::Faulty(12, place);
+            return Named::Faulty(FULL, place);
         }
         tables::add(t, table, n, x.a, x.b, x.c);
-        let next = Here {
-            at: self.at,
-            counts: self.counts.more(table),
-        };
-        Named::Read(name, next)
+        self.counts = self.counts.more(table);
+        Named::Read(name, self)
     }
 
     // A name in parts, its p and n in the octet b; table 8 is the elements', 9 the attributes'.
-    pub fn parts(self, s: &[u8], t: &mut [u32], table: usize, b: u8) -> Named
+    pub fn parts(mut self, s: &[u8], t: &mut [u32], table: usize, b: u8) -> Named
         requires { ⌜ (Tidy (now s) (self .counts) (now t)) × (self .at < length (now s)) × (8 ≤ table) × (table < 10) ⌝ }
         ensures { λ r. ⌜ (seenName r (now (t .exit)) ≡ nameSeen (partsAt link (layoutOf table) (now (s .entry)) b (self .at) (vocabulary (self .counts) (now (t .entry))))) × NameTidy (now (s .entry)) r (now (t .exit)) ⌝ }
     {
         let place = self.at;
-        let counts = self.counts;
-        let pn = fields::bits(b, 7, 8);
+        let pn = bits(b, 7, 8);
         if pn == 2 {
-            return Named::Faulty(15, place);
+            return Named::Faulty(STRUCTURE, place);
         }
-        let behind = Here {
-            at: place + 1,
-            counts,
-        };
-        let first = behind.optional(2 <= pn, s, t, 0);
+        self.at = place + 1;
+        let first = self.optional(2 <= pn, s, t, PREFIX);
         let Field::Got(prefix, p, behind_prefix) = first else {
             return string_fault(first);
         };
-        let second = behind_prefix.optional(fields::bits(b, 8, 8) == 1, s, t, 1);
+        let second = behind_prefix.optional(bits(b, 8, 8) == 1, s, t, NAMESPACE_NAME);
         let Field::Got(namespace, n, behind_namespace) = second else {
             return string_fault(second);
         };
-        let third = behind_namespace.id(s, t, 2);
+        let third = behind_namespace.id(s, t, LOCAL_NAME);
         let Field::Got(local, l, next) = third else {
             return string_fault(third);
         };
@@ -145,31 +154,20 @@ impl Here {
     }
 
     // A name by number.
-    pub fn numbered(self, s: &[u8], t: &[u32], table: usize) -> Named
+    pub fn numbered(mut self, s: &[u8], t: &[u32], table: usize) -> Named
         requires { ⌜ (Tidy (now s) (self .counts) (now t)) × (self .at ≤ length (now s)) × (8 ≤ table) × (table < 10) ⌝ }
         ensures { λ r. ⌜ (seenName r (now (t .entry)) ≡ nameSeen (numberedAt link (layoutOf table) (now (s .entry)) (self .at) (vocabulary (self .counts) (now (t .entry))))) × NameTidy (now (s .entry)) r (now (t .entry)) ⌝ }
     {
-        let place = self.at;
-        let counts = self.counts;
-        let r = number(s, place, table);
+        let r = number(s, self.at, table);
         let Number::Got(n, next) = r else {
             return number_fault(r);
         };
-        let k = narrow(n);
-        if counts.of(table) < k {
-            return Named::Faulty(10, place);
+        if (self.counts.of(table) as u64) < n {
+            return Named::Faulty(INDEX, self.at);
         }
-        let x = tables::entry(t, table, k - 1);
-        let name = Parts {
-            prefix: text(t, 0, x.a),
-            namespace: text(t, 1, x.b),
-            local: text(t, 2, x.c),
-        };
-        let behind = Here {
-            at: next.at,
-            counts,
-        };
-        Named::Read(name, behind)
+        let x = tables::entry(t, table, (n - 1) as u32);
+        self.at = next.at;
+        Named::Read(texts(t, x), self)
     }
 
     // A name whose part of its first octet is b: by number, or in parts.
@@ -183,35 +181,31 @@ impl Here {
         self.parts(s, t, table, b)
     }
 
-    // A namespace declaration.
-    pub fn declared(self, s: &[u8], t: &mut [u32]) -> Named
+    // A namespace declaration, 110011pn. F0 ends a list of them that has no member.
+    pub fn declared(mut self, s: &[u8], t: &mut [u32]) -> Named
         requires { ⌜ (Tidy (now s) (self .counts) (now t)) × (self .at ≤ length (now s)) ⌝ }
         ensures { λ r. ⌜ (seenName r (now (t .exit)) ≡ declaredSeen (declaredAt link (now (s .entry)) (self .at) (vocabulary (self .counts) (now (t .entry))))) × NameTidy (now (s .entry)) r (now (t .exit)) ⌝ }
     {
         let place = self.at;
-        let counts = self.counts;
         if s.len() <= place {
-            return Named::Faulty(2, place);
+            return Named::Faulty(TRUNCATED, place);
         }
         let b = s[place];
         if b == 0xF0 {
-            return Named::Faulty(15, place);
+            return Named::Faulty(STRUCTURE, place);
         }
         if 0xF0 < b {
-            return Named::Faulty(6, place);
+            return Named::Faulty(PADDING, place);
         }
-        if fields::bits(b, 1, 6) != 0x33 {
-            return Named::Faulty(5, place);
+        if bits(b, 1, 6) != 0x33 {
+            return Named::Faulty(CODE, place);
         }
-        let behind = Here {
-            at: place + 1,
-            counts,
-        };
-        let first = behind.optional(2 <= fields::bits(b, 7, 8), s, t, 0);
+        self.at = place + 1;
+        let first = self.optional(2 <= bits(b, 7, 8), s, t, PREFIX);
         let Field::Got(prefix, _, behind_prefix) = first else {
             return string_fault(first);
         };
-        let second = behind_prefix.optional(fields::bits(b, 8, 8) == 1, s, t, 1);
+        let second = behind_prefix.optional(bits(b, 8, 8) == 1, s, t, NAMESPACE_NAME);
         let Field::Got(namespace, _, next) = second else {
             return string_fault(second);
         };

@@ -20,13 +20,13 @@ use events::Text;
 use tables::Counts;
 
 // The refusals that a run has of its own.
-const SIZE: u32 = 1;
+pub const SIZE: u32 = 1;
 
 const HEADER: u32 = 3;
 
 const OPTIONAL: u32 = 4;
 
-const ROOM: u32 = 14;
+pub const ROOM: u32 = 14;
 
 // Octets of the longest document; event records that the check counts; words of a record; counts.
 const OCTETS: usize = 16384;
@@ -46,7 +46,7 @@ pub enum Opening {
     Halt(u32, usize),
 }
 
-fn sized(s: &[u8]) -> bool
+pub fn sized(s: &[u8]) -> bool
     ensures { λ r. ⌜ r ≡ sized link (now (s .entry)) ⌝ }
 {
     if s.len() == 0 {
@@ -70,7 +70,7 @@ fn headed(s: &[u8]) -> bool
 }
 
 // SIZE, the first four octets, the fifth.
-fn opened(s: &[u8]) -> Opening
+pub fn opened(s: &[u8]) -> Opening
     ensures { λ r. ⌜ openingOf r ≡ opening link header (now (s .entry)) ⌝ }
 {
     if !sized(s) {
@@ -96,7 +96,7 @@ fn opened(s: &[u8]) -> Opening
 }
 
 // Before the first item.
-fn begin() -> State
+pub fn begin() -> State
     ensures { λ r. ⌜ r ≡ fresh ⌝ }
 {
     State {
@@ -138,7 +138,7 @@ fn keep(records: &mut [u32], n: usize, e: Event)
     put_text(records, at + 10, value);
 }
 
-fn refused(k: u32, p: usize) -> Answer
+pub fn refused(k: u32, p: usize) -> Answer
     requires { ⌜ p ≤ 16384 ⌝ }
     ensures { λ r. ⌜ r ≡ Answer.Refused k p ⌝ }
 {
@@ -202,6 +202,7 @@ fn number(a: Answer) -> u32
 }
 
 // Any octets, as a reader with 32,768 event records, of which none is held.
+// Ruled out: 14, for want of room; 0 for a document that is right up to octets behind its end.
 pub fn check(octets: &[u8]) -> u32
     ensures { λ r. ⌜ r ≡ checkOf (now (octets .entry)) ⌝ }
 {
@@ -224,6 +225,7 @@ fn put_counts(w: &mut [u32], c: Counts)
 
 // A document into words: a record for each event, the tables, the ten counts. The answer has the event count above its low 32 bits, and in them 0 or the
 // refusal's number, which leaves every word 0.
+// Ruled out: a refusal that leaves the tables read before the fault; an acceptance that leaves a word of what stood behind the last whole record.
 pub fn read_words(octets: &[u8], records: &mut [u32], tables: &mut [u32], counts: &mut [u32]) -> u64
     ensures { λ r. ⌜ leaving r (now (records .exit)) (now (tables .exit)) (now (counts .exit)) ≡ readWords (now (octets .entry)) (length (now (records .entry))) (length (now (tables .entry))) (length (now (counts .entry))) ⌝ }
 {

@@ -1,83 +1,64 @@
-use borrow.Author.Needs.{needs}
+-- `Here::parts` meets its contract: a refusal is handed on where it is found, and the three strings' numbers are of entries that are there.
+-- Assumes nothing.
 use native.Mathlib.Omega.{arith}
+use borrow.Author.Needs.{needs}
 use Rattle.reader.proofs.NameLaws.{layout-table, strings-ranged, parts-lone, parts-prefix, parts-namespace, parts-local, parts-read, string-handed}
 use Rattle.reader.proofs.Here.parts.Statement.{statement}
 use Rattle.reader.proofs.Here.parts.Tie as tie
-use Rattle.reader.proofs.Here.parts.Reads as reads
-use Rattle.reader.proofs.Here.parts.Lts as lts
-use Rattle.fields.proofs.bits.Reads as bits-reads
-use Rattle.reader.proofs.Here.id.Reads as id-reads
-use Rattle.reader.proofs.Here.optional.Reads as optional-reads
-use Rattle.reader.proofs.Here.triple.Reads as triple-reads
-use Rattle.reader.proofs.names.string_fault.Reads as string-fault-reads
 
--- src/names.rt:119:13
 bits-requires : tie.Need-bits-requires
 bits-requires c κs = search needs
 
--- src/names.rt:121:13
 returns : tie.Need-returns
 returns c = (parts-lone _ _ _ _ _ _ (c .before .bits .ensures) (omega arith), omega arith)
 
--- src/names.rt:124:17
-add-t24 : tie.Need-add-t24
-add-t24 c = search needs
+add-self : tie.Need-add-self
+add-self c = search needs
 
--- src/names.rt:127:13
 optional-requires : tie.Need-optional-requires
 optional-requires c κs = search needs
 
--- src/names.rt:128:24
 enum-known-first : tie.Need-enum-known-first
 enum-known-first c = search needs
 
--- src/names.rt:129:13
 enum-told : tie.Need-enum-told
 enum-told c = search needs
 
--- src/names.rt:129:13
 string-fault-requires : tie.Need-string-fault-requires
 string-fault-requires c κs = search needs
 
--- src/names.rt:129:13
 same-length : tie.Need-same-length
 same-length c = search needs
 
--- src/names.rt:129:13
 returns-2 : tie.Need-returns-2
 returns-2 c =
     let at-optional = c .before .before .before .before .before in
     let at-if1 = at-optional .before .before in
     let at-bits = at-if1 .before in
-    let f = rw (c .before .enum-told .given .1) at (at-optional .optional .ensures) in string-handed _ _ _ _ _ _ (parts-prefix _ _ _ _ _ _ (at-bits .bits .ensures) (at-if1 .if1 .left) _ _ (f .0)) (f .1) _ (c .string-fault .ensures) (c .before .enum-told .given .1)
+    let f = rw (c .before .enum-told .given .1) at (at-optional .optional .ensures) in
+    string-handed _ _ _ _ _ _ (parts-prefix _ _ _ _ _ _ (at-bits .bits .ensures) (at-if1 .if1 .left) _ _ (f .0)) (f .1) _ (c .string-fault .ensures) (c .before .enum-told .given .1)
 
--- src/names.rt:131:45
 bits-requires-2 : tie.Need-bits-requires-2
 bits-requires-2 c κs = search needs
 
--- src/names.rt:131:13
 optional-requires-2 : tie.Need-optional-requires-2
 optional-requires-2 c κs =
     let at-optional = c .before .before .before .before .before .before .before in
-    let first = rw (c .before .before .before .first .given .1) at (at-optional .optional .ensures) in (first .1 .0, first .1 .1, omega arith)
+    let first = rw (c .before .before .before .first .given .1) at (at-optional .optional .ensures) in
+    (first .1 .0, first .1 .1, omega arith)
 
--- src/names.rt:132:24
 enum-known-second : tie.Need-enum-known-second
 enum-known-second c = search needs
 
--- src/names.rt:133:13
 enum-told-2 : tie.Need-enum-told-2
 enum-told-2 c = search needs
 
--- src/names.rt:133:13
 string-fault-requires-2 : tie.Need-string-fault-requires-2
 string-fault-requires-2 c κs = search needs
 
--- src/names.rt:133:13
 same-length-2 : tie.Need-same-length-2
 same-length-2 c = search needs
 
--- src/names.rt:133:13
 returns-3 : tie.Need-returns-3
 returns-3 c =
     let at-optional2 = c .before .before .before .before .before in
@@ -86,31 +67,28 @@ returns-3 c =
     let at-optional = at-first .before .before .before .before in
     let at-if1 = at-optional .before .before in
     let at-bits = at-if1 .before in
-    let first = rw (at-first .first .given .1) at (at-optional .optional .ensures) in let f = rw (c .before .enum-told2 .given .1) at (at-optional2 .optional2 .ensures) in string-handed _ _ _ _ _ _ (parts-namespace _ _ _ _ _ _ (at-bits .bits .ensures) (at-if1 .if1 .left) _ (at-bits2 .bits2 .ensures) _ _ _ (first .0) _ _ (f .0)) (f .1) _ (c .string-fault2 .ensures) (c .before .enum-told2 .given .1)
+    let first = rw (at-first .first .given .1) at (at-optional .optional .ensures) in
+    let f = rw (c .before .enum-told2 .given .1) at (at-optional2 .optional2 .ensures) in
+    string-handed _ _ _ _ _ _ (parts-namespace _ _ _ _ _ _ (at-bits .bits .ensures) (at-if1 .if1 .left) _ (at-bits2 .bits2 .ensures) _ _ _ (first .0) _ _ (f .0)) (f .1) _ (c .string-fault2 .ensures) (c .before .enum-told2 .given .1)
 
--- src/names.rt:135:13
 id-requires : tie.Need-id-requires
 id-requires c κs =
     let at-optional2 = c .before .before .before .before .before .before in
-    let second = rw (c .before .before .second .given .1) at (at-optional2 .optional2 .ensures) in (second .1 .0, second .1 .1, omega arith)
+    let second = rw (c .before .before .second .given .1) at (at-optional2 .optional2 .ensures) in
+    (second .1 .0, second .1 .1, omega arith)
 
--- src/names.rt:136:24
 enum-known-third : tie.Need-enum-known-third
 enum-known-third c = search needs
 
--- src/names.rt:137:13
 enum-told-3 : tie.Need-enum-told-3
 enum-told-3 c = search needs
 
--- src/names.rt:137:13
 string-fault-requires-3 : tie.Need-string-fault-requires-3
 string-fault-requires-3 c κs = search needs
 
--- src/names.rt:137:13
 same-length-3 : tie.Need-same-length-3
 same-length-3 c = search needs
 
--- src/names.rt:137:13
 returns-4 : tie.Need-returns-4
 returns-4 c =
     let at-id = c .before .before .before .before .before in
@@ -121,9 +99,11 @@ returns-4 c =
     let at-optional = at-first .before .before .before .before in
     let at-if1 = at-optional .before .before in
     let at-bits = at-if1 .before in
-    let first = rw (at-first .first .given .1) at (at-optional .optional .ensures) in let second = rw (at-second .second .given .1) at (at-optional2 .optional2 .ensures) in let f = rw (c .before .enum-told3 .given .1) at (at-id .id .ensures) in string-handed _ _ _ _ _ _ (parts-local _ _ _ _ _ _ (at-bits .bits .ensures) (at-if1 .if1 .left) _ (at-bits2 .bits2 .ensures) _ _ _ (first .0) _ _ _ (second .0) _ _ (f .0)) (f .1) _ (c .string-fault3 .ensures) (c .before .enum-told3 .given .1)
+    let first = rw (at-first .first .given .1) at (at-optional .optional .ensures) in
+    let second = rw (at-second .second .given .1) at (at-optional2 .optional2 .ensures) in
+    let f = rw (c .before .enum-told3 .given .1) at (at-id .id .ensures) in
+    string-handed _ _ _ _ _ _ (parts-local _ _ _ _ _ _ (at-bits .bits .ensures) (at-if1 .if1 .left) _ (at-bits2 .bits2 .ensures) _ _ _ (first .0) _ _ _ (second .0) _ _ (f .0)) (f .1) _ (c .string-fault3 .ensures) (c .before .enum-told3 .given .1)
 
--- src/names.rt:144:9
 triple-requires : tie.Need-triple-requires
 triple-requires c κs =
     let at-id = c .before .before .before .before .before .before in
@@ -131,18 +111,23 @@ triple-requires c κs =
     let at-optional2 = at-second .before .before .before .before in
     let at-first = at-optional2 .before .before .before .before in
     let at-optional = at-first .before .before .before .before in
-    let at-start = at-optional .before .before .before .before .before .before .before in
-    let first = rw (at-first .first .given .1) at (at-optional .optional .ensures) in let second = rw (at-second .second .given .1) at (at-optional2 .optional2 .ensures) in let third = rw (c .before .before .third .given .1) at (at-id .id .ensures) in (third .1 .0 .room, third .1 .0 .counted, at-start .pre .2, at-start .pre .3, strings-ranged _ _ _ _ _ _ _ _ _ _ _ _ _ _ _ (first .0) (second .0) (third .0))
+    let at-start = at-optional .before .before .before .before .before .before in
+    let first = rw (at-first .first .given .1) at (at-optional .optional .ensures) in
+    let second = rw (at-second .second .given .1) at (at-optional2 .optional2 .ensures) in
+    let third = rw (c .before .before .third .given .1) at (at-id .id .ensures) in
+    (third .1 .0 .room, third .1 .0 .counted, at-start .pre .2, at-start .pre .3, strings-ranged _ _ _ _ _ _ _ _ _ _ _ _ _ _ _ (first .0) (second .0) (third .0))
 
--- src/names.rt:113:5
 same-length-4 : tie.Need-same-length-4
 same-length-4 c =
     let at-id = c .before .before .before .before .before .before .before .before .before in
     let at-optional2 = at-id .before .before .before .before .before .before .before in
     let at-optional = at-optional2 .before .before .before .before .before .before .before .before in
-    let a = at-optional .optional .kept in let b = at-optional2 .optional2 .kept in let d = at-id .id .kept in let e = c .before .before .triple .kept in omega arith
+    let a = at-optional .optional .kept in
+    let b = at-optional2 .optional2 .kept in
+    let d = at-id .id .kept in
+    let e = c .before .before .triple .kept in
+    omega arith
 
--- src/names.rt:113:5
 returns-5 : tie.Need-returns-5
 returns-5 c =
     let at-third = c .before .before .before .before .before in
@@ -154,8 +139,11 @@ returns-5 c =
     let at-optional = at-first .before .before .before .before in
     let at-if1 = at-optional .before .before in
     let at-bits = at-if1 .before in
-    let at-start = at-bits .before .before .before .before in
-    let first = rw (at-first .first .given .1) at (at-optional .optional .ensures) in let second = rw (at-second .second .given .1) at (at-optional2 .optional2 .ensures) in let third = rw (at-third .third .given .1) at (at-id .id .ensures) in (parts-read _ _ _ _ _ _ (at-bits .bits .ensures) (at-if1 .if1 .left) _ (at-bits2 .bits2 .ensures) _ _ _ (first .0) _ _ _ (second .0) _ _ _ (third .0) _ (layout-table _ (at-start .pre .2) (at-start .pre .3)) _ (c .before .before .triple .ensures .0), c .before .before .triple .ensures .1 _ (third .1 .0) (third .1 .1))
+    let at-start = at-bits .before .before .before in
+    let first = rw (at-first .first .given .1) at (at-optional .optional .ensures) in
+    let second = rw (at-second .second .given .1) at (at-optional2 .optional2 .ensures) in
+    let third = rw (at-third .third .given .1) at (at-id .id .ensures) in
+    (parts-read _ _ _ _ _ _ (at-bits .bits .ensures) (at-if1 .if1 .left) _ (at-bits2 .bits2 .ensures) _ _ _ (first .0) _ _ _ (second .0) _ _ _ (third .0) _ (layout-table _ (at-start .pre .2) (at-start .pre .3)) _ (c .before .before .triple .ensures .0), c .before .before .triple .ensures .1 _ (third .1 .0) (third .1 .1))
 
 pub parts-spec : {M : Type 1} → statement M
 parts-spec =
@@ -163,7 +151,7 @@ parts-spec =
     (tie.spec
     bits-requires
     returns
-    add-t24
+    add-self
     optional-requires
     enum-known-first
     enum-told

@@ -1,114 +1,81 @@
 -- `State::attribute_at` meets its contract, by the first octet and the answers of name and value.
 -- Assumes nothing.
-use borrow.Author.Needs.{needs}
 use native.Mathlib.Omega.{arith}
+use borrow.Author.Needs.{needs}
 use Rattle.tables.specs.Rows.{tableOf}
 use Rattle.reader.specs.Code.{layoutOf}
 use Rattle.reader.proofs.ItemLaws.{field-within, attribute-missing, attribute-bit, attribute-padding, attribute-faulty, attribute-refused, attribute-more}
 use Rattle.reader.proofs.State.attribute_at.Statement.{statement}
 use Rattle.reader.proofs.State.attribute_at.Tie as tie
-use Rattle.reader.proofs.State.attribute_at.Reads as reads
-use Rattle.reader.proofs.State.attribute_at.Lts as lts
-use Rattle.fields.proofs.bits.Reads as bits-reads
-use Rattle.reader.proofs.Here.name.Reads as name-reads
-use Rattle.reader.proofs.Here.value.Reads as value-reads
-use Rattle.reader.proofs.State.here.Reads as here-reads
-use Rattle.reader.proofs.State.moved.Reads as moved-reads
-use Rattle.reader.proofs.items.attribute_event.Reads as attribute-event-reads
-use Rattle.reader.proofs.items.faulty.Reads as faulty-reads
-use Rattle.reader.proofs.items.refused.Reads as refused-reads
 
--- src/items.rt:331:13
 returns : tie.Need-returns
 returns c = attribute-missing _ (c .before .before .before .args .t .now) (c .before .before .before .args .self) (c .before .before .before .pre .0) _ (omega arith)
 
--- src/items.rt:333:17
 shared-slice-read-o : tie.Need-shared-slice-read-o
 shared-slice-read-o c = search needs
 
--- src/items.rt:334:12
 bits-requires : tie.Need-bits-requires
 bits-requires c κs = search needs
 
--- src/items.rt:335:13
 returns-2 : tie.Need-returns-2
 returns-2 c = attribute-bit _ (c .before .before .before .before .before .before .args .t .now) (c .before .before .before .before .before .before .args .self) (c .before .before .before .before .before .before .pre .0) _ (omega arith) (omega (arith, c .before .before .shared-slice-known2 .given (c .before .before .before .before .before .before .args .k))) (omega arith)
 
--- src/items.rt:337:12
 bits-requires-2 : tie.Need-bits-requires-2
 bits-requires-2 c κs = search needs
 
--- src/items.rt:338:13
 returns-3 : tie.Need-returns-3
 returns-3 c = attribute-padding _ (c .before .before .before .before .before .before .before .before .args .t .now) (c .before .before .before .before .before .before .before .before .args .self) (c .before .before .before .before .before .before .before .before .pre .0) _ (omega arith) (omega (arith, c .before .before .before .before .shared-slice-known2 .given (c .before .before .before .before .before .before .before .before .args .k))) (omega arith) (omega arith)
 
--- src/items.rt:340:17
 here-requires : tie.Need-here-requires
 here-requires c κs = search needs
 
--- src/items.rt:340:13
 name-requires : tie.Need-name-requires
 name-requires c κs = rw (c .before .here .ensures) (c .before .before .before .before .before .before .before .before .before .before .pre .0 .tidy, omega arith, omega arith, omega arith)
 
--- src/items.rt:341:25
 enum-known-r : tie.Need-enum-known-r
 enum-known-r c = search needs
 
--- src/items.rt:342:13
 enum-told : tie.Need-enum-told
 enum-told c = search needs
 
--- src/items.rt:342:13
 faulty-requires : tie.Need-faulty-requires
 faulty-requires c κs = search needs
 
--- src/items.rt:342:13
 same-length : tie.Need-same-length
 same-length c = search needs
 
--- src/items.rt:342:13
 returns-4 : tie.Need-returns-4
 unfolding layoutOf
 returns-4 c = rw (c .faulty .ensures) (attribute-faulty _ (c .before .before .before .before .before .before .before .before .before .before .before .before .before .before .before .before .args .t .now) (c .before .before .before .before .before .before .before .before .before .before .before .before .before .before .before .before .args .self) (c .before .before .before .before .before .before .before .before .before .before .before .before .before .before .before .before .pre .0) _ (omega arith) (omega (arith, c .before .before .before .before .before .before .before .before .before .before .before .before .shared-slice-known2 .given (c .before .before .before .before .before .before .before .before .before .before .before .before .before .before .before .before .args .k))) (omega arith) (omega arith) _ _ (rw (c .before .before .before .before .before .before .before .here .ensures) at (c .before .before .before .before .before .name .ensures .0)) _ _ (c .before .before .before .before .before .name .ensures .1) (c .before .enum-told .given .1))
 
--- src/items.rt:344:13
 value-requires : tie.Need-value-requires
 value-requires c κs = let f = rw (c .before .before .r .given .1) at (c .before .before .before .before .before .before .name .ensures .1) in (f .0, f .1, omega arith)
 
--- src/items.rt:345:24
 enum-known-v : tie.Need-enum-known-v
 enum-known-v c = search needs
 
--- src/items.rt:346:13
 enum-told-2 : tie.Need-enum-told-2
 enum-told-2 c = search needs
 
--- src/items.rt:346:13
 refused-requires : tie.Need-refused-requires
 refused-requires c κs = search needs
 
--- src/items.rt:346:13
 same-length-2 : tie.Need-same-length-2
 same-length-2 c = search needs
 
--- src/items.rt:346:13
 returns-5 : tie.Need-returns-5
 unfolding layoutOf tableOf
 returns-5 c = rw (c .refused .ensures) (attribute-refused _ (c .before .before .before .before .before .before .before .before .before .before .before .before .before .before .before .before .before .before .before .before .before .before .before .args .t .now) (c .before .before .before .before .before .before .before .before .before .before .before .before .before .before .before .before .before .before .before .before .before .before .before .args .self) (c .before .before .before .before .before .before .before .before .before .before .before .before .before .before .before .before .before .before .before .before .before .before .before .pre .0) _ (c .before .before .before .before .before .before .before .before .before .before .before .before .before .before .before .before .before .before .before .before .if1 .left) (omega (arith, c .before .before .before .before .before .before .before .before .before .before .before .before .before .before .before .before .before .before .before .shared-slice-known2 .given (c .before .before .before .before .before .before .before .before .before .before .before .before .before .before .before .before .before .before .before .before .before .before .before .args .k))) (omega (arith, c .before .before .before .before .before .before .before .before .before .before .before .before .before .before .before .before .before .if2 .left, c .before .before .before .before .before .before .before .before .before .before .before .before .before .before .before .before .before .before .bits .ensures)) (omega (arith, c .before .before .before .before .before .before .before .before .before .before .before .before .before .before .before .if3 .left, c .before .before .before .before .before .before .before .before .before .before .before .before .before .before .before .before .bits2 .ensures)) _ _ (rw (c .before .before .before .before .before .before .before .before .before .before .before .before .before .before .here .ensures) at (c .before .before .before .before .before .before .before .before .before .before .before .before .name .ensures .0)) _ _ (c .before .before .before .before .before .before .before .before .r .given .1) _ _ (c .before .before .before .before .before .value .ensures .1) (c .before .before .before .before .before .value .ensures .0) _ _ (c .before .enum-told2 .given .1))
 
--- src/items.rt:348:23
 attribute-event-requires : tie.Need-attribute-event-requires
 attribute-event-requires c κs = search needs
 
--- src/items.rt:348:46
 moved-requires : tie.Need-moved-requires
 moved-requires c κs = field-within _ _ (c .before .before .before .before .before .before .before .before .before .before .before .before .before .before .before .before .before .before .before .before .before .before .before .before .pre .0 .tidy .size) (c .before .before .v .given .1) (c .before .before .before .before .before .before .value .ensures .1)
 
--- src/items.rt:326:5
 same-length-3 : tie.Need-same-length-3
 same-length-3 c = omega (arith, c .before .before .before .before .before .before .before .value .kept, c .before .before .before .before .before .before .before .before .before .before .before .before .before .before .name .kept)
 
--- src/items.rt:326:5
 returns-6 : tie.Need-returns-6
 unfolding layoutOf tableOf
 returns-6 c = rw (c .before .attribute-event .ensures, c .moved .ensures) (attribute-more _ (c .before .before .before .before .before .before .before .before .before .before .before .before .before .before .before .before .before .before .before .before .before .before .before .before .before .args .t .now) (c .before .before .before .before .before .before .before .before .before .before .before .before .before .before .before .before .before .before .before .before .before .before .before .before .before .args .self) (c .before .before .before .before .before .before .before .before .before .before .before .before .before .before .before .before .before .before .before .before .before .before .before .before .before .pre .0) _ (c .before .before .before .before .before .before .before .before .before .before .before .before .before .before .before .before .before .before .before .before .before .before .if1 .left) (omega (arith, c .before .before .before .before .before .before .before .before .before .before .before .before .before .before .before .before .before .before .before .before .before .shared-slice-known2 .given (c .before .before .before .before .before .before .before .before .before .before .before .before .before .before .before .before .before .before .before .before .before .before .before .before .before .args .k))) (omega (arith, c .before .before .before .before .before .before .before .before .before .before .before .before .before .before .before .before .before .before .before .if2 .left, c .before .before .before .before .before .before .before .before .before .before .before .before .before .before .before .before .before .before .before .before .bits .ensures)) (omega (arith, c .before .before .before .before .before .before .before .before .before .before .before .before .before .before .before .before .before .if3 .left, c .before .before .before .before .before .before .before .before .before .before .before .before .before .before .before .before .before .before .bits2 .ensures)) _ _ (rw (c .before .before .before .before .before .before .before .before .before .before .before .before .before .before .before .before .here .ensures) at (c .before .before .before .before .before .before .before .before .before .before .before .before .before .before .name .ensures .0)) _ _ (c .before .before .before .before .before .before .before .before .before .before .r .given .1) _ _ (c .before .before .before .before .before .before .before .value .ensures .1) (c .before .before .before .before .before .before .before .value .ensures .0) _ _ _ (c .before .before .before .v .given .1))

@@ -1,104 +1,74 @@
 -- `State::child_at` meets its contract, by the first octet.
 -- Assumes nothing.
-use borrow.Author.Needs.{needs}
 use native.Mathlib.Omega.{arith}
+use borrow.Author.Needs.{needs}
 use Rattle.reader.proofs.ItemLaws.{child-missing, child-element, child-element-attributes, child-text-outside, child-text, child-instruction, child-comment, child-other}
 use Rattle.reader.proofs.State.child_at.Statement.{statement}
 use Rattle.reader.proofs.State.child_at.Tie as tie
-use Rattle.reader.proofs.State.child_at.Reads as reads
-use Rattle.reader.proofs.State.child_at.Lts as lts
-use Rattle.fields.proofs.bits.Reads as bits-reads
-use Rattle.reader.proofs.State.chunk_at.Reads as chunk-at-reads
-use Rattle.reader.proofs.State.comment_at.Reads as comment-at-reads
-use Rattle.reader.proofs.State.element_at.Reads as element-at-reads
-use Rattle.reader.proofs.State.instruction_at.Reads as instruction-at-reads
-use Rattle.reader.proofs.State.other_at.Reads as other-at-reads
 
--- src/items.rt:357:13
 returns : tie.Need-returns
 returns c = child-missing _ (c .before .before .before .args .t .now) (c .before .before .before .args .self) (c .before .before .before .pre .0) _ (omega arith)
 
--- src/items.rt:359:17
 shared-slice-read-o : tie.Need-shared-slice-read-o
 shared-slice-read-o c = search needs
 
--- src/items.rt:360:13
 bits-requires : tie.Need-bits-requires
 bits-requires c κs = search needs
 
--- src/items.rt:362:13
 element-at-requires : tie.Need-element-at-requires
 element-at-requires c κs = (c .before .before .before .before .before .before .before .pre .0, omega arith, (omega (arith, c .before .before .before .shared-slice-known2 .given (c .before .before .before .before .before .before .before .args .k))))
 
--- src/items.rt:362:13
 same-length : tie.Need-same-length
 same-length c = search needs
 
--- src/items.rt:362:13
 returns-2 : tie.Need-returns-2
 returns-2 c = child-element _ (c .before .before .before .before .before .before .before .before .before .before .args .t .now) (c .before .before .before .before .before .before .before .before .before .before .args .self) (c .before .before .before .before .before .before .before .before .before .before .pre .0) _ (omega arith) (omega (arith, c .before .before .before .before .before .before .shared-slice-known2 .given (c .before .before .before .before .before .before .before .before .before .before .args .k))) _ _ (omega arith) (c .before .before .element-at .ensures)
 
--- src/items.rt:365:45
 bits-requires-2 : tie.Need-bits-requires-2
 bits-requires-2 c κs = search needs
 
--- src/items.rt:365:13
 element-at-requires-2 : tie.Need-element-at-requires-2
 element-at-requires-2 c κs = search needs
 
--- src/items.rt:365:13
 same-length-2 : tie.Need-same-length-2
 same-length-2 c = search needs
 
--- src/items.rt:365:13
 returns-3 : tie.Need-returns-3
 returns-3 c = child-element-attributes _ (c .before .before .before .before .before .before .before .before .before .before .before .before .args .t .now) (c .before .before .before .before .before .before .before .before .before .before .before .before .args .self) (c .before .before .before .before .before .before .before .before .before .before .before .before .pre .0) _ (omega arith) (omega (arith, c .before .before .before .before .before .before .before .before .shared-slice-known2 .given (c .before .before .before .before .before .before .before .before .before .before .before .before .args .k))) _ _ (omega arith) _ (c .before .before .before .bits2 .ensures) (c .before .before .element-at2 .ensures)
 
--- src/items.rt:369:17
 returns-4 : tie.Need-returns-4
 returns-4 c = child-text-outside _ (c .before .before .before .before .before .before .before .before .before .before .args .t .now) (c .before .before .before .before .before .before .before .before .before .before .args .self) (c .before .before .before .before .before .before .before .before .before .before .pre .0) _ (omega arith) (omega (arith, c .before .before .before .before .before .before .shared-slice-known2 .given (c .before .before .before .before .before .before .before .before .before .before .args .k))) (omega arith) (omega arith)
 
--- src/items.rt:371:13
 chunk-at-requires : tie.Need-chunk-at-requires
 chunk-at-requires c κs = (c .before .before .before .before .before .before .before .before .before .before .before .pre .0, omega arith, (omega (arith, c .before .before .before .before .before .before .before .shared-slice-known2 .given (c .before .before .before .before .before .before .before .before .before .before .before .args .k))), (omega (arith, c .before .before .before .before .before .before .before .shared-slice-known2 .given (c .before .before .before .before .before .before .before .before .before .before .before .args .k))))
 
--- src/items.rt:371:13
 same-length-3 : tie.Need-same-length-3
 same-length-3 c = search needs
 
--- src/items.rt:371:13
 returns-5 : tie.Need-returns-5
 returns-5 c = child-text _ (c .before .before .before .before .before .before .before .before .before .before .before .before .before .before .args .t .now) (c .before .before .before .before .before .before .before .before .before .before .before .before .before .before .args .self) (c .before .before .before .before .before .before .before .before .before .before .before .before .before .before .pre .0) _ (omega arith) (omega (arith, c .before .before .before .before .before .before .before .before .before .before .shared-slice-known2 .given (c .before .before .before .before .before .before .before .before .before .before .before .before .before .before .args .k))) _ _ (omega arith) (omega arith) (c .before .before .chunk-at .ensures)
 
--- src/items.rt:374:13
 instruction-at-requires : tie.Need-instruction-at-requires
 instruction-at-requires c κs = search needs
 
--- src/items.rt:374:13
 same-length-4 : tie.Need-same-length-4
 same-length-4 c = search needs
 
--- src/items.rt:374:13
 returns-6 : tie.Need-returns-6
 returns-6 c = child-instruction _ (c .before .before .before .before .before .before .before .before .before .before .before .before .before .args .t .now) (c .before .before .before .before .before .before .before .before .before .before .before .before .before .args .self) (c .before .before .before .before .before .before .before .before .before .before .before .before .before .pre .0) _ (omega arith) (omega (arith, c .before .before .before .before .before .before .before .before .before .shared-slice-known2 .given (c .before .before .before .before .before .before .before .before .before .before .before .before .before .args .k))) _ _ (omega arith) (c .before .before .instruction-at .ensures)
 
--- src/items.rt:377:13
 comment-at-requires : tie.Need-comment-at-requires
 comment-at-requires c κs = search needs
 
--- src/items.rt:377:13
 same-length-5 : tie.Need-same-length-5
 same-length-5 c = search needs
 
--- src/items.rt:377:13
 returns-7 : tie.Need-returns-7
 returns-7 c = child-comment _ (c .before .before .before .before .before .before .before .before .before .before .before .before .before .before .args .t .now) (c .before .before .before .before .before .before .before .before .before .before .before .before .before .before .args .self) (c .before .before .before .before .before .before .before .before .before .before .before .before .before .before .pre .0) _ (omega arith) (omega (arith, c .before .before .before .before .before .before .before .before .before .before .shared-slice-known2 .given (c .before .before .before .before .before .before .before .before .before .before .before .before .before .before .args .k))) _ _ (omega arith) (c .before .before .comment-at .ensures)
 
--- src/items.rt:379:9
 other-at-requires : tie.Need-other-at-requires
 other-at-requires c κs = search needs
 
--- src/items.rt:352:5
 returns-8 : tie.Need-returns-8
 returns-8 c = child-other _ (c .before .before .before .before .before .before .before .before .before .before .before .args .t .now) (c .before .before .before .before .before .before .before .before .before .before .before .args .self) (c .before .before .before .before .before .before .before .before .before .before .before .pre .0) _ (omega arith) (omega (arith, c .before .before .before .before .before .before .before .shared-slice-known2 .given (c .before .before .before .before .before .before .before .before .before .before .before .args .k))) _ _ (omega (arith, c .before .before .before .before .before .before .before .shared-slice-known2 .given (c .before .before .before .before .before .before .before .before .before .before .before .args .k))) (omega arith) (omega arith) (c .other-at .ensures (c .before .before .before .before .before .before .before .before .before .before .before .args .t .now) (c .before .before .before .before .before .before .before .before .before .before .before .pre .0))
 

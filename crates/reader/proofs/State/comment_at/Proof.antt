@@ -1,65 +1,46 @@
 -- `State::comment_at` meets its contract, by the string's answer.
 -- Assumes nothing.
-use borrow.Author.Needs.{needs}
 use native.Mathlib.Omega.{arith}
+use borrow.Author.Needs.{needs}
 use Rattle.tables.specs.Rows.{tableOf}
 use Rattle.reader.proofs.ItemLaws.{field-within, comment-refused, comment-more}
 use Rattle.reader.proofs.State.comment_at.Statement.{statement}
 use Rattle.reader.proofs.State.comment_at.Tie as tie
-use Rattle.reader.proofs.State.comment_at.Reads as reads
-use Rattle.reader.proofs.State.comment_at.Lts as lts
-use Rattle.events.proofs.comment.Reads as comment-reads
-use Rattle.reader.proofs.Here.value.Reads as value-reads
-use Rattle.reader.proofs.State.here.Reads as here-reads
-use Rattle.reader.proofs.State.knowing.Reads as knowing-reads
-use Rattle.reader.proofs.items.refused.Reads as refused-reads
 
--- src/items.rt:175:27
 add-here : tie.Need-add-here
 add-here c = search needs
 
--- src/items.rt:175:17
 here-requires : tie.Need-here-requires
 here-requires c κs = search needs
 
--- src/items.rt:175:13
 value-requires : tie.Need-value-requires
 value-requires c κs = rw (c .before .here .ensures) (c .before .before .before .before .pre .0 .tidy, omega arith, omega arith)
 
--- src/items.rt:176:24
 enum-known-r : tie.Need-enum-known-r
 enum-known-r c = search needs
 
--- src/items.rt:177:13
 enum-told : tie.Need-enum-told
 enum-told c = search needs
 
--- src/items.rt:177:13
 refused-requires : tie.Need-refused-requires
 refused-requires c κs = search needs
 
--- src/items.rt:177:13
 same-length : tie.Need-same-length
 same-length c = search needs
 
--- src/items.rt:177:13
 returns : tie.Need-returns
 unfolding tableOf
 returns c = rw (c .refused .ensures) (comment-refused (c .before .before .before .before .before .before .before .before .before .before .args .s .now) (c .before .before .before .before .before .before .before .before .before .before .args .t .now) _ (c .before .before .before .before .before .before .before .before .before .before .args .self) _ _ _ _ (c .before .enum-told .given .1) (c .before .before .before .before .before .value .ensures .1) (rw (c .before .before .before .before .before .before .before .here .ensures) at (c .before .before .before .before .before .value .ensures .0)))
 
--- src/items.rt:179:23
 comment-requires : tie.Need-comment-requires
 comment-requires c κs = search needs
 
--- src/items.rt:179:43
 knowing-requires : tie.Need-knowing-requires
 knowing-requires c κs = field-within _ _ (c .before .before .before .before .before .before .before .before .before .before .before .pre .0 .tidy .size) (c .before .before .r .given .1) (c .before .before .before .before .before .before .value .ensures .1)
 
--- src/items.rt:171:5
 same-length-2 : tie.Need-same-length-2
 same-length-2 c = search needs
 
--- src/items.rt:171:5
 returns-2 : tie.Need-returns-2
 unfolding tableOf
 returns-2 c = rw (c .before .comment .ensures, c .knowing .ensures) (comment-more (c .before .before .before .before .before .before .before .before .before .before .before .before .args .s .now) (c .before .before .before .before .before .before .before .before .before .before .before .before .args .t .now) _ (c .before .before .before .before .before .before .before .before .before .before .before .before .args .self) (c .before .before .before .before .before .before .before .before .before .before .before .before .pre .0) _ _ _ _ _ (c .before .before .before .r .given .1) (c .before .before .before .before .before .before .before .value .ensures .1) (rw (c .before .before .before .before .before .before .before .before .before .here .ensures) at (c .before .before .before .before .before .before .before .value .ensures .0)))

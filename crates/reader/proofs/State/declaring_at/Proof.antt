@@ -1,45 +1,32 @@
 -- `State::declaring_at` meets its contract: F0, or not.
 -- Assumes nothing.
-use borrow.Author.Needs.{needs}
 use native.Mathlib.Omega.{arith}
+use borrow.Author.Needs.{needs}
 use Rattle.reader.proofs.ItemLaws.{octet-there, declaring-name, declaring-more}
 use Rattle.reader.proofs.State.declaring_at.Statement.{statement}
 use Rattle.reader.proofs.State.declaring_at.Tie as tie
-use Rattle.reader.proofs.State.declaring_at.Reads as reads
-use Rattle.reader.proofs.State.declaring_at.Lts as lts
-use Rattle.reader.proofs.State.named_at.Reads as named-at-reads
-use Rattle.reader.proofs.State.namespace_at.Reads as namespace-at-reads
-use Rattle.reader.proofs.strings.octet.Reads as octet-reads
 
--- src/items.rt:387:12
 octet-requires : tie.Need-octet-requires
 octet-requires c κs = search needs
 
--- src/items.rt:388:40
 add-named-at : tie.Need-add-named-at
 add-named-at c = search needs
 
--- src/items.rt:388:13
 named-at-requires : tie.Need-named-at-requires
 named-at-requires c κs = (c .before .before .before .before .before .pre .0, (let z = octet-there (c .before .before .before .before .before .args .s .now) (c .before .before .before .before .before .args .k) 0xEF (omega arith) in omega arith), c .before .before .before .before .before .pre .2)
 
--- src/items.rt:388:13
 same-length : tie.Need-same-length
 same-length c = search needs
 
--- src/items.rt:388:13
 returns : tie.Need-returns
 returns c = declaring-name _ _ (c .before .before .before .before .before .before .before .before .args .self) (c .before .before .before .before .before .before .before .before .args .t .now) _ _ _ (omega arith) (c .before .before .named-at .ensures)
 
--- src/items.rt:390:9
 namespace-at-requires : tie.Need-namespace-at-requires
 namespace-at-requires c κs = search needs
 
--- src/items.rt:383:5
 same-length-2 : tie.Need-same-length-2
 same-length-2 c = search needs
 
--- src/items.rt:383:5
 returns-2 : tie.Need-returns-2
 returns-2 c = declaring-more _ _ (c .before .before .before .before .before .before .before .before .args .self) (c .before .before .before .before .before .before .before .before .args .t .now) _ _ _ (omega arith) (c .before .before .namespace-at .ensures)
 

@@ -1,97 +1,68 @@
 -- `State::element_at` meets its contract: each way out is a case of the definition.
 -- Assumes nothing.
-use borrow.Author.Needs.{needs}
-use native.Mathlib.Omega.{arith}
 use mathlib.Core.Path.{sym, _∙_}
+use native.Mathlib.Omega.{arith}
+use borrow.Author.Needs.{needs}
 use borrow.Author.Tests.{not-true, not-false}
 use Rattle.reader.specs.Code.{layoutOf}
 use Rattle.reader.proofs.ItemLaws.{name-within, element-padding, element-second, element-numbered, element-lone, element-deep, element-declaring, element-parts}
 use Rattle.reader.proofs.State.element_at.Statement.{statement}
 use Rattle.reader.proofs.State.element_at.Tie as tie
-use Rattle.reader.proofs.State.element_at.Reads as reads
-use Rattle.reader.proofs.State.element_at.Lts as lts
-use Rattle.fields.proofs.bits.Reads as bits-reads
-use Rattle.reader.proofs.Here.parts.Reads as parts-reads
-use Rattle.reader.proofs.State.here.Reads as here-reads
-use Rattle.reader.proofs.State.may_start.Reads as may-start-reads
-use Rattle.reader.proofs.State.namespace_at.Reads as namespace-at-reads
-use Rattle.reader.proofs.State.numbered_start.Reads as numbered-start-reads
-use Rattle.reader.proofs.State.start_of.Reads as start-of-reads
-use Rattle.reader.proofs.items.name_padding.Reads as name-padding-reads
 
--- src/items.rt:278:12
 name-padding-requires : tie.Need-name-padding-requires
 name-padding-requires c κs = search needs
 
--- src/items.rt:279:13
 returns : tie.Need-returns
 returns c = element-padding _ (c .before .before .before .before .args .t .now) (c .before .before .before .before .args .t .now) (c .before .before .before .before .args .self) _ _ _ (c .before .before .before .before .pre .0 .tidy .room) (sym (c .if1 .taken) ∙ c .before .name-padding .ensures)
 
--- src/items.rt:281:13
 may-start-requires : tie.Need-may-start-requires
 may-start-requires c κs = search needs
 
--- src/items.rt:282:13
 returns-2 : tie.Need-returns-2
 returns-2 c = element-second _ (c .before .before .before .before .before .before .args .t .now) (c .before .before .before .before .before .before .args .t .now) (c .before .before .before .before .before .before .args .self) _ _ _ (sym (c .before .before .if1 .left) ∙ c .before .before .before .name-padding .ensures) (c .before .before .before .before .before .before .pre .0 .tidy .room) (sym (not-true _ (c .if2 .taken)) ∙ c .before .may-start .ensures)
 
--- src/items.rt:285:13
 numbered-start-requires : tie.Need-numbered-start-requires
 numbered-start-requires c κs = search needs
 
--- src/items.rt:285:13
 same-length : tie.Need-same-length
 same-length c = search needs
 
--- src/items.rt:285:13
 returns-3 : tie.Need-returns-3
 returns-3 c = element-numbered _ (c .before .before .before .before .before .before .before .before .before .args .t .now) _ (c .before .before .before .before .before .before .before .before .before .args .self) _ _ _ (sym (c .before .before .before .before .before .if1 .left) ∙ c .before .before .before .before .before .before .name-padding .ensures) (sym (not-false _ (c .before .before .before .if2 .left)) ∙ c .before .before .before .before .may-start .ensures) _ (omega arith) (c .numbered-start .ensures)
 
--- src/items.rt:288:12
 bits-requires : tie.Need-bits-requires
 bits-requires c κs = search needs
 
--- src/items.rt:289:13
 returns-4 : tie.Need-returns-4
 returns-4 c = element-lone _ (c .before .before .before .before .before .before .before .before .before .args .t .now) (c .before .before .before .before .before .before .before .before .before .args .t .now) (c .before .before .before .before .before .before .before .before .before .args .self) _ _ _ (sym (c .before .before .before .before .before .if1 .left) ∙ c .before .before .before .before .before .before .name-padding .ensures) (sym (not-false _ (c .before .before .before .if2 .left)) ∙ c .before .before .before .before .may-start .ensures) (omega arith) (c .before .before .before .before .before .before .before .before .before .pre .0 .tidy .room) (omega arith)
 
--- src/items.rt:292:13
 returns-5 : tie.Need-returns-5
 returns-5 c = element-deep _ (c .before .before .before .before .before .before .before .before .before .before .before .args .t .now) (c .before .before .before .before .before .before .before .before .before .before .before .args .t .now) (c .before .before .before .before .before .before .before .before .before .before .before .args .self) _ _ _ (sym (c .before .before .before .before .before .before .before .if1 .left) ∙ c .before .before .before .before .before .before .before .before .name-padding .ensures) (sym (not-false _ (c .before .before .before .before .before .if2 .left)) ∙ c .before .before .before .before .before .before .may-start .ensures) (omega arith) (omega arith) (c .before .before .before .before .before .before .before .before .before .before .before .pre .0 .tidy .room) (omega arith)
 
--- src/items.rt:295:44
 add-namespace-at : tie.Need-add-namespace-at
 add-namespace-at c = search needs
 
--- src/items.rt:295:13
 namespace-at-requires : tie.Need-namespace-at-requires
 namespace-at-requires c κs = search needs
 
--- src/items.rt:295:13
 same-length-2 : tie.Need-same-length-2
 same-length-2 c = search needs
 
--- src/items.rt:295:13
 returns-6 : tie.Need-returns-6
 returns-6 c = element-declaring _ (c .before .before .before .before .before .before .before .before .before .before .before .before .before .before .before .before .args .t .now) _ (c .before .before .before .before .before .before .before .before .before .before .before .before .before .before .before .before .args .self) _ _ _ (sym (c .before .before .before .before .before .before .before .before .before .before .before .before .if1 .left) ∙ c .before .before .before .before .before .before .before .before .before .before .before .before .before .name-padding .ensures) (sym (not-false _ (c .before .before .before .before .before .before .before .before .before .before .if2 .left)) ∙ c .before .before .before .before .before .before .before .before .before .before .before .may-start .ensures) (omega arith) (omega arith) (omega arith) _ (omega arith) (c .before .before .namespace-at .ensures)
 
--- src/items.rt:297:17
 here-requires : tie.Need-here-requires
 here-requires c κs = search needs
 
--- src/items.rt:297:13
 parts-requires : tie.Need-parts-requires
 parts-requires c κs = rw (c .before .here .ensures) (c .before .before .before .before .before .before .before .before .before .before .before .before .before .before .pre .0 .tidy, c .before .before .before .before .before .before .before .before .before .before .before .before .before .before .pre .1, omega arith, omega arith)
 
--- src/items.rt:298:9
 start-of-requires : tie.Need-start-of-requires
 start-of-requires c κs = (name-within _ _ (c .before .before .parts .result) (c .before .before .before .before .before .before .before .before .before .before .before .before .before .before .before .before .before .pre .0 .tidy .size) (c .before .before .parts .ensures .1), omega arith)
 
--- src/items.rt:274:5
 same-length-3 : tie.Need-same-length-3
 same-length-3 c = search needs
 
--- src/items.rt:274:5
 returns-7 : tie.Need-returns-7
 unfolding layoutOf
 returns-7 c = rw (c .start-of .ensures) (element-parts _ (c .before .before .before .before .before .before .before .before .before .before .before .before .before .before .before .before .before .before .args .t .now) _ (c .before .before .before .before .before .before .before .before .before .before .before .before .before .before .before .before .before .before .args .self) _ _ _ (sym (c .before .before .before .before .before .before .before .before .before .before .before .before .before .before .if1 .left) ∙ c .before .before .before .before .before .before .before .before .before .before .before .before .before .before .before .name-padding .ensures) (sym (not-false _ (c .before .before .before .before .before .before .before .before .before .before .before .before .if2 .left)) ∙ c .before .before .before .before .before .before .before .before .before .before .before .before .before .may-start .ensures) (omega arith) (omega arith) (omega arith) (omega arith) (c .before .before .before .parts .result) (rw (c .before .before .before .before .before .here .ensures) at (c .before .before .before .parts .ensures .0)) (c .before .before .before .parts .ensures .1))

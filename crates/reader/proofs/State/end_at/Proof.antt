@@ -1,65 +1,47 @@
 -- `State::end_at` meets its contract: what ends is what the mode says.
 -- Assumes nothing.
-use borrow.Author.Needs.{needs}
 use native.Mathlib.Omega.{arith}
+use borrow.Author.Needs.{needs}
 use Rattle.reader.proofs.ItemLaws.{end-listing, end-listing-none, end-declaring, end-document, end-element}
 use Rattle.reader.proofs.State.end_at.Statement.{statement}
 use Rattle.reader.proofs.State.end_at.Tie as tie
-use Rattle.reader.proofs.State.end_at.Reads as reads
-use Rattle.reader.proofs.State.end_at.Lts as lts
-use Rattle.events.proofs.end.Reads as end-reads
-use Rattle.reader.proofs.State.behind_end.Reads as behind-end-reads
-use Rattle.reader.proofs.State.document_end.Reads as document-end-reads
 
--- src/ends.rt:85:49
 enum-told : tie.Need-enum-told
 enum-told c = search needs
 
--- src/ends.rt:86:27
 enum-known-mode : tie.Need-enum-known-mode
 enum-known-mode c = search needs
 
--- src/ends.rt:88:40
 behind-end-requires : tie.Need-behind-end-requires
 behind-end-requires c κs = search needs
 
--- src/ends.rt:88:21
 returns : tie.Need-returns
 returns c = λ w g. rw (c .behind-end .ensures) (end-listing _ w (c .before .before .before .before .before .before .args .self) g _ (c .before .before .before .mode .given .1) (c .before .if1 .taken) (omega arith))
 
--- src/ends.rt:93:20
 enum-told-2 : tie.Need-enum-told-2
 enum-told-2 c = search needs
 
--- src/ends.rt:94:21
 document-end-requires : tie.Need-document-end-requires
 document-end-requires c κs = search needs
 
--- src/ends.rt:94:21
 returns-2 : tie.Need-returns-2
 returns-2 c = λ w g. end-document _ w (c .before .before .before .before .before .before .args .self) g (c .before .before .before .enum-told2 .given .1) _ (omega arith) (c .document-end .ensures w g)
 
--- src/ends.rt:96:41
 end-requires : tie.Need-end-requires
 end-requires c κs = search needs
 
--- src/ends.rt:96:72
 sub-behind-end : tie.Need-sub-behind-end
 sub-behind-end c = search needs
 
--- src/ends.rt:96:56
 behind-end-requires-2 : tie.Need-behind-end-requires-2
 behind-end-requires-2 c κs = search needs
 
--- src/ends.rt:79:5
 returns-3 : tie.Need-returns-3
 returns-3 c = λ w g. end-declaring _ w (c .before .before .before .before .args .self) g _ (c .before .enum-told .given .1)
 
--- src/ends.rt:79:5
 returns-4 : tie.Need-returns-4
 returns-4 c = λ w g. end-listing-none _ w (c .before .before .before .before .before .before .args .self) g _ (c .before .before .before .mode .given .1) (c .before .if1 .left)
 
--- src/ends.rt:79:5
 returns-5 : tie.Need-returns-5
 returns-5 c = λ w g. rw (c .before .before .end .ensures, c .behind-end2 .ensures) (end-element _ w (c .before .before .before .before .before .before .before .before .before .args .self) g (c .before .before .before .before .before .before .enum-told2 .given .1) (omega arith) (omega arith))
 

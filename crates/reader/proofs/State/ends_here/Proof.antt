@@ -1,42 +1,30 @@
 -- `State::ends_here` meets its contract, by the mode.
 -- Assumes nothing.
 use borrow.Author.Needs.{needs}
-use native.Mathlib.Omega.{arith}
 use Rattle.reader.proofs.State.ends_here.Statement.{statement}
 use Rattle.reader.proofs.State.ends_here.Tie as tie
-use Rattle.reader.proofs.State.ends_here.Reads as reads
-use Rattle.reader.proofs.State.ends_here.Lts as lts
-use Rattle.reader.proofs.ends.ends_at.Reads as ends-at-reads
 
--- src/ends.rt:52:30
 enum-told : tie.Need-enum-told
 enum-told c = search needs
 
--- src/ends.rt:52:30
 ends-at-requires : tie.Need-ends-at-requires
 ends-at-requires c κs = search needs
 
--- src/ends.rt:53:35
 enum-told-2 : tie.Need-enum-told-2
 enum-told-2 c = search needs
 
--- src/ends.rt:54:33
 enum-told-3 : tie.Need-enum-told-3
 enum-told-3 c = search needs
 
--- src/ends.rt:54:33
 ends-at-requires-2 : tie.Need-ends-at-requires-2
 ends-at-requires-2 c κs = search needs
 
--- src/ends.rt:47:5
 returns : tie.Need-returns
 returns c = rw (c .before .enum-told .given .1) (c .ends-at .ensures)
 
--- src/ends.rt:47:5
 returns-2 : tie.Need-returns-2
 returns-2 c = rw (c .enum-told2 .given .1)
 
--- src/ends.rt:47:5
 returns-3 : tie.Need-returns-3
 returns-3 c = rw (c .before .enum-told3 .given .1) (c .ends-at2 .ensures)
 

@@ -1,61 +1,43 @@
 -- `State::item_at` meets its contract, by the mode.
 -- Assumes nothing.
 use borrow.Author.Needs.{needs}
-use native.Mathlib.Omega.{arith}
 use Rattle.reader.proofs.ItemLaws.{declaring-shallow, item-child, item-declaring, item-attribute}
 use Rattle.reader.proofs.State.item_at.Statement.{statement}
 use Rattle.reader.proofs.State.item_at.Tie as tie
-use Rattle.reader.proofs.State.item_at.Reads as reads
-use Rattle.reader.proofs.State.item_at.Lts as lts
-use Rattle.reader.proofs.State.attribute_at.Reads as attribute-at-reads
-use Rattle.reader.proofs.State.child_at.Reads as child-at-reads
-use Rattle.reader.proofs.State.declaring_at.Reads as declaring-at-reads
 
--- src/items.rt:400:47
 enum-told : tie.Need-enum-told
 enum-told c = search needs
 
--- src/items.rt:400:30
 child-at-requires : tie.Need-child-at-requires
 child-at-requires c κs = search needs
 
--- src/items.rt:401:29
 enum-known-mode : tie.Need-enum-known-mode
 enum-known-mode c = search needs
 
--- src/items.rt:401:35
 declaring-at-requires : tie.Need-declaring-at-requires
 declaring-at-requires c κs = (c .before .before .before .before .before .before .pre .0, c .before .before .before .before .before .before .pre .1, declaring-shallow _ _ (c .before .before .before .before .before .before .args .self) (c .before .before .before .before .before .before .pre .0) _ (c .before .before .mode .given .1))
 
--- src/items.rt:402:54
 enum-told-2 : tie.Need-enum-told-2
 enum-told-2 c = search needs
 
--- src/items.rt:402:33
 attribute-at-requires : tie.Need-attribute-at-requires
 attribute-at-requires c κs = search needs
 
--- src/items.rt:394:5
 same-length : tie.Need-same-length
 same-length c = search needs
 
--- src/items.rt:394:5
 returns : tie.Need-returns
 returns c = item-child _ _ (c .before .before .before .before .before .before .before .before .args .self) (c .before .before .before .before .before .before .before .before .args .t .now) _ _ (c .before .before .before .before .enum-told .given .1) (c .before .before .child-at .ensures)
 
--- src/items.rt:394:5
 same-length-2 : tie.Need-same-length-2
 same-length-2 c = search needs
 
--- src/items.rt:394:5
 returns-2 : tie.Need-returns-2
 returns-2 c = item-declaring _ _ (c .before .before .before .before .before .before .before .before .before .args .self) (c .before .before .before .before .before .before .before .before .before .args .t .now) _ _ _ (c .before .before .before .before .before .mode .given .1) (c .before .before .declaring-at .ensures)
 
--- src/items.rt:394:5
 same-length-3 : tie.Need-same-length-3
 same-length-3 c = search needs
 
--- src/items.rt:394:5
 returns-3 : tie.Need-returns-3
 returns-3 c = item-attribute _ _ (c .before .before .before .before .before .before .before .before .args .self) (c .before .before .before .before .before .before .before .before .args .t .now) _ _ _ (c .before .before .before .before .enum-told2 .given .1) (c .before .before .attribute-at .ensures)
 

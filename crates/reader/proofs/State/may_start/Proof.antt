@@ -1,18 +1,12 @@
 -- `State::may_start` meets its contract.
 -- Assumes nothing.
-use borrow.Author.Needs.{needs}
-use native.Mathlib.Omega.{arith}
 use borrow.Author.Tests.{lt-ltb, le-ltb}
 use Rattle.reader.proofs.State.may_start.Statement.{statement}
 use Rattle.reader.proofs.State.may_start.Tie as tie
-use Rattle.reader.proofs.State.may_start.Reads as reads
-use Rattle.reader.proofs.State.may_start.Lts as lts
 
--- src/items.rt:268:13
 returns : tie.Need-returns
 returns c = rw (lt-ltb _ _ (c .if1 .taken))
 
--- src/items.rt:264:5
 returns-2 : tie.Need-returns-2
 returns-2 c = rw (le-ltb _ _ (c .before .if1 .left))
 

@@ -1,69 +1,49 @@
 -- `State::named_at` meets its contract: each way out is a case of the definition.
 -- Assumes nothing.
-use borrow.Author.Needs.{needs}
-use native.Mathlib.Omega.{arith}
 use mathlib.Core.Path.{sym, _∙_}
+use native.Mathlib.Omega.{arith}
+use borrow.Author.Needs.{needs}
 use Rattle.reader.specs.Code.{layoutOf}
 use Rattle.reader.proofs.ItemLaws.{name-within, named-missing, named-code, named-bits, named-padding, named-start}
 use Rattle.reader.proofs.State.named_at.Statement.{statement}
 use Rattle.reader.proofs.State.named_at.Tie as tie
-use Rattle.reader.proofs.State.named_at.Reads as reads
-use Rattle.reader.proofs.State.named_at.Lts as lts
-use Rattle.fields.proofs.bits.Reads as bits-reads
-use Rattle.reader.proofs.Here.name.Reads as name-reads
-use Rattle.reader.proofs.State.here.Reads as here-reads
-use Rattle.reader.proofs.State.start_of.Reads as start-of-reads
-use Rattle.reader.proofs.items.name_padding.Reads as name-padding-reads
 
--- src/items.rt:309:13
 returns : tie.Need-returns
 returns c = named-missing _ (c .before .before .before .args .t .now) (c .before .before .before .args .self) (c .before .before .before .pre .0) _ _ (omega arith)
 
--- src/items.rt:311:17
 shared-slice-read-o : tie.Need-shared-slice-read-o
 shared-slice-read-o c = search needs
 
--- src/items.rt:312:12
 bits-requires : tie.Need-bits-requires
 bits-requires c κs = search needs
 
--- src/items.rt:313:13
 returns-2 : tie.Need-returns-2
 returns-2 c = named-code _ (c .before .before .before .before .before .before .args .t .now) (c .before .before .before .before .before .before .args .self) (c .before .before .before .before .before .before .pre .0) _ _ (omega arith) (omega arith)
 
--- src/items.rt:315:12
 bits-requires-2 : tie.Need-bits-requires-2
 bits-requires-2 c κs = search needs
 
--- src/items.rt:316:13
 returns-3 : tie.Need-returns-3
 returns-3 c = named-bits _ (c .before .before .before .before .before .before .before .before .args .t .now) (c .before .before .before .before .before .before .before .before .args .self) (c .before .before .before .before .before .before .before .before .pre .0) _ _ (omega arith) (omega arith) (omega (arith, c .before .before .before .before .shared-slice-known2 .given (c .before .before .before .before .before .before .before .before .args .k)))
 
--- src/items.rt:318:12
 name-padding-requires : tie.Need-name-padding-requires
 name-padding-requires c κs = omega (arith, c .before .before .before .before .shared-slice-known2 .given (c .before .before .before .before .before .before .before .before .args .k))
 
--- src/items.rt:319:13
 returns-4 : tie.Need-returns-4
 returns-4 c = named-padding _ (c .before .before .before .before .before .before .before .before .before .before .args .t .now) (c .before .before .before .before .before .before .before .before .before .before .args .self) (c .before .before .before .before .before .before .before .before .before .before .pre .0) _ _ (omega arith) (omega arith) (omega (arith, c .before .before .before .before .before .before .shared-slice-known2 .given (c .before .before .before .before .before .before .before .before .before .before .args .k))) (sym (c .if4 .taken) ∙ c .before .name-padding .ensures)
 
--- src/items.rt:321:17
 here-requires : tie.Need-here-requires
 here-requires c κs = search needs
 
--- src/items.rt:321:13
 name-requires : tie.Need-name-requires
 name-requires c κs = rw (c .before .here .ensures) (c .before .before .before .before .before .before .before .before .before .before .before .before .pre .0 .tidy, omega arith, omega arith, omega arith)
 
--- src/items.rt:322:9
 start-of-requires : tie.Need-start-of-requires
 start-of-requires c κs = (name-within _ _ (c .before .before .name .result) (c .before .before .before .before .before .before .before .before .before .before .before .before .before .before .before .pre .0 .tidy .size) (c .before .before .name .ensures .1), c .before .before .before .before .before .before .before .before .before .before .before .before .before .before .before .pre .2)
 
--- src/items.rt:304:5
 same-length : tie.Need-same-length
 same-length c = search needs
 
--- src/items.rt:304:5
 returns-5 : tie.Need-returns-5
 unfolding layoutOf
 returns-5 c = rw (c .start-of .ensures) (named-start _ (c .before .before .before .before .before .before .before .before .before .before .before .before .before .before .before .before .args .t .now) (c .before .before .before .before .before .before .before .before .before .before .before .before .before .before .before .before .args .self) (c .before .before .before .before .before .before .before .before .before .before .before .before .before .before .before .before .pre .0) _ _ (omega arith) (omega arith) (omega (arith, c .before .before .before .before .before .before .before .before .before .before .before .before .shared-slice-known2 .given (c .before .before .before .before .before .before .before .before .before .before .before .before .before .before .before .before .args .k))) (sym (c .before .before .before .before .before .before .if4 .left) ∙ c .before .before .before .before .before .before .before .name-padding .ensures) _ (c .before .before .before .name .result) (rw (c .before .before .before .before .before .here .ensures) at (c .before .before .before .name .ensures .0)) (c .before .before .before .name .ensures .1) (c .before .before .before .before .before .before .before .before .before .before .before .before .before .before .before .before .pre .2))

@@ -1,59 +1,40 @@
 -- `State::namespace_at` meets its contract, by the declaration's answer.
 -- Assumes nothing.
 use borrow.Author.Needs.{needs}
-use native.Mathlib.Omega.{arith}
 use Rattle.reader.proofs.ItemLaws.{name-within, namespace-refused, namespace-more}
 use Rattle.reader.proofs.State.namespace_at.Statement.{statement}
 use Rattle.reader.proofs.State.namespace_at.Tie as tie
-use Rattle.reader.proofs.State.namespace_at.Reads as reads
-use Rattle.reader.proofs.State.namespace_at.Lts as lts
-use Rattle.reader.proofs.Here.declared.Reads as declared-reads
-use Rattle.reader.proofs.State.here.Reads as here-reads
-use Rattle.reader.proofs.State.moved.Reads as moved-reads
-use Rattle.reader.proofs.items.faulty.Reads as faulty-reads
-use Rattle.reader.proofs.items.namespace_event.Reads as namespace-event-reads
 
--- src/items.rt:243:17
 here-requires : tie.Need-here-requires
 here-requires c κs = search needs
 
--- src/items.rt:243:13
 declared-requires : tie.Need-declared-requires
 declared-requires c κs = rw (c .before .here .ensures) (c .before .before .before .before .pre .0 .tidy, c .before .before .before .before .pre .1)
 
--- src/items.rt:244:25
 enum-known-r : tie.Need-enum-known-r
 enum-known-r c = search needs
 
--- src/items.rt:245:13
 enum-told : tie.Need-enum-told
 enum-told c = search needs
 
--- src/items.rt:245:13
 faulty-requires : tie.Need-faulty-requires
 faulty-requires c κs = search needs
 
--- src/items.rt:245:13
 same-length : tie.Need-same-length
 same-length c = search needs
 
--- src/items.rt:245:13
 returns : tie.Need-returns
 returns c = rw (c .faulty .ensures) (namespace-refused (c .before .before .before .before .before .before .before .before .before .before .args .s .now) (c .before .before .before .before .before .before .before .before .before .before .args .t .now) _ (c .before .before .before .before .before .before .before .before .before .before .args .self) _ _ _ (c .before .before .before .before .before .declared .ensures .1) (rw (c .before .before .before .before .before .before .before .here .ensures) at (c .before .before .before .before .before .declared .ensures .0)) _ _ (c .before .enum-told .given .1))
 
--- src/items.rt:247:23
 namespace-event-requires : tie.Need-namespace-event-requires
 namespace-event-requires c κs = search needs
 
--- src/items.rt:247:43
 moved-requires : tie.Need-moved-requires
 moved-requires c κs = rw (c .before .before .r .given .1) at (name-within _ _ (c .before .before .before .before .before .before .declared .result) (c .before .before .before .before .before .before .before .before .before .before .before .pre .0 .tidy .size) (c .before .before .before .before .before .before .declared .ensures .1))
 
--- src/items.rt:239:5
 same-length-2 : tie.Need-same-length-2
 same-length-2 c = search needs
 
--- src/items.rt:239:5
 returns-2 : tie.Need-returns-2
 returns-2 c = rw (c .before .namespace-event .ensures, c .moved .ensures) (namespace-more (c .before .before .before .before .before .before .before .before .before .before .before .before .args .s .now) (c .before .before .before .before .before .before .before .before .before .before .before .before .args .t .now) _ (c .before .before .before .before .before .before .before .before .before .before .before .before .args .self) _ _ _ (c .before .before .before .before .before .before .before .declared .ensures .1) (rw (c .before .before .before .before .before .before .before .before .before .here .ensures) at (c .before .before .before .before .before .before .before .declared .ensures .0)) _ _ (c .before .before .before .r .given .1) (c .before .before .before .before .before .before .before .before .before .before .before .before .pre .2))
 

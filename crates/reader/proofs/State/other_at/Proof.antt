@@ -1,36 +1,26 @@
 -- `State::other_at` meets its contract: each way out is a case of the definition.
 -- Assumes nothing.
-use borrow.Author.Needs.{needs}
 use native.Mathlib.Omega.{arith}
+use borrow.Author.Needs.{needs}
 use Rattle.reader.proofs.ItemLaws.{other-end, other-format, other-none}
 use Rattle.reader.proofs.State.other_at.Statement.{statement}
 use Rattle.reader.proofs.State.other_at.Tie as tie
-use Rattle.reader.proofs.State.other_at.Reads as reads
-use Rattle.reader.proofs.State.other_at.Lts as lts
-use Rattle.fields.proofs.bits.Reads as bits-reads
-use Rattle.reader.proofs.items.other_code.Reads as other-code-reads
 
--- src/items.rt:215:17
 shared-slice-read-o : tie.Need-shared-slice-read-o
 shared-slice-read-o c = search needs
 
--- src/items.rt:217:13
 returns : tie.Need-returns
 returns c = λ w g. other-end _ w (c .before .before .before .args .self) g _ (omega arith)
 
--- src/items.rt:219:12
 bits-requires : tie.Need-bits-requires
 bits-requires c κs = search needs
 
--- src/items.rt:219:29
 other-code-requires : tie.Need-other-code-requires
 other-code-requires c κs = search needs
 
--- src/items.rt:220:13
 returns-2 : tie.Need-returns-2
 returns-2 c = λ w g. other-format _ w (c .before .before .before .before .before .before .args .self) g _ (omega arith) _ _ (c .before .before .bits .ensures) (c .before .other-code .ensures) (c .if2 .taken)
 
--- src/items.rt:211:5
 returns-3 : tie.Need-returns-3
 returns-3 c = λ w g. other-none _ w (c .before .before .before .before .before .before .args .self) g _ (omega arith) _ _ (c .before .before .bits .ensures) (c .before .other-code .ensures) (c .if2 .left)
 

@@ -1,52 +1,36 @@
 -- `State::step` meets its contract: an end, padding, or an item.
 -- Assumes nothing.
-use borrow.Author.Needs.{needs}
-use native.Mathlib.Omega.{arith}
 use mathlib.Core.Path.{sym, _∙_}
+use borrow.Author.Needs.{needs}
 use borrow.Author.Tests.{not-true, not-false}
 use Rattle.reader.proofs.ItemLaws.{ends-within, step-end, step-padding, step-item}
 use Rattle.reader.proofs.State.step.Statement.{statement}
 use Rattle.reader.proofs.State.step.Tie as tie
-use Rattle.reader.proofs.State.step.Reads as reads
-use Rattle.reader.proofs.State.step.Lts as lts
-use Rattle.reader.proofs.State.end_at.Reads as end-at-reads
-use Rattle.reader.proofs.State.ends_here.Reads as ends-here-reads
-use Rattle.reader.proofs.State.item_at.Reads as item-at-reads
-use Rattle.reader.proofs.ends.pads_at.Reads as pads-at-reads
 
--- src/items.rt:410:12
 ends-here-requires : tie.Need-ends-here-requires
 ends-here-requires c κs = search needs
 
--- src/items.rt:411:13
 end-at-requires : tie.Need-end-at-requires
 end-at-requires c κs = (ends-within (c .before .before .before .before .args .s .now) (c .before .before .before .before .args .t .now) (c .before .before .before .before .args .self) (sym (c .if1 .taken) ∙ c .before .ends-here .ensures), c .before .before .before .before .pre .tidy .size)
 
--- src/items.rt:411:13
 returns : tie.Need-returns
 returns c = let m = step-end (c .before .before .before .before .before .args .s .now) (c .before .before .before .before .before .args .t .now) (c .before .before .before .before .before .args .self) _ _ (sym (c .before .if1 .taken) ∙ c .before .before .ends-here .ensures) (c .end-at .ensures (c .before .before .before .before .before .args .t .now) (c .before .before .before .before .before .pre)) in (m .is, m .good)
 
--- src/items.rt:413:13
 pads-at-requires : tie.Need-pads-at-requires
 pads-at-requires c κs = search needs
 
--- src/items.rt:414:13
 returns-2 : tie.Need-returns-2
 returns-2 c = let m = step-padding (c .before .before .before .before .before .before .args .s .now) (c .before .before .before .before .before .before .args .t .now) (c .before .before .before .before .before .before .args .self) (c .before .before .before .before .before .before .pre .tidy .room) (sym (c .before .before .if1 .left) ∙ c .before .before .before .ends-here .ensures) (sym (not-true _ (c .if2 .taken)) ∙ c .before .pads-at .ensures) in (m .is, m .good)
 
--- src/items.rt:416:29
 add-item-at : tie.Need-add-item-at
 add-item-at c = search needs
 
--- src/items.rt:416:9
 item-at-requires : tie.Need-item-at-requires
 item-at-requires c κs = search needs
 
--- src/items.rt:405:5
 same-length : tie.Need-same-length
 same-length c = search needs
 
--- src/items.rt:405:5
 returns-3 : tie.Need-returns-3
 returns-3 c = let m = step-item (c .before .before .before .before .before .before .before .before .before .before .args .s .now) (c .before .before .before .before .before .before .before .before .before .before .args .t .now) (c .before .before .before .before .before .before .before .before .before .before .args .self) _ _ (sym (c .before .before .before .before .before .before .if1 .left) ∙ c .before .before .before .before .before .before .before .ends-here .ensures) (sym (not-false _ (c .before .before .before .before .if2 .left)) ∙ c .before .before .before .before .before .pads-at .ensures) (c .before .before .item-at .ensures) in (m .is, m .good)
 

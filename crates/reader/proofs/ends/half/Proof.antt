@@ -1,40 +1,30 @@
 -- `half` meets its contract: the four high bits, or the four low ones.
 -- Assumes nothing.
-use borrow.Author.Needs.{needs}
-use native.Mathlib.Omega.{arith}
 use Prim.Native.Nat.{_/_}
+use native.Mathlib.Omega.{arith}
+use borrow.Author.Needs.{needs}
 use Rattle.reader.proofs.ItemLaws.{half-none, half-high, half-low}
 use Rattle.reader.proofs.ends.half.Statement.{statement}
 use Rattle.reader.proofs.ends.half.Tie as tie
-use Rattle.reader.proofs.ends.half.Reads as reads
-use Rattle.reader.proofs.ends.half.Lts as lts
-use Rattle.fields.proofs.bits.Reads as bits-reads
 
--- src/ends.rt:18:9
 returns : tie.Need-returns
 returns c = half-none _ _ (omega arith)
 
--- src/ends.rt:21:21
 shared-slice-read-bits : tie.Need-shared-slice-read-bits
 shared-slice-read-bits c = search needs
 
--- src/ends.rt:21:9
 bits-requires : tie.Need-bits-requires
 bits-requires c κs = search needs
 
--- src/ends.rt:21:9
 returns-2 : tie.Need-returns-2
 returns-2 c = half-high _ _ (omega arith) _ (omega (arith, c .before .shared-slice-known2 .given (c .before .before .before .before .before .args .at / 2))) (omega arith) (c .bits .ensures)
 
--- src/ends.rt:23:10
 shared-slice-read-bits-2 : tie.Need-shared-slice-read-bits-2
 shared-slice-read-bits-2 c = search needs
 
--- src/ends.rt:23:5
 bits-requires-2 : tie.Need-bits-requires-2
 bits-requires-2 c κs = search needs
 
--- src/ends.rt:13:1
 returns-3 : tie.Need-returns-3
 returns-3 c = half-low _ _ (omega arith) _ (omega (arith, c .before .shared-slice-known3 .given (c .before .before .before .before .before .args .at / 2))) (omega arith) (c .bits2 .ensures)
 

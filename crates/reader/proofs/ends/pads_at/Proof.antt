@@ -1,26 +1,20 @@
 -- `pads_at` meets its contract: an even half, or 0000.
 -- Assumes nothing.
-use borrow.Author.Needs.{needs}
-use native.Mathlib.Omega.{arith}
 use mathlib.Core.Path.{ap, _∙_}
 use Prim.Native.Nat.{ℕ}
+use native.Mathlib.Omega.{arith}
+use borrow.Author.Needs.{needs}
 use lib.Dec.{eqb}
 use Rattle.reader.proofs.ItemLaws.{pads-even, pads-odd}
 use Rattle.reader.proofs.ends.pads_at.Statement.{statement}
 use Rattle.reader.proofs.ends.pads_at.Tie as tie
-use Rattle.reader.proofs.ends.pads_at.Reads as reads
-use Rattle.reader.proofs.ends.pads_at.Lts as lts
-use Rattle.reader.proofs.ends.half.Reads as half-reads
 
--- src/ends.rt:38:9
 returns : tie.Need-returns
 returns c = pads-even _ _ (omega arith)
 
--- src/ends.rt:40:5
 half-requires : tie.Need-half-requires
 half-requires c κs = search needs
 
--- src/ends.rt:34:1
 returns-2 : tie.Need-returns-2
 returns-2 c = ap (λ (n : ℕ). eqb n 0) (c .half .ensures) ∙ pads-odd _ _ (omega arith)
 

@@ -1,27 +1,20 @@
 -- `faulty` meets its contract, by the answer's variant.
 -- Assumes nothing.
-use borrow.Author.Needs.{needs}
-use native.Mathlib.Omega.{arith}
 use mathlib.Core.Path.{sym, ap}
+use borrow.Author.Needs.{needs}
 use Rattle.reader.specs.ItemStages.{faultyBy}
 use Rattle.reader.proofs.items.faulty.Statement.{statement}
 use Rattle.reader.proofs.items.faulty.Tie as tie
-use Rattle.reader.proofs.items.faulty.Reads as reads
-use Rattle.reader.proofs.items.faulty.Lts as lts
 
--- src/items.rt:43:24
 enum-known-r : tie.Need-enum-known-r
 enum-known-r c = search needs
 
--- src/items.rt:44:23
 enum-known-r-2 : tie.Need-enum-known-r-2
 enum-known-r-2 c = search needs
 
--- src/items.rt:39:1
 returns : tie.Need-returns
 returns c = sym (ap faultyBy (c .before .r .given .1))
 
--- src/items.rt:39:1
 returns-2 : tie.Need-returns-2
 returns-2 c = sym (ap faultyBy (c .before .r2 .given .1))
 

@@ -1,39 +1,29 @@
 -- `name_padding` meets its contract: each way out is a case of the definition.
 -- Assumes nothing.
-use borrow.Author.Needs.{needs}
 use native.Mathlib.Omega.{arith}
+use borrow.Author.Needs.{needs}
 use Rattle.reader.proofs.ItemLaws.{padding-longest, padding-in-parts, padding-none}
 use Rattle.reader.proofs.items.name_padding.Statement.{statement}
 use Rattle.reader.proofs.items.name_padding.Tie as tie
-use Rattle.reader.proofs.items.name_padding.Reads as reads
-use Rattle.reader.proofs.items.name_padding.Lts as lts
-use Rattle.fields.proofs.bits.Reads as bits-reads
 
--- src/items.rt:89:8
 bits-requires : tie.Need-bits-requires
 bits-requires c κs = search needs
 
--- src/items.rt:90:16
 bits-requires-2 : tie.Need-bits-requires-2
 bits-requires-2 c κs = search needs
 
--- src/items.rt:90:9
 returns : tie.Need-returns
 returns c = padding-longest _ (omega arith) (omega arith) _ (c .bits2 .ensures)
 
--- src/items.rt:92:8
 bits-requires-3 : tie.Need-bits-requires-3
 bits-requires-3 c κs = search needs
 
--- src/items.rt:93:16
 bits-requires-4 : tie.Need-bits-requires-4
 bits-requires-4 c κs = search needs
 
--- src/items.rt:93:9
 returns-2 : tie.Need-returns-2
 returns-2 c = padding-in-parts _ (omega arith) (omega arith) (omega arith) _ (c .bits4 .ensures)
 
--- src/items.rt:85:1
 returns-3 : tie.Need-returns-3
 returns-3 c = padding-none _ (omega arith) (omega arith) (omega arith)
 

@@ -1,18 +1,12 @@
 -- `other_code` meets its contract.
 -- Assumes nothing.
-use borrow.Author.Needs.{needs}
-use native.Mathlib.Omega.{arith}
 use borrow.Author.Tests.{lt-ltb, le-ltb}
 use Rattle.reader.proofs.items.other_code.Statement.{statement}
 use Rattle.reader.proofs.items.other_code.Tie as tie
-use Rattle.reader.proofs.items.other_code.Reads as reads
-use Rattle.reader.proofs.items.other_code.Lts as lts
 
--- src/items.rt:105:9
 returns : tie.Need-returns
 returns c = rw (lt-ltb _ _ (c .if1 .taken))
 
--- src/items.rt:101:1
 returns-2 : tie.Need-returns-2
 returns-2 c = rw (le-ltb _ _ (c .if1 .left))
 
