@@ -21,7 +21,7 @@ use Rattle.fields.specs.Fields.{fieldAt, noTop}
 use Rattle.fields.proofs.Laws.{case}
 use Rattle.fields.proofs.Bounds.{field-got, field-refused}
 use Rattle.tables.specs.Located.{Located, stretch, octetsOf}
-use Rattle.reader.specs.Strings.{Got, got, refused, then, number, spelling, IdRead, OptionalRead, StringRead, idAt, optionalAt, spelledAt, literalAt, valueAt}
+use Rattle.reader.specs.Strings.{Got, got, refused, then, number, spelling, idAt, optionalAt, spelledAt, literalAt, valueAt}
 use Rattle.reader.specs.Names.{NameRead, prefixBit, namespaceBit, lonePrefix, partsAt, numberedAt, nameAt, declaredAt}
 use Rattle.reader.specs.Items.{Stand, Step, more, quiet, done, stop, into, namePadding, startOf, namespaceAt, elementAt, namedAt, attributeAt, chunkAt, commentAt, instructionAt, otherAt, childAt, declaringAt, itemAt}
 use Rattle.reader.specs.Reading.{halfAt, endsAt, padsAt, documentEnd, endAt, byHalves, step}

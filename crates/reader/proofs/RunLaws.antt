@@ -8,9 +8,8 @@ use native.Mathlib.Omega.{arith}
 use native.Mathlib.Numerals.{add-one}
 use borrow.Author.Tests.{lt-ltb, le-ltb, le-leb, lt-leb, eq-eqb, ne-eqb, leb-true}
 use lib.Dec.{eqb, ltb, leb, lit<}
-use lib.ListN.{length, getD, take, drop, set, replicate, getD-replicate, length-replicate, length-append}
-use lib.Seq.{drop-cons, sets, length-sets}
-use Rattle.format.specs.Numbers.{pick}
+use lib.ListN.{length, getD, take, drop, set, replicate, getD-replicate, length-replicate}
+use lib.Seq.{drop-cons, sets}
 use Rattle.format.specs.Events.{Item}
 use Rattle.format.specs.Tables.{NameTable, ELEMENT-NAME, ATTRIBUTE-NAME, names, starting, same, link}
 use Rattle.format.specs.Document.{header, beginning}
@@ -29,8 +28,8 @@ use Rattle.reader.specs.declared.Step.the-variants.{More, Quiet, Done, S
 use Rattle.reader.specs.Items as I
 use Rattle.reader.specs.Items.{Stand}
 use Rattle.reader.specs.Reading.{Opening, onward, halt, sized, opening, Result, accepted, refusal, plus, turn, step, run, origin, fuelOf, reading, numberOf, checkOf}
-use Rattle.reader.specs.Code.{Ranged, Tidy, standOf, SeenStep, more, quiet, done, stop, seenStep, stepSeen, Good, StepGood}
-use Rattle.reader.specs.RunStages.{fresh, Ending, ended, faulty, endingOf, seenEnding, itemWords, kept, keptFrom, Keeps, Small, numberIn, Settled, Ran}
+use Rattle.reader.specs.Code.{Ranged, standOf, SeenStep, more, quiet, done, stop, seenStep, stepSeen, Good, StepGood}
+use Rattle.reader.specs.RunStages.{fresh, Ending, ended, faulty, endingOf, seenEnding, itemWords, kept, keptFrom, Small, answerNumber, Ran}
 use Rattle.reader.proofs.Places.{tests, both-true, Placed, step-placed}
 
 -- ---- the first four octets
@@ -199,19 +198,21 @@ placed-seen s (I.quiet k) h = tt
 placed-seen s I.done h = tt
 placed-seen s (I.stop j p) h = h
 
--- ---- a run of a document s with records for `room` events, whose words were v: n events so far, fuel for `left` steps more, where the reader stands, the words of tables and records
-module _ (s v : List ℕ) (room : ℕ) where
-  abbrev whole : Result
-  whole = run link s (fuelOf s) room (origin start)
+-- ---- a run of a document s with records for `room` events, whose words were v
+abbrev whole : List ℕ → ℕ → Result
+whole s room = run link s (fuelOf s) room (origin start)
 
+module _ (s v : List ℕ) (room : ℕ) where
+  -- there is fuel for `left` steps more, and there were n events; the words of tables and records are t and w
   pub record Underway (left n : ℕ) (st : State) (t w : List ℕ) : Type 0 where
     pub good : Good s st t
     pub fits : n ≤ room
     pub fuel : n + left ≤ 2 * length s + 1
-    pub ends : endingOf n (run link s left (room - n) (standOf st t)) ≡ endingOf 0 whole
-    pub keeps : 13 * room ≤ length v → keptFrom w n (run link s left (room - n) (standOf st t)) ≡ keptFrom v 0 whole
+    pub ends : endingOf n (run link s left (room - n) (standOf st t)) ≡ endingOf 0 (whole s room)
+    pub keeps : 13 * room ≤ length v → keptFrom w n (run link s left (room - n) (standOf st t)) ≡ keptFrom v 0 (whole s room)
     pub same-length : length w ≡ length v
 
+  -- before the first item
   tables-start : (t : List ℕ) → t ≡ replicate words 0 → vocabulary (countsOf start) t ≡ start
   tables-start t e = rw e (vocabulary-start (replicate words 0) (getD-replicate {A = ℕ} words 1 0 0 (lit< tt)) (getD-replicate {A = ℕ} words 769 0 0 (lit< tt)))
 
@@ -247,120 +248,115 @@ module _ (s v : List ℕ) (room : ℕ) where
         same-length = refl;
       }
 
-  module _ (left n : ℕ) (st : State) (t w : List ℕ) (u : Underway left n st t w) where
-    pub ran-spent : left ≤ 0 → Ran room v (Refused 2 (st .at / 2)) t w whole
+module _ {s v : List ℕ} {room left n : ℕ} {st : State} {t w : List ℕ} (u : Underway s v room left n st t w) where
+  pub ran-spent : left ≤ 0 → Ran room v (Refused 2 (st .at / 2)) t w (whole s room)
+  unfolding run
+  ran-spent h =
+      let z : left ≡ 0 = omega arith in
+      let g = u .good in
+      record { is = rw z at (u .ends); small = omega arith; settled = tt; keeps = λ _. tt }
+
+  -- a step, and what is seen of its answer
+  module _ (h : 0 < left) (r : Step) (t′ : List ℕ) (p : (seenStep r t′ ≡ stepSeen (step link s (standOf st t))) × StepGood s t r t′) where
+    abbrev onward-from : ℕ → Stand → Result
+    onward-from k m = run link s (left - 1) k m
+
+    one : run link s left (room - n) (standOf st t) ≡ turn onward-from (room - n) (standOf st t) (step link s (standOf st t))
     unfolding run
-    ran-spent h =
-        let z : left ≡ 0 = omega arith in
-        let g = u .good in
-        record { is = rw z at (u .ends); small = omega arith; settled = tt; keeps = λ _. tt }
+    one = let z : left ≡ suc (left - 1) = omega arith in ap (λ (k : ℕ). run link s k (room - n) (standOf st t)) z
 
-    -- a step, and what is seen of its answer
-    module _ (h : 0 < left) (r : Step) (t′ : List ℕ) (p : (seenStep r t′ ≡ stepSeen (step link s (standOf st t))) × StepGood s t r t′) where
-      abbrev onward-from : ℕ → Stand → Result
-      onward-from k m = run link s (left - 1) k m
+    ends-here : endsBy onward-from (standOf st t) n (room - n) (seenStep r t′) ≡ endingOf 0 (whole s room)
+    ends-here = rw (p .0) (sym (ap (endingOf n) one ∙ turn-ends onward-from (standOf st t) n (room - n) (step link s (standOf st t))) ∙ u .ends)
 
-      one : run link s left (room - n) (standOf st t) ≡ turn onward-from (room - n) (standOf st t) (step link s (standOf st t))
-      unfolding run
-      one = let z : left ≡ suc (left - 1) = omega arith in ap (λ (k : ℕ). run link s k (room - n) (standOf st t)) z
+    kept-here : 13 * room ≤ length v → keptBy onward-from (standOf st t) n w (room - n) (seenStep r t′) ≡ keptFrom v 0 (whole s room)
+    kept-here k = rw (p .0) (sym (ap (keptFrom w n) one ∙ turn-kept onward-from (standOf st t) n w (room - n) (step link s (standOf st t))) ∙ u .keeps k)
 
-      ends-here : endsBy onward-from (standOf st t) n (room - n) (seenStep r t′) ≡ endingOf 0 whole
-      ends-here = rw (p .0) (sym (ap (endingOf n) one ∙ turn-ends onward-from (standOf st t) n (room - n) (step link s (standOf st t))) ∙ u .ends)
+    placed-here : PlacedSeen s (seenStep r t′)
+    placed-here = rw (p .0) (placed-seen s (step link s (standOf st t)) (step-placed s link (standOf st t) (u .good .at)))
 
-      kept-here : 13 * room ≤ length v → keptBy onward-from (standOf st t) n w (room - n) (seenStep r t′) ≡ keptFrom v 0 whole
-      kept-here k = rw (p .0) (sym (ap (keptFrom w n) one ∙ turn-kept onward-from (standOf st t) n w (room - n) (step link s (standOf st t))) ∙ u .keeps k)
+    module _ {st′ : State} (q : r ≡ Quiet st′) where
+      pub underway-quiet : Underway s v room (left - 1) n st′ t′ w
+      underway-quiet =
+          let f = u .fuel in
+          record {
+            good = rw q at (p .1);
+            fits = u .fits;
+            fuel = omega arith;
+            ends = rw q at ends-here;
+            keeps = λ k. rw q at (kept-here k);
+            same-length = u .same-length;
+          }
 
-      placed-here : PlacedSeen s (seenStep r t′)
-      placed-here = rw (p .0) (placed-seen s (step link s (standOf st t)) (step-placed s link (standOf st t) (u .good .at)))
+    module _ {place : ℕ} {e : Event} {st′ : State} (q : r ≡ More place e st′) where
+      pub more-place : place ≤ 16384
+      more-place = let l : place ≤ length s = rw q at placed-here in let g = u .good .tidy .size in omega arith
 
-      module _ (st′ : State) (q : r ≡ Quiet st′) where
-        pub underway-quiet : Underway (left - 1) n st′ t′ w
-        underway-quiet =
-            let f = u .fuel in
-            record {
-              good = rw q at (p .1);
-              fits = u .fits;
-              fuel = omega arith;
-              ends = rw q at ends-here;
-              keeps = λ k. rw q at (kept-here k);
-              same-length = u .same-length;
-            }
+      pub underway-more : (n ≡ room → ⊥) → {w′ : List ℕ} → w′ ≡ kept w n e → length w′ ≡ length w → Underway s v room (left - 1) (n + 1) st′ t′ w′
+      unfolding kept
+      underway-more l k o =
+          let f = u .fuel in
+          let i = u .fits in
+          let j = u .same-length in
+          let z : room - n ≡ suc (room - (n + 1)) = omega arith in
+          record {
+            good = rw q at (p .1);
+            fits = omega arith;
+            fuel = omega arith;
+            ends = rw (q, z) at ends-here;
+            keeps = λ b. let y : n < length w / 13 = omega arith in rw (k, lt-ltb _ _ y) (rw (q, z) at (kept-here b));
+            same-length = o ∙ u .same-length;
+          }
 
-      module _ (place : ℕ) (e : Event) (st′ : State) (q : r ≡ More place e st′) where
-        pub more-place : place ≤ 16384
-        more-place = let l : place ≤ length s = rw q at placed-here in let g = u .good .tidy .size in omega arith
+      pub ran-full : n ≡ room → Ran room v (Refused 14 place) t′ w (whole s room)
+      ran-full l =
+          let z : room - n ≡ 0 = omega arith in
+          record { is = rw (q, z) at ends-here; small = (omega arith, more-place); settled = tt; keeps = λ _. tt }
 
-        pub underway-more : (n ≡ room → ⊥) → (w′ : List ℕ) → w′ ≡ kept w n e → length w′ ≡ length w → Underway (left - 1) (n + 1) st′ t′ w′
-        unfolding kept
-        underway-more l w′ k o =
-            let f = u .fuel in
-            let i = u .fits in
-            let j = u .same-length in
-            let z : room - n ≡ suc (room - (n + 1)) = omega arith in
-            record {
-              good = rw q at (p .1);
-              fits = omega arith;
-              fuel = omega arith;
-              ends = rw (q, z) at ends-here;
-              keeps = λ b. let y : n < length w / 13 = omega arith in rw (k, lt-ltb _ _ y) (rw (q, z) at (kept-here b));
-              same-length = o ∙ u .same-length;
-            }
+    module _ (q : r ≡ Done) where
+      pub ran-done : Ran room v (Accepted n (st .counts)) t′ w (whole s room)
+      ran-done =
+          let same : t′ ≡ t = rw q at (p .1) in
+          let g = u .good .tidy .size in
+          let f = u .fuel in
+          record {
+            is = rw same (rw q at ends-here);
+            small = omega arith;
+            settled = (u .fits, rw same (u .good .tidy .clean));
+            keeps = λ k. rw q at (kept-here k);
+          }
 
-        pub ran-full : n ≡ room → Ran room v (Refused 14 place) t′ w whole
-        ran-full l =
-            let z : room - n ≡ 0 = omega arith in
-            record { is = rw (q, z) at ends-here; small = (omega arith, more-place); settled = tt; keeps = λ _. tt }
+    module _ {k place : ℕ} (q : r ≡ Stop k place) where
+      pub stop-place : (k ≤ 15) × (place ≤ 16384)
+      stop-place = let l : (k ≤ 15) × (place ≤ length s) = rw q at placed-here in let g = u .good .tidy .size in omega arith
 
-      module _ (q : r ≡ Done) where
-        pub ran-done : Ran room v (Accepted n (st .counts)) t′ w whole
-        ran-done =
-            let same : t′ ≡ t = rw q at (p .1) in
-            let g = u .good .tidy .size in
-            let f = u .fuel in
-            record {
-              is = rw same (rw q at ends-here);
-              small = omega arith;
-              settled = (u .fits, rw same (u .good .tidy .clean));
-              keeps = λ k. rw q at (kept-here k);
-            }
-
-      module _ (k place : ℕ) (q : r ≡ Stop k place) where
-        pub stop-place : (k ≤ 15) × (place ≤ 16384)
-        stop-place = let l : (k ≤ 15) × (place ≤ length s) = rw q at placed-here in let g = u .good .tidy .size in omega arith
-
-        pub ran-stop : Ran room v (Refused k place) t′ w whole
-        ran-stop = record { is = rw q at ends-here; small = stop-place; settled = tt; keeps = λ _. tt }
+      pub ran-stop : Ran room v (Refused k place) t′ w (whole s room)
+      ran-stop = record { is = rw q at ends-here; small = stop-place; settled = tt; keeps = λ _. tt }
 
 -- ---- a document
-module _ (s v : List ℕ) (room : ℕ) (r : Answer) (t w : List ℕ) where
-  pub ran-halt : (k place : ℕ) → halt k place ≡ opening link header s → r ≡ Refused k place → Ran room v r t w (reading s room)
+module _ (s : List ℕ) {v : List ℕ} {room : ℕ} {r : Answer} {t w : List ℕ} where
+  pub ran-halt : {k place : ℕ} → halt k place ≡ opening link header s → r ≡ Refused k place → Ran room v r t w (reading s room)
   unfolding reading
-  ran-halt k place e q =
-      let o = opens s (halt k place) e in
-      rw (← e, q) (record { is = refl; small = o; settled = tt; keeps = λ _. tt })
+  ran-halt e q = let o = opens s _ e in rw (← e, q) (record { is = refl; small = o; settled = tt; keeps = λ _. tt })
 
   pub ran-onward : onward ≡ opening link header s → Ran room v r t w (run link s (fuelOf s) room (origin start)) → Ran room v r t w (reading s room)
   unfolding reading
   ran-onward e p = rw (← e) p
 
-pub small-refused : (r : Answer) (k p : ℕ) → r ≡ Refused k p → Small r → (k ≤ 15) × (p ≤ 16384)
-small-refused r k p q h = rw q at h
+pub small-refused : {r : Answer} {k p : ℕ} → r ≡ Refused k p → Small r → (k ≤ 15) × (p ≤ 16384)
+small-refused q h = rw q at h
 
-abbrev numberFor : Ending → ℕ
-numberFor (ended n x) = 0
-numberFor (faulty k p) = p * 32 + k
+abbrev endingNumber : Ending → ℕ
+endingNumber (ended n x) = 0
+endingNumber (faulty k p) = p * 32 + k
 
-number-seen : (r : Answer) (t : List ℕ) → numberIn r ≡ numberFor (seenEnding r t)
+number-seen : (r : Answer) (t : List ℕ) → answerNumber r ≡ endingNumber (seenEnding r t)
 number-seen (Accepted n c) t = refl
 number-seen (Refused k p) t = refl
 
-number-ending : (n : ℕ) (x : Result) → numberFor (endingOf n x) ≡ numberOf x
+number-ending : (n : ℕ) (x : Result) → endingNumber (endingOf n x) ≡ numberOf x
 number-ending n (accepted is m) = refl
 number-ending n (refusal k p) = refl
 
-pub number-ran : (v : List ℕ) (room : ℕ) (r : Answer) (t w : List ℕ) (x : Result) → Ran room v r t w x → numberIn r ≡ numberOf x
-number-ran v room r t w x p = number-seen r t ∙ ap numberFor (p .is) ∙ number-ending 0 x
-
-pub check-is : (s v : List ℕ) (r : Answer) (t w : List ℕ) → Ran 32768 v r t w (reading s 32768) → numberIn r ≡ checkOf s
+pub check-is : (s : List ℕ) {v : List ℕ} {r : Answer} {t w : List ℕ} → Ran 32768 v r t w (reading s 32768) → answerNumber r ≡ checkOf s
 unfolding checkOf
-check-is s v r t w p = number-ran v 32768 r t w (reading s 32768) p
+check-is s {r = r} {t} p = number-seen r t ∙ ap endingNumber (p .is) ∙ number-ending 0 (reading s 32768)

@@ -8,9 +8,9 @@ use native.Mathlib.Omega.{arith}
 use native.Mathlib.Numerals.{add-one}
 use borrow.Author.Tests.{eq-eqb, ne-eqb}
 use lib.ListN.{length, getD, take, drop, set, replicate, length-append, length-drop, length-replicate, replicate-append-replicate, drop-of-length-le}
-use lib.Seq.{drop-cons, take-suc, take-all, length-take-le, set-at, append-snoc, drop-at, sets, sets-eq}
+use lib.Seq.{drop-cons, take-suc, take-all, length-take-le, set-at, append-snoc, drop-at, sets-eq}
 use Rattle.format.specs.Events.{Item}
-use Rattle.format.specs.Tables.{Vocabulary, link}
+use Rattle.format.specs.Tables.{link}
 use Rattle.tables.specs.declared.Counts.{Counts}
 use Rattle.tables.specs.Located.{Located}
 use Rattle.tables.specs.Counts.{words, countsOf, entryWords, wordsOf}
@@ -22,7 +22,7 @@ use Rattle.events.specs.Words.{recordWords}
 use Rattle.reader.specs.declared.Answer.{Answer}
 use Rattle.reader.specs.declared.Answer.the-variants.{Accepted, Refused}
 use Rattle.reader.specs.Reading.{Result, accepted, refusal, sized, reading}
-use Rattle.reader.specs.RunStages.{Ending, ended, faulty, endingOf, itemWords, keptFrom, numberIn, Ran, Words, leaving, nothing, wordsFrom, readWords}
+use Rattle.reader.specs.RunStages.{ended, faulty, endingOf, itemWords, keptFrom, answerNumber, Ran, leaving, nothing, wordsFrom, readWords}
 
 -- ---- a list copied over words, up to i
 module _ (l w₀ w : List ℕ) (i : ℕ) (same : length w₀ ≡ length l) (e : w ≡ take i l ++ drop i w₀) where
@@ -109,16 +109,16 @@ module _ (s : List ℕ) (r t c : ℕ) where
         unfolding readWords
         fields-first = rw (← size, eq-eqb _ _ a, eq-eqb _ _ b)
 
-        -- a run that came out as a
-        module _ (v : List ℕ) (y : Answer) (w′ v′ : List ℕ) (p : Ran (r / 13) v y w′ v′ (reading s (r / 13))) where
-          pub words-refused : (k place : ℕ) → y ≡ Refused k place → (n : ℕ) → n ≡ numberIn y → leaving n (replicate r 0) (replicate t 0) (replicate c 0) ≡ readWords s r t c
-          words-refused k place q n e =
+        -- a run that came out as y
+        module _ {v : List ℕ} {y : Answer} {w′ v′ : List ℕ} (p : Ran (r / 13) v y w′ v′ (reading s (r / 13))) where
+          pub words-refused : {k place : ℕ} → y ≡ Refused k place → {n : ℕ} → n ≡ answerNumber y → leaving n (replicate r 0) (replicate t 0) (replicate c 0) ≡ readWords s r t c
+          words-refused {k} {place} q {n} e =
               let f : faulty k place ≡ endingOf 0 (reading s (r / 13)) = rw q at (p .is) in
-              let m : n ≡ place * 32 + k = e ∙ ap numberIn q in
+              let m : n ≡ place * 32 + k = e ∙ ap answerNumber q in
               (λ i. leaving (m i) (replicate r 0) (replicate (a i) 0) (replicate (b i) 0)) ∙ refused-words r k place (reading s (r / 13)) f ∙ fields-first
 
-          pub words-accepted : (n : ℕ) (d : Counts) → y ≡ Accepted n d → v ≡ replicate r 0 → (u : List ℕ) → u ≡ listed d → leaving (n * 2 ^ 32 % 2 ^ 64) v′ w′ u ≡ readWords s r t c
-          words-accepted n d q z u l =
+          pub words-accepted : {n : ℕ} {d : Counts} → y ≡ Accepted n d → v ≡ replicate r 0 → {u : List ℕ} → u ≡ listed d → leaving (n * 2 ^ 32 % 2 ^ 64) v′ w′ u ≡ readWords s r t c
+          words-accepted {n} {d} q z l =
               let f : ended n (vocabulary d w′) ≡ endingOf 0 (reading s (r / 13)) = rw q at (p .is) in
               let g : (n ≤ r / 13) × Clean d w′ = rw q at (p .settled) in
               let h : n ≤ 32769 = rw q at (p .small) in

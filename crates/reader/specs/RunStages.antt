@@ -71,9 +71,9 @@ abbrev pub Small : Answer → Type 0
 Small (Accepted n c) = n ≤ 32769
 Small (Refused k p) = (k ≤ 15) × (p ≤ 16384)
 
-abbrev pub numberIn : Answer → ℕ
-numberIn (Accepted n c) = 0
-numberIn (Refused k p) = p * 32 + k
+abbrev pub answerNumber : Answer → ℕ
+answerNumber (Accepted n c) = 0
+answerNumber (Refused k p) = p * 32 + k
 
 -- An accepted document has no more events than records, and its table words say what its tables are and nothing else.
 abbrev pub Settled : ℕ → Answer → List ℕ → Type 0

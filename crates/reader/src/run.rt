@@ -1,6 +1,6 @@
 // A run: the opening, then steps until the document's end. The check and the reader for C are such runs.
 ghost use mathlib.Core.Path.{_≡_};
-ghost use Prim.Native.Nat.{ℕ, _+_, _*_, _<_, _≤_};
+ghost use Prim.Native.Nat.{_+_, _≤_};
 ghost use lib.ListN.{length, take, replicate};
 ghost use lib.Seq.{sets};
 ghost use Rattle.format.specs.Tables.{link, same};
@@ -8,9 +8,9 @@ ghost use Rattle.format.specs.Document.{header};
 ghost use Rattle.tables.specs.Located.{start};
 ghost use Rattle.tables.specs.Counts.{words};
 ghost use Rattle.tables.specs.Kept.{listed};
-ghost use Rattle.events.specs.Words.{textWords, recordWords};
+ghost use Rattle.events.specs.Words.{textWords};
 ghost use Rattle.reader.specs.Reading.{sized, opening, run, origin, fuelOf, reading, checkOf};
-ghost use Rattle.reader.specs.RunStages.{openingOf, fresh, kept, Ran, Small, numberIn, leaving, readWords};
+ghost use Rattle.reader.specs.RunStages.{openingOf, fresh, kept, Ran, Small, answerNumber, leaving, readWords};
 use crate::Answer;
 use crate::Mode;
 use crate::State;
@@ -193,7 +193,7 @@ fn reading(s: &[u8], t: &mut [u32], records: &mut [u32], room: usize) -> Answer
 // 0, or the place times 32 plus the refusal.
 fn number(a: Answer) -> u32
     requires { ⌜ Small a ⌝ }
-    ensures { λ r. ⌜ r ≡ numberIn a ⌝ }
+    ensures { λ r. ⌜ r ≡ answerNumber a ⌝ }
 {
     match a {
         Answer::Accepted(_, _) => 0,

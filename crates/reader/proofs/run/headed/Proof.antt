@@ -1,15 +1,14 @@
-use borrow.Author.Needs.{needs}
-use native.Mathlib.Omega.{arith}
+-- `headed` meets its contract: what is left to compare tells what the first four octets do.
+-- Assumes nothing.
 use mathlib.Core.Path.{_≡_}
 use Prim.Native.Nat.{_-_, _≤_}
+use native.Mathlib.Omega.{arith}
 use lib.ListN.{length, take}
 use Rattle.format.specs.Tables.{same}
 use Rattle.format.specs.Document.{header}
 use Rattle.reader.proofs.RunLaws.{headedFrom, headed-start, headed-differs, headed-next, headed-end}
 use Rattle.reader.proofs.run.headed.Statement.{statement}
 use Rattle.reader.proofs.run.headed.Tie as tie
-use Rattle.reader.proofs.run.headed.Reads as reads
-use Rattle.reader.proofs.run.headed.Lts as lts
 
 abbrev Inv-loop : tie.InvT-loop
 Inv-loop s i₀ i = (4 ≤ length s) × (i ≤ 4) × (headedFrom s i ≡ same (take 4 s) (take 4 header))
@@ -17,35 +16,27 @@ Inv-loop s i₀ i = (4 ≤ length s) × (i ≤ 4) × (headedFrom s i ≡ same (t
 abbrev μ-loop : tie.MeasureT-loop
 μ-loop s i₀ i = 4 - i
 
--- src/run.rt:51:5
 loop-holds : tie.Need-loop-holds Inv-loop μ-loop
 loop-holds c = (omega arith, omega arith, headed-start (c .args .s .now))
 
--- src/run.rt:52:12
 shared-slice-read-if1 : tie.Need-shared-slice-read-if1 Inv-loop μ-loop
 shared-slice-read-if1 c = omega arith
 
--- src/run.rt:52:20
 array-read-if1 : tie.Need-array-read-if1 Inv-loop μ-loop
 array-read-if1 c = omega arith
 
--- src/run.rt:53:13
 returns : tie.Need-returns Inv-loop μ-loop
 returns c = headed-differs (c .before .before .before .before .args .s .now) (c .before .before .before .loop .i) _ (omega arith) (omega arith) (c .before .before .before .loop .inv .2) (c .if1 .taken)
 
--- src/run.rt:55:9
 add-i : tie.Need-add-i Inv-loop μ-loop
 add-i c = omega arith
 
--- src/run.rt:51:5
 loop-less : tie.Need-loop-less Inv-loop μ-loop
 loop-less c = omega arith
 
--- src/run.rt:51:5
 loop-again : tie.Need-loop-again Inv-loop μ-loop
 loop-again c = (omega arith, omega arith, headed-next (c .before .before .before .before .args .s .now) (c .before .before .before .loop .i) _ (omega arith) (omega arith) (c .before .before .before .loop .inv .2) (c .if1 .left))
 
--- src/run.rt:46:1
 returns-2 : tie.Need-returns-2 Inv-loop μ-loop
 returns-2 c = headed-end (c .before .before .args .s .now) (c .before .loop .i) _ (omega arith) (omega arith) (c .before .loop .inv .2)
 

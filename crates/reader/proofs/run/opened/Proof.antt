@@ -1,52 +1,40 @@
-use borrow.Author.Needs.{needs}
-use native.Mathlib.Omega.{arith}
-use Rattle.reader.proofs.RunLaws.{open-size, open-short, open-other, open-four, open-padding, open-optional, open-onward}
+-- `opened` meets its contract: a law for each test.
+-- Assumes nothing.
 use mathlib.Core.Path.{sym, _∙_}
+use native.Mathlib.Omega.{arith}
+use borrow.Author.Needs.{needs}
 use borrow.Author.Tests.{not-true, not-false}
+use Rattle.reader.proofs.RunLaws.{open-size, open-short, open-other, open-four, open-padding, open-optional, open-onward}
 use Rattle.reader.proofs.run.opened.Statement.{statement}
 use Rattle.reader.proofs.run.opened.Tie as tie
-use Rattle.reader.proofs.run.opened.Reads as reads
-use Rattle.reader.proofs.run.opened.Lts as lts
-use Rattle.reader.proofs.run.headed.Reads as headed-reads
-use Rattle.reader.proofs.run.sized.Reads as sized-reads
 
--- src/run.rt:73:9
 sized-requires : tie.Need-sized-requires
 sized-requires c κs = search needs
 
--- src/run.rt:74:9
 returns : tie.Need-returns
 returns c = open-size _ (sym (not-true _ (c .if1 .taken)) ∙ c .before .sized .ensures)
 
--- src/run.rt:77:9
 returns-2 : tie.Need-returns-2
 returns-2 c = open-short _ (sym (not-false _ (c .before .if1 .left)) ∙ c .before .before .sized .ensures) (omega arith)
 
--- src/run.rt:79:9
 headed-requires : tie.Need-headed-requires
 headed-requires c κs = search needs
 
--- src/run.rt:80:9
 returns-3 : tie.Need-returns-3
 returns-3 c = open-other _ (sym (not-false _ (c .before .before .before .if1 .left)) ∙ c .before .before .before .before .sized .ensures) (omega arith) (sym (not-true _ (c .if3 .taken)) ∙ c .before .headed .ensures)
 
--- src/run.rt:83:9
 returns-4 : tie.Need-returns-4
 returns-4 c = open-four _ (sym (not-false _ (c .before .before .before .before .if1 .left)) ∙ c .before .before .before .before .before .sized .ensures) (omega arith) (sym (not-false _ (c .before .if3 .left)) ∙ c .before .before .headed .ensures) (omega arith)
 
--- src/run.rt:85:13
 shared-slice-read-o : tie.Need-shared-slice-read-o
 shared-slice-read-o c = search needs
 
--- src/run.rt:87:9
 returns-5 : tie.Need-returns-5
 returns-5 c = open-padding _ (sym (not-false _ (c .before .before .before .before .before .before .if1 .left)) ∙ c .before .before .before .before .before .before .before .sized .ensures) (omega arith) (sym (not-false _ (c .before .before .before .if3 .left)) ∙ c .before .before .before .before .headed .ensures) (omega arith) (omega arith)
 
--- src/run.rt:90:9
 returns-6 : tie.Need-returns-6
 returns-6 c = open-optional _ (sym (not-false _ (c .before .before .before .before .before .before .before .if1 .left)) ∙ c .before .before .before .before .before .before .before .before .sized .ensures) (omega arith) (sym (not-false _ (c .before .before .before .before .if3 .left)) ∙ c .before .before .before .before .before .headed .ensures) (omega arith) (omega arith) (omega arith)
 
--- src/run.rt:70:1
 returns-7 : tie.Need-returns-7
 returns-7 c = open-onward _ (sym (not-false _ (c .before .before .before .before .before .before .before .if1 .left)) ∙ c .before .before .before .before .before .before .before .before .sized .ensures) (omega arith) (sym (not-false _ (c .before .before .before .before .if3 .left)) ∙ c .before .before .before .before .before .headed .ensures) (omega arith) (omega arith)
 

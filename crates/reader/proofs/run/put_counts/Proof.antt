@@ -1,16 +1,14 @@
-use borrow.Author.Needs.{needs}
-use native.Mathlib.Omega.{arith}
-use Rattle.reader.proofs.WordLaws.{copied-length, copied-next, copied-all}
-use Rattle.tables.specs.Kept.{listed, countOf}
-use lib.ListN.{length, take, drop}
-use Prim.Native.Nat.{_-_, _≤_}
+-- `put_counts` meets its contract: the counts up to i, and the words as they were behind them.
+-- Assumes nothing.
 use mathlib.Core.List.{_++_}
 use mathlib.Core.Path.{_≡_, refl}
+use Prim.Native.Nat.{_-_, _≤_}
+use native.Mathlib.Omega.{arith}
+use lib.ListN.{length, take, drop}
+use Rattle.tables.specs.Kept.{listed, countOf}
+use Rattle.reader.proofs.WordLaws.{copied-length, copied-next, copied-all}
 use Rattle.reader.proofs.run.put_counts.Statement.{statement}
 use Rattle.reader.proofs.run.put_counts.Tie as tie
-use Rattle.reader.proofs.run.put_counts.Reads as reads
-use Rattle.reader.proofs.run.put_counts.Lts as lts
-use Rattle.tables.proofs.Counts.of.Reads as of-reads
 
 abbrev Inv-loop : tie.InvT-loop
 Inv-loop w₀ c i₀ w i = (length w₀ ≡ 10) × (i ≤ 10) × (w ≡ take i (listed c) ++ drop i w₀)
@@ -18,40 +16,31 @@ Inv-loop w₀ c i₀ w i = (length w₀ ≡ 10) × (i ≤ 10) × (w ≡ take i (
 abbrev μ-loop : tie.MeasureT-loop
 μ-loop w₀ c i₀ w i = 10 - i
 
--- src/run.rt:219:5
 loop-holds : tie.Need-loop-holds Inv-loop μ-loop
 loop-holds c = (omega arith, omega arith, refl)
 
--- src/run.rt:220:16
 of-requires : tie.Need-of-requires Inv-loop μ-loop
 of-requires c κs = omega arith
 
--- src/run.rt:220:9
 mul-w : tie.Need-mul-w Inv-loop μ-loop
 mul-w c = let l = copied-length (listed (c .before .before .before .before .args .c)) (c .before .before .before .before .args .w .now) (c .before .before .loop .w) (c .before .before .loop .i) (omega arith) (c .before .before .loop .inv .2) (omega arith) in omega arith
 
--- src/run.rt:220:9
 slice-write-w : tie.Need-slice-write-w Inv-loop μ-loop
 slice-write-w c = let l = copied-length (listed (c .before .before .before .before .args .c)) (c .before .before .before .before .args .w .now) (c .before .before .loop .w) (c .before .before .loop .i) (omega arith) (c .before .before .loop .inv .2) (omega arith) in omega arith
 
--- src/run.rt:221:9
 add-i : tie.Need-add-i Inv-loop μ-loop
 add-i c = omega arith
 
--- src/run.rt:219:5
 loop-less : tie.Need-loop-less Inv-loop μ-loop
 loop-less c = omega arith
 
--- src/run.rt:219:5
 loop-again : tie.Need-loop-again Inv-loop μ-loop
 unfolding countOf
 loop-again c = (omega arith, omega arith, rw (c .of .ensures) (copied-next (listed (c .before .before .before .before .args .c)) (c .before .before .before .before .args .w .now) (c .before .before .loop .w) (c .before .before .loop .i) (omega arith) (c .before .before .loop .inv .2) (omega arith)))
 
--- src/run.rt:214:1
 same-length : tie.Need-same-length Inv-loop μ-loop
 same-length c = copied-length (listed (c .before .before .before .args .c)) (c .before .before .before .args .w .now) (c .before .loop .w) (c .before .loop .i) (omega arith) (c .before .loop .inv .2) (omega arith)
 
--- src/run.rt:214:1
 returns : tie.Need-returns Inv-loop μ-loop
 returns c = copied-all (listed (c .before .before .before .args .c)) (c .before .before .before .args .w .now) (c .before .loop .w) (c .before .loop .i) (omega arith) (c .before .loop .inv .2) (omega arith)
 
