@@ -22,3 +22,4 @@ mod WriterRun
 mod WriterDocument
 mod Given
 pub mod Demands
+pub mod Calls
