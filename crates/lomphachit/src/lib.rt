@@ -3,7 +3,7 @@
 ghost use mathlib.Core.Path.{_≡_};
 ghost use lib.ListN.{length};
 ghost use Rattle.reader.specs.Reading.{checkOf};
-ghost use Rattle.reader.specs.RunStages.{leaving, readWords};
+ghost use Rattle.reader.specs.Words.{leaving, readWords};
 
 // 0 for a document of the link, else the place times 32 plus the refusal's number.
 // Ruled out: 0 where there are no octets, which is 1; 2, a refusal with no place, for E0 00 00 01 00 and nothing behind it, which is 2 at 5, so 162.

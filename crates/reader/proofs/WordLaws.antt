@@ -2,12 +2,13 @@
 -- Assumes nothing.
 use mathlib.Core.Path.{_≡_, refl, sym, ap, _∙_}
 use mathlib.Core.Bool.{true, false}
-use mathlib.Core.List.{List, [], _∷_, _++_, append-nil}
-use Prim.Native.Nat.{ℕ, suc, _+_, _-_, _*_, _/_, _%_, _^_, _≤_, _<_}
+use mathlib.Core.List.{List, [], _∷_, _++_, map, append-nil, append-assoc}
+use Prim.Native.Nat.{ℕ, zero, suc, _+_, _-_, _*_, _/_, _%_, _^_, _≤_, _<_}
 use native.Mathlib.Omega.{arith}
 use native.Mathlib.Numerals.{add-one}
+use native.Mathlib.Decide.{ℕ-discrete}
 use borrow.Author.Tests.{eq-eqb, ne-eqb}
-use lib.ListN.{length, getD, take, drop, set, replicate, length-append, length-drop, length-replicate, replicate-append-replicate, drop-of-length-le}
+use lib.ListN.{length, getD, take, drop, set, replicate, length-append, length-map, length-drop, length-replicate, replicate-append-replicate, drop-of-length-le}
 use lib.Seq.{drop-cons, take-suc, take-all, length-take-le, set-at, append-snoc, drop-at, sets-eq}
 use Rattle.format.specs.Events.{Item}
 use Rattle.format.specs.Tables.{link}
@@ -17,12 +18,14 @@ use Rattle.tables.specs.Counts.{words, countsOf, entryWords, wordsOf}
 use Rattle.tables.specs.Rows.{vocabulary}
 use Rattle.tables.specs.Kept.{listed, Clean}
 use Rattle.tables.proofs.Laws.{counts-are}
-use Rattle.events.specs.Records.{recordOf}
+use Rattle.events.specs.declared.Event.{Event}
+use Rattle.events.specs.Records.{blank, recordOf}
 use Rattle.events.specs.Words.{recordWords}
 use Rattle.reader.specs.declared.Answer.{Answer}
 use Rattle.reader.specs.declared.Answer.the-variants.{Accepted, Refused}
-use Rattle.reader.specs.Reading.{Result, accepted, refusal, sized, reading}
-use Rattle.reader.specs.RunStages.{ended, faulty, endingOf, itemWords, keptFrom, answerNumber, Ran, leaving, nothing, wordsFrom, readWords}
+use Rattle.reader.specs.Reading.{Result, accepted, refusal, sized, reading, outcome, readOf}
+use Rattle.reader.specs.Words.{rowWords, leaving, nothing, inWords, readWords}
+use Rattle.reader.specs.RunStages.{ended, faulty, endingOf, itemWords, keptFrom, answerNumber, Ran}
 
 -- ---- a list copied over words, up to i
 module _ (l w₀ w : List ℕ) (i : ℕ) (same : length w₀ ≡ length l) (e : w ≡ take i l ++ drop i w₀) where
@@ -50,24 +53,56 @@ unfolding itemWords
 item-length [] = refl
 item-length (i ∷ is) = let e = item-length is in length-append (recordWords (recordOf (i .event))) (itemWords is) ∙ omega arith
 
-refused-words : (r k place : ℕ) (x : Result) → faulty k place ≡ endingOf 0 x → nothing k place r words 10 ≡ wordsFrom x r
+-- a blank record is 13 words of 0
+blank-words : (n : ℕ) → rowWords (replicate n blank) ≡ replicate (13 * n) 0
+unfolding rowWords
+blank-words zero = refl
+blank-words (suc n) =
+    let z : 13 * suc n ≡ 13 + 13 * n = omega arith in
+    rw (z, blank-words n) (replicate-append-replicate {A = ℕ} 13 (13 * n) 0)
+
+blank-all : (r : ℕ) → rowWords (replicate (r / 13) blank) ++ replicate (r % 13) 0 ≡ replicate r 0
+blank-all r =
+    let z : 13 * (r / 13) + r % 13 ≡ r = omega arith in
+    rw (blank-words (r / 13)) (replicate-append-replicate {A = ℕ} (13 * (r / 13)) (r % 13) 0 ∙ ap (λ (k : ℕ). replicate k 0) z)
+
+row-words : (is : List (Item Located)) (es : List Event) → rowWords (map (λ (i : Item Located). recordOf (i .event)) is ++ es) ≡ itemWords is ++ rowWords es
+unfolding rowWords itemWords
+row-words [] es = refl
+row-words (i ∷ is) es = rw (row-words is es, append-assoc)
+
+-- the events, blank records behind them, and what is no record
+filled : (is : List (Item Located)) (r : ℕ) → length is ≤ r / 13
+    → rowWords (map (λ (i : Item Located). recordOf (i .event)) is ++ replicate (r / 13 - length (map (λ (i : Item Located). recordOf (i .event)) is)) blank) ++ replicate (r % 13) 0
+    ≡ itemWords is ++ replicate (r - 13 * length is) 0
+filled is r h =
+    let n = length-map is (λ (i : Item Located). recordOf (i .event)) in
+    let z : 13 * (r / 13 - length is) + r % 13 ≡ r - 13 * length is = omega arith in
+    rw (n, row-words is (replicate (r / 13 - length is) blank), blank-words (r / 13 - length is), append-assoc)
+    (ap (λ (q : List ℕ). itemWords is ++ q) (replicate-append-replicate {A = ℕ} (13 * (r / 13 - length is)) (r % 13) 0 ∙ ap (λ (k : ℕ). replicate k 0) z))
+
+refused-words : (r k place : ℕ) (x : Result) → faulty k place ≡ endingOf 0 x → nothing (place * 32 + k) r words 10 ≡ inWords r (outcome x (r / 13))
+unfolding inWords
 refused-words r k place (accepted is m) e = let z : _≡_ {A = ℕ} 0 1 = cc in absurd (omega arith)
 refused-words r k place (refusal j p) e =
     let a : k ≡ j = cc in
     let b : place ≡ p = cc in
-    rw (a, b)
+    rw (a, b, blank-all r)
 
 accepted-words : (r n : ℕ) (d : Counts) (w v : List ℕ) (x : Result) → ended n (vocabulary d w) ≡ endingOf 0 x → n ≤ r / 13 → Clean d w → v ≡ keptFrom (replicate r 0) 0 x
-    → leaving (n * 2 ^ 32) v w (listed d) ≡ wordsFrom x r
-unfolding Clean
+    → leaving (n * 2 ^ 32) v w (listed d) ≡ inWords r (outcome x (r / 13))
+unfolding Clean inWords
 accepted-words r n d w v (refusal j p) e h g k = let z : _≡_ {A = ℕ} 0 1 = cc in absurd (omega arith)
 accepted-words r n d w v (accepted is m) e h g k = λ i. leaving (count i * 2 ^ 32) (record-words i) (table-words i) (listed (counts i))
   where
+    events-are : length (map (λ (i : Item Located). recordOf (i .event)) is) ≡ length is
+    events-are = length-map is (λ (i : Item Located). recordOf (i .event))
+
     count₀ : n ≡ 0 + length is
     count₀ = cc
 
-    count : n ≡ length is
-    count = omega (arith, count₀)
+    count : n ≡ length (map (λ (i : Item Located). recordOf (i .event)) is)
+    count = omega (arith, count₀, events-are)
 
     known : vocabulary d w ≡ m .state .words
     known = cc
@@ -78,50 +113,53 @@ accepted-words r n d w v (accepted is m) e h g k = λ i. leaving (count i * 2 ^ 
     counts : d ≡ countsOf (m .state .words)
     counts = sym (counts-are d w) ∙ ap countsOf known
 
-    record-words : v ≡ itemWords is ++ replicate (r - 13 * length is) 0
+    record-words : v ≡ rowWords (map (λ (i : Item Located). recordOf (i .event)) is ++ replicate (r / 13 - length (map (λ (i : Item Located). recordOf (i .event)) is)) blank) ++ replicate (r % 13) 0
     record-words =
         let l = item-length is in
-        let f : 13 * length is ≤ r = omega (arith, count) in
+        let f : 13 * length is ≤ r = omega (arith, count₀) in
         let y : 0 + length (itemWords is) ≡ 13 * length is = omega arith in
         k ∙ sets-eq (itemWords is) (replicate r 0) 0 (rw (length-replicate {A = ℕ} r 0) (omega arith)) ∙ ap (λ (q : List ℕ). itemWords is ++ q) (rw y (drop-zeros r (13 * length is) f))
+        ∙ sym (filled is r (omega (arith, count₀)))
 
 pub zeroed : (x : List ℕ) (n m : ℕ) → x ≡ replicate n 0 → n ≡ m → x ≡ replicate m 0
 zeroed x n m e q = e ∙ ap (λ (k : ℕ). replicate k 0) q
 
 -- ---- by cases
 module _ (s : List ℕ) (r t c : ℕ) where
-  pub words-size : false ≡ sized link s → nothing 1 0 r t c ≡ readWords s r t c
+  pub words-size : false ≡ sized link s → nothing 1 r t c ≡ readWords s r t c
   unfolding readWords
   words-size e = rw (← e)
 
   module _ (size : true ≡ sized link s) where
-    pub words-tables : (t ≡ words → ⊥) → nothing 14 0 r t c ≡ readWords s r t c
+    pub words-counts : (c ≡ 10 → ⊥) → nothing 14 r t c ≡ readWords s r t c
     unfolding readWords
-    words-tables n = rw (← size, ne-eqb _ _ n)
+    words-counts n = rw (← size, ne-eqb _ _ n)
 
-    module _ (a : t ≡ words) where
-      pub words-counts : (c ≡ 10 → ⊥) → nothing 14 0 r t c ≡ readWords s r t c
-      unfolding readWords
-      words-counts n = rw (← size, eq-eqb _ _ a, ne-eqb _ _ n)
+    pub words-tables : (t ≡ words → ⊥) → nothing 14 r t c ≡ readWords s r t c
+    unfolding readWords readOf inWords
+    words-tables n = elim (ℕ-discrete c 10) [
+      | yes b ↦ rw (b, ← size, ne-eqb _ _ n, blank-all r)
+      | no b ↦ words-counts b
+    ]
 
-      module _ (b : c ≡ 10) where
-        fields-first : wordsFrom (reading s (r / 13)) r ≡ readWords s r t c
-        unfolding readWords
-        fields-first = rw (← size, eq-eqb _ _ a, eq-eqb _ _ b)
+    module _ (a : t ≡ words) (b : c ≡ 10) where
+      fields-first : inWords r (outcome (reading s (r / 13)) (r / 13)) ≡ readWords s r t c
+      unfolding readWords readOf
+      fields-first = rw (← size, eq-eqb _ _ a, eq-eqb _ _ b)
 
-        -- a run that came out as y
-        module _ {v : List ℕ} {y : Answer} {w′ v′ : List ℕ} (p : Ran (r / 13) v y w′ v′ (reading s (r / 13))) where
-          pub words-refused : {k place : ℕ} → y ≡ Refused k place → {n : ℕ} → n ≡ answerNumber y → leaving n (replicate r 0) (replicate t 0) (replicate c 0) ≡ readWords s r t c
-          words-refused {k} {place} q {n} e =
-              let f : faulty k place ≡ endingOf 0 (reading s (r / 13)) = rw q at (p .is) in
-              let m : n ≡ place * 32 + k = e ∙ ap answerNumber q in
-              (λ i. leaving (m i) (replicate r 0) (replicate (a i) 0) (replicate (b i) 0)) ∙ refused-words r k place (reading s (r / 13)) f ∙ fields-first
+      -- a run that came out as y
+      module _ {v : List ℕ} {y : Answer} {w′ v′ : List ℕ} (p : Ran (r / 13) v y w′ v′ (reading s (r / 13))) where
+        pub words-refused : {k place : ℕ} → y ≡ Refused k place → {n : ℕ} → n ≡ answerNumber y → leaving n (replicate r 0) (replicate t 0) (replicate c 0) ≡ readWords s r t c
+        words-refused {k} {place} q {n} e =
+            let f : faulty k place ≡ endingOf 0 (reading s (r / 13)) = rw q at (p .is) in
+            let m : n ≡ place * 32 + k = e ∙ ap answerNumber q in
+            (λ i. leaving (m i) (replicate r 0) (replicate (a i) 0) (replicate (b i) 0)) ∙ refused-words r k place (reading s (r / 13)) f ∙ fields-first
 
-          pub words-accepted : {n : ℕ} {d : Counts} → y ≡ Accepted n d → v ≡ replicate r 0 → {u : List ℕ} → u ≡ listed d → leaving (n * 2 ^ 32 % 2 ^ 64) v′ w′ u ≡ readWords s r t c
-          words-accepted {n} {d} q z l =
-              let f : ended n (vocabulary d w′) ≡ endingOf 0 (reading s (r / 13)) = rw q at (p .is) in
-              let g : (n ≤ r / 13) × Clean d w′ = rw q at (p .settled) in
-              let h : n ≤ 32769 = rw q at (p .small) in
-              let x : n * 2 ^ 32 % 2 ^ 64 ≡ n * 2 ^ 32 = omega arith in
-              let k : v′ ≡ keptFrom (replicate r 0) 0 (reading s (r / 13)) = rw (q, z) at (p .keeps (rw (z, length-replicate {A = ℕ} r 0) (omega arith))) in
-              rw (x, l) (accepted-words r n d w′ v′ (reading s (r / 13)) f (g .0) (g .1) k ∙ fields-first)
+        pub words-accepted : {n : ℕ} {d : Counts} → y ≡ Accepted n d → v ≡ replicate r 0 → {u : List ℕ} → u ≡ listed d → leaving (n * 2 ^ 32 % 2 ^ 64) v′ w′ u ≡ readWords s r t c
+        words-accepted {n} {d} q z l =
+            let f : ended n (vocabulary d w′) ≡ endingOf 0 (reading s (r / 13)) = rw q at (p .is) in
+            let g : (n ≤ r / 13) × Clean d w′ = rw q at (p .settled) in
+            let h : n ≤ 32769 = rw q at (p .small) in
+            let x : n * 2 ^ 32 % 2 ^ 64 ≡ n * 2 ^ 32 = omega arith in
+            let k : v′ ≡ keptFrom (replicate r 0) 0 (reading s (r / 13)) = rw (q, z) at (p .keeps (rw (z, length-replicate {A = ℕ} r 0) (omega arith))) in
+            rw (x, l) (accepted-words r n d w′ v′ (reading s (r / 13)) f (g .0) (g .1) k ∙ fields-first)

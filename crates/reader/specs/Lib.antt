@@ -1,8 +1,9 @@
--- The reading definition: read Strings, Names, Items, then Reading. Code says how the code's answers stand for it; Stages and NameStages are cuts of it where the code is cut.
+-- The reading definition: read Strings, Names, Items, Reading, then Words. Code says how the code's answers stand for it; Stages and NameStages are cuts of it where the code is cut.
 pub mod Strings
 pub mod Names
 pub mod Items
 pub mod Reading
+pub mod Words
 pub mod Code
 pub mod Stages
 pub mod NameStages

@@ -155,6 +155,10 @@ pub record Outcome : Type 0 where
   pub row : List Event
   pub tables : List ℕ
 
+-- A call answered and left this.
+abbrev pub Leaves : A.Answer → List Event → List ℕ → Outcome → Type 0
+Leaves r row tables o = (r ≡ o .answer) × (row ≡ o .row) × (tables ≡ o .tables)
+
 -- A refusal blanks all the room that was lent.
 abbrev pub refusing : ℕ → ℕ → ℕ → ℕ → Outcome
 refusing n p room table = record { answer = Refused n p; row = replicate room blank; tables = replicate table 0 }

@@ -1,4 +1,4 @@
--- How a run's answers stand for the reading definition's, and what a reading leaves in lent words.
+-- How a run's answers stand for the reading definition's, and what it keeps in lent words.
 use Prim.Native.Nat.{ℕ, _+_, _-_, _*_, _/_, _^_, _≤_}
 use mathlib.Core.Path.{_≡_}
 use mathlib.Core.Bool.{false}
@@ -86,29 +86,3 @@ pub record Ran (room : ℕ) (v : List ℕ) (r : Answer) (w′ v′ : List ℕ) (
   pub small : Small r
   pub settled : Settled room r w′
   pub keeps : 13 * room ≤ length v → Keeps r v′ (keptFrom v 0 x)
-
--- ---- what a reading into words answers and leaves
-pub record Words : Type 0 where
-  pub answer : ℕ
-  pub records : List ℕ
-  pub tables : List ℕ
-  pub counts : List ℕ
-
-abbrev pub leaving : ℕ → (records tables counts : List ℕ) → Words
-leaving answer records tables counts = record { answer = answer; records = records; tables = tables; counts = counts }
-
--- A refusal leaves every word 0. An acceptance has the event count above the low 32 bits, and leaves 0 behind the last event.
-abbrev pub nothing : (number place : ℕ) → (records tables counts : ℕ) → Words
-nothing k p r t c = leaving (p * 32 + k) (replicate r 0) (replicate t 0) (replicate c 0)
-
-abbrev pub wordsFrom : Result → (records : ℕ) → Words
-wordsFrom (accepted is m) r =
-    leaving (length is * 2 ^ 32) (itemWords is ++ replicate (r - 13 * length is) 0) (wordsOf entryWords (m .state .words)) (listed (countsOf (m .state .words)))
-wordsFrom (refusal k p) r = nothing k p r words 10
-
--- With so many words lent for records, tables and counts: SIZE, then the room of tables and counts (14), both at place 0, then the fields.
-unfoldable pub readWords : List ℕ → (records tables counts : ℕ) → Words
-readWords s r t c =
-    pick (sized link s)
-    (pick (eqb t words) (pick (eqb c 10) (wordsFrom (reading s (r / 13)) r) (nothing 14 0 r t c)) (nothing 14 0 r t c))
-    (nothing 1 0 r t c)

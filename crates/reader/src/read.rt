@@ -8,7 +8,7 @@ ghost use Rattle.tables.specs.Located.{start};
 ghost use Rattle.tables.specs.Counts.{words};
 ghost use Rattle.events.specs.Records.{blank};
 ghost use Rattle.reader.specs.Code.{Good};
-ghost use Rattle.reader.specs.Reading.{run, origin, fuelOf, outcome, readOf};
+ghost use Rattle.reader.specs.Reading.{run, origin, fuelOf, outcome, Leaves, readOf};
 ghost use Rattle.reader.specs.RunStages.{openingOf};
 ghost use Rattle.reader.specs.ReadStages.{first, stateOf, placeOf, Reaches, Small, finished, settled, admission};
 use crate::Answer;
@@ -195,7 +195,7 @@ fn admitted(s: &[u8], room: usize) -> Opening
 // Any octets, any room. Nothing of what was in the room before is left in it.
 // Ruled out: a refusal that leaves the records of events before the fault; an acceptance whose counts go on from those of an earlier document.
 pub fn read(octets: &[u8], events: &mut [Event], tables: &mut [u32]) -> Answer
-    ensures { λ r. ⌜ (r ≡ readOf (now (octets .entry)) (length (now (events .entry))) (length (now (tables .entry))) .answer) × (now (events .exit) ≡ readOf (now (octets .entry)) (length (now (events .entry))) (length (now (tables .entry))) .row) × (now (tables .exit) ≡ readOf (now (octets .entry)) (length (now (events .entry))) (length (now (tables .entry))) .tables) ⌝ }
+    ensures { λ r. ⌜ Leaves r (now (events .exit)) (now (tables .exit)) (readOf (now (octets .entry)) (length (now (events .entry))) (length (now (tables .entry)))) ⌝ }
 {
     wipe(events, tables);
     match admitted(octets, tables.len()) {

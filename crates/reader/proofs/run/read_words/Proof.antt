@@ -64,7 +64,7 @@ same-length-9 : tie.Need-same-length-9
 same-length-9 c = search needs
 
 returns-3 : tie.Need-returns-3
-returns-3 c = rw (c .before .before .before .before .before .before .before .before .before .before .before .before .before .before .clear .ensures, c .before .before .before .before .before .before .before .before .before .before .clear2 .ensures, c .before .before .before .before .before .before .clear3 .ensures) (words-counts _ _ _ _ (sym (not-false _ (c .before .before .if1 .left)) ∙ c .before .before .before .sized .ensures) (omega arith) (omega arith))
+returns-3 c = rw (c .before .before .before .before .before .before .before .before .before .before .before .before .before .before .clear .ensures, c .before .before .before .before .before .before .before .before .before .before .clear2 .ensures, c .before .before .before .before .before .before .clear3 .ensures) (words-counts _ _ _ _ (sym (not-false _ (c .before .before .if1 .left)) ∙ c .before .before .before .sized .ensures) (omega arith))
 
 reading-requires : tie.Need-reading-requires
 reading-requires c κs = zeroed _ (length (c .before .before .before .before .before .before .before .before .before .before .before .before .before .before .before .before .before .before .before .before .before .before .args .tables .now)) 7680 (c .before .before .before .before .before .before .before .before .before .before .before .before .clear2 .ensures) (omega arith)

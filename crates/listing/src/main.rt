@@ -1,0 +1,194 @@
+// Lists one document from standard input: a line for each event and then their number, or the refusal.
+// A program: it prints what the reader found, and decides nothing.
+use libc::STDIN_FILENO;
+use libc::STDOUT_FILENO;
+ghost use Prim.Native.Nat.{_≤_};
+
+// Words of an event record.
+const RECORD: usize = 13;
+
+// Output goes through a block, which is written when it is full. Answers where the next octet goes.
+fn put(out: &mut [u8], n: usize, b: u8) -> usize {
+    let mut at = n;
+    if out.len() <= at {
+        io::write_all(STDOUT_FILENO, out);
+        at = 0;
+    }
+    if at < out.len() {
+        out[at] = b;
+        return at + 1;
+    }
+    at
+}
+
+// Writes what of the block is in use. n is never beyond it; the test spares every function here a contract that says so.
+fn flush(out: &[u8], n: usize) {
+    if out.len() < n {
+        return;
+    }
+    io::write_all(STDOUT_FILENO, &out[0..n]);
+}
+
+fn put_text(out: &mut [u8], n: usize, text: &[u8]) -> usize {
+    let mut at = n;
+    let mut i = 0;
+    while i < text.len() {
+        at = put(out, at, text[i]);
+        i += 1;
+    }
+    at
+}
+
+fn put_number(out: &mut [u8], n: usize, x: u64) -> usize {
+    let mut digits = [0u8; 20];
+    let k = io::decimal(x, &mut digits);
+    put_text(out, n, &digits[..k])
+}
+
+fn digit(x: u8) -> u8 {
+    let d = x % 16;
+    if d < 10 {
+        return b'0' + d;
+    }
+    b'a' - 10 + d
+}
+
+fn put_hex(out: &mut [u8], n: usize, text: &[u8]) -> usize {
+    let mut at = n;
+    let mut i = 0;
+    while i < text.len() {
+        let b = text[i];
+        at = put(out, at, digit(b / 16));
+        at = put(out, at, digit(b));
+        i += 1;
+    }
+    at
+}
+
+// The octets of a stretch. The reader hands out none that reaches beyond s; the tests stand in for a contract that says so.
+fn put_stretch(out: &mut [u8], n: usize, s: &[u8], place: usize, size: usize) -> usize {
+    if s.len() < place {
+        return n;
+    }
+    if s.len() - place < size {
+        return n;
+    }
+    let end = place + size;
+    put_hex(out, n, &s[place..end])
+}
+
+// One string of an event from its three words: "-" for absent, else "=" and its octets.
+fn put_string(out: &mut [u8], n: usize, s: &[u8], tag: u32, place: u32, size: u32) -> usize {
+    let at = put(out, n, b' ');
+    if tag == 0 {
+        return put(out, at, b'-');
+    }
+    let at = put(out, at, b'=');
+    match tag {
+        2 => put_stretch(out, at, s, place as usize, size as usize),
+        3 => put_hex(out, at, b"xml"),
+        4 => put_hex(out, at, b"http://www.w3.org/XML/1998/namespace"),
+        _ => at,
+    }
+}
+
+fn letter(kind: u32) -> u8 {
+    match kind {
+        1 => b'N',
+        2 => b'S',
+        3 => b'A',
+        4 => b'T',
+        5 => b'C',
+        6 => b'P',
+        _ => b'E',
+    }
+}
+
+// Of prefix, namespace, name and value, strings 0 to 3 of a record, a kind has those from the first on.
+fn first_of(kind: u32) -> usize {
+    match kind {
+        1 | 2 | 3 => 0,
+        6 => 2,
+        7 => 4,
+        _ => 3,
+    }
+}
+
+// Where the strings that a kind has end. The bound keeps the numbers of their words small.
+fn behind_last_of(kind: u32) -> usize
+    ensures { λ r. ⌜ r ≤ 4 ⌝ }
+{
+    match kind {
+        1 => 2,
+        2 => 3,
+        _ => 4,
+    }
+}
+
+// A word of a record; beyond the lent words 0, which is the word of a blank record.
+fn word(w: &[u32], record: u32, k: usize) -> u32 {
+    let from = RECORD * (record as usize);
+    if from < w.len() {
+        if k < w.len() - from {
+            return w[from + k];
+        }
+    }
+    0
+}
+
+fn put_event(out: &mut [u8], n: usize, s: &[u8], w: &[u32], record: u32) -> usize {
+    let kind = word(w, record, 0);
+    let mut at = put(out, n, letter(kind));
+    let mut k = first_of(kind);
+    let end = behind_last_of(kind);
+    while k < end {
+        let tag = word(w, record, 3 * k + 1);
+        let place = word(w, record, 3 * k + 2);
+        let size = word(w, record, 3 * k + 3);
+        at = put_string(out, at, s, tag, place, size);
+        k += 1;
+    }
+    put(out, at, b'\n')
+}
+
+fn put_events(out: &mut [u8], n: usize, s: &[u8], w: &[u32], events: u32) -> usize {
+    let mut at = n;
+    let mut i = 0;
+    while i < events {
+        at = put_event(out, at, s, w, i);
+        i += 1;
+    }
+    at = put_text(out, at, b"end ");
+    at = put_number(out, at, events as u64);
+    put(out, at, b'\n')
+}
+
+fn put_refusal(out: &mut [u8], n: usize, answer: u64) -> usize {
+    let mut at = put_text(out, n, b"refused ");
+    at = put_number(out, at, answer % 32);
+    at = put_text(out, at, b" at ");
+    at = put_number(out, at, answer / 32);
+    put(out, at, b'\n')
+}
+
+// The reader's answer: the refusal in its low 32 bits, or 0 there and the number of events above them.
+fn put_answer(out: &mut [u8], s: &[u8], w: &[u32], answer: u64) -> usize {
+    let refusal = answer % 0x1_0000_0000;
+    if refusal != 0 {
+        return put_refusal(out, 0, refusal);
+    }
+    put_events(out, 0, s, w, (answer / 0x1_0000_0000) as u32)
+}
+
+fn main() {
+    // One octet more than a document may have, so that a longer one is seen to be longer; 512 event records.
+    let mut s = [0u8; 16385];
+    let mut records = [0u32; 6656];
+    let mut tables = [0u32; 7680];
+    let mut counts = [0u32; 10];
+    let mut out = io::buffer();
+    let n = io::read_full(STDIN_FILENO, &mut s);
+    let answer = lomphachit::lomphachit_read(&s[..n], &mut records, &mut tables, &mut counts);
+    let at = put_answer(&mut out, &s[..n], &records, answer);
+    flush(&out, at);
+}

@@ -1,0 +1,49 @@
+-- Reading into words, for callers that have no enums: what a reader leaves, as words.
+use Prim.Native.Nat.{ℕ, _+_, _*_, _/_, _%_, _^_}
+use mathlib.Core.List.{List, [], _∷_, _++_}
+use lib.ListN.{replicate}
+use lib.Dec.{eqb}
+use Rattle.format.specs.Numbers.{pick}
+use Rattle.format.specs.Tables.{link}
+use Rattle.tables.specs.Kept.{listed}
+use Rattle.events.specs.declared.Event.{Event}
+use Rattle.events.specs.Words.{recordWords}
+use Rattle.reader.specs.declared.Answer.{Answer}
+use Rattle.reader.specs.declared.Answer.the-variants.{Accepted, Refused}
+use Rattle.reader.specs.Reading.{Outcome, sized, readOf}
+
+-- The event count above the low 32 bits; in them 0, or the place times 32 plus the refusal's number.
+abbrev pub answerWord : Answer → ℕ
+answerWord (Accepted n c) = n * 2 ^ 32
+answerWord (Refused k p) = p * 32 + k
+
+abbrev pub countWords : Answer → List ℕ
+countWords (Accepted n c) = listed c
+countWords (Refused k p) = replicate 10 0
+
+-- 13 words for a record; those of a blank one are 0.
+unfoldable pub rowWords : List Event → List ℕ
+rowWords [] = []
+rowWords (e ∷ es) = recordWords e ++ rowWords es
+
+-- What a call answers and leaves: the answer, every word for records, tables and counts.
+pub record Words : Type 0 where
+  pub answer : ℕ
+  pub records : List ℕ
+  pub tables : List ℕ
+  pub counts : List ℕ
+
+abbrev pub leaving : ℕ → (records tables counts : List ℕ) → Words
+leaving answer records tables counts = record { answer = answer; records = records; tables = tables; counts = counts }
+
+abbrev pub nothing : (number records tables counts : ℕ) → Words
+nothing k r t c = leaving k (replicate r 0) (replicate t 0) (replicate c 0)
+
+-- An outcome in r words for records, of which those behind the last whole record are 0.
+unfoldable pub inWords : (r : ℕ) → Outcome → Words
+inWords r o = leaving (answerWord (o .answer)) (rowWords (o .row) ++ replicate (r % 13) 0) (o .tables) (countWords (o .answer))
+
+-- With r, t and c words lent for records, tables and counts: SIZE (1), then the room of the counts, which are the tables' (14), both at place 0; then what
+-- reading into r / 13 event records and t table words leaves.
+unfoldable pub readWords : List ℕ → (r t c : ℕ) → Words
+readWords s r t c = pick (sized link s) (pick (eqb c 10) (inWords r (readOf s (r / 13) t)) (nothing 14 r t c)) (nothing 1 r t c)
