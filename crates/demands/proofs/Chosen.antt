@@ -19,11 +19,11 @@ use Rattle.format.specs.Uses.{sameNames}
 use Rattle.fields.proofs.Laws.{case}
 use Rattle.tables.specs.Located.{Located, octetsOf, plainWords}
 use Rattle.tables.specs.Search.{numberIn, numberOfTriple}
-use Rattle.tables.proofs.Laws.{holds-number, number-entry, holds-name-number, name-number-entry}
+use Rattle.tables.proofs.Laws.{strings-adding, names-adding, holds-number, number-entry, holds-name-number, name-number-entry}
 use Rattle.writer.specs.Choices.{Wrote, writeId, writeOptional, writeName, worthAdding, writeLiteral, writeValue}
 use Rattle.demands.proofs.Lists.{both-true}
 use Rattle.demands.proofs.Words.{strings-map, length-strings, names-map, adding-map, keeping-map, adding-name-map}
-use Rattle.demands.proofs.Growing.{strings-adding, names-adding, names-adding-name, strings-adding-name}
+use Rattle.demands.proofs.Growing.{names-adding-name, strings-adding-name}
 
 -- ---- tables grow, and stay within the limits
 pub record Grows {S T : Type 0} (v : Vocabulary S) (w : Vocabulary T) : Type 0 where
@@ -344,10 +344,6 @@ module _ (text : List ℕ) where
 
     before-l : Grows v (l .words)
     before-l = grows-on (optional-grows text cp) (grows-on to-n to-l)
-
-    pub name-grows : {w : Wrote NameHow} → NameCase w → Grows v (w .words)
-    name-grows (name-held en e h) = same-size v
-    name-grows (name-new h) = grows-on before-l (adding-name-grows (l .words) (q .table) tripleOf)
 
     triple-in-range : InRange (l .words) tripleOf
     triple-in-range =

@@ -1,5 +1,5 @@
--- THE THEOREMS OF DEMAND 3, for every list s of octets. The rules of writing (crate format) know no reader; the reading definition (crate reader) is what
--- the code is held to. Here the two meet. Each proof is a line or two; the files beside this one have what it rests on.
+-- THE THEOREMS OF DEMAND 3, for every list s of octets. The rules of writing (crate format) know no reader; the reading definition (crates names, steps,
+-- reader) is what the code is held to. Here the two meet. Each proof is a line or two; the files beside this one have what it rests on.
 use Prim.Native.Nat.{ℕ, _+_, _≤_, _<_}
 use mathlib.Core.Path.{_≡_, sym, ap, _∙_, subst, subst₂}
 use mathlib.Core.Logic.{_↔_}
@@ -14,7 +14,7 @@ use Rattle.format.specs.Document.{knownAfter, Document, header, Writes}
 use Rattle.format.specs.Uses.{acts, Known}
 use Rattle.format.specs.Allowed.{All, Allowed}
 use Rattle.tables.specs.Located.{Located, plain, plainState, start}
-use Rattle.reader.specs.Items.{Stand}
+use Rattle.steps.specs.Items.{Stand}
 use Rattle.reader.specs.Reading.{accepted, refusal, Mark, run, onward, opening, origin, fuelOf, reading, marks, numberOf, checkOf, Accepts}
 use Rattle.events.specs.declared.Event.{Event}
 use Rattle.events.specs.Records.{recordOf}

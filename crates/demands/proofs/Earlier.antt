@@ -14,7 +14,8 @@ use Rattle.format.specs.Names.{NameLayout, ofElement, ofAttribute, Named, in-pa
 use Rattle.format.specs.Items.{State, Octets, o-start, o-first-namespace, o-namespace, o-named-start, o-attribute, o-text, o-comment, o-instruction}
 use Rattle.format.specs.Document.{beginning, Written, document-end, attributes-end, element-end, item, Document, Writes}
 use Rattle.format.specs.Uses.{sameNames, Act, makes, uses, makesName, ofString, ofOption, ofName, noName, ofItem, acts, Known}
-use Rattle.demands.proofs.Growing.{strings-adding, names-adding, names-adding-name, strings-adding-name, Means, means-is, means-kept, Keeps}
+use Rattle.tables.proofs.Laws.{strings-adding, names-adding}
+use Rattle.demands.proofs.Growing.{names-adding-name, strings-adding-name, Means, means-is, means-kept, Keeps}
 use Rattle.demands.proofs.Growing.{keeps-adding-name, keeps-adding, parts-mean}
 
 -- ---- the triples of a table name these names

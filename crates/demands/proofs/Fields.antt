@@ -15,8 +15,8 @@ use Rattle.fields.specs.declared.Number.{Number}
 use Rattle.fields.specs.declared.Number.the-variants.{Got as Num, Refused as NoNum}
 use Rattle.fields.specs.Fields.{fieldAt, noTop}
 use Rattle.tables.specs.Located.{Located, stretch, octetsOf, plainWords}
-use Rattle.reader.specs.Strings.{Got, got, refused, then, number, spelling}
-use Rattle.reader.specs.Items.{Step, stop, into}
+use Rattle.names.specs.Strings.{Got, got, refused, then, number, spelling}
+use Rattle.steps.specs.Items.{Step, stop, into}
 use Rattle.demands.proofs.Lists.{Fault, fault, test, test-le, stretch-sound, stretch-length, stretch-complete, drop-past}
 use Rattle.demands.proofs.Numbers.{NumRead, NumOk, num-complete, num-first}
 

@@ -9,8 +9,9 @@ use Rattle.format.specs.Tables.{Limits, link}
 use Rattle.format.specs.Items.{State}
 use Rattle.format.specs.Document.{header}
 use Rattle.tables.specs.Located.{Located, plain, start}
-use Rattle.reader.specs.Items.{Stand, Step, more, quiet, done, stop}
-use Rattle.reader.specs.Reading.{Result, accepted, refusal, plus, turn, step, run, Opening, onward, halt, opening, origin, fuelOf, resultFrom, reading, Accepts}
+use Rattle.steps.specs.Items.{Stand, Step, more, quiet, done, stop}
+use Rattle.steps.specs.Steps.{step}
+use Rattle.reader.specs.Reading.{Result, accepted, refusal, plus, turn, run, Opening, onward, halt, opening, origin, fuelOf, resultFrom, reading, Accepts}
 
 abbrev Fits : ℕ → Result → Type 0
 Fits room (accepted is m) = length is ≤ room

@@ -14,26 +14,11 @@ use Rattle.format.specs.Tables.{StringTable, PREFIX, NAMESPACE-NAME, LOCAL-NAME
 use Rattle.format.specs.Tables.{NameTable, ELEMENT-NAME, ATTRIBUTE-NAME, Triple, Vocabulary, strings, names, place, extended, adding, withNames, addingName, Entry}
 use Rattle.format.specs.Tables.{partOf, nameOf, Limits}
 use Rattle.format.specs.Uses.{sameNames}
+use Rattle.tables.proofs.Laws.{strings-adding}
 use Rattle.format.specs.Strings.{Identifying, id-spelled, id-numbered, Optional, absent, present}
 
--- ---- the tables when an entry is added
+-- ---- the tables when a name is added
 module _ {S : Type 0} (v : Vocabulary S) where
-  pub strings-adding : (t : StringTable) (x : S) (u : StringTable) → strings (adding v t x) u ≡ extended (eqb (place t) (place u)) (strings v u) x
-  unfolding strings adding place
-  strings-adding t x PREFIX = refl
-  strings-adding t x NAMESPACE-NAME = refl
-  strings-adding t x LOCAL-NAME = refl
-  strings-adding t x OTHER-NCNAME = refl
-  strings-adding t x OTHER-URI = refl
-  strings-adding t x ATTRIBUTE-VALUE = refl
-  strings-adding t x CONTENT-CHARACTER-CHUNK = refl
-  strings-adding t x OTHER-STRING = refl
-
-  pub names-adding : (t : StringTable) (x : S) (u : NameTable) → names (adding v t x) u ≡ names v u
-  unfolding names adding
-  names-adding t x ELEMENT-NAME = refl
-  names-adding t x ATTRIBUTE-NAME = refl
-
   pub names-adding-name : (t : NameTable) (x : Triple) (u : NameTable) → names (addingName v t x) u ≡ extended (sameNames t u) (names v u) x
   unfolding names addingName sameNames
   names-adding-name ELEMENT-NAME x ELEMENT-NAME = refl

@@ -21,10 +21,10 @@ use Rattle.fields.specs.declared.Number.the-variants.{Got as Num, Refused as No
 use Rattle.fields.specs.Fields.{readIn, fieldAt}
 use Rattle.fields.proofs.Laws.{case}
 use Rattle.tables.specs.Located.{Located, octetsOf, plain, plainWords, plainState}
-use Rattle.reader.specs.Strings.{Got, got, refused, idAt, literalAt, valueAt}
-use Rattle.reader.specs.Names.{NameRead, lonePrefix, partsAt, numberedAt, nameAt, declaredAt}
-use Rattle.reader.specs.Items.{Stand, Step, more, quiet, done, stop, into, octet, namePadding, startOf, namespaceAt, elementAt, namedAt, attributeAt, chunkAt, commentAt, instructionAt, otherAt, childAt, declaringAt, itemAt}
-use Rattle.reader.specs.Reading.{byHalves}
+use Rattle.names.specs.Strings.{Got, got, refused, idAt, literalAt, valueAt}
+use Rattle.names.specs.Names.{NameRead, lonePrefix, partsAt, numberedAt, nameAt, declaredAt}
+use Rattle.steps.specs.Items.{Stand, Step, more, quiet, done, stop, into, octet, namePadding, startOf, namespaceAt, elementAt, namedAt, attributeAt, chunkAt, commentAt, instructionAt, otherAt, childAt, declaringAt, itemAt}
+use Rattle.steps.specs.Steps.{byHalves}
 use Rattle.demands.proofs.Lists.{Fault, fault, test, test-lt, test-le, test-not, test-ge, either, either-lt, either-eq, drop-head, drop-past, pick-yes, pick-no}
 use Rattle.demands.proofs.Fields.{FieldRead, Ok, in-step, Hit}
 use Rattle.demands.proofs.Strings.{shape15, inside, IdR, id-sound, LiteralR, literal-sound, ValueR, value-sound, IdQ, id-complete, StringQ, LiteralHit, literal-complete, value-complete}

@@ -13,7 +13,7 @@ use lib.Seq.{drop-cons, drop-drop, take-at, drop-at, length-take-le, drop-nil}
 use Rattle.format.specs.Numbers.{pick}
 use Rattle.format.specs.Tables.{same}
 use Rattle.format.specs.Document.{halves, pad, aligned}
-use Rattle.reader.specs.Reading.{halfAt, endsAt, padsAt}
+use Rattle.steps.specs.Steps.{halfAt, endsAt, padsAt}
 
 -- ---- tests
 pub clash : {X : Type 0} → false ≡ true → X
@@ -144,13 +144,6 @@ halves-split [] (o ∷ w) r e = cc
 halves-split (p ∷ t) (o ∷ w) r e =
     let z : p ≡ o = octet-is p o (cc) (cc) in
     ap₂ (λ (a : ℕ) (l : List ℕ). a ∷ l) z (halves-split t w r (cc))
-
-pub halves-one : (a b : List ℕ) → halves a ≡ halves b → a ≡ b
-unfolding halves
-halves-one [] [] e = refl
-halves-one [] (y ∷ b) e = cc
-halves-one (x ∷ a) [] e = cc
-halves-one (x ∷ a) (y ∷ b) e = ap₂ (λ (z : ℕ) (l : List ℕ). z ∷ l) (octet-is x y (cc) (cc)) (halves-one a b (cc))
 
 pub halves-complete : (s : List ℕ) (k : ℕ) (o r : List ℕ) → drop (2 * k) (halves s) ≡ halves o ++ r → drop k s ≡ o ++ drop (k + length o) s
 halves-complete s k o r e =

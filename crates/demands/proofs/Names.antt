@@ -19,8 +19,8 @@ use Rattle.fields.specs.declared.Number.the-variants.{Got as Num}
 use Rattle.fields.specs.Fields.{fieldAt}
 use Rattle.fields.proofs.RoundTrip.{some-first}
 use Rattle.tables.specs.Located.{Located, empty, octetsOf, plainWords}
-use Rattle.reader.specs.Strings.{Got, got, refused, OptionalRead, idAt, optionalAt}
-use Rattle.reader.specs.Names.{NameRead, DeclaredRead, prefixBit, namespaceBit, lonePrefix, partsAt, numberedAt, nameAt, declaredAt}
+use Rattle.names.specs.Strings.{Got, got, refused, OptionalRead, idAt, optionalAt}
+use Rattle.names.specs.Names.{NameRead, DeclaredRead, prefixBit, namespaceBit, lonePrefix, partsAt, numberedAt, nameAt, declaredAt}
 use Rattle.demands.proofs.Lists.{Fault, fault, test-lt, test-le, test-not, test-ge, either-lt, either-eq, drop-head, drop-past}
 use Rattle.demands.proofs.Words.{names-map, adding-name-map, name-map}
 use Rattle.demands.proofs.Numbers.{num-sound, num-complete, num-first}

@@ -17,7 +17,8 @@ use Rattle.format.specs.Items.{State, Octets, o-start, o-first-namespace, o-nam
 use Rattle.format.specs.Uses.{sameNames}
 use Rattle.format.specs.Allowed.{Said, SaidIfAny, AllowedName, Allowed, All}
 use Rattle.format.specs.Document.{beginning, Written, document-end, attributes-end, element-end, item, Document, Writes}
-use Rattle.demands.proofs.Growing.{strings-adding, names-adding, names-adding-name, strings-adding-name, Means, means-is, means-kept, Keeps}
+use Rattle.tables.proofs.Laws.{strings-adding, names-adding}
+use Rattle.demands.proofs.Growing.{names-adding-name, strings-adding-name, Means, means-is, means-kept, Keeps}
 use Rattle.demands.proofs.Growing.{keeps-adding-name, keeps-adding, parts-mean}
 
 module _ {A : Type 0} (P : A → Type 0) where

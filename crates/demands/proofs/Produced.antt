@@ -17,11 +17,12 @@ use Rattle.format.specs.Names.{has, NameLayout, ofElement, ofAttribute, Named, 
 use Rattle.format.specs.Items.{Mode, content, declaring, listing, State, mayStart, knowing, moved, opened, Octets, o-start, o-first-namespace, o-namespace, o-named-start, o-attribute, o-text, o-comment, o-instruction}
 use Rattle.tables.specs.Located.{Located, octetsOf, plain, plainWords, plainState}
 use Rattle.tables.specs.Rows.{tableOf}
+use Rattle.tables.proofs.Laws.{strings-adding, names-adding}
 use Rattle.writer.specs.Choices.{Wrote, writeId, writeOptional, writeName, writeLiteral, writeValue}
 use Rattle.writer.specs.Items.{WroteItem, beforeDeclaration, beforeName, nameLead, writeItem, within}
 use Rattle.demands.proofs.Lists.{both-true}
-use Rattle.demands.proofs.Growing.{strings-adding, strings-adding-name, names-adding}
-use Rattle.demands.proofs.Chosen.{Grows, same-size, grows-on, Fits, fits-before, keeping-grows, IdCase, held, new, id-case, id-grows, id-rule, OptionalCase, is-absent, is-present, optional-case, optional-grows, optional-rule, SpellingIfAny, LiteralCase, lit-held, lit-new, literal-case, literal-grows, literal-rule, ValueCase, is-empty, is-literal, value-case, value-grows, value-rule, Ranged, ranged-on, id-names, optional-names, NameCase, name-held, name-new, name-from, name-case, name-grows, name-ranged, name-rule}
+use Rattle.demands.proofs.Growing.{strings-adding-name}
+use Rattle.demands.proofs.Chosen.{grows-on, Fits, fits-before, IdCase, held, new, id-case, id-grows, id-rule, OptionalCase, is-absent, is-present, optional-case, optional-grows, optional-rule, SpellingIfAny, LiteralCase, lit-held, lit-new, literal-case, literal-grows, literal-rule, ValueCase, is-empty, is-literal, value-case, value-grows, value-rule, Ranged, ranged-on, id-names, optional-names, NameCase, name-held, name-new, name-case, name-ranged, name-rule}
 use Rattle.demands.proofs.Sayable.{not-long, NameSaid, Said}
 
 -- ---- the tables that no identifying string is added to: they are added to only where there is room
@@ -120,9 +121,6 @@ module _ (text : List ℕ) where
 
     whole : NameCase text q lead v x p n l cp cn cl w
     whole = name-case text q lead v x r
-
-    pub whole-grows : Grows v (w .words)
-    whole-grows = name-grows text q lead v x p n l cp cn cl whole
 
     pub whole-ranged : Ranged (w .words)
     whole-ranged = name-ranged text q lead v x p n l cp cn cl whole r

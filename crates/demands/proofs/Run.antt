@@ -18,8 +18,9 @@ use Rattle.format.specs.Items.{Mode, content, declaring, listing, State, moved,
 use Rattle.format.specs.Document.{halves, pad, aligned, closed, Written, document-end, attributes-end, element-end, item, knownAfter}
 use Rattle.fields.proofs.RoundTrip.{some-first}
 use Rattle.tables.specs.Located.{Located, octetsOf, plain, plainWords, plainState}
-use Rattle.reader.specs.Items.{Stand, Step, more, quiet, done, stop, octet, itemAt}
-use Rattle.reader.specs.Reading.{endsAt, padsAt, documentEnd, endAt, byHalves, Result, accepted, refusal, plus, turn, Mark, marked, step, run, trace}
+use Rattle.steps.specs.Items.{Stand, Step, more, quiet, done, stop, octet, itemAt}
+use Rattle.steps.specs.Steps.{endsAt, padsAt, documentEnd, endAt, byHalves, step}
+use Rattle.reader.specs.Reading.{Result, accepted, refusal, plus, turn, Mark, marked, run, trace}
 use Rattle.demands.proofs.Lists.{Fault, fault, test, either, either-lt, both-true, not-true, drop-head, drop-past, ends-sound, ends-complete, pads-sound, pads-complete, halves-drop, halves-length, halves-sound, halves-complete, align-is, aligned-ge, aligned-in, pad-length}
 use Rattle.demands.proofs.Items.{ItemRead, Took, item-sound, ItemHit, item-complete}
 

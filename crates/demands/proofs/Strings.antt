@@ -19,7 +19,7 @@ use Rattle.fields.specs.Fields.{fieldAt, noTop}
 use Rattle.fields.proofs.Laws.{case}
 use Rattle.fields.proofs.RoundTrip.{some-first}
 use Rattle.tables.specs.Located.{Located, empty, stretch, octetsOf, plainWords}
-use Rattle.reader.specs.Strings.{Got, got, refused, IdRead, OptionalRead, StringRead, idAt, optionalAt, spelledAt, literalAt, valueAt}
+use Rattle.names.specs.Strings.{Got, got, refused, IdRead, OptionalRead, StringRead, idAt, optionalAt, spelledAt, literalAt, valueAt}
 use Rattle.demands.proofs.Lists.{Fault, fault, test, test-lt, test-le, test-not, test-ge, either-lt, either-eq, drop-head}
 use Rattle.demands.proofs.Words.{strings-map, length-strings, adding-map, keeping-map, entry-map}
 use Rattle.demands.proofs.Numbers.{num-sound, num-complete, num-first}

@@ -9,7 +9,7 @@ use Rattle.format.specs.Items.{State}
 use Rattle.format.specs.Document.{header}
 use Rattle.tables.specs.Located.{Located, octetsOf, plainWords}
 use Rattle.events.specs.Records.{recordOf}
-use Rattle.reader.specs.Items.{Stand}
+use Rattle.steps.specs.Items.{Stand}
 use Rattle.format.specs.Numbers as FNumbers
 use Rattle.format.specs.Text as FText
 use Rattle.format.specs.Events as FEvents
@@ -23,9 +23,10 @@ use Rattle.tables.specs.Counts as TCounts
 use Rattle.tables.specs.Located as TLocated
 use Rattle.tables.specs.Search as TSearch
 use Rattle.events.specs.Records as ERecords
-use Rattle.reader.specs.Strings as RStrings
-use Rattle.reader.specs.Names as RNames
-use Rattle.reader.specs.Items as RItems
+use Rattle.names.specs.Strings as RStrings
+use Rattle.names.specs.Names as RNames
+use Rattle.steps.specs.Items as RItems
+use Rattle.steps.specs.Steps as RSteps
 use Rattle.reader.specs.Reading as RReading
 use Rattle.writer.specs.Events as WEvents
 use Rattle.writer.specs.Choices as WChoices
@@ -117,5 +118,5 @@ cases =
 
 -- Every case is found as it is wanted.
 pub proved : map finds cases ≡ map wants cases
-unfolding FNumbers.coded FNumbers.lengths FNumbers.numbers FNumbers.c25 FNumbers.octets FNumbers.spell FText.rows FText.astray FText.between FText.first FText.next FText.after FText.isText FEvents.eventMap FTables.strings FTables.names FTables.place FTables.adding FTables.addingName FTables.vocabularyMap FTables.starting FTables.xmlPrefix FTables.xmlNamespace FTables.same FTables.holds FTables.sameTriple FTables.holdsName FTables.nameOf FTables.link FStrings.c14 FStrings.c15 FNames.ofElement FNames.ofAttribute FItems.mayStart FDocument.halves FDocument.pad FDocument.aligned FDocument.beginning FDocument.header DFields.valueFrom DFields.behind DFields.readIn DFields.fieldAt TCounts.countsOf TSearch.lowest TSearch.numberIn TSearch.numberOfTriple TLocated.octetsOf TLocated.start ERecords.recordOf RStrings.spelling RStrings.idAt RStrings.optionalAt RStrings.spelledAt RStrings.literalAt RStrings.valueAt RNames.partsAt RNames.numberedAt RNames.nameAt RNames.declaredAt RItems.namePadding RItems.namespaceAt RItems.elementAt RItems.namedAt RItems.attributeAt RItems.chunkAt RItems.commentAt RItems.instructionAt RItems.otherAt RItems.childAt RItems.declaringAt RItems.itemAt RReading.halfAt RReading.endsAt RReading.padsAt RReading.documentEnd RReading.endAt RReading.step RReading.run RReading.sized RReading.opening RReading.reading WEvents.isName WEvents.noName WEvents.wellMade WEvents.eventOf WEvents.goesOn WEvents.nameText WEvents.allText WChoices.writeId WChoices.writeOptional WChoices.writeName WChoices.worthAdding WChoices.writeLiteral WChoices.writeValue WItems.writeItem WItems.within WWriting.announced WWriting.owed WWriting.settled WWriting.fits WWriting.halvesOf WWriting.judge WWriting.finish WWriting.run WWriting.joined WWriting.writing
+unfolding FNumbers.coded FNumbers.lengths FNumbers.numbers FNumbers.c25 FNumbers.octets FNumbers.spell FText.rows FText.astray FText.between FText.first FText.next FText.after FText.isText FEvents.eventMap FTables.strings FTables.names FTables.place FTables.adding FTables.addingName FTables.vocabularyMap FTables.starting FTables.xmlPrefix FTables.xmlNamespace FTables.same FTables.holds FTables.sameTriple FTables.holdsName FTables.nameOf FTables.link FStrings.c14 FStrings.c15 FNames.ofElement FNames.ofAttribute FItems.mayStart FDocument.halves FDocument.pad FDocument.aligned FDocument.beginning FDocument.header DFields.valueFrom DFields.behind DFields.readIn DFields.fieldAt TCounts.countsOf TSearch.lowest TSearch.numberIn TSearch.numberOfTriple TLocated.octetsOf TLocated.start ERecords.recordOf RStrings.spelling RStrings.idAt RStrings.optionalAt RStrings.spelledAt RStrings.literalAt RStrings.valueAt RNames.partsAt RNames.numberedAt RNames.nameAt RNames.declaredAt RItems.namePadding RItems.namespaceAt RItems.elementAt RItems.namedAt RItems.attributeAt RItems.chunkAt RItems.commentAt RItems.instructionAt RItems.otherAt RItems.childAt RItems.declaringAt RItems.itemAt RSteps.halfAt RSteps.endsAt RSteps.padsAt RSteps.documentEnd RSteps.endAt RSteps.step RReading.run RReading.sized RReading.opening RReading.reading WEvents.isName WEvents.noName WEvents.wellMade WEvents.eventOf WEvents.goesOn WEvents.nameText WEvents.allText WChoices.writeId WChoices.writeOptional WChoices.writeName WChoices.worthAdding WChoices.writeLiteral WChoices.writeValue WItems.writeItem WItems.within WWriting.announced WWriting.owed WWriting.settled WWriting.fits WWriting.halvesOf WWriting.judge WWriting.finish WWriting.run WWriting.joined WWriting.writing
 proved = refl

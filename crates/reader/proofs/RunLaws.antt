@@ -22,15 +22,18 @@ use Rattle.events.specs.Records.{recordOf}
 use Rattle.events.specs.Words.{kindNumber, textWords, recordWords}
 use Rattle.reader.specs.declared.Answer.{Answer}
 use Rattle.reader.specs.declared.Answer.the-variants.{Accepted, Refused}
-use Rattle.reader.specs.declared.State.{State}
-use Rattle.reader.specs.declared.Step.{Step}
-use Rattle.reader.specs.declared.Step.the-variants.{More, Quiet, Done, Stop}
-use Rattle.reader.specs.Items as I
-use Rattle.reader.specs.Items.{Stand}
-use Rattle.reader.specs.Reading.{Opening, onward, halt, sized, opening, Result, accepted, refusal, plus, turn, step, run, origin, fuelOf, reading, numberOf, checkOf}
-use Rattle.reader.specs.Code.{Ranged, standOf, SeenStep, more, quiet, done, stop, seenStep, stepSeen, Good, StepGood}
+use Rattle.steps.specs.declared.State.{State}
+use Rattle.steps.specs.declared.Step.{Step}
+use Rattle.steps.specs.declared.Step.the-variants.{More, Quiet, Done, Stop}
+use Rattle.steps.specs.Items as I
+use Rattle.steps.specs.Items.{Stand}
+use Rattle.steps.specs.Steps.{step}
+use Rattle.reader.specs.Reading.{Opening, onward, halt, sized, opening, Result, accepted, refusal, plus, turn, run, origin, fuelOf, reading, numberOf, checkOf}
+use Rattle.names.specs.Code.{Ranged}
+use Rattle.steps.specs.Code.{standOf, SeenStep, more, quiet, done, stop, seenStep, stepSeen, Good, StepGood}
 use Rattle.reader.specs.RunStages.{fresh, Ending, ended, faulty, endingOf, seenEnding, itemWords, kept, keptFrom, Small, answerNumber, Ran}
-use Rattle.reader.proofs.Places.{tests, both-true, Placed, step-placed}
+use Rattle.names.proofs.StringLaws.{tests}
+use Rattle.steps.proofs.Places.{both-true, Placed, step-placed}
 
 -- ---- the first four octets
 abbrev four : List ℕ

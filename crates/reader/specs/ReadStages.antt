@@ -14,14 +14,16 @@ use Rattle.tables.specs.Rows.{vocabulary}
 use Rattle.events.specs.declared.Event.{Event}
 use Rattle.reader.specs.declared.Answer.{Answer}
 use Rattle.reader.specs.declared.Answer.the-variants.{Accepted, Refused}
-use Rattle.reader.specs.declared.State.{State}
+use Rattle.steps.specs.declared.State.{State}
 use Rattle.reader.specs.declared.read.Place.{Place}
 use Rattle.reader.specs.declared.read.Next.{Next}
 use Rattle.reader.specs.declared.read.Next.the-variants.{Found, Finished, Refused as Faulty}
-use Rattle.reader.specs.Items.{Stand}
-use Rattle.reader.specs.Code.{SeenStep, more, quiet, done, stop, stepSeen, Tidy, Good, standOf}
+use Rattle.steps.specs.Items.{Stand}
+use Rattle.names.specs.Code.{Tidy}
+use Rattle.steps.specs.Code.{SeenStep, more, quiet, done, stop, stepSeen, Good, standOf}
 use Rattle.reader.specs.RunStages.{fresh}
-use Rattle.reader.specs.Reading.{Opening, halt, opening, sized, step, Outcome, refusing}
+use Rattle.steps.specs.Steps.{step}
+use Rattle.reader.specs.Reading.{Opening, halt, opening, sized, Outcome, refusing}
 
 -- A place with counts, and without.
 abbrev pub stateOf : Place → Counts → State

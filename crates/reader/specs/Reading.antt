@@ -1,55 +1,23 @@
 -- The reading definition: what a reader answers and leaves in the lent room, for every input.
-use Prim.Native.Nat.{ℕ, zero, suc, _+_, _-_, _*_, _/_, _%_}
+use Prim.Native.Nat.{ℕ, zero, suc, _+_, _-_, _*_, _/_}
 use mathlib.Core.Path.{_≡_}
-use mathlib.Core.Bool.{Bool, true, false, _&&_, _||_}
+use mathlib.Core.Bool.{Bool, _&&_}
 use mathlib.Core.List.{List, [], _∷_, _++_, map}
-use lib.ListN.{length, getD, take, drop, replicate}
+use lib.ListN.{length, getD, take, replicate}
 use lib.Dec.{eqb, ltb, leb}
 use Rattle.format.specs.Numbers.{pick}
-use Rattle.format.specs.Events.{End, forEnd, Item, _by_}
+use Rattle.format.specs.Events.{Item}
 use Rattle.format.specs.Tables.{Vocabulary, same, Limits, link}
-use Rattle.format.specs.Items.{Mode, content, declaring, listing, State, moved}
-use Rattle.format.specs.Document.{halves, aligned, closed, beginning, header}
+use Rattle.format.specs.Items.{State}
+use Rattle.format.specs.Document.{beginning, header}
 use Rattle.tables.specs.Counts.{countsOf, words, entryWords, wordsOf}
 use Rattle.events.specs.declared.Event.{Event}
 use Rattle.tables.specs.Located.{Located, plain, plainState, start}
 use Rattle.events.specs.Records.{blank, recordOf}
 use Rattle.reader.specs.declared.Answer as A
 use Rattle.reader.specs.declared.Answer.the-variants.{Accepted, Refused}
-use Rattle.reader.specs.Items.{Stand, Step, more, quiet, done, stop, itemAt}
-
--- The half at a place counted in halves; 16 where there is none.
-unfoldable pub halfAt : List ℕ → ℕ → ℕ
-halfAt s at = getD (halves (take 1 (drop (at / 2) s))) (at % 2) 16
-
--- An end stands there; the padding that is due there is right.
-unfoldable pub endsAt : List ℕ → ℕ → Bool
-endsAt s at = eqb (halfAt s at) 15
-
-unfoldable pub padsAt : List ℕ → ℕ → Bool
-padsAt s at = eqb (at % 2) 0 || eqb (halfAt s at) 0
-
--- The document's end: no root (15); bits 5 to 8 (6); octets behind it (15).
-unfoldable pub documentEnd : List ℕ → Stand → Step
-documentEnd s m =
-    pick (m .state .root)
-    (pick (padsAt s (suc (m .at)))
-    (pick (eqb (aligned (suc (m .at))) (2 * length s)) done (stop 15 (aligned (suc (m .at)) / 2)))
-    (stop 6 (m .at / 2)))
-    (stop 15 (m .at / 2))
-
--- 1111 ends an attribute list, which has a member (15), an element, or the document.
-unfoldable pub endAt : List ℕ → Stand → Mode → Step
-endAt s m (listing true) = quiet (record { at = suc (m .at); state = moved (m .state) (m .state .words) content })
-endAt s m (listing false) = stop 15 (m .at / 2)
-endAt s m (declaring a) = stop 5 (m .at / 2)
-endAt s m content = pick (ltb 0 (m .state .level)) (more (m .at / 2) (End by forEnd) (record { at = suc (m .at); state = closed (m .state) })) (documentEnd s m)
-
--- Declarations are ended by an octet, F0, and not by a half.
-abbrev pub byHalves : Mode → Bool
-byHalves content = true
-byHalves (declaring a) = false
-byHalves (listing some) = true
+use Rattle.steps.specs.Steps.{step}
+use Rattle.steps.specs.Items.{Stand, Step, more, quiet, done, stop}
 
 -- Items in order and where the reader stands at the end; or a refusal.
 pub data Result : Type 0 where
@@ -80,21 +48,15 @@ marked go done = []
 marked go (stop n p) = []
 
 module _ (L : Limits) where
-  -- One step: an end, or the item at the next octet behind padding that is right (6).
-  unfoldable pub step : List ℕ → Stand → Step
-  step s m =
-      pick (byHalves (m .state .mode) && endsAt s (m .at)) (endAt s m (m .state .mode))
-      (pick (padsAt s (m .at)) (itemAt L s (aligned (m .at) / 2) (m .state) (m .state .mode)) (stop 6 (m .at / 2)))
-
   -- Steps until the document's end, with records for `room` events. `fuel` bounds the steps.
   unfoldable pub run : List ℕ → (fuel room : ℕ) → Stand → Result
   run s zero room m = refusal 2 (m .at / 2)
-  run s (suc fuel) room m = turn (λ left n. run s fuel left n) room m (step s m)
+  run s (suc fuel) room m = turn (λ left n. run s fuel left n) room m (step L s m)
 
   -- The marks of the events, up to the document's end or the first fault.
   unfoldable pub trace : List ℕ → (fuel : ℕ) → Stand → List Mark
   trace s zero m = []
-  trace s (suc fuel) m = marked (λ n. trace s fuel n) (step s m)
+  trace s (suc fuel) m = marked (λ n. trace s fuel n) (step L s m)
 
 -- SIZE: a document is not empty, and not over the limit.
 unfoldable pub sized : Limits → List ℕ → Bool

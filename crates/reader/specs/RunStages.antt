@@ -1,29 +1,29 @@
 -- How a run's answers stand for the reading definition's, and what it keeps in lent words.
-use Prim.Native.Nat.{ℕ, _+_, _-_, _*_, _/_, _^_, _≤_}
+use Prim.Native.Nat.{ℕ, _+_, _*_, _/_, _≤_}
 use mathlib.Core.Path.{_≡_}
 use mathlib.Core.Bool.{false}
 use mathlib.Core.List.{List, [], _∷_, _++_}
-use lib.ListN.{length, replicate}
+use lib.ListN.{length}
 use lib.Seq.{sets}
-use lib.Dec.{eqb, ltb}
+use lib.Dec.{ltb}
 use Rattle.format.specs.Numbers.{pick}
 use Rattle.format.specs.Events.{Item}
-use Rattle.format.specs.Tables.{Vocabulary, link}
+use Rattle.format.specs.Tables.{Vocabulary}
 use Rattle.tables.specs.Located.{Located, start}
-use Rattle.tables.specs.Counts.{countsOf, words, entryWords, wordsOf}
+use Rattle.tables.specs.Counts.{countsOf, words}
 use Rattle.tables.specs.Rows.{vocabulary}
-use Rattle.tables.specs.Kept.{listed, Clean}
+use Rattle.tables.specs.Kept.{Clean}
 use Rattle.events.specs.declared.Event.{Event}
 use Rattle.events.specs.Records.{recordOf}
 use Rattle.events.specs.Words.{recordWords}
 use Rattle.reader.specs.declared.Answer.{Answer}
 use Rattle.reader.specs.declared.Answer.the-variants.{Accepted, Refused}
-use Rattle.reader.specs.declared.Mode.the-variants.{Content}
-use Rattle.reader.specs.declared.State.{State}
+use Rattle.steps.specs.declared.Mode.the-variants.{Content}
+use Rattle.steps.specs.declared.State.{State}
 use Rattle.reader.specs.declared.run.Opening.{Opening}
 use Rattle.reader.specs.declared.run.Opening.the-variants.{Onward, Halt}
 use Rattle.reader.specs.Reading as R
-use Rattle.reader.specs.Reading.{Result, accepted, refusal, sized, reading}
+use Rattle.reader.specs.Reading.{Result, accepted, refusal}
 
 abbrev pub openingOf : Opening → R.Opening
 openingOf Onward = R.onward

@@ -13,11 +13,11 @@ ghost use Rattle.reader.specs.Reading.{sized, opening, run, origin, fuel
 ghost use Rattle.reader.specs.RunStages.{openingOf, fresh, kept, Ran, Small, answerNumber};
 ghost use Rattle.reader.specs.Words.{leaving, readWords};
 use crate::Answer;
-use crate::Mode;
-use crate::State;
-use crate::Step;
 use events::Event;
 use events::Text;
+use steps::Mode;
+use steps::State;
+use steps::Step;
 use tables::Counts;
 
 // The refusals that a run has of its own.

@@ -1,0 +1,55 @@
+-- `State::namespace_at` meets its contract, by the declaration's answer.
+-- Assumes nothing.
+use borrow.Author.Needs.{needs}
+use Rattle.steps.proofs.ItemLaws.{name-within, namespace-refused, namespace-more}
+use Rattle.steps.proofs.State.namespace_at.Statement.{statement}
+use Rattle.steps.proofs.State.namespace_at.Tie as tie
+
+here-requires : tie.Need-here-requires
+here-requires c κs = search needs
+
+declared-requires : tie.Need-declared-requires
+declared-requires c κs = rw (c .before .here .ensures) (c .before .before .before .before .pre .0 .tidy, c .before .before .before .before .pre .1)
+
+enum-known-r : tie.Need-enum-known-r
+enum-known-r c = search needs
+
+enum-told : tie.Need-enum-told
+enum-told c = search needs
+
+faulty-requires : tie.Need-faulty-requires
+faulty-requires c κs = search needs
+
+same-length : tie.Need-same-length
+same-length c = search needs
+
+returns : tie.Need-returns
+returns c = rw (c .faulty .ensures) (namespace-refused (c .before .before .before .before .before .before .before .before .before .before .args .s .now) (c .before .before .before .before .before .before .before .before .before .before .args .t .now) _ (c .before .before .before .before .before .before .before .before .before .before .args .self) _ _ _ (c .before .before .before .before .before .declared .ensures .1) (rw (c .before .before .before .before .before .before .before .here .ensures) at (c .before .before .before .before .before .declared .ensures .0)) _ _ (c .before .enum-told .given .1))
+
+namespace-event-requires : tie.Need-namespace-event-requires
+namespace-event-requires c κs = search needs
+
+moved-requires : tie.Need-moved-requires
+moved-requires c κs = rw (c .before .before .r .given .1) at (name-within _ _ (c .before .before .before .before .before .before .declared .result) (c .before .before .before .before .before .before .before .before .before .before .before .pre .0 .tidy .size) (c .before .before .before .before .before .before .declared .ensures .1))
+
+same-length-2 : tie.Need-same-length-2
+same-length-2 c = search needs
+
+returns-2 : tie.Need-returns-2
+returns-2 c = rw (c .before .namespace-event .ensures, c .moved .ensures) (namespace-more (c .before .before .before .before .before .before .before .before .before .before .before .before .args .s .now) (c .before .before .before .before .before .before .before .before .before .before .before .before .args .t .now) _ (c .before .before .before .before .before .before .before .before .before .before .before .before .args .self) _ _ _ (c .before .before .before .before .before .before .before .declared .ensures .1) (rw (c .before .before .before .before .before .before .before .before .before .here .ensures) at (c .before .before .before .before .before .before .before .declared .ensures .0)) _ _ (c .before .before .before .r .given .1) (c .before .before .before .before .before .before .before .before .before .before .before .before .pre .2))
+
+pub namespace-at-spec : {M : Type 1} → statement M
+namespace-at-spec =
+    tie.close
+    (tie.spec
+    here-requires
+    declared-requires
+    enum-known-r
+    enum-told
+    faulty-requires
+    same-length
+    returns
+    namespace-event-requires
+    moved-requires
+    same-length-2
+    returns-2)
