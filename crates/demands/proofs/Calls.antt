@@ -25,6 +25,7 @@ use Rattle.steps.specs.Items.{Stand}
 use Rattle.reader.specs.Reading.{Result, accepted, refusal, sized, opening, reading, Outcome, Leaves, refusing, accepting, outcome, readOf, numberOf, checkOf}
 use Rattle.reader.specs.Words.{answerWord, leaving, nothing, inWords, readWords}
 use Rattle.demands.proofs.Lists.{both-true}
+use Rattle.demands.proofs.Fits.{accepted-sized}
 use Rattle.demands.proofs.Document as Whole
 use Rattle.demands.proofs.Demands.{check-needs-none}
 
@@ -59,17 +60,12 @@ module _ (s : List ℕ) (bytes : AreOctets s) where
     unfolding readOf
     read-accepts table n c e = by-room table n c (sized link s) (eqb table words) e
 
-    has-size : (is : List (Item Located)) (m : Stand) → reading s room ≡ accepted is m → (b : Bool) → sized link s ≡ b → sized link s ≡ true
-    unfolding reading opening
-    has-size is m r true e = e
-    has-size is m r false e = let q = rw e at r in absurd (let z : _≡_ {A = ℕ} 0 1 = cc in omega arith)
-
     --     And all that the rules write, if there is a record for each event and the table room is right.
     pub written-is-read : (items : List (Item (List ℕ))) (z : State (List ℕ)) → Writes items z s → length items ≤ room → Handed s room (readOf s room words)
     unfolding readOf
     written-is-read items z w h =
         let a = Whole.accepts s items z w room h in
-        let y = has-size (a .events) (a .last) (a .reads) (sized link s) refl in
+        let y = accepted-sized s room (a .events) (a .last) (a .reads) in
         record {
           events = a .events;
           last = a .last .state;
@@ -142,7 +138,7 @@ module _ (s : List ℕ) (bytes : AreOctets s) where
   unfolding readWords
   written-is-worded items z w r h =
       let a = Whole.accepts s items z w (r / 13) h in
-      (written-is-read (r / 13) items z w h, rw (has-size (r / 13) (a .events) (a .last) (a .reads) (sized link s) refl))
+      (written-is-read (r / 13) items z w h, rw (accepted-sized s (r / 13) (a .events) (a .last) (a .reads)))
 
 -- 15. DEMAND 1: what a call answers and leaves depends on the octets, and on how much room is lent, but not on what stood in it: e and t before one call, f and u
 --     before another.

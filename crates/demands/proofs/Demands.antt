@@ -18,7 +18,7 @@ use Rattle.steps.specs.Items.{Stand}
 use Rattle.reader.specs.Reading.{accepted, refusal, Mark, run, onward, opening, origin, fuelOf, reading, marks, numberOf, checkOf, Accepts}
 use Rattle.events.specs.declared.Event.{Event}
 use Rattle.events.specs.Records.{recordOf}
-use Rattle.writer.specs.Writing.{written, joined, writing}
+use Rattle.writer.specs.Writing.{written, joined, writing, knownWriting}
 use Rattle.demands.proofs.Document as Whole
 use Rattle.demands.proofs.Fits.{accepted-fits}
 use Rattle.demands.proofs.OneWriting as One
@@ -110,7 +110,7 @@ allowed items z s w = Plain.plain-on-link w
 -- 10. WRITTEN BY THE RULES: its octets are those that the rules write from the plain events and 01's choices, its tables are the rules', and they fit the output.
 pub written-by-the-rules : (text : List ℕ) (room : ℕ) (es : List Event) (items : List (Item Located)) (hs : List ℕ) (z : State Located) → length text ≤ 16384 → writing text room es ≡ written items hs z
     → Writes (map (plain text) items) (plainState text z) (header ++ joined hs) × (length (header ++ joined hs) ≤ room)
-written-by-the-rules text room es items hs z short e = subst (Made.Means text short room) e (Made.means text short room es)
+written-by-the-rules text room es items hs z short e = let m = Made.meant text short room es items hs z e in (m .0, m .1)
 
 -- 11. ROUND TRIP: reading what the writer wrote, with a record for each event, gives back the same events, and the reader's tables are the writer's.
 pub round-trip : (text : List ℕ) (room : ℕ) (es : List Event) (items : List (Item Located)) (hs : List ℕ) (z : State Located) → length text ≤ 16384 → writing text room es ≡ written items hs z
@@ -123,3 +123,21 @@ round-trip text room es items hs z short e records h =
 pub the-events-given : (text : List ℕ) (room : ℕ) (es : List Event) (items : List (Item Located)) (hs : List ℕ) (z : State Located) → writing text room es ≡ written items hs z
     → map (λ (i : Item Located). recordOf (i .event)) items ≡ es
 the-events-given text room es items hs z e = Given.given-back text room es items hs z e
+
+--     TABLES: after each event the reader's tables are the writer's, as octets.
+pub same-tables : (text : List ℕ) (room : ℕ) (es : List Event) (items : List (Item Located)) (hs : List ℕ) (z : State Located) → length text ≤ 16384 → writing text room es ≡ written items hs z
+    → map (λ (k : Mark). plainState (header ++ joined hs) (k .stand .state)) (marks (header ++ joined hs)) ≡ map (plainState text) (knownWriting text room es)
+same-tables text room es items hs z short e =
+    let m = Made.meant text short room es items hs z e in
+    tables (map (plain text) items) (plainState text z) (header ++ joined hs) (m .0) ∙ m .2
+
+--     And so they are what the rules know then.
+pub writer-tables : (text : List ℕ) (room : ℕ) (es : List Event) (items : List (Item Located)) (hs : List ℕ) (z : State Located) → length text ≤ 16384 → writing text room es ≡ written items hs z
+    → (w : Writes (map (plain text) items) (plainState text z) (header ++ joined hs)) → map (plainState text) (knownWriting text room es) ≡ knownAfter link (w .rule)
+writer-tables text room es items hs z short e w = sym (same-tables text room es items hs z short e) ∙ tables (map (plain text) items) (plainState text z) (header ++ joined hs) w
+
+--     There are tables for each event.
+pub tables-for-each : (text : List ℕ) (room : ℕ) (es : List Event) (items : List (Item Located)) (hs : List ℕ) (z : State Located) → length text ≤ 16384 → writing text room es ≡ written items hs z
+    → length (knownWriting text room es) ≡ length es
+tables-for-each text room es items hs z short e =
+    Made.each-known text short room es items hs z e ∙ sym (length-map items (λ (i : Item Located). recordOf (i .event))) ∙ ap length (the-events-given text room es items hs z e)

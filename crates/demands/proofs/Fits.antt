@@ -1,6 +1,7 @@
--- An accepted document has a record for each event.
+-- An accepted document has a record for each event, and a document's size.
 use Prim.Native.Nat.{ℕ, zero, suc, _+_, _≤_}
-use mathlib.Core.Path.{_≡_, ap, subst}
+use mathlib.Core.Path.{_≡_, refl, ap, subst}
+use mathlib.Core.Bool.{Bool, true, false}
 use mathlib.Core.List.{List, [], _∷_, map}
 use native.Mathlib.Omega.{arith}
 use lib.ListN.{length, length-map}
@@ -11,7 +12,7 @@ use Rattle.format.specs.Document.{header}
 use Rattle.tables.specs.Located.{Located, plain, start}
 use Rattle.steps.specs.Items.{Stand, Step, more, quiet, done, stop}
 use Rattle.steps.specs.Steps.{step}
-use Rattle.reader.specs.Reading.{Result, accepted, refusal, plus, turn, run, Opening, onward, halt, opening, origin, fuelOf, resultFrom, reading, Accepts}
+use Rattle.reader.specs.Reading.{Result, accepted, refusal, plus, turn, run, Opening, onward, halt, opening, origin, fuelOf, resultFrom, sized, reading, Accepts}
 
 abbrev Fits : ℕ → Result → Type 0
 Fits room (accepted is m) = length is ≤ room
@@ -44,3 +45,12 @@ accepted-fits s room items z a =
     let l = length-map (a .events) (plain s) in
     let k = ap length (a .are) in
     omega arith
+
+-- and it has a document's size
+sized-is : (s : List ℕ) (room : ℕ) (is : List (Item Located)) (m : Stand) → reading s room ≡ accepted is m → (b : Bool) → sized link s ≡ b → sized link s ≡ true
+unfolding reading opening
+sized-is s room is m r true e = e
+sized-is s room is m r false e = let q = rw e at r in absurd (let z : _≡_ {A = ℕ} 0 1 = cc in omega arith)
+
+pub accepted-sized : (s : List ℕ) (room : ℕ) (is : List (Item Located)) (m : Stand) → reading s room ≡ accepted is m → sized link s ≡ true
+accepted-sized s room is m r = sized-is s room is m r (sized link s) refl

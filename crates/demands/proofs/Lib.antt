@@ -23,3 +23,4 @@ mod WriterDocument
 mod Given
 pub mod Demands
 pub mod Calls
+pub mod WriterCalls

@@ -24,7 +24,8 @@ use Rattle.events.specs.declared.Kind.the-variants.{Blank, Namespace, Start, At
 use Rattle.events.specs.declared.Event.{Event}
 use Rattle.tables.specs.Located.{Located, empty, stretch, builtInPrefix, builtInNamespace, octetsOf}
 use Rattle.writer.specs.Events.{isAbsent, isStretch, isPrefix, isNamespace, isValue, isName, noName, wellMade, locatedOf, optionalOf, nameOf, eventOf, goesOn, optionalText, nameText, allText}
-use Rattle.writer.specs.Items.{WroteItem, within}
+use Rattle.choices.specs.Choices.{within}
+use Rattle.writer.specs.Items.{WroteItem}
 use Rattle.writer.specs.Writing.{opens, fits, judge}
 use Rattle.demands.proofs.Lists.{clash, both-true}
 use Rattle.demands.proofs.Chosen.{SpellingIfAny}

@@ -1,4 +1,4 @@
--- A whole document that the writer wrote: it is what the rules write, within the limits and the room.
+-- A whole document that the writer wrote: it is what the rules write, within the limits and the room, and what was known after each event is what the rules know.
 use mathlib.Core.Path.{_≡_, refl, sym, ap, ap₂, _∙_, subst}
 use mathlib.Core.Bool.{Bool, true, false, _&&_}
 use mathlib.Core.List.{List, [], _∷_, _++_, map}
@@ -6,22 +6,22 @@ use Prim.Native.Nat.{ℕ, zero, suc, _+_, _-_, _*_, _/_, _%_, _≤_, _<_, min}
 use native.Mathlib.Omega.{arith}
 use borrow.Author.Tests.{leb-true}
 use lib.Dec.{eqb, leb}
-use lib.ListN.{length, length-append, length-replicate, replicate}
+use lib.ListN.{length, length-append, length-map, length-replicate, replicate}
 use Rattle.format.specs.Numbers.{pick, top}
 use Rattle.format.specs.Events.{Item, _by_}
 use Rattle.format.specs.Tables.{StringTable, NameTable, ELEMENT-NAME, ATTRIBUTE-NAME, PREFIX, NAMESPACE-NAME, LOCAL-NAME, OTHER-NCNAME, OTHER-URI, ATTRIBUTE-VALUE, CONTENT-CHARACTER-CHUNK, OTHER-STRING, strings, names, starting, xmlPrefix, xmlNamespace, Limits, link}
 use Rattle.format.specs.Items.{State}
-use Rattle.format.specs.Document.{halves, pad, aligned, Written, document-end, attributes-end, element-end, item, beginning, header, Writes}
+use Rattle.format.specs.Document.{halves, pad, aligned, Written, document-end, attributes-end, element-end, item, knownAfter, beginning, header, Writes}
 use Rattle.events.specs.declared.Event.{Event}
 use Rattle.tables.specs.Located.{Located, plain, plainState, start}
 use Rattle.writer.specs.Events.{isContent, eventOf}
 use Rattle.writer.specs.Items.{writeItem}
-use Rattle.writer.specs.Writing.{announced, Result, written, refusal, plus, settled, fits, halvesOf, judge, finish, run, joined, writing}
+use Rattle.writer.specs.Writing.{announced, Result, written, refusal, plus, settled, fits, halvesOf, judge, finish, run, joined, writing, knownWriting}
 use Rattle.demands.proofs.Lists.{test, parity, align-is, halves-append, halves-length, pad-length}
 use Rattle.demands.proofs.Document.{plain-start}
 use Rattle.demands.proofs.Chosen.{Fits, Ranged}
 use Rattle.demands.proofs.Produced.{Order}
-use Rattle.demands.proofs.WriterRun.{Right, run-right}
+use Rattle.demands.proofs.WriterRun.{Knows, Right, run-right}
 
 -- ---- halves joined to octets are those halves, where the first starts an octet
 -- from an odd half: whatever half stands before it
@@ -61,6 +61,14 @@ joins (element-end {at = at} {hs = hs} md lv w) = join-end at hs (joins w)
 joins (item {at = at} {o = o} {hs = hs} u w) =
     let y : (at + at % 2 + 2 * length o) % 2 ≡ 0 = omega arith in
     join-item at o hs (rw y at (joins w))
+
+-- ---- after each item something is known
+as-many : {L : Limits} {at : ℕ} {v z : State (List ℕ)} {items : List (Item (List ℕ))} {hs : List ℕ} (w : Written L at v items hs z) → length (knownAfter L w) ≡ length items
+unfolding knownAfter
+as-many (document-end md lv rt) = refl
+as-many (attributes-end md w) = as-many w
+as-many (element-end md lv w) = ap suc (as-many w)
+as-many (item u w) = ap suc (as-many w)
 
 -- ---- the room
 module _ (L : Limits) (text : List ℕ) (room : ℕ) where
@@ -125,24 +133,34 @@ module _ (text : List ℕ) (short : length text ≤ 16384) (room : ℕ) where
   unfolding link
   link-few = omega arith
 
-  -- what a result means: the octets are the rules', and they fit the output
-  abbrev pub Means : Result → Type 0
-  Means (written items hs z) = Writes (map (plain text) items) (plainState text z) (header ++ joined hs) × (length (header ++ joined hs) ≤ room)
-  Means (refusal n p) = Unit {0}
+  -- what a result means, where ks are known after the events: the octets are the rules', they fit the output, and the rules know as much after each item
+  abbrev pub Means : List (State Located) → Result → Type 0
+  Means ks (written items hs z) =
+      (w : Writes (map (plain text) items) (plainState text z) (header ++ joined hs)) × (length (header ++ joined hs) ≤ room) × (knownAfter link (w .rule) ≡ map (plainState text) ks)
+  Means ks (refusal n p) = Unit {0}
 
-  from-run : (r : Result) → Right link link-few text short room (2 * length header) (beginning start) r → InRoom link text room (2 * length header) r → Means r
+  from-run : (ks : List (State Located)) (r : Result) → Right link link-few text short room (2 * length header) (beginning start) ks r → InRoom link text room (2 * length header) r → Means ks r
   unfolding header link
-  from-run (written items hs z) u h =
-      let w = subst (λ (v : State (List ℕ)). Written link 10 v (map (plain text) items) hs (plainState text z)) (plain-start text) u in
-      let j : halves (joined hs) ≡ hs = joins w in
+  from-run ks (written items hs z) u h =
+      let w = subst (λ (v : State (List ℕ)). Knows link 10 v (map (plain text) items) hs (plainState text z) (map (plainState text) ks)) (plain-start text) u in
+      let j : halves (joined hs) ≡ hs = joins (w .0) in
       let l = halves-length (joined hs) in
       let k = ap length j in
       let la = length-append header (joined hs) in (
-        record { body = hs; here = halves-append header (joined hs) ∙ ap (λ (y : List ℕ). halves header ++ y) j; rule = w; short = omega arith },
+        record { body = hs; here = halves-append header (joined hs) ∙ ap (λ (y : List ℕ). halves header ++ y) j; rule = w .0; short = omega arith },
         omega arith,
+        w .1,
       )
-  from-run (refusal n p) u h = tt
+  from-run ks (refusal n p) u h = tt
 
-  pub means : (es : List Event) → Means (writing text room es)
-  unfolding writing beginning
-  means es = from-run (writing text room es) (run-right link link-few text short room es (2 * length header) (beginning start) 0 start-order tt) (run-room link text room es (2 * length header) (beginning start) 0)
+  means : (es : List Event) → Means (knownWriting text room es) (writing text room es)
+  unfolding writing knownWriting beginning
+  means es = from-run (knownWriting text room es) (writing text room es) (run-right link link-few text short room es (2 * length header) (beginning start) 0 start-order tt) (run-room link text room es (2 * length header) (beginning start) 0)
+
+  pub meant : (es : List Event) (items : List (Item Located)) (hs : List ℕ) (z : State Located) → writing text room es ≡ written items hs z → Means (knownWriting text room es) (written items hs z)
+  meant es items hs z e = subst (Means (knownWriting text room es)) e (means es)
+
+  pub each-known : (es : List Event) (items : List (Item Located)) (hs : List ℕ) (z : State Located) → writing text room es ≡ written items hs z → length (knownWriting text room es) ≡ length items
+  each-known es items hs z e =
+      let m = meant es items hs z e in
+      sym (length-map (knownWriting text room es) (plainState text)) ∙ sym (ap length (m .2)) ∙ as-many (m .0 .rule) ∙ length-map items (plain text)

@@ -1,4 +1,4 @@
--- A writer's run: what it writes from a list of events is what the rules write from their plain form and 01's choices.
+-- A writer's run: what it writes from a list of events is what the rules write from their plain form and 01's choices; what it knows after each is what they know.
 use mathlib.Core.Path.{_≡_, refl, sym, ap, ap₂, _∙_, subst, subst₂}
 use mathlib.Core.Bool.{Bool, true, false, not, _&&_, _||_}
 use mathlib.Core.List.{List, [], _∷_, _++_, append-assoc, map}
@@ -12,14 +12,15 @@ use Rattle.format.specs.Events as E
 use Rattle.format.specs.Events.{Item, _by_, forEnd, eventMap}
 use Rattle.format.specs.Tables.{Vocabulary, Limits}
 use Rattle.format.specs.Items.{Mode, content, declaring, listing, State, mayStart, moved}
-use Rattle.format.specs.Document.{halves, pad, aligned, closed, Written, document-end, attributes-end, element-end, item}
+use Rattle.format.specs.Document.{halves, pad, aligned, closed, Written, document-end, attributes-end, element-end, item, knownAfter}
 use Rattle.events.specs.declared.Kind.{Kind}
 use Rattle.events.specs.declared.Kind.the-variants.{Blank, Namespace, Start, Attribute, Chunk, Comment, Instruction, End}
 use Rattle.events.specs.declared.Event.{Event}
 use Rattle.tables.specs.Located.{Located, octetsOf, plain, plainWords, plainState}
 use Rattle.writer.specs.Events.{eventOf, amongChildren, isContent, isDeclaring, isListing, goesOn}
-use Rattle.writer.specs.Items.{WroteItem, writeItem, within}
-use Rattle.writer.specs.Writing.{announced, Result, written, refusal, plus, isAttribute, isEnd, opens, owed, settled, fits, halvesOf, judge, finish, run}
+use Rattle.choices.specs.Choices.{within}
+use Rattle.writer.specs.Items.{WroteItem, writeItem}
+use Rattle.writer.specs.Writing.{announced, Result, written, refusal, plus, isAttribute, isEnd, opens, owed, settled, fits, halvesOf, judge, finish, run, trace}
 use Rattle.demands.proofs.Lists.{clash, test, both-true, halves-length, pad-length}
 use Rattle.demands.proofs.Sayable.{Said, said, Passed, passed}
 use Rattle.demands.proofs.Produced.{Order, Made, Where, first-namespace, next-namespace, first-start, named-start, in-list, in-element, comment, instruction, made}
@@ -119,40 +120,52 @@ module _ (v : State Located) where
   words-here false = refl
 
 -- ---- one event and the rest
+-- what the rules write, and what they know after each item
+abbrev pub Knows : Limits → ℕ → State (List ℕ) → List (Item (List ℕ)) → List ℕ → State (List ℕ) → List (State (List ℕ)) → Type 0
+Knows L at v items hs z ks = (w : Written L at v items hs z) × (knownAfter L w ≡ ks)
+
 module _ (L : Limits) (small : L .entries ≤ top) (text : List ℕ) (short : length text ≤ 16384) (room : ℕ) where
-  -- an item's halves, from the half `at`
-  item-front : (at : ℕ) (v : State Located) (e : E.Event Located) (w : WroteItem) → Made L text v e w → (items : List (Item (List ℕ))) (hs : List ℕ) (z : State (List ℕ))
-      → Written L (at + length (pad at ++ halves (w .octets))) (plainState text (w .state)) items hs z
-      → Written L at (plainState text v) (plain text (e by w .choice) ∷ items) ((pad at ++ halves (w .octets)) ++ hs) z
-  item-front at v e w m items hs z u =
+  -- an item in front of what follows: its own halves, from the half `at`, and w known behind it
+  abbrev Front : ℕ → State Located → Item Located → List ℕ → State Located → Type 0
+  Front at v i own w = (items : List (Item (List ℕ))) (hs : List ℕ) (z : State (List ℕ)) (ks : List (State (List ℕ))) → Knows L (at + length own) (plainState text w) items hs z ks
+      → Knows L at (plainState text v) (plain text i ∷ items) (own ++ hs) z (plainState text w ∷ ks)
+
+  item-front : (at : ℕ) (v : State Located) (e : E.Event Located) (w : WroteItem) → Made L text v e w → Front at v (e by w .choice) (pad at ++ halves (w .octets)) (w .state)
+  unfolding knownAfter
+  item-front at v e w m items hs z ks u =
       let l1 = length-append (pad at) (halves (w .octets)) in
       let l2 = halves-length (w .octets) in
       let l3 = pad-length at in
       let p : at + length (pad at ++ halves (w .octets)) ≡ aligned at + 2 * length (w .octets) = omega arith in
-      subst (λ (l : List ℕ). Written L at (plainState text v) (plain text (e by w .choice) ∷ items) l z) (sym (append-assoc (pad at) (halves (w .octets)) hs))
-      (item (m .rule) (subst (λ (k : ℕ). Written L k (plainState text (w .state)) items hs z) p u))
+      let k = subst (λ (j : ℕ). Knows L j (plainState text (w .state)) items hs z ks) p u in
+      subst (λ (l : List ℕ). Knows L at (plainState text v) (plain text (e by w .choice) ∷ items) l z (plainState text (w .state) ∷ ks)) (sym (append-assoc (pad at) (halves (w .octets)) hs))
+      (item (m .rule) (k .0), ap (λ (l : List (State (List ℕ))). plainState text (w .state) ∷ l) (k .1))
 
   -- the end of an attribute list that is owed, in front
-  owed-front : (at : ℕ) (v : State Located) (m : Mode) (t : Bool) → v .mode ≡ m → (t ≡ true → m ≡ listing true) → (items : List (Item (List ℕ))) (hs : List ℕ) (z : State (List ℕ))
-      → Written L (at + length {A = ℕ} (pick t (15 ∷ []) [])) (plainState text (pick t (moved v (v .words) content) v)) items hs z
-      → Written L at (plainState text v) items (pick t (15 ∷ []) [] ++ hs) z
-  owed-front at v m true md f items hs z u =
+  owed-front : (at : ℕ) (v : State Located) (m : Mode) (t : Bool) → v .mode ≡ m → (t ≡ true → m ≡ listing true) → (items : List (Item (List ℕ))) (hs : List ℕ) (z : State (List ℕ)) (ks : List (State (List ℕ)))
+      → Knows L (at + length {A = ℕ} (pick t (15 ∷ []) [])) (plainState text (pick t (moved v (v .words) content) v)) items hs z ks
+      → Knows L at (plainState text v) items (pick t (15 ∷ []) [] ++ hs) z ks
+  unfolding knownAfter
+  owed-front at v m true md f items hs z ks u =
       let y : at + 1 ≡ suc at = omega arith in
-      attributes-end (md ∙ f refl) (subst (λ (k : ℕ). Written L k (plainState text (moved v (v .words) content)) items hs z) y u)
-  owed-front at v m false md f items hs z u = let y : at + 0 ≡ at = omega arith in subst (λ (k : ℕ). Written L k (plainState text v) items hs z) y u
+      let k = subst (λ (j : ℕ). Knows L j (plainState text (moved v (v .words) content)) items hs z ks) y u in
+      (attributes-end (md ∙ f refl) (k .0), k .1)
+  owed-front at v m false md f items hs z ks u = let y : at + 0 ≡ at = omega arith in subst (λ (j : ℕ). Knows L j (plainState text v) items hs z ks) y u
 
   -- the event's own halves behind what is owed
   own-front : (at : ℕ) (a : Bool) (v : State Located) (e : E.Event Located) (t : Bool) → isEnd e ≡ t → Order L (v .words) → Said text short e → (t ≡ false → Where L a v e) → (t ≡ true → (v .mode ≡ content) × (0 < v .level))
       → within L (writeItem L text a v e .state .words) ≡ true
-      → Order L (writeItem L text a v e .state .words) × ((items : List (Item (List ℕ))) (hs : List ℕ) (z : State (List ℕ))
-      → Written L (at + length {A = ℕ} (pick t (15 ∷ []) (pad at ++ halves (writeItem L text a v e .octets)))) (plainState text (writeItem L text a v e .state)) items hs z
-      → Written L at (plainState text v) (plain text (e by writeItem L text a v e .choice) ∷ items) (pick t (15 ∷ []) (pad at ++ halves (writeItem L text a v e .octets)) ++ hs) z)
-  unfolding writeItem eventMap
-  own-front at a v e false k o s f g i = let m = made L small text short a v o s (f refl) i in (m .order, λ items hs z u. item-front at v e (writeItem L text a v e) m items hs z u)
+      → Order L (writeItem L text a v e .state .words) × Front at v (e by writeItem L text a v e .choice) (pick t (15 ∷ []) (pad at ++ halves (writeItem L text a v e .octets))) (writeItem L text a v e .state)
+  unfolding writeItem eventMap knownAfter
+  own-front at a v e false k o s f g i = let m = made L small text short a v o s (f refl) i in (m .order, item-front at v e (writeItem L text a v e) m)
   own-front at a v E.End true k o s f g i =
       let y = g refl in
-      let one : at + 1 ≡ suc at = omega arith in
-      (o, λ items hs z u. element-end (y .0) (y .1) (subst (λ (j : ℕ). Written L j (plainState text (closed v)) items hs z) one u))
+      let one : at + 1 ≡ suc at = omega arith in (
+        o,
+        λ items hs z ks u.
+            let d = subst (λ (j : ℕ). Knows L j (plainState text (closed v)) items hs z ks) one u in
+            (element-end (y .0) (y .1) (d .0), ap (λ (l : List (State (List ℕ))). plainState text (closed v) ∷ l) (d .1)),
+      )
   own-front at a v (E.Namespace p n) true k o s f g i = clash k
   own-front at a v (E.Start x) true k o s f g i = clash k
   own-front at a v (E.Attribute x y) true k o s f g i = clash k
@@ -176,9 +189,8 @@ module _ (L : Limits) (small : L .entries ≤ top) (text : List ℕ) (short : le
 
   front : (at : ℕ) (a : Bool) (v : State Located) (e : E.Event Located) → Ahead (v .mode) a → Order L (v .words) → Said text short e → goesOn v e ≡ true → (opens (v .mode) e && leb (L .depth) (v .level)) ≡ false
       → within L (writeItem L text a (settled v e) e .state .words) ≡ true
-      → Order L (writeItem L text a (settled v e) e .state .words) × ((items : List (Item (List ℕ))) (hs : List ℕ) (z : State (List ℕ))
-      → Written L (at + length (halvesOf L text room at v e (writeItem L text a (settled v e) e))) (plainState text (writeItem L text a (settled v e) e .state)) items hs z
-      → Written L at (plainState text v) (plain text (e by writeItem L text a (settled v e) e .choice) ∷ items) (halvesOf L text room at v e (writeItem L text a (settled v e) e) ++ hs) z)
+      → Order L (writeItem L text a (settled v e) e .state .words)
+      × Front at v (e by writeItem L text a (settled v e) e .choice) (halvesOf L text room at v e (writeItem L text a (settled v e) e)) (writeItem L text a (settled v e) e .state)
   unfolding settled owed halvesOf
   front at a v e ah o s go deep i =
       let t : Bool = isListing (v .mode) && not (isAttribute e) in
@@ -190,9 +202,9 @@ module _ (L : Limits) (small : L .entries ≤ top) (text : List ℕ) (short : le
       let mine : List ℕ = pick (isEnd e) (15 ∷ []) (pad at′ ++ halves (writeItem L text a u e .octets)) in
       let la : at + length (ow ++ mine) ≡ at′ + length mine = let l = length-append ow mine in omega arith in (
         own .0,
-        λ items hs z k.
-            subst (λ (l : List ℕ). Written L at (plainState text v) (plain text (e by writeItem L text a u e .choice) ∷ items) l z) (sym (append-assoc ow mine hs))
-            (owed-front at v (v .mode) t refl (λ y. listed v e (v .mode) refl go y) _ _ z (own .1 items hs z (subst (λ (j : ℕ). Written L j (plainState text (writeItem L text a u e .state)) items hs z) la k))),
+        λ items hs z ks k.
+            subst (λ (l : List ℕ). Knows L at (plainState text v) (plain text (e by writeItem L text a u e .choice) ∷ items) l z (plainState text (writeItem L text a u e .state) ∷ ks)) (sym (append-assoc ow mine hs))
+            (owed-front at v (v .mode) t refl (λ y. listed v e (v .mode) refl go y) _ _ z _ (own .1 items hs z ks (subst (λ (j : ℕ). Knows L j (plainState text (writeItem L text a u e .state)) items hs z ks) la k))),
       )
 
   -- ---- what is announced
@@ -232,29 +244,28 @@ module _ (L : Limits) (small : L .entries ≤ top) (text : List ℕ) (short : le
   announced-on End e es q t = clash t
 
   -- ---- a run
-  abbrev pub Right : ℕ → State Located → Result → Type 0
-  Right at v (written items hs z) = Written L at (plainState text v) (map (plain text) items) hs (plainState text z)
-  Right at v (refusal n p) = Unit {0}
+  abbrev pub Right : ℕ → State Located → List (State Located) → Result → Type 0
+  Right at v ks (written items hs z) = Knows L at (plainState text v) (map (plain text) items) hs (plainState text z) (map (plainState text) ks)
+  Right at v ks (refusal n p) = Unit {0}
 
-  finish-right : (at : ℕ) (v : State Located) (i : ℕ) → Right at v (finish L text room at v i)
-  unfolding finish
+  finish-right : (at : ℕ) (v : State Located) (i : ℕ) → Right at v [] (finish L text room at v i)
+  unfolding finish knownAfter
   finish-right at v i =
-      test (Right at v) (refusal 16 i) tt (isContent (v .mode) && (eqb (v .level) 0 && v .root)) _
-      λ t. test (Right at v) (refusal 14 i) tt (fits L text room (suc at)) _
+      test (Right at v []) (refusal 16 i) tt (isContent (v .mode) && (eqb (v .level) 0 && v .root)) _
+      λ t. test (Right at v []) (refusal 14 i) tt (fits L text room (suc at)) _
       λ f.
       let a = both-true (isContent (v .mode)) _ t in
       let b = both-true (eqb (v .level) 0) (v .root) (a .1) in
-      document-end (content-is (v .mode) (a .0)) (eqb-true (v .level) 0 (b .0)) (b .1)
+      (document-end (content-is (v .mode) (a .0)) (eqb-true (v .level) 0 (b .0)) (b .1), refl)
     where
       content-is : (m : Mode) → isContent m ≡ true → m ≡ content
       content-is content y = refl
       content-is (declaring b) y = clash y
       content-is (listing any) y = clash y
 
-  plus-right : (at at′ : ℕ) (v w : State Located) (j : Item Located) (hs : List ℕ) → ((items : List (Item (List ℕ))) (rest : List ℕ) (z : State (List ℕ)) → Written L at′ (plainState text w) items rest z → Written L at (plainState text v) (plain text j ∷ items) (hs ++ rest) z)
-      → (r : Result) → Right at′ w r → Right at v (plus j hs r)
-  plus-right at at′ v w j hs f (written items rest z) u = f (map (plain text) items) rest (plainState text z) u
-  plus-right at at′ v w j hs f (refusal n p) u = tt
+  plus-right : (at : ℕ) (v w : State Located) (j : Item Located) (hs : List ℕ) → Front at v j hs w → (ks : List (State Located)) (r : Result) → Right (at + length hs) w ks r → Right at v (w ∷ ks) (plus j hs r)
+  plus-right at v w j hs f ks (written items rest z) u = f (map (plain text) items) rest (plainState text z) (map (plainState text) ks) u
+  plus-right at v w j hs f ks (refusal n p) u = tt
 
   module _ (e : Event) (es : List Event) (at : ℕ) (v : State Located) (i : ℕ) where
     abbrev ev : E.Event Located
@@ -266,19 +277,26 @@ module _ (L : Limits) (small : L .entries ≤ top) (text : List ℕ) (short : le
     abbrev hs : List ℕ
     hs = halvesOf L text room at v ev wi
 
-    turn-right : Order L (v .words) → Ahead (v .mode) (announced (e ∷ es)) → ((o : Order L (wi .state .words)) → Ahead (wi .state .mode) (announced es) → Right (at + length hs) (wi .state) (run L text room (at + length hs) (wi .state) (suc i) es))
-        → (j : ℕ) → judge L text room at v e wi hs ≡ j → Right at v (elim j [ zero ↦ plus (ev by wi .choice) hs (run L text room (at + length hs) (wi .state) (suc i) es) | suc n ↦ refusal (suc n) i ])
+    abbrev rest : Result
+    rest = run L text room (at + length hs) (wi .state) (suc i) es
+
+    abbrev later : List (State Located)
+    later = trace L text room (at + length hs) (wi .state) es
+
+    turn-right : Order L (v .words) → Ahead (v .mode) (announced (e ∷ es)) → (Order L (wi .state .words) → Ahead (wi .state .mode) (announced es) → Right (at + length hs) (wi .state) later rest)
+        → (j : ℕ) → judge L text room at v e wi hs ≡ j
+        → Right at v (elim j [ zero ↦ wi .state ∷ later | suc n ↦ [] ]) (elim j [ zero ↦ plus (ev by wi .choice) hs rest | suc n ↦ refusal (suc n) i ])
     unfolding settled
     turn-right o ah rec zero q =
         let p = passed L text room at v e wi hs q in
         let s = said text short (e .kind) e (p .made) (p .is-text) in
         let f = front at (announced (e ∷ es)) v ev ah o s (p .goes) (p .shallow) (p .in-limits) in
         let ah′ = ahead-after (announced (e ∷ es)) (announced es) (settled v ev) ev (isEnd ev) refl (λ y. where-is L (announced (e ∷ es)) v ev (v .mode) refl ah (p .goes) (p .shallow) y) (announced-on (e .kind) e es refl) in
-        plus-right at (at + length hs) v (wi .state) (ev by wi .choice) hs (f .1) (run L text room (at + length hs) (wi .state) (suc i) es) (rec (f .0) ah′)
+        plus-right at v (wi .state) (ev by wi .choice) hs (f .1) later rest (rec (f .0) ah′)
     turn-right o ah rec (suc n) q = tt
 
-  pub run-right : (es : List Event) (at : ℕ) (v : State Located) (i : ℕ) → Order L (v .words) → Ahead (v .mode) (announced es) → Right at v (run L text room at v i es)
-  unfolding run
+  pub run-right : (es : List Event) (at : ℕ) (v : State Located) (i : ℕ) → Order L (v .words) → Ahead (v .mode) (announced es) → Right at v (trace L text room at v es) (run L text room at v i es)
+  unfolding run trace
   run-right [] at v i o ah = finish-right at v i
   run-right (e ∷ es) at v i o ah =
       turn-right e es at v i o ah (λ o′ ah′. run-right es _ _ (suc i) o′ ah′) (judge L text room at v e (wi e es at v i) (hs e es at v i)) refl

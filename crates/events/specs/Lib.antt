@@ -1,2 +1,3 @@
+pub mod FromWords
 pub mod Records
 pub mod Words

@@ -43,6 +43,21 @@ abbrev pub optionalText : Option Located → Text
 optionalText none = Absent
 optionalText (some x) = textOf x
 
+-- Which string a record's text says; what one that is absent gives does not matter, but where it may be absent.
+abbrev pub locatedOf : Text → Located
+locatedOf Absent = empty
+locatedOf Empty = empty
+locatedOf (Stretch p n) = stretch p n
+locatedOf XmlPrefix = builtInPrefix
+locatedOf XmlNamespace = builtInNamespace
+
+abbrev pub optionalOf : Text → Option Located
+optionalOf Absent = none
+optionalOf Empty = some empty
+optionalOf (Stretch p n) = some (stretch p n)
+optionalOf XmlPrefix = some builtInPrefix
+optionalOf XmlNamespace = some builtInNamespace
+
 unfoldable pub recordOf : E.Event Located → Event
 recordOf (E.Namespace p n) = namespaceRecord (optionalText p) (optionalText n)
 recordOf (E.Start x) = startRecord (optionalText (x .prefix)) (optionalText (x .namespace)) (textOf (x .local))

@@ -46,3 +46,8 @@ textWords t = textTag t ∷ textPlace t ∷ textSize t ∷ []
 -- The kind, then prefix, namespace, name and value.
 abbrev pub recordWords : Event → List ℕ
 recordWords e = kindNumber (e .kind) ∷ textWords (e .prefix) ++ textWords (e .namespace) ++ textWords (e .name) ++ textWords (e .value)
+
+-- The words of records, one after the other.
+unfoldable pub rowWords : List Event → List ℕ
+rowWords [] = []
+rowWords (e ∷ es) = recordWords e ++ rowWords es

@@ -1,11 +1,14 @@
 // Event records as callers lend them.
-// May depend on format, on tables (for specs/) and on walk (for proofs/).
+// May depend on format and tables (for specs/ and proofs/) and on walk (for proofs/).
+mod words;
+
 ghost use mathlib.Core.Path.{_≡_};
 ghost use Prim.Native.Nat.{_<_, _-_};
 ghost use mathlib.Core.List.{_++_};
 ghost use lib.ListN.{length, set, getD, take, replicate};
 ghost use Rattle.events.specs.Records.{blank, namespaceRecord, startRecord, attributeRecord, chunkRecord, commentRecord, instructionRecord, endRecord};
 ghost use Rattle.events.specs.Words.{kindNumber, textTag, textPlace, textSize};
+pub use words::from_words;
 
 // A string of an event: none; the empty one; octets of the document or text area by place and length; one of the two built-in strings.
 pub enum Text {

@@ -44,7 +44,7 @@ in-span v span more size h y = div-lt-iff-lt-mul (pos256 more) .1 (omega arith)
 
 -- ---- written, then read
 
-octets-length : (m v : ℕ) → length (octets m v) ≡ m
+pub octets-length : (m v : ℕ) → length (octets m v) ≡ m
 unfolding octets
 octets-length zero v = refl
 octets-length (suc m) v = ap suc (octets-length m v)

@@ -5,4 +5,6 @@ pub mod Cases
 pub mod FirstOctet
 pub mod Numbers
 pub mod Lengths
+pub mod Puts
+pub mod Spelled
 pub mod Text

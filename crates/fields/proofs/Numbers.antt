@@ -13,10 +13,10 @@ use Rattle.fields.proofs.Cases.{Roomy, field-code}
 use Rattle.fields.proofs.FirstOctet.{split, rest-below, code-first, coded-is, doubled, at-form, at-padding}
 
 -- how many values stand behind each of the codes 100, 101, 110
-abbrev behindCode : ℕ → ℕ
+abbrev pub behindCode : ℕ → ℕ
 behindCode bit = 2 ^ (8 - (bit + 2))
 
-abbrev forms : ℕ → List Form
+abbrev pub forms : ℕ → List Form
 forms bit =
     form (2 ^ (8 - bit)) (2 ^ (8 - bit)) 0 (2 ^ (8 - bit))
     ∷ form (behindCode bit) (behindCode bit) 1 (2 ^ (14 - bit))
@@ -25,7 +25,7 @@ forms bit =
     ∷ []
 
 module _ (bit : ℕ) (u : bit ≤ 6) where
-  forms-are : numbers bit ≡ forms bit
+  pub forms-are : numbers bit ≡ forms bit
   unfolding numbers
   forms-are =
       rw (
@@ -35,7 +35,7 @@ module _ (bit : ℕ) (u : bit ≤ 6) where
         coded-is bit 3 (10 - bit) 20 0 (8 - (bit + 2)) 3 (omega arith) (omega arith) (omega arith),
       )
 
-  quarter : 2 ^ (8 - bit) ≡ 4 * behindCode bit
+  pub quarter : 2 ^ (8 - bit) ≡ 4 * behindCode bit
   quarter =
       let a = doubled (8 - bit) (7 - bit) (omega arith) in
       let b = doubled (7 - bit) (8 - (bit + 2)) (omega arith) in

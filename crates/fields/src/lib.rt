@@ -1,5 +1,7 @@
 // One field of a document at a time: numbers and lengths by a cursor, with an enum for the answer; and text.
 // May depend on format alone.
+pub mod put;
+
 ghost use mathlib.Core.Path.{_≡_};
 ghost use Prim.Native.Nat.{_+_, _-_, _^_, _<_, _≤_};
 ghost use lib.ListN.{length, take, drop};

@@ -9,6 +9,7 @@ use Rattle.format.specs.Text.{isText}
 use Rattle.format.specs.Events as E
 use Rattle.format.specs.Items.{Mode, content, declaring, listing, State, mayStart}
 use Rattle.tables.specs.Located.{Located, empty, stretch, builtInPrefix, builtInNamespace, octetsOf}
+pub use Rattle.events.specs.Records.{locatedOf, optionalOf}
 use Rattle.events.specs.declared.Text.{Text}
 use Rattle.events.specs.declared.Text.the-variants.{Absent, Empty, Stretch, XmlPrefix, XmlNamespace}
 use Rattle.events.specs.declared.Kind.{Kind}
@@ -71,20 +72,6 @@ wellMade text Instruction e = noName e && (isStretch text (e .name) && isValue t
 wellMade text End e = noName e && (isAbsent (e .name) && isAbsent (e .value))
 
 -- The event of a record that is well made; what a record that is not gives does not matter.
-abbrev pub locatedOf : Text → Located
-locatedOf Absent = empty
-locatedOf Empty = empty
-locatedOf (Stretch p n) = stretch p n
-locatedOf XmlPrefix = builtInPrefix
-locatedOf XmlNamespace = builtInNamespace
-
-abbrev pub optionalOf : Text → Option Located
-optionalOf Absent = none
-optionalOf Empty = some empty
-optionalOf (Stretch p n) = some (stretch p n)
-optionalOf XmlPrefix = some builtInPrefix
-optionalOf XmlNamespace = some builtInNamespace
-
 abbrev pub nameOf : Event → E.Name Located
 nameOf e = record { prefix = optionalOf (e .prefix); namespace = optionalOf (e .namespace); local = locatedOf (e .name) }
 

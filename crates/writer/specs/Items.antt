@@ -1,10 +1,8 @@
 -- One event as octets, by 01's choices, and what is known then. `a` says whether the element's Start is followed by an attribute.
 use Prim.Native.Nat.{ℕ, zero, suc, _+_, _*_, _≤_}
-use mathlib.Core.Bool.{Bool, true, false, _&&_}
+use mathlib.Core.Bool.{Bool, true, false}
 use mathlib.Core.Option.{Option}
 use mathlib.Core.List.{List, [], _∷_, _++_}
-use lib.ListN.{length}
-use lib.Dec.{leb}
 use Rattle.format.specs.Events as E
 use Rattle.format.specs.Events.{Choice, forNamespace, forStart, forAttribute, forText, forComment, forInstruction, forEnd, How, NameHow}
 use Rattle.format.specs.Tables.{PREFIX, NAMESPACE-NAME, OTHER-NCNAME, ATTRIBUTE-VALUE, CONTENT-CHARACTER-CHUNK, OTHER-STRING, Vocabulary, Limits}
@@ -13,7 +11,7 @@ use Rattle.format.specs.Names.{has, ofElement, ofAttribute}
 use Rattle.format.specs.Items.{Mode, content, declaring, listing, State, knowing, moved, opened}
 use Rattle.format.specs.Document.{closed}
 use Rattle.tables.specs.Located.{Located}
-use Rattle.writer.specs.Choices.{Wrote, writeId, writeOptional, writeName, writeLiteral, writeValue}
+use Rattle.choices.specs.Choices.{Wrote, writeId, writeOptional, writeName, writeLiteral, writeValue}
 
 pub record WroteItem : Type 0 where
   pub octets : List ℕ
@@ -66,9 +64,3 @@ module _ (L : Limits) (text : List ℕ) where
       let z : Wrote How = writeValue L text OTHER-STRING (w .words) y in
       record { octets = 0xE1 ∷ (w .octets ++ z .octets); choice = forInstruction (w .how) (z .how); state = knowing v (z .words) }
   writeItem a v E.End = record { octets = []; choice = forEnd; state = closed v }
-
--- No table has an entry too many (12).
-unfoldable pub within : {S : Type 0} → Limits → Vocabulary S → Bool
-within L v =
-    leb (length (v .prefixes)) (L .entries) && (leb (length (v .namespaces)) (L .entries) && (leb (length (v .locals)) (L .entries)
-    && (leb (length (v .ncnames)) (L .entries) && (leb (length (v .elements)) (L .entries) && leb (length (v .attributes)) (L .entries)))))

@@ -18,7 +18,8 @@ use Rattle.tables.specs.Located.{Located, start}
 use Rattle.writer.specs.declared.Answer as A
 use Rattle.writer.specs.declared.Answer.the-variants.{Accepted, Refused}
 use Rattle.writer.specs.Events.{wellMade, eventOf, isContent, isDeclaring, isListing, goesOn, allText}
-use Rattle.writer.specs.Items.{WroteItem, writeItem, within}
+use Rattle.choices.specs.Choices.{within}
+use Rattle.writer.specs.Items.{WroteItem, writeItem}
 
 -- The next event is an attribute; the element's Start, behind its declarations, is followed by one.
 abbrev pub attributeNext : List Event → Bool
@@ -111,6 +112,17 @@ module _ (L : Limits) (text : List ℕ) (room : ℕ) where
         | suc n ↦ refusal (suc n) i
       ]
 
+  -- What is known after each event, up to the document's end or the first refusal.
+  unfoldable pub trace : ℕ → State Located → List Event → List (State Located)
+  trace at v [] = []
+  trace at v (e ∷ es) =
+      let w : WroteItem = writeItem L text (announced (e ∷ es)) (settled v (eventOf (e .kind) e)) (eventOf (e .kind) e) in
+      let hs : List ℕ = halvesOf at v (eventOf (e .kind) e) w in
+      elim (judge at v e w hs) [
+        | zero ↦ w .state ∷ trace (at + length hs) (w .state) es
+        | suc n ↦ []
+      ]
+
 -- Octets of halves.
 unfoldable pub joined : List ℕ → List ℕ
 joined [] = []
@@ -137,6 +149,10 @@ outcome (refusal n p) room = refusing n p room words
 -- On the link, from these events over this text area, with so much output lent: the header is event 0's.
 unfoldable pub writing : List ℕ → ℕ → List Event → Result
 writing text room es = run link text room (2 * length header) (beginning start) 0 es
+
+-- And what is known after each of them.
+unfoldable pub knownWriting : List ℕ → ℕ → List Event → List (State Located)
+knownWriting text room es = trace link text room (2 * length header) (beginning start) es
 
 -- Writing on the link, with `room` octets of output and `table` table words lent: SIZE (1), then the table room (14), both at place 0, then the events.
 unfoldable pub writeOf : List Event → List ℕ → (room table : ℕ) → Outcome

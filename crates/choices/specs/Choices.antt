@@ -70,3 +70,9 @@ module _ (L : Limits) where
   unfoldable pub writeValue : List ℕ → StringTable → Vocabulary Located → Located → Wrote How
   writeValue text t v x =
       pick (eqb (length (octetsOf text x)) 0) (record { octets = 0xFF ∷ []; how = numbered 0; number = 0; words = v }) (writeLiteral c14 text t v x)
+
+-- No table has an entry too many (12).
+unfoldable pub within : {S : Type 0} → Limits → Vocabulary S → Bool
+within L v =
+    leb (length (v .prefixes)) (L .entries) && (leb (length (v .namespaces)) (L .entries) && (leb (length (v .locals)) (L .entries)
+    && (leb (length (v .ncnames)) (L .entries) && (leb (length (v .elements)) (L .entries) && leb (length (v .attributes)) (L .entries)))))

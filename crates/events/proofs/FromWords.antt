@@ -1,0 +1,108 @@
+-- The records of words: how many there are, each by its number, and records that were written as words are read back.
+-- Assumes nothing.
+use mathlib.Core.Path.{_≡_, refl, ap, ap₂, _∙_}
+use mathlib.Core.Bool.{true, _&&_}
+use mathlib.Core.List.{List, [], _∷_, _++_, append-nil}
+use Prim.Native.Nat.{ℕ, zero, suc, _+_, _*_, _/_, _<_}
+use native.Mathlib.Omega.{arith}
+use native.Mathlib.Nat.{add-assoc}
+use lib.Dec.{leb}
+use lib.ListN.{length, getD, drop, length-append}
+use lib.Seq.{drop-cons, getD-append-add}
+use Rattle.events.specs.declared.Text.{Text}
+use Rattle.events.specs.declared.Text.the-variants.{Absent, Empty, Stretch, XmlPrefix, XmlNamespace}
+use Rattle.events.specs.declared.Kind.{Kind}
+use Rattle.events.specs.declared.Kind.the-variants.{Blank, Namespace, Start, Attribute, Chunk, Comment, Instruction, End}
+use Rattle.events.specs.declared.Event.{Event}
+use Rattle.events.specs.declared.words.Told.the-variants.{Said}
+use Rattle.events.specs.Records.{blank}
+use Rattle.events.specs.Words.{kindNumber, textTag, textPlace, textSize, recordWords, rowWords}
+use Rattle.events.specs.FromWords.{kindOf, toldByTag, toldBy, recordAt, recordsFrom, recordsOf, AllKinded}
+
+-- ---- records by number
+from-length : (w : List ℕ) (at n : ℕ) → length (recordsFrom w at n) ≡ n
+unfolding recordsFrom
+from-length w at zero = refl
+from-length w at (suc n) = ap suc (from-length w (at + 13) n)
+
+from-nth : (w : List ℕ) (at n i : ℕ) → i < n → getD (recordsFrom w at n) i blank ≡ recordAt w (at + 13 * i)
+unfolding recordsFrom
+from-nth w at zero i h = absurd (omega arith)
+from-nth w at (suc n) zero h = ap (recordAt w) (omega arith)
+from-nth w at (suc n) (suc i) h = from-nth w (at + 13) n i (omega arith) ∙ ap (recordAt w) (omega arith)
+
+module _ (w : List ℕ) where
+  pub records-length : length (recordsOf w) ≡ length w / 13
+  unfolding recordsOf
+  records-length = from-length w 0 (length w / 13)
+
+  pub record-nth : (n : ℕ) → n < length w / 13 → getD (recordsOf w) n blank ≡ recordAt w (13 * n)
+  unfolding recordsOf
+  record-nth n h = from-nth w 0 (length w / 13) n h ∙ ap (recordAt w) (omega arith)
+
+  pub records-drop : (n : ℕ) → n < length w / 13 → drop n (recordsOf w) ≡ recordAt w (13 * n) ∷ drop (suc n) (recordsOf w)
+  records-drop n h = let e = records-length in rw (drop-cons (recordsOf w) n blank (omega arith), record-nth n h)
+
+-- ---- words in front are passed over
+record-past : (xs w : List ℕ) (at : ℕ) → recordAt (xs ++ w) (length xs + at) ≡ recordAt w at
+unfolding recordAt
+record-past xs w at = simp (add-assoc, getD-append-add)
+
+from-past : (xs w : List ℕ) (at n : ℕ) → recordsFrom (xs ++ w) (length xs + at) n ≡ recordsFrom w at n
+unfolding recordsFrom
+from-past xs w at zero = refl
+from-past xs w at (suc n) = ap₂ _∷_ (record-past xs w at) (rw add-assoc (from-past xs w (at + 13) n))
+
+-- ---- the round trip
+text-back : (t : Text) → toldBy (textTag t) (textPlace t) (textSize t) ≡ Said t
+unfolding toldBy toldByTag
+text-back Absent = refl
+text-back Empty = refl
+text-back (Stretch place size) = refl
+text-back XmlPrefix = refl
+text-back XmlNamespace = refl
+
+kind-back : (k : Kind) → kindOf (kindNumber k) ≡ k
+unfolding kindOf
+kind-back Blank = refl
+kind-back Namespace = refl
+kind-back Start = refl
+kind-back Attribute = refl
+kind-back Chunk = refl
+kind-back Comment = refl
+kind-back Instruction = refl
+kind-back End = refl
+
+kind-numbered : (k : Kind) → (k ≡ Blank → ⊥) → (leb 1 (kindNumber k) && leb (kindNumber k) 7) ≡ true
+kind-numbered Blank h = absurd (h refl)
+kind-numbered Namespace h = refl
+kind-numbered Start h = refl
+kind-numbered Attribute h = refl
+kind-numbered Chunk h = refl
+kind-numbered Comment h = refl
+kind-numbered Instruction h = refl
+kind-numbered End h = refl
+
+pub record-back : (e : Event) (rest : List ℕ) → (e .kind ≡ Blank → ⊥) → recordAt (recordWords e ++ rest) 0 ≡ e
+unfolding recordAt
+record-back e rest h = rw (kind-numbered (e .kind) h, text-back (e .prefix), text-back (e .namespace), text-back (e .name), text-back (e .value), kind-back (e .kind))
+
+from-back : (es : List Event) (rest : List ℕ) → AllKinded es → recordsFrom (rowWords es ++ rest) 0 (length es) ≡ es
+unfolding recordsFrom rowWords
+from-back [] rest h = refl
+from-back (e ∷ es) rest h = ap₂ _∷_ (record-back e (rowWords es ++ rest) (h .0)) (from-past (recordWords e) (rowWords es ++ rest) 0 (length es) ∙ from-back es rest (h .1))
+
+row-length : (es : List Event) → length (rowWords es) ≡ 13 * length es
+unfolding rowWords
+row-length [] = refl
+row-length (e ∷ es) = let n = row-length es in length-append (recordWords e) (rowWords es) ∙ omega arith
+
+-- what stands behind the last whole record is ignored
+pub records-back : (es : List Event) (rest : List ℕ) → length rest < 13 → AllKinded es → recordsOf (rowWords es ++ rest) ≡ es
+unfolding recordsOf
+records-back es rest l h =
+    let n : length (rowWords es ++ rest) / 13 ≡ length es = simp (length-append, row-length) (omega arith) in
+    rw n (from-back es rest h)
+
+pub row-back : (es : List Event) → AllKinded es → recordsOf (rowWords es) ≡ es
+row-back es h = rw append-nil at (records-back es [] (omega arith) h)

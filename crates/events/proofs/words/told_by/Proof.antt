@@ -1,0 +1,29 @@
+-- `words::told_by` meets its contract: each way out is a case of the definition.
+-- Assumes nothing.
+use mathlib.Core.Path.{_∙_}
+use mathlib.Core.Logic.{⊎-elim}
+use native.Mathlib.Omega.{arith}
+use borrow.Author.Needs.{needs}
+use borrow.Author.Tests.{eqb-true, eqb-false, not-true, not-false}
+use Rattle.events.proofs.WordLaws.{told-stretch, told-placed, told-sized, told-tagged}
+use Rattle.events.proofs.words.told_by.Statement.{statement}
+use Rattle.events.proofs.words.told_by.Tie as tie
+
+returns : tie.Need-returns
+returns c = told-stretch _ _ _ (omega arith)
+
+returns-2 : tie.Need-returns-2
+returns-2 c =
+    ⊎-elim
+    (λ w. told-placed _ _ _ (c .before .if1 .left) (w .taken))
+    (λ w. told-sized _ _ _ (c .before .if1 .left) (w .0 .left) (eqb-false _ _ (not-true _ (w .1 .taken))))
+    (c .if2 .came)
+
+told-by-tag-requires : tie.Need-told-by-tag-requires
+told-by-tag-requires c κs = search needs
+
+returns-3 : tie.Need-returns-3
+returns-3 c = c .told-by-tag .ensures ∙ told-tagged _ _ _ (omega arith) (omega arith) (eqb-true _ _ (not-false _ (c .before .if3 .left)))
+
+pub told-by-spec : {M : Type 1} → statement M
+told-by-spec = tie.close (tie.spec returns returns-2 told-by-tag-requires returns-3)

@@ -1,0 +1,67 @@
+-- Event records read back from words: which record 13 words stand for, and the records of a list of words.
+use mathlib.Core.Path.{_≡_}
+use Prim.Native.Nat.{ℕ, zero, suc, _+_, _/_}
+use mathlib.Core.Bool.{_&&_}
+use mathlib.Core.List.{List, [], _∷_}
+use lib.Dec.{leb, eqb}
+use lib.ListN.{length, getD}
+use Rattle.format.specs.Numbers.{pick}
+use Rattle.events.specs.declared.Text.the-variants.{Absent, Empty, Stretch, XmlPrefix, XmlNamespace}
+use Rattle.events.specs.declared.Kind.{Kind}
+use Rattle.events.specs.declared.Kind.the-variants.{Blank, Namespace, Start, Attribute, Chunk, Comment, Instruction, End}
+use Rattle.events.specs.declared.Event.{Event}
+use Rattle.events.specs.declared.words.Told.{Told}
+use Rattle.events.specs.declared.words.Told.the-variants.{Said, Not}
+use Rattle.events.specs.Records.{blank}
+
+-- The kinds by number, from 0.
+abbrev pub kinds : List Kind
+kinds = Blank ∷ Namespace ∷ Start ∷ Attribute ∷ Chunk ∷ Comment ∷ Instruction ∷ End ∷ []
+
+-- Blank also for a number that no kind has.
+unfoldable pub kindOf : ℕ → Kind
+kindOf number = getD kinds number Blank
+
+-- What each tag says without a place and a length, from 0: that of a stretch says nothing.
+abbrev pub tags : List Told
+tags = Said Absent ∷ Said Empty ∷ Not ∷ Said XmlPrefix ∷ Said XmlNamespace ∷ []
+
+unfoldable pub toldByTag : ℕ → Told
+toldByTag tag = getD tags tag Not
+
+-- Only a stretch has a place and a length: beside another tag both are 0.
+unfoldable pub toldBy : (tag place size : ℕ) → Told
+toldBy tag place size = pick (eqb tag 2) (Said (Stretch place size)) (pick (eqb place 0 && eqb size 0) (toldByTag tag) Not)
+
+-- The string of the three words from `at` on.
+abbrev pub toldAt : List ℕ → (at : ℕ) → Told
+toldAt w at = toldBy (getD w at 0) (getD w (at + 1) 0) (getD w (at + 2) 0)
+
+-- The record of a kind and its four strings, blank where one is not said.
+abbrev pub framed : Kind → (prefix namespace name value : Told) → Event
+framed k Not n l v = blank
+framed k (Said p) Not l v = blank
+framed k (Said p) (Said n) Not v = blank
+framed k (Said p) (Said n) (Said l) Not = blank
+framed k (Said p) (Said n) (Said l) (Said v) = record { kind = k; prefix = p; namespace = n; name = l; value = v }
+
+-- The record of the 13 words from `at` on: blank unless its kind's number is 1 to 7 and it has all four strings.
+unfoldable pub recordAt : List ℕ → (at : ℕ) → Event
+recordAt w at =
+    pick (leb 1 (getD w at 0) && leb (getD w at 0) 7)
+    (framed (kindOf (getD w at 0)) (toldAt w (at + 1)) (toldAt w (at + 4)) (toldAt w (at + 7)) (toldAt w (at + 10)))
+    blank
+
+-- n records, the first at word `at`.
+unfoldable pub recordsFrom : List ℕ → (at n : ℕ) → List Event
+recordsFrom w at zero = []
+recordsFrom w at (suc n) = recordAt w at ∷ recordsFrom w (at + 13) n
+
+-- The records of all whole groups of 13 words, in order; the words behind them say nothing.
+unfoldable pub recordsOf : List ℕ → List Event
+recordsOf w = recordsFrom w 0 (length w / 13)
+
+-- No record is of kind Blank.
+abbrev pub AllKinded : List Event → Type 0
+AllKinded [] = Unit {0}
+AllKinded (e ∷ es) = (e .kind ≡ Blank → ⊥) × AllKinded es

@@ -1,0 +1,108 @@
+// Event records from words, for callers that have no enums.
+ghost use mathlib.Core.Path.{_≡_};
+ghost use Prim.Native.Nat.{_+_, _*_, _≤_};
+ghost use lib.ListN.{length};
+ghost use Rattle.events.specs.FromWords.{kindOf, toldByTag, toldBy, toldAt, framed, recordAt};
+use crate::Event;
+use crate::Kind;
+use crate::Text;
+
+// What three words say: a string, or none where they are not well formed.
+enum Told {
+    Said(Text),
+    Not,
+}
+
+// Blank also for a number that no kind has: the writer takes neither.
+fn kind_of(number: u32) -> Kind
+    ensures { λ r. ⌜ r ≡ kindOf number ⌝ }
+{
+    match number {
+        0 => Kind::Blank,
+        1 => Kind::Namespace,
+        2 => Kind::Start,
+        3 => Kind::Attribute,
+        4 => Kind::Chunk,
+        5 => Kind::Comment,
+        6 => Kind::Instruction,
+        7 => Kind::End,
+        _ => Kind::Blank,
+    }
+}
+
+// A stretch's tag says nothing without its place and length.
+fn told_by_tag(tag: u32) -> Told
+    ensures { λ r. ⌜ r ≡ toldByTag tag ⌝ }
+{
+    match tag {
+        0 => Told::Said(Text::Absent),
+        1 => Told::Said(Text::Empty),
+        2 => Told::Not,
+        3 => Told::Said(Text::XmlPrefix),
+        4 => Told::Said(Text::XmlNamespace),
+        _ => Told::Not,
+    }
+}
+
+fn told_by(tag: u32, place: u32, size: u32) -> Told
+    ensures { λ r. ⌜ r ≡ toldBy tag place size ⌝ }
+{
+    if tag == 2 {
+        return Told::Said(Text::Stretch(place, size));
+    }
+    if place != 0 || size != 0 {
+        return Told::Not;
+    }
+    told_by_tag(tag)
+}
+
+fn told_at(w: &[u32], at: usize) -> Told
+    requires { ⌜ at + 3 ≤ length (now w) ⌝ }
+    ensures { λ r. ⌜ r ≡ toldAt (now (w .entry)) at ⌝ }
+{
+    told_by(w[at], w[at + 1], w[at + 2])
+}
+
+// The record of a kind and its four strings, blank where one is not said.
+fn framed(kind: Kind, prefix: Told, namespace: Told, name: Told, value: Told) -> Event
+    ensures { λ r. ⌜ r ≡ framed kind prefix namespace name value ⌝ }
+{
+    let Told::Said(p) = prefix else {
+        return crate::blank();
+    };
+    let Told::Said(n) = namespace else {
+        return crate::blank();
+    };
+    let Told::Said(l) = name else {
+        return crate::blank();
+    };
+    let Told::Said(v) = value else {
+        return crate::blank();
+    };
+    Event {
+        kind,
+        prefix: p,
+        namespace: n,
+        name: l,
+        value: v,
+    }
+}
+
+// Record n of the words, blank where it is not well formed.
+pub fn from_words(w: &[u32], n: usize) -> Event
+    requires { ⌜ 13 * n + 13 ≤ length (now w) ⌝ }
+    ensures { λ r. ⌜ r ≡ recordAt (now (w .entry)) (13 * n) ⌝ }
+{
+    let at = 13 * n;
+    let number = w[at];
+    if number < 1 || 7 < number {
+        return crate::blank();
+    }
+    framed(
+        kind_of(number),
+        told_at(w, at + 1),
+        told_at(w, at + 4),
+        told_at(w, at + 7),
+        told_at(w, at + 10),
+    )
+}

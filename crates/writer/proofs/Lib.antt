@@ -1,0 +1,5 @@
+pub mod RecordLaws
+pub mod WellMade
+pub mod Faults
+pub mod OutputLaws
+pub mod AheadLaws

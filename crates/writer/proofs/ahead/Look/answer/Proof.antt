@@ -1,0 +1,32 @@
+-- `Look::answer` meets its contract, by what is known.
+-- Assumes nothing.
+use borrow.Author.Needs.{needs}
+use Rattle.writer.specs.Writing.{announced}
+use Rattle.writer.specs.Ahead.{decided}
+use Rattle.writer.proofs.ahead.Look.answer.Statement.{statement}
+use Rattle.writer.proofs.ahead.Look.answer.Tie as tie
+
+enum-told : tie.Need-enum-told
+enum-told c = search needs
+
+enum-told-2 : tie.Need-enum-told-2
+enum-told-2 c = search needs
+
+enum-known-self : tie.Need-enum-known-self
+enum-known-self c = search needs
+
+returns : tie.Need-returns
+unfolding announced decided
+returns c = rw (c .enum-told .given .1)
+
+returns-2 : tie.Need-returns-2
+unfolding announced decided
+returns-2 c = rw (c .enum-told2 .given .1)
+
+returns-3 : tie.Need-returns-3
+unfolding announced decided
+returns-3 c = rw (c .before .self .given .1)
+
+pub answer-spec : {M : Type 1} → statement M
+answer-spec =
+    tie.close (tie.spec enum-told enum-told-2 enum-known-self returns returns-2 returns-3)

@@ -1,0 +1,56 @@
+-- `is_name` meets its contract: each way out is a case of the definition.
+-- Assumes nothing.
+use borrow.Author.Needs.{needs}
+use Rattle.writer.specs.Events.{isName}
+use Rattle.writer.proofs.records.is_name.Statement.{statement}
+use Rattle.writer.proofs.records.is_name.Tie as tie
+
+is-prefix-requires : tie.Need-is-prefix-requires
+is-prefix-requires c κs = search needs
+
+is-namespace-requires : tie.Need-is-namespace-requires
+is-namespace-requires c κs = search needs
+
+is-stretch-requires : tie.Need-is-stretch-requires
+is-stretch-requires c κs = search needs
+
+is-absent-requires : tie.Need-is-absent-requires
+is-absent-requires c κs = search needs
+
+is-absent-requires-2 : tie.Need-is-absent-requires-2
+is-absent-requires-2 c κs = search needs
+
+returns : tie.Need-returns
+unfolding isName
+returns c = rw (← c .before .before .before .before .before .before .before .is-prefix .ensures, c .before .before .before .before .before .before .if1 .taken, ← c .before .before .before .before .before .is-namespace .ensures, c .before .before .before .before .if2 .taken, ← c .before .before .before .is-stretch .ensures, c .before .before .if3 .taken, ← c .before .is-absent .ensures, c .if4 .taken)
+
+returns-2 : tie.Need-returns-2
+unfolding isName
+returns-2 c = rw (← c .before .before .before .before .before .before .before .before .is-prefix .ensures, c .before .before .before .before .before .before .before .if1 .taken, ← c .before .before .before .before .before .before .is-namespace .ensures, c .before .before .before .before .before .if2 .taken, ← c .before .before .before .before .is-stretch .ensures, c .before .before .before .if3 .taken, ← c .before .before .is-absent .ensures, c .before .if4 .left, ← c .is-absent2 .ensures)
+
+returns-3 : tie.Need-returns-3
+unfolding isName
+returns-3 c = rw (← c .before .before .before .before .before .is-prefix .ensures, c .before .before .before .before .if1 .taken, ← c .before .before .before .is-namespace .ensures, c .before .before .if2 .taken, ← c .before .is-stretch .ensures, c .if3 .left)
+
+returns-4 : tie.Need-returns-4
+unfolding isName
+returns-4 c = rw (← c .before .before .before .is-prefix .ensures, c .before .before .if1 .taken, ← c .before .is-namespace .ensures, c .if2 .left)
+
+returns-5 : tie.Need-returns-5
+unfolding isName
+returns-5 c = rw (← c .before .is-prefix .ensures, c .if1 .left)
+
+pub is-name-spec : {M : Type 1} → statement M
+is-name-spec =
+    tie.close
+    (tie.spec
+    is-prefix-requires
+    is-namespace-requires
+    is-stretch-requires
+    is-absent-requires
+    is-absent-requires-2
+    returns
+    returns-2
+    returns-3
+    returns-4
+    returns-5)

@@ -1,0 +1,21 @@
+-- `lies_in` meets its contract: each way out is a case of the definition.
+-- Assumes nothing.
+use borrow.Author.Needs.{needs}
+use Rattle.writer.proofs.RecordLaws.{stretch-empty, stretch-longer, stretch-fits}
+use Rattle.writer.proofs.records.lies_in.Statement.{statement}
+use Rattle.writer.proofs.records.lies_in.Tie as tie
+
+returns : tie.Need-returns
+returns c = stretch-empty _ _ _ (c .if1 .taken)
+
+returns-2 : tie.Need-returns-2
+returns-2 c = stretch-longer _ _ _ (c .if2 .taken)
+
+sub-result : tie.Need-sub-result
+sub-result c = search needs
+
+returns-3 : tie.Need-returns-3
+returns-3 c = stretch-fits _ _ _ (c .before .if1 .left) (c .if2 .left)
+
+pub lies-in-spec : {M : Type 1} → statement M
+lies-in-spec = tie.close (tie.spec returns returns-2 sub-result returns-3)

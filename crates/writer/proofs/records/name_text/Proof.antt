@@ -1,0 +1,35 @@
+-- `name_text` meets its contract: each way out is a case of the definition.
+-- Assumes nothing.
+use borrow.Author.Needs.{needs}
+use Rattle.writer.proofs.RecordLaws.{name-text}
+use Rattle.writer.proofs.records.name_text.Statement.{statement}
+use Rattle.writer.proofs.records.name_text.Tie as tie
+
+is-text-string-requires : tie.Need-is-text-string-requires
+is-text-string-requires c κs = search needs
+
+is-text-string-requires-2 : tie.Need-is-text-string-requires-2
+is-text-string-requires-2 c κs = search needs
+
+is-text-string-requires-3 : tie.Need-is-text-string-requires-3
+is-text-string-requires-3 c κs = search needs
+
+returns : tie.Need-returns
+returns c = rw (name-text, ← c .before .before .before .before .is-text-string .ensures, c .before .before .before .if1 .taken, ← c .before .before .is-text-string2 .ensures, c .before .if2 .taken, ← c .is-text-string3 .ensures)
+
+returns-2 : tie.Need-returns-2
+returns-2 c = rw (name-text, ← c .before .before .before .is-text-string .ensures, c .before .before .if1 .taken, ← c .before .is-text-string2 .ensures, c .if2 .left)
+
+returns-3 : tie.Need-returns-3
+returns-3 c = rw (name-text, ← c .before .is-text-string .ensures, c .if1 .left)
+
+pub name-text-spec : {M : Type 1} → statement M
+name-text-spec =
+    tie.close
+    (tie.spec
+    is-text-string-requires
+    is-text-string-requires-2
+    is-text-string-requires-3
+    returns
+    returns-2
+    returns-3)

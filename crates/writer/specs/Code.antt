@@ -1,0 +1,51 @@
+-- How the code's state stands for the definition's, and what it judges of an event before anything is written.
+use Prim.Native.Nat.{ℕ, _+_, _<_, _≤_}
+use mathlib.Core.Bool.{_&&_}
+use mathlib.Core.List.{List}
+use lib.ListN.{length}
+use lib.Dec.{leb}
+use Rattle.format.specs.Numbers.{pick}
+use Rattle.format.specs.Tables.{Vocabulary, link}
+use Rattle.format.specs.Items as F
+use Rattle.tables.specs.Located.{Located}
+use Rattle.events.specs.declared.Text.{Text}
+use Rattle.events.specs.declared.Text.the-variants.{Absent, Empty, Stretch, XmlPrefix, XmlNamespace}
+use Rattle.events.specs.declared.Event.{Event}
+use Rattle.writer.specs.declared.Mode.{Mode}
+use Rattle.writer.specs.declared.Mode.the-variants.{Content, Declaring, Listing}
+use Rattle.writer.specs.declared.State.{State}
+use Rattle.writer.specs.Events.{wellMade, eventOf, goesOn, allText}
+use Rattle.writer.specs.Writing.{opens}
+
+abbrev pub modeOf : Mode → F.Mode
+modeOf Content = F.content
+modeOf (Declaring a) = F.declaring a
+modeOf (Listing any) = F.listing any
+
+-- The state holds how many entries the tables have; the tables themselves are in lent words, which the code that judges does not look at.
+abbrev pub stateOf : State → Vocabulary Located → F.State Located
+stateOf st v = record { words = v; level = st .level; root = st .root; mode = modeOf (st .mode) }
+
+-- A string that is a stretch is not empty and lies in the text area.
+abbrev pub Lies : List ℕ → Text → Type 0
+Lies text Absent = Unit {0}
+Lies text Empty = Unit {0}
+Lies text (Stretch p n) = (0 < n) × (p + n ≤ length text)
+Lies text XmlPrefix = Unit {0}
+Lies text XmlNamespace = Unit {0}
+
+-- So it is with each string of a record.
+pub record Placed (text : List ℕ) (e : Event) : Type 0 where
+  pub prefix : Lies text (e .prefix)
+  pub namespace : Lies text (e .namespace)
+  pub name : Lies text (e .name)
+  pub value : Lies text (e .value)
+
+-- What is wrong with an event before anything is written: not well made or not in its place (16), not text (9), too deep (13); 0 if nothing is.
+unfoldable pub faultOf : List ℕ → F.State Located → Event → ℕ
+faultOf text v e =
+    pick (wellMade text (e .kind) e && goesOn v (eventOf (e .kind) e))
+    (pick (allText text (eventOf (e .kind) e))
+    (pick (opens (v .mode) (eventOf (e .kind) e) && leb (link .depth) (v .level)) 13 0)
+    9)
+    16

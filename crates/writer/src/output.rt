@@ -1,0 +1,41 @@
+// The lent output: cleared, then the header, then ends and items. What it has no room for is left out, and found out by the place behind it.
+ghost use mathlib.Core.Path.{_≡_};
+ghost use mathlib.Core.List.{[]};
+ghost use Prim.Native.Nat.{_/_};
+ghost use lib.ListN.{length, replicate, set};
+ghost use Rattle.writer.specs.Output.{Holds, endOctet};
+use fields::put::put;
+
+// Every octet is 0.
+pub fn clear(out: &mut [u8])
+    ensures { λ _. ⌜ now (out .exit) ≡ replicate (length (now (out .entry))) 0 ⌝ }
+{
+    let mut i = 0;
+    while i < out.len() {
+        out[i] = 0;
+        i += 1;
+    }
+}
+
+// E0 00 (12.6), version 1 (12.7, 12.9), and no optional part (12.8), on a cleared output.
+pub fn put_header(out: &mut [u8])
+    requires { ⌜ now out ≡ replicate (length (now out)) 0 ⌝ }
+    ensures { λ _. ⌜ Holds (length (now (out .entry))) [] 10 (now (out .exit)) ⌝ }
+{
+    put(out, 0, 0xE0);
+    put(out, 1, 0x00);
+    put(out, 2, 0x00);
+    put(out, 3, 0x01);
+    put(out, 4, 0x00);
+}
+
+// An end at the half `at`. In the first half of an octet it leaves the second 0; before the second stands another end.
+pub fn put_end(out: &mut [u8], at: usize)
+    ensures { λ _. ⌜ now (out .exit) ≡ set (now (out .entry)) (at / 2) (endOctet at) ⌝ }
+{
+    if at % 2 == 0 {
+        put(out, at / 2, 0xF0);
+    } else {
+        put(out, at / 2, 0xFF);
+    }
+}

@@ -1,0 +1,309 @@
+// Which event records the writer takes: what is wrong with one is found before anything is written.
+ghost use mathlib.Core.Path.{_≡_};
+ghost use Prim.Native.Nat.{_+_};
+ghost use mathlib.Core.Bool.{_&&_, _||_};
+ghost use lib.ListN.{length};
+ghost use lib.Dec.{ltb, leb};
+ghost use Rattle.format.specs.Text.{isText};
+ghost use Rattle.format.specs.Tables.{Vocabulary, link};
+ghost use Rattle.format.specs.Items.{mayStart};
+ghost use Rattle.tables.specs.Located.{Located, octetsOf};
+ghost use Rattle.events.specs.declared.Event.{Event};
+ghost use Rattle.writer.specs.Events.{isAbsent, isStretch, isPrefix, isNamespace, isValue, isName, noName, wellMade, locatedOf, nameOf, eventOf, amongChildren, isDeclaring, isListing, goesOn, nameText, allText};
+ghost use Rattle.writer.specs.Writing.{opens};
+ghost use Rattle.writer.specs.Code.{modeOf, stateOf, Lies, Placed, faultOf};
+use crate::Mode;
+use crate::State;
+use events::Event;
+use events::Kind;
+use events::Text;
+use fields::is_text;
+
+// Refusals.
+const TEXT: u32 = 9;
+
+const DEPTH: u32 = 13;
+
+const EVENT: u32 = 16;
+
+// Open elements, at most.
+const DEEPEST: u32 = 32;
+
+fn is_absent(x: Text) -> bool
+    ensures { λ r. ⌜ r ≡ isAbsent x ⌝ }
+{
+    match x {
+        Text::Absent => true,
+        Text::Empty => false,
+        Text::Stretch(_, _) => false,
+        Text::XmlPrefix => false,
+        Text::XmlNamespace => false,
+    }
+}
+
+// A stretch is not empty and lies in the text area. Place and size are the caller's and may be any numbers, so they are not added.
+fn lies_in(text: &[u8], place: u32, size: u32) -> bool
+    ensures { λ r. ⌜ r ≡ (ltb 0 size && leb (place + size) (length (now (text .entry)))) ⌝ }
+{
+    let n = size as usize;
+    if n == 0 {
+        return false;
+    }
+    if text.len() < n {
+        return false;
+    }
+    place as usize <= text.len() - n
+}
+
+fn is_stretch(text: &[u8], x: Text) -> bool
+    ensures { λ r. ⌜ r ≡ isStretch (now (text .entry)) x ⌝ }
+{
+    match x {
+        Text::Absent => false,
+        Text::Empty => false,
+        Text::Stretch(place, size) => lies_in(text, place, size),
+        Text::XmlPrefix => false,
+        Text::XmlNamespace => false,
+    }
+}
+
+fn is_prefix(text: &[u8], x: Text) -> bool
+    ensures { λ r. ⌜ r ≡ isPrefix (now (text .entry)) x ⌝ }
+{
+    match x {
+        Text::Absent => true,
+        Text::Empty => false,
+        Text::Stretch(place, size) => lies_in(text, place, size),
+        Text::XmlPrefix => true,
+        Text::XmlNamespace => false,
+    }
+}
+
+fn is_namespace(text: &[u8], x: Text) -> bool
+    ensures { λ r. ⌜ r ≡ isNamespace (now (text .entry)) x ⌝ }
+{
+    match x {
+        Text::Absent => true,
+        Text::Empty => false,
+        Text::Stretch(place, size) => lies_in(text, place, size),
+        Text::XmlPrefix => false,
+        Text::XmlNamespace => true,
+    }
+}
+
+fn is_value(text: &[u8], x: Text) -> bool
+    ensures { λ r. ⌜ r ≡ isValue (now (text .entry)) x ⌝ }
+{
+    match x {
+        Text::Absent => false,
+        Text::Empty => true,
+        Text::Stretch(place, size) => lies_in(text, place, size),
+        Text::XmlPrefix => false,
+        Text::XmlNamespace => false,
+    }
+}
+
+// A name's strings: a prefix only with a namespace.
+fn is_name(text: &[u8], e: Event) -> bool
+    ensures { λ r. ⌜ r ≡ isName (now (text .entry)) e ⌝ }
+{
+    let prefix = e.prefix;
+    let namespace = e.namespace;
+    let name = e.name;
+    is_prefix(text, prefix)
+        && (is_namespace(text, namespace)
+            && (is_stretch(text, name) && (is_absent(prefix) || !is_absent(namespace))))
+}
+
+fn no_name(e: Event) -> bool
+    ensures { λ r. ⌜ r ≡ noName e ⌝ }
+{
+    let prefix = e.prefix;
+    let namespace = e.namespace;
+    is_absent(prefix) && is_absent(namespace)
+}
+
+// The strings of a record are as its kind has them.
+fn well_made(text: &[u8], e: Event) -> bool
+    ensures { λ r. ⌜ r ≡ wellMade (now (text .entry)) (e .kind) e ⌝ }
+{
+    let kind = e.kind;
+    let prefix = e.prefix;
+    let namespace = e.namespace;
+    let name = e.name;
+    let value = e.value;
+    match kind {
+        Kind::Blank => false,
+        Kind::Namespace => {
+            is_prefix(text, prefix)
+                && (is_namespace(text, namespace) && (is_absent(name) && is_absent(value)))
+        }
+        Kind::Start => is_name(text, e) && is_absent(value),
+        Kind::Attribute => is_name(text, e) && is_value(text, value),
+        Kind::Chunk => no_name(e) && (is_absent(name) && is_stretch(text, value)),
+        Kind::Comment => no_name(e) && (is_absent(name) && is_value(text, value)),
+        Kind::Instruction => no_name(e) && (is_stretch(text, name) && is_value(text, value)),
+        Kind::End => no_name(e) && (is_absent(name) && is_absent(value)),
+    }
+}
+
+// The string is text; only a stretch has to be looked at.
+fn is_text_string(text: &[u8], x: Text) -> bool
+    requires { ⌜ Lies (now text) x ⌝ }
+    ensures { λ r. ⌜ r ≡ isText (octetsOf (now (text .entry)) (locatedOf x)) ⌝ }
+{
+    match x {
+        Text::Absent => true,
+        Text::Empty => true,
+        Text::Stretch(place, size) => {
+            let from = place as usize;
+            is_text(text, from, from + size as usize)
+        }
+        Text::XmlPrefix => true,
+        Text::XmlNamespace => true,
+    }
+}
+
+fn name_text(text: &[u8], e: Event) -> bool
+    requires { ⌜ Placed (now text) e ⌝ }
+    ensures { λ r. ⌜ r ≡ nameText (now (text .entry)) (nameOf e) ⌝ }
+{
+    let prefix = e.prefix;
+    let namespace = e.namespace;
+    let name = e.name;
+    is_text_string(text, prefix) && (is_text_string(text, namespace) && is_text_string(text, name))
+}
+
+// Every string of the record is text.
+fn all_text(text: &[u8], e: Event) -> bool
+    requires { ⌜ Placed (now text) e ⌝ }
+    ensures { λ r. ⌜ r ≡ allText (now (text .entry)) (eventOf (e .kind) e) ⌝ }
+{
+    let kind = e.kind;
+    let prefix = e.prefix;
+    let namespace = e.namespace;
+    let name = e.name;
+    let value = e.value;
+    match kind {
+        Kind::Blank => true,
+        Kind::Namespace => is_text_string(text, prefix) && is_text_string(text, namespace),
+        Kind::Start => name_text(text, e),
+        Kind::Attribute => name_text(text, e) && is_text_string(text, value),
+        Kind::Chunk => is_text_string(text, value),
+        Kind::Comment => is_text_string(text, value),
+        Kind::Instruction => is_text_string(text, name) && is_text_string(text, value),
+        Kind::End => true,
+    }
+}
+
+impl Mode {
+    // A child may stand here, also behind a list of attributes that has a member.
+    fn among_children(self) -> bool
+        ensures { λ r. ⌜ r ≡ amongChildren (modeOf self) ⌝ }
+    {
+        match self {
+            Mode::Content => true,
+            Mode::Declaring(_) => false,
+            Mode::Listing(any) => any,
+        }
+    }
+
+    fn is_declaring(self) -> bool
+        ensures { λ r. ⌜ r ≡ isDeclaring (modeOf self) ⌝ }
+    {
+        match self {
+            Mode::Content => false,
+            Mode::Declaring(_) => true,
+            Mode::Listing(_) => false,
+        }
+    }
+
+    fn is_listing(self) -> bool
+        ensures { λ r. ⌜ r ≡ isListing (modeOf self) ⌝ }
+    {
+        match self {
+            Mode::Content => false,
+            Mode::Declaring(_) => false,
+            Mode::Listing(_) => true,
+        }
+    }
+
+    // The record is the first of an element.
+    fn opens(self, kind: Kind) -> bool
+        ensures { λ r. ⌜ ((e : Event) → r ≡ opens (modeOf self) (eventOf kind e)) ⌝ }
+    {
+        match kind {
+            Kind::Blank => false,
+            Kind::Namespace => !self.is_declaring(),
+            Kind::Start => !self.is_declaring(),
+            Kind::Attribute => false,
+            Kind::Chunk => false,
+            Kind::Comment => false,
+            Kind::Instruction => false,
+            Kind::End => false,
+        }
+    }
+}
+
+impl State {
+    // An element may start here, or one that started goes on.
+    fn takes_element(self) -> bool
+        ensures { λ r. ⌜ ((v : Vocabulary Located) → r ≡ (isDeclaring (modeOf (self .mode)) || (amongChildren (modeOf (self .mode)) && mayStart (stateOf self v)))) ⌝ }
+    {
+        let mode = self.mode;
+        mode.is_declaring() || (mode.among_children() && (0 < self.level || !self.root))
+    }
+
+    // Among the children of an element, where a chunk or the element's end may stand.
+    fn in_element(self) -> bool
+        ensures { λ r. ⌜ r ≡ (amongChildren (modeOf (self .mode)) && ltb 0 (self .level)) ⌝ }
+    {
+        let mode = self.mode;
+        mode.among_children() && 0 < self.level
+    }
+
+    // A document goes on with a record of this kind. What is said of a blank one does not matter: none is well made.
+    fn goes_on(self, kind: Kind) -> bool
+        ensures { λ r. ⌜ ((v : Vocabulary Located) (e : Event) → r ≡ goesOn (stateOf self v) (eventOf kind e)) ⌝ }
+    {
+        let mode = self.mode;
+        match kind {
+            Kind::Blank => self.in_element(),
+            Kind::Namespace => self.takes_element(),
+            Kind::Start => self.takes_element(),
+            Kind::Attribute => mode.is_listing(),
+            Kind::Chunk => self.in_element(),
+            Kind::Comment => mode.among_children(),
+            Kind::Instruction => mode.among_children(),
+            Kind::End => self.in_element(),
+        }
+    }
+
+    // A record of this kind opens an element, and no more may be open.
+    fn too_deep(self, kind: Kind) -> bool
+        ensures { λ r. ⌜ ((e : Event) → r ≡ (opens (modeOf (self .mode)) (eventOf kind e) && leb (link .depth) (self .level))) ⌝ }
+    {
+        let mode = self.mode;
+        mode.opens(kind) && DEEPEST <= self.level
+    }
+
+    // What is wrong with a record before anything is written; 0 if nothing is.
+    pub fn fault(self, text: &[u8], e: Event) -> u32
+        ensures { λ r. ⌜ ((v : Vocabulary Located) → r ≡ faultOf (now (text .entry)) (stateOf self v) e) ⌝ }
+    {
+        let kind = e.kind;
+        if !well_made(text, e) {
+            return EVENT;
+        }
+        if !self.goes_on(kind) {
+            return EVENT;
+        }
+        if !all_text(text, e) {
+            return TEXT;
+        }
+        if self.too_deep(kind) {
+            return DEPTH;
+        }
+        0
+    }
+}
