@@ -113,7 +113,7 @@ unfolding adding names
 names-adding v t ELEMENT-NAME x = refl
 names-adding v t ATTRIBUTE-NAME x = refl
 
-names-kept : (text : List ℕ) (v : Vocabulary Located) (q : NameTable) (p n : Option Located) (l : Located)
+pub names-kept : (text : List ℕ) (v : Vocabulary Located) (q : NameTable) (p n : Option Located) (l : Located)
     → names (writeId text LOCAL-NAME (writeOptional text NAMESPACE-NAME (writeOptional text PREFIX v p .words) n .words) l .words) q ≡ names v q
 names-kept text v q p n l =
     id-keeps (λ (u : Vocabulary Located). names u q) text LOCAL-NAME (writeOptional text NAMESPACE-NAME (writeOptional text PREFIX v p .words) n .words) (names-adding _ _ q) l

@@ -1,7 +1,7 @@
--- DEMANDS 1 AND 2 OF THE WRITER'S CODE. The contract of `writer::write::write` equates what a call answers and leaves with `writeOf`: so what it accepts is
--- written by the rules, from the very records that were given, and reading it gives back the same events and tables, whatever stood in the room.
-use Prim.Native.Nat.{ℕ, zero, suc, _+_, _*_, _≤_}
-use mathlib.Core.Path.{_≡_, refl, ap, subst}
+-- DEMANDS 1 AND 2 OF THE WRITER'S CODE. The contract of `writer::write::write` equates what a call answers and leaves with `writeOf`, that of `lomphachit_write`
+-- with `writeWords`, which is `writeOf` in words: so what it accepts is written by the rules, from the very records that were given, and reading it gives back the same events and tables, whatever stood in the room.
+use Prim.Native.Nat.{ℕ, zero, suc, _+_, _*_, _^_, _≤_}
+use mathlib.Core.Path.{_≡_, refl, sym, ap, _∙_, subst}
 use mathlib.Core.Bool.{Bool, true, false, _&&_}
 use mathlib.Core.List.{List, [], _∷_, _++_, map}
 use native.Mathlib.Omega.{arith}
@@ -18,15 +18,17 @@ use Rattle.tables.specs.Counts.{words}
 use Rattle.tables.specs.Located.{Located, plain, plainState, start}
 use Rattle.events.specs.declared.Event.{Event}
 use Rattle.events.specs.Records.{recordOf}
+use Rattle.events.specs.FromWords.{recordsOf}
 use Rattle.reader.specs.Reading.{accepting as reading, readOf}
 use Rattle.writer.specs.declared.Answer.{Answer}
-use Rattle.writer.specs.declared.Answer.the-variants.{Accepted}
+use Rattle.writer.specs.declared.Answer.the-variants.{Accepted, Refused}
 use Rattle.writer.specs.Events.{wellMade, eventOf, isContent, goesOn, allText}
 use Rattle.choices.specs.Choices.{within}
 use Rattle.writer.specs.Items.{WroteItem, writeItem}
-use Rattle.writer.specs.Writing.{announced, Result, written, refusal, plus, opens, settled, fits, halvesOf, judge, finish, run, joined, Outcome, refusing, accepting, outcome, writing, writeOf}
+use Rattle.writer.specs.Writing.{announced, Result, written, refusal, plus, opens, settled, fits, halvesOf, judge, finish, run, joined, Outcome, Leaves, refusing, accepting, outcome, writing, writeOf}
 use Rattle.demands.proofs.Document as Whole
 use Rattle.demands.proofs.Demands.{written-by-the-rules, the-events-given}
+use Rattle.writer.specs.Words.{answerWord, leaving, nothing, inWords, writeWords}
 use Rattle.demands.proofs.Fits.{accepted-sized}
 
 -- A call with this output room left these octets, 0 behind them, and these tables; the rules write the octets from the items, whose records are those given.
@@ -135,3 +137,51 @@ write-refused text room es n p e =
     let g : Faulty link text room 0 (0 + length es) (refusal n p) = subst (Faulty link text room 0 (0 + length es)) e f in
     let h = g .2 in
     (g .0, omega arith)
+
+-- 19. WRITE FROM WORDS: what is accepted is left as the words of what `write` leaves, from the records of the words (16).
+refused-small : (records text : List ℕ) (r t : ℕ) (b d : Bool) (k p : ℕ)
+    → pick b (pick d (outcome (writing text r (recordsOf records)) r) (refusing 14 0 r t)) (refusing 1 0 r t) .answer ≡ Refused k p → (1 ≤ k) × (k ≤ 16)
+refused-small records text r t true true k p e = from (writing text r (recordsOf records)) refl e
+  where
+    from : (a : Result) → writing text r (recordsOf records) ≡ a → outcome a r .answer ≡ Refused k p → (1 ≤ k) × (k ≤ 16)
+    from (written items hs z) q e = absurd (let y : _≡_ {A = ℕ} 0 1 = cc in omega arith)
+    from (refusal n place) q e =
+        let f = write-refused text r (recordsOf records) n place q .0 in
+        let ek : n ≡ k = cc in
+        let low = f .0 in
+        let high = f .1 in
+        (omega arith, omega arith)
+refused-small records text r t true false k p e = let ek : 14 ≡ k = cc in (omega arith, omega arith)
+refused-small records text r t false d k p e = let ek : 1 ≡ k = cc in (omega arith, omega arith)
+
+module _ (records text : List ℕ) (r t : ℕ) where
+  abbrev left : Outcome
+  left = writeOf (recordsOf records) text r t
+
+  by-answer : (n : ℕ) (a : Answer) → left .answer ≡ a → answerWord a ≡ n * 2 ^ 32 → Wrote text (recordsOf records) r left
+  unfolding writeOf
+  by-answer n (Accepted m c) e q = write-accepts text r (recordsOf records) t m c e
+  by-answer n (Refused k p) e q = let f = refused-small records text r t (leb (length text) 16384) (eqb t words) k p e in absurd (let low = f .0 in let high = f .1 in omega arith)
+
+  by-words : (c n : ℕ) (b d : Bool) → pick b (pick d (inWords left) (nothing 14 r t c)) (nothing 1 r t c) .answer ≡ n * 2 ^ 32
+      → Wrote text (recordsOf records) r left × (pick b (pick d (inWords left) (nothing 14 r t c)) (nothing 1 r t c) ≡ inWords left)
+  unfolding inWords
+  by-words c n true true e = (by-answer n (left .answer) refl e, refl)
+  by-words c n true false e = absurd (omega arith)
+  by-words c n false d e = absurd (omega arith)
+
+  pub words-written : (c n : ℕ) → writeWords records text r t c .answer ≡ n * 2 ^ 32 → Wrote text (recordsOf records) r left × (writeWords records text r t c ≡ inWords left)
+  unfolding writeWords
+  words-written c n e = by-words c n (leb (length text) 16384) (eqb c 10) e
+
+-- 20. DEMAND 1: what a call answers and leaves depends on the records and the text, and on how much room is lent, but not on what stood in it.
+module _ (es : List Event) (text o p t u : List ℕ) (a b : Answer) (o′ p′ t′ u′ : List ℕ) where
+  pub write-whatever-stood : length o ≡ length p → length t ≡ length u → Leaves a o′ t′ (writeOf es text (length o) (length t)) → Leaves b p′ u′ (writeOf es text (length p) (length u))
+      → (a ≡ b) × (o′ ≡ p′) × (t′ ≡ u′)
+  write-whatever-stood l m x y = let y′ = rw (← l, ← m) at y in (x .0 ∙ sym (y′ .0), x .1 ∙ sym (y′ .1), x .2 ∙ sym (y′ .2))
+
+--     So it is with words.
+pub written-whatever-stood : (records text o p t u c d : List ℕ) (a b : ℕ) (o′ p′ t′ u′ c′ d′ : List ℕ) → length o ≡ length p → length t ≡ length u → length c ≡ length d
+    → leaving a o′ t′ c′ ≡ writeWords records text (length o) (length t) (length c) → leaving b p′ u′ d′ ≡ writeWords records text (length p) (length u) (length d)
+    → leaving a o′ t′ c′ ≡ leaving b p′ u′ d′
+written-whatever-stood records text o p t u c d a b o′ p′ t′ u′ c′ d′ l m n x y = x ∙ rw (l, m, n) (sym y)

@@ -4,6 +4,7 @@ ghost use mathlib.Core.Path.{_≡_};
 ghost use lib.ListN.{length};
 ghost use Rattle.reader.specs.Reading.{checkOf};
 ghost use Rattle.reader.specs.Words.{leaving, readWords};
+ghost use Rattle.writer.specs.Words.{leaving as written, writeWords};
 
 // 0 for a document of the link, else the place times 32 plus the refusal's number.
 // Ruled out: 0 where there are no octets, which is 1; 2, a refusal with no place, for E0 00 00 01 00 and nothing behind it, which is 2 at 5, so 162.
@@ -27,4 +28,20 @@ pub extern "C" fn lomphachit_read(
     ensures { λ r. ⌜ leaving r (now (records .exit)) (now (tables .exit)) (now (counts .exit)) ≡ readWords (now (octets .entry)) (length (now (records .entry))) (length (now (tables .entry))) (length (now (counts .entry))) ⌝ }
 {
     reader::read_words(octets, records, tables, counts)
+}
+
+// A document from records in words over a text area, into lent octets, tables and counts; the answer has the octet count above its low 32 bits, and in them 0
+// or the event's number times 32 plus the refusal's.
+// Ruled out: an octet that stood behind the document before the call; 14 at the event behind the one that does not fit.
+#[no_mangle]
+pub extern "C" fn lomphachit_write(
+    records: &[u32],
+    text: &[u8],
+    out: &mut [u8],
+    tables: &mut [u32],
+    counts: &mut [u32],
+) -> u64
+    ensures { λ r. ⌜ written r (now (out .exit)) (now (tables .exit)) (now (counts .exit)) ≡ writeWords (now (records .entry)) (now (text .entry)) (length (now (out .entry))) (length (now (tables .entry))) (length (now (counts .entry))) ⌝ }
+{
+    writer::write_words(records, text, out, tables, counts)
 }

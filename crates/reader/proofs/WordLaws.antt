@@ -20,11 +20,11 @@ use Rattle.tables.specs.Kept.{listed, Clean}
 use Rattle.tables.proofs.Laws.{counts-are}
 use Rattle.events.specs.declared.Event.{Event}
 use Rattle.events.specs.Records.{blank, recordOf}
-use Rattle.events.specs.Words.{recordWords}
+use Rattle.events.specs.Words.{recordWords, rowWords}
 use Rattle.reader.specs.declared.Answer.{Answer}
 use Rattle.reader.specs.declared.Answer.the-variants.{Accepted, Refused}
 use Rattle.reader.specs.Reading.{Result, accepted, refusal, sized, reading, outcome, readOf}
-use Rattle.reader.specs.Words.{rowWords, leaving, nothing, inWords, readWords}
+use Rattle.reader.specs.Words.{leaving, nothing, inWords, readWords}
 use Rattle.reader.specs.RunStages.{ended, faulty, endingOf, itemWords, keptFrom, answerNumber, Ran}
 
 -- ---- a list copied over words, up to i

@@ -1,13 +1,12 @@
 -- Reading into words, for callers that have no enums: what a reader leaves, as words.
 use Prim.Native.Nat.{ℕ, _+_, _*_, _/_, _%_, _^_}
-use mathlib.Core.List.{List, [], _∷_, _++_}
+use mathlib.Core.List.{List, _++_}
 use lib.ListN.{replicate}
 use lib.Dec.{eqb}
 use Rattle.format.specs.Numbers.{pick}
 use Rattle.format.specs.Tables.{link}
 use Rattle.tables.specs.Kept.{listed}
-use Rattle.events.specs.declared.Event.{Event}
-use Rattle.events.specs.Words.{recordWords}
+use Rattle.events.specs.Words.{rowWords}
 use Rattle.reader.specs.declared.Answer.{Answer}
 use Rattle.reader.specs.declared.Answer.the-variants.{Accepted, Refused}
 use Rattle.reader.specs.Reading.{Outcome, sized, readOf}
@@ -20,11 +19,6 @@ answerWord (Refused k p) = p * 32 + k
 abbrev pub countWords : Answer → List ℕ
 countWords (Accepted n c) = listed c
 countWords (Refused k p) = replicate 10 0
-
--- 13 words for a record; those of a blank one are 0.
-unfoldable pub rowWords : List Event → List ℕ
-rowWords [] = []
-rowWords (e ∷ es) = recordWords e ++ rowWords es
 
 -- What a call answers and leaves: the answer, every word for records, tables and counts.
 pub record Words : Type 0 where

@@ -3,3 +3,8 @@ pub mod WellMade
 pub mod Faults
 pub mod OutputLaws
 pub mod AheadLaws
+pub mod ItemLaws
+pub mod StepLaws
+pub mod RunLaws
+pub mod PhaseLaws
+pub mod WordLaws

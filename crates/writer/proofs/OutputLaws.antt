@@ -43,7 +43,7 @@ unfolding joined halves
 joined-halves [] = refl
 joined-halves (o ∷ os) = let z : 16 * (o / 16) + o % 16 ≡ o = omega arith in rw (z, joined-halves os)
 
-length-halves : (os : List ℕ) → length (halves os) ≡ 2 * length os
+pub length-halves : (os : List ℕ) → length (halves os) ≡ 2 * length os
 unfolding halves
 length-halves [] = refl
 length-halves (o ∷ os) = let i = length-halves os in omega arith
@@ -55,7 +55,7 @@ joined-padded [] at e = rw e
 joined-padded (h ∷ []) at e = let z : 16 * h + 0 ≡ 16 * h = omega arith in rw (e, z)
 joined-padded (h ∷ l ∷ hs) at e = rw (joined-padded hs at (omega arith))
 
-length-pad : (at : ℕ) → length (pad at) ≡ at % 2
+pub length-pad : (at : ℕ) → length (pad at) ≡ at % 2
 unfolding pad
 length-pad at = length-replicate {A = ℕ} (at % 2) 0
 

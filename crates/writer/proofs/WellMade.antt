@@ -16,10 +16,10 @@ use Rattle.events.specs.declared.Event.{Event}
 use Rattle.writer.specs.Events.{isAbsent, isStretch, isPrefix, isNamespace, isValue, isName, noName, wellMade}
 use Rattle.writer.specs.Code.{Lies, Placed}
 
-clash : {X : Type 0} → false ≡ true → X
+pub clash : {X : Type 0} → false ≡ true → X
 clash e = absurd (let y : _≡_ {A = ℕ} 0 1 = cc in omega arith)
 
-both-true : (a b : Bool) → (a && b) ≡ true → (a ≡ true) × (b ≡ true)
+pub both-true : (a b : Bool) → (a && b) ≡ true → (a ≡ true) × (b ≡ true)
 both-true true b e = (refl, e)
 both-true false b e = clash e
 
@@ -81,7 +81,7 @@ module _ (text : List ℕ) (e : Event) where
   unfolding noName
   nameless h = let a = both-true (isAbsent (e .prefix)) _ h in record { prefix = a .0; namespace = a .1 }
 
-  by-kind : (k : Kind) → wellMade text k e ≡ true → Made text k e
+  pub by-kind : (k : Kind) → wellMade text k e ≡ true → Made text k e
   unfolding wellMade
   by-kind Blank h = clash h
   by-kind Namespace h =

@@ -1,8 +1,12 @@
--- The writer's definition: read Events, the crate choices, Items, then Writing. Output, Code and Steps say how the code's output, state and steps stand for it.
+-- The writer's definition: read Events, the crate choices, Items, Writing, then Words. Output, Code, Ahead, Steps, ItemStages and RunStages say how the code's
+-- output, state, looks ahead, steps and runs stand for it.
 pub mod Events
 pub mod Items
 pub mod Writing
+pub mod Words
 pub mod Output
 pub mod Code
 pub mod Ahead
 pub mod Steps
+pub mod ItemStages
+pub mod RunStages

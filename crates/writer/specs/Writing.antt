@@ -1,5 +1,6 @@
 -- The writer's definition: what it answers and leaves in the lent room, for every input.
 use Prim.Native.Nat.{ℕ, zero, suc, _+_, _-_, _*_, _/_, min}
+use mathlib.Core.Path.{_≡_}
 use mathlib.Core.Bool.{Bool, true, false, not, _&&_, _||_}
 use mathlib.Core.List.{List, [], _∷_, _++_}
 use lib.ListN.{length, replicate}
@@ -134,6 +135,10 @@ pub record Outcome : Type 0 where
   pub answer : A.Answer
   pub out : List ℕ
   pub tables : List ℕ
+
+-- A call answered and left this.
+abbrev pub Leaves : A.Answer → (out tables : List ℕ) → Outcome → Type 0
+Leaves r out tables o = (r ≡ o .answer) × (out ≡ o .out) × (tables ≡ o .tables)
 
 -- A refusal blanks all the room that was lent.
 abbrev pub refusing : ℕ → ℕ → ℕ → ℕ → Outcome

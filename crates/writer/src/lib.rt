@@ -1,10 +1,14 @@
 // Writing a document: events and a text area in, octets and tables out, or a refusal and the event's number.
 // May depend on format, fields, tables, walk, events and choices.
 mod ahead;
+mod items;
 mod output;
 mod records;
+mod run;
+pub mod write;
 
 ghost use mathlib.Core.Path.{_≡_};
+pub use run::write_words;
 use tables::Counts;
 
 // Accepted, with the number of octets and the ten counts; or the refusal's number and the event's.

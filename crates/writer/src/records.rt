@@ -218,7 +218,7 @@ impl Mode {
         }
     }
 
-    fn is_listing(self) -> bool
+    pub fn is_listing(self) -> bool
         ensures { λ r. ⌜ r ≡ isListing (modeOf self) ⌝ }
     {
         match self {

@@ -1,0 +1,349 @@
+-- A law for each way out of the functions that write an item, on plain values.
+-- Assumes nothing.
+use mathlib.Core.Path.{_≡_, refl, subst, _∙_}
+use mathlib.Core.Bool.{Bool, true, false, not, _&&_}
+use mathlib.Core.List.{List, [], _∷_, _++_, map}
+use Prim.Native.Nat.{ℕ, _+_, _-_, _*_, _/_, _≤_, _<_, min}
+use native.Mathlib.Nat.{le-min}
+use native.Mathlib.Numerals.{add-one}
+use native.Mathlib.Omega.{arith}
+use borrow.Author.Tests.{lt-ltb, le-ltb, le-leb, lt-leb, leb-false}
+use lib.Dec.{eqb, leb}
+use lib.ListN.{length, set, length-append, length-map}
+use Rattle.format.specs.Numbers.{Form, form, coded, numbers, c25, spell, sizes, pick}
+use Rattle.format.specs.Events as E
+use Rattle.format.specs.Events.{Choice}
+use Rattle.format.specs.Tables.{StringTable, PREFIX, NAMESPACE-NAME, LOCAL-NAME, ATTRIBUTE-VALUE, CONTENT-CHARACTER-CHUNK, OTHER-STRING, Vocabulary, strings, names, adding, place, link}
+use Rattle.format.specs.Strings.{c15, keeping}
+use Rattle.format.specs.Names.{NameLayout, ofElement, ofAttribute}
+use Rattle.format.specs.Items as F
+use Rattle.format.specs.Document.{aligned}
+use Rattle.fields.specs.Put.{Puts}
+use Rattle.fields.proofs.Laws.{case}
+use Rattle.fields.proofs.Puts.{puts-one, puts-append, part-length}
+use Rattle.tables.specs.Located.{Located, octetsOf}
+use Rattle.tables.specs.Search.{numberIn, numberOfTriple}
+use Rattle.tables.specs.Rows.{tableOf, vocabulary}
+use Rattle.tables.specs.Kept.{nameTableOf}
+use Rattle.tables.proofs.Laws.{length-strings, length-names, number-within, name-number-within}
+use Rattle.events.specs.declared.Text.{Text}
+use Rattle.events.specs.declared.Text.the-variants.{Absent, Empty, Stretch, XmlPrefix, XmlNamespace}
+use Rattle.events.specs.declared.Kind.{Kind}
+use Rattle.events.specs.declared.Kind.the-variants.{Namespace, Start, Attribute, Chunk, Comment, Instruction, End}
+use Rattle.events.specs.declared.Event.{Event}
+use Rattle.events.specs.Records.{locatedOf, optionalOf}
+use Rattle.events.specs.Words.{textTag, textPlace, textSize}
+use Rattle.choices.specs.declared.Here.{Here}
+use Rattle.choices.specs.declared.Wrote as W
+use Rattle.choices.specs.declared.Wrote.the-variants.{Put, Full}
+use Rattle.choices.specs.declared.Parts.{Parts}
+use Rattle.choices.specs.Choices.{Wrote, writeId, writeOptional, writeName, writeLiteral, writeValue, worthAdding, within}
+use Rattle.choices.specs.Code.{layoutOf, InOrder, Suits, Fills, Spells, namedOf, tripleFor, pairBehind, declaredBy, Stands, Meets}
+use Rattle.choices.proofs.NameLaws.{names-kept}
+use Rattle.choices.proofs.StringLaws.{spells-suits, spells-stretch}
+use Rattle.writer.specs.declared.Mode.{Mode}
+use Rattle.writer.specs.declared.Mode.the-variants.{Content, Declaring, Listing}
+use Rattle.writer.specs.declared.State.{State}
+use Rattle.writer.specs.declared.Step.the-variants.{On, Stop}
+use Rattle.writer.specs.Events.{isStretch, isPrefix, isNamespace, isValue, nameOf, eventOf, isDeclaring, isListing}
+use Rattle.writer.specs.Items.{WroteItem, beforeDeclaration, beforeName, nameLead, writeItem}
+use Rattle.writer.specs.Writing.{isAttribute, isEnd, fits}
+use Rattle.writer.specs.Output.{endOctet}
+use Rattle.writer.specs.Code.{modeOf, stateOf}
+use Rattle.writer.specs.Steps.{coming, known}
+use Rattle.writer.specs.ItemStages.{owes, listEnded, endPut, Fit, movedTo, modeBehindStart, openedTo, closedTo, landing, Near, Lands, holding}
+use Rattle.writer.proofs.WellMade.{clash, stretch-lies, Named, by-kind}
+
+-- ---- the strings of a record that is well made
+module _ (text : List ℕ) where
+  pub prefix-suits : (x : Text) → isPrefix text x ≡ true → Suits text 0 x
+  prefix-suits Absent e = tt
+  prefix-suits Empty e = clash e
+  prefix-suits (Stretch p n) e = stretch-lies text (Stretch p n) e
+  prefix-suits XmlPrefix e = refl
+  prefix-suits XmlNamespace e = clash e
+
+  pub namespace-suits : (x : Text) → isNamespace text x ≡ true → Suits text 1 x
+  namespace-suits Absent e = tt
+  namespace-suits Empty e = clash e
+  namespace-suits (Stretch p n) e = stretch-lies text (Stretch p n) e
+  namespace-suits XmlPrefix e = clash e
+  namespace-suits XmlNamespace e = refl
+
+  pub stretch-spells : (x : Text) → isStretch text x ≡ true → Spells text x
+  stretch-spells Absent e = clash e
+  stretch-spells Empty e = clash e
+  stretch-spells (Stretch p n) e = stretch-lies text (Stretch p n) e
+  stretch-spells XmlPrefix e = clash e
+  stretch-spells XmlNamespace e = clash e
+
+  pub value-fills : (x : Text) → isValue text x ≡ true → Fills text x
+  value-fills Absent e = clash e
+  value-fills Empty e = tt
+  value-fills (Stretch p n) e = stretch-lies text (Stretch p n) e
+  value-fills XmlPrefix e = clash e
+  value-fills XmlNamespace e = clash e
+
+  pub name-ready : (e : Event) (name : Parts) → name ≡ record { prefix = e .prefix; namespace = e .namespace; local = e .name } → Named text e
+      → Suits text 0 (name .prefix) × Suits text 1 (name .namespace) × Suits text 2 (name .local) × (1 ≤ textTag (name .local))
+  name-ready e name is n =
+      let s = stretch-spells (e .name) (n .local) in
+      rw is (prefix-suits (e .prefix) (n .prefix), namespace-suits (e .namespace) (n .namespace), spells-suits text 2 (e .name) s, spells-stretch text (e .name) s .3)
+
+-- ---- the end of an attribute list, and the room
+module _ (st : State) (e : Event) (out : List ℕ) where
+  pub settled-elsewhere : isListing (modeOf (st .mode)) ≡ false → (st ≡ listEnded (owes st e) st) × (out ≡ endPut (owes st e) out (st .at))
+  unfolding owes
+  settled-elsewhere l = rw l (refl, refl)
+
+  module _ (l : isListing (modeOf (st .mode)) ≡ true) where
+    pub settled-member : isAttribute (eventOf (e .kind) e) ≡ true → (st ≡ listEnded (owes st e) st) × (out ≡ endPut (owes st e) out (st .at))
+    unfolding owes
+    settled-member i = rw (l, i) (refl, refl)
+
+    pub settled-behind : isAttribute (eventOf (e .kind) e) ≡ false → {out′ : List ℕ} → out′ ≡ set out (st .at / 2) (endOctet (st .at))
+        → (listEnded true st ≡ listEnded (owes st e) st) × (out′ ≡ endPut (owes st e) out (st .at))
+    unfolding owes
+    settled-behind i p = rw (l, i) (refl, p)
+
+pub octet-aligned : (at : ℕ) → (at + 1) / 2 ≡ aligned at / 2
+unfolding aligned
+octet-aligned at = omega arith
+
+module _ (text : List ℕ) (room : ℕ) (st : State) where
+  pub held-over : min room 16384 < (st .at + 1) / 2 → Stop 14 ≡ holding text room st
+  unfolding holding fits link
+  held-over h = rw (← (octet-aligned (st .at)), lt-leb _ _ h)
+
+  pub held-fitting : (st .at + 1) / 2 ≤ room → (st .at + 1) / 2 ≤ 16384 → On st ≡ holding text room st
+  unfolding holding fits link
+  held-fitting h l = rw (← (octet-aligned (st .at)), le-leb _ _ (le-min h l))
+
+-- ---- octets put behind others
+stands-behind : {text out out₁ out′ w xs ys : List ℕ} {v : Vocabulary Located} {at r most : ℕ} {h : Here} (k : ℕ) → Puts out at r out₁ xs → r ≤ at + k
+    → Stands text out₁ r most h out′ w ys v → Stands text out at (k + most) h out′ w (xs ++ ys) v
+stands-behind k p l s = let f = s .few in record { puts = puts-append p (s .puts); few = omega arith; tables = s .tables; order = s .order }
+
+-- ---- the state behind an item
+abbrev asWrote : WroteItem → Wrote Choice
+asWrote d = record { octets = d .octets; how = d .choice; number = 0; words = d .state .words }
+
+module _ (text : List ℕ) (a : Bool) (st : State) (out w : List ℕ) (e : E.Event Located) (item : isEnd e ≡ false) (next : State)
+    (state : stateOf next (writeItem link text a (known st w) e .state .words) ≡ writeItem link text a (known st w) e .state)
+    (shallow : next .level + coming (next .mode) ≤ 32) where
+  lands : (most : ℕ) (r : W.Wrote) (out′ w′ : List ℕ) → 1 ≤ length (writeItem link text a (known st w) e .octets)
+      → Meets text out (aligned (st .at) / 2) most r out′ w′ (asWrote (writeItem link text a (known st w) e)) → Near r → Lands text a st out w e (landing next r) out′ w′
+  lands most (Put h) out′ w′ some s n =
+      let z : 2 * h .at / 2 ≡ h .at = omega arith in
+      record { laid = rw (item, z) (s .puts, refl, some); near = omega arith; state = rw (s .tables) state; order = s .order; shallow = shallow }
+  lands most Full out′ w′ some s n = (refl, s)
+
+  -- octets stand before what was put last
+  lands-behind : {H : Type 0} (d : Wrote H) {xs out₁ : List ℕ} {at : ℕ} (most : ℕ) → Puts out (aligned (st .at) / 2) at out₁ xs → at ≤ aligned (st .at) / 2 + 1
+      → writeItem link text a (known st w) e .octets ≡ xs ++ d .octets → writeItem link text a (known st w) e .state .words ≡ d .words → (r : W.Wrote) (out′ w′ : List ℕ)
+      → 1 ≤ length (writeItem link text a (known st w) e .octets) → Meets text out₁ at most r out′ w′ d → Near r → Lands text a st out w e (landing next r) out′ w′
+  lands-behind d most p l o s (Put h) out′ w′ some m n = lands (1 + most) (Put h) out′ w′ some (rw (o, s) (stands-behind 1 p l m)) n
+  lands-behind d most p l o s Full out′ w′ some m n = (refl, rw s m)
+
+pub meets-near : {H : Type 0} (text out : List ℕ) (at most : ℕ) (r : W.Wrote) (out′ w′ : List ℕ) (d : Wrote H) → at + most ≤ 200000 → Meets text out at most r out′ w′ d → Near r
+meets-near text out at most (Put h) out′ w′ d l s = let f = s .few in omega arith
+meets-near text out at most Full out′ w′ d l s = tt
+
+-- ---- an item has an octet
+spell-some : (fs : List Form) (lead v : ℕ) → v < sizes fs → 1 ≤ length (spell fs lead v)
+unfolding spell sizes
+spell-some [] lead v h = absurd (omega arith)
+spell-some (form span room more size ∷ fs) lead v h =
+    case v size (λ y. rw (lt-ltb v size y) (omega arith)) (λ n. rw (le-ltb v size n) (spell-some fs (lead + room) (v - size) (omega arith)))
+
+sizes-4 : 256 ≤ sizes (numbers 4)
+unfolding sizes numbers coded
+sizes-4 = omega arith
+
+spelled-some : (text : List ℕ) (x : Text) → Spells text x → 1 ≤ length (octetsOf text (locatedOf x))
+unfolding octetsOf
+spelled-some text x s = let f = spells-stretch text x s in let n = f .1 in rw (f .0, part-length text (textPlace x) (textSize x) (f .2)) (omega arith)
+
+module _ (text : List ℕ) (v : Vocabulary Located) (x : Located) (some : 1 ≤ length (octetsOf text x)) (few : length (strings v CONTENT-CHARACTER-CHUNK) ≤ 256) where
+  chunk-by : (b : Bool) → eqb (numberIn (map (octetsOf text) (strings v CONTENT-CHARACTER-CHUNK)) (octetsOf text x)) 0 ≡ b
+      → 1 ≤ length (writeLiteral link c15 text CONTENT-CHARACTER-CHUNK v x .octets)
+  unfolding writeLiteral c15
+  chunk-by true q = rw q (simp length-append (omega arith))
+  chunk-by false q =
+      let m = number-within (map (octetsOf text) (strings v CONTENT-CHARACTER-CHUNK)) (octetsOf text x) in
+      let n = length-map (strings v CONTENT-CHARACTER-CHUNK) (octetsOf text) in
+      let z = sizes-4 in
+      rw q (spell-some (numbers 4) 0xA0 (numberIn (map (octetsOf text) (strings v CONTENT-CHARACTER-CHUNK)) (octetsOf text x) - 1) (omega arith))
+
+sizes-name : (t : ℕ) → 256 ≤ sizes (layoutOf t .numberForms)
+unfolding layoutOf sizes numbers c25 coded ofElement ofAttribute
+sizes-name t = by (eqb t 8)
+  where
+    by : (b : Bool) → 256 ≤ sizes (pick b ofElement ofAttribute .numberForms)
+    by true = omega arith
+    by false = omega arith
+
+-- the name's number once its strings are written
+abbrev numberThen : NameLayout → List ℕ → Vocabulary Located → E.Name Located → ℕ
+numberThen q text v x =
+    let p = writeOptional text PREFIX v (x .prefix) in
+    let n = writeOptional text NAMESPACE-NAME (p .words) (x .namespace) in
+    numberOfTriple (names (writeId text LOCAL-NAME (n .words) (x .local) .words) (q .table)) (tripleFor text v x)
+
+module _ (q : NameLayout) (lead : ℕ) (text : List ℕ) (v : Vocabulary Located) (x : E.Name Located) (wide : 256 ≤ sizes (q .numberForms)) (few : length (names v (q .table)) ≤ 256) where
+  name-by : (b : Bool) → eqb (numberThen q text v x) 0 ≡ b → 1 ≤ length (writeName q lead text v x .octets)
+  unfolding writeName tripleFor
+  name-by true e = rw e (omega arith)
+  name-by false e =
+      let kept = names-kept text v (q .table) (x .prefix) (x .namespace) (x .local) in
+      let m = name-number-within (names v (q .table)) (tripleFor text v x) in
+      rw (e, kept) (spell-some (q .numberForms) lead (numberOfTriple (names v (q .table)) (tripleFor text v x) - 1) (omega arith))
+
+-- ---- a value as the item's last string: its table has room or is left alone
+module _ (text : List ℕ) (t : StringTable) (v : Vocabulary Located) (x : Located) (same : within link (adding v t x) ≡ within link v) where
+  within-kept : (added : Bool) → within link (keeping added v t x) ≡ within link v
+  within-kept true = same
+  within-kept false = refl
+
+  value-by : (b c : Bool) → eqb (length (octetsOf text x)) 0 ≡ b → eqb (numberIn (map (octetsOf text) (strings v t)) (octetsOf text x)) 0 ≡ c
+      → within link (writeValue link text t v x .words) ≡ within link v
+  unfolding writeValue writeLiteral
+  value-by true c p q = rw p
+  value-by false true p q = rw (p, q) (within-kept (worthAdding link (strings v t) (octetsOf text x)))
+  value-by false false p q = rw (p, q)
+
+  value-within : within link (writeValue link text t v x .words) ≡ within link v
+  value-within = value-by _ _ refl refl
+
+value-behind : {text out out₁ out₂ w₁ w₂ xs : List ℕ} {v : Vocabulary Located} {at m : ℕ} {h g : Here} (t : StringTable) (y : Located) → Stands text out at m h out₁ w₁ xs v
+    → Stands text out₁ (h .at) 16389 g out₂ w₂ (writeValue link text t (vocabulary (h .counts) w₁) y .octets) (writeValue link text t (vocabulary (h .counts) w₁) y .words)
+    → Stands text out at (m + 16389) g out₂ w₂ (xs ++ writeValue link text t v y .octets) (writeValue link text t v y .words)
+value-behind {m = m} t y s r = stands-behind m (s .puts) (s .few) (rw (s .tables) at r)
+
+-- ---- a kind that was found out
+pub kind-fits : {text w : List ℕ} {st : State} {e : Event} {k : Kind} → e .kind ≡ k → Fit text st w (e .kind) e → Fit text st w k e
+kind-fits {text} {w} {st} {e} q f = subst (λ (x : Kind). Fit text st w x e) q f
+
+-- ---- an element more
+element-room : (level : ℕ) (m : Mode) → level + coming m ≤ 32 → (not (isDeclaring (modeOf m)) && leb (link .depth) level) ≡ false → level + 1 ≤ 32
+unfolding link
+element-room level Content s r = let l = leb-false 32 level r in omega arith
+element-room level (Declaring a) s r = s
+element-room level (Listing any) s r = let l = leb-false 32 level r in omega arith
+
+opened-is : (st : State) (a : Bool) (v u : Vocabulary Located) → stateOf (openedTo st a) v ≡ F.opened (stateOf st u) v a
+opened-is st true v u = rw (add-one (st .level))
+opened-is st false v u = rw (add-one (st .level))
+
+coming-behind-start : (a : Bool) → coming (modeBehindStart a) ≡ 0
+coming-behind-start true = refl
+coming-behind-start false = refl
+
+-- ---- each kind
+module _ (text : List ℕ) (a : Bool) (st : State) (w : List ℕ) (e : Event) where
+  pub chunk-lands : Fit text st w Chunk e → {at : ℕ} → (at ≡ aligned (st .at) / 2) × (at ≤ 16385) → {out out′ w′ : List ℕ} {h : Here}
+      → Stands text out at 16389 h out′ w′ (writeLiteral link c15 text CONTENT-CHARACTER-CHUNK (vocabulary (st .counts) w) (locatedOf (e .value)) .octets)
+      (writeLiteral link c15 text CONTENT-CHARACTER-CHUNK (vocabulary (st .counts) w) (locatedOf (e .value)) .words)
+      → Lands text a st out w (eventOf Chunk e) (landing st (Put h)) out′ w′
+  unfolding eventOf writeItem tableOf
+  chunk-lands fit q {out′ = out′} {w′ = w′} {h = h} s =
+      let n = length-strings (st .counts) w 6 (omega arith) in
+      let c = fit .order .counted 6 in
+      let o = chunk-by text (vocabulary (st .counts) w) (locatedOf (e .value)) (spelled-some text (e .value) (stretch-spells text (e .value) (by-kind text e Chunk (fit .made) .2))) (omega arith) _ refl in
+      lands text a st _ w (eventOf Chunk e) refl st refl (fit .shallow) 16389 (Put h) out′ w′ o (rw (← (q .0)) s) (let b = q .1 in let f = s .few in omega arith)
+
+  pub comment-lands : Fit text st w Comment e → {at : ℕ} → (at ≡ aligned (st .at) / 2) × (at ≤ 16385) → {out out₁ out′ w′ : List ℕ} {h : Here} → out₁ ≡ set out at 0xE2
+      → Stands text out₁ (at + 1) 16389 h out′ w′ (writeValue link text (tableOf 7) (vocabulary (st .counts) w) (locatedOf (e .value)) .octets)
+      (writeValue link text (tableOf 7) (vocabulary (st .counts) w) (locatedOf (e .value)) .words)
+      → Lands text a st out w (eventOf Comment e) (landing st (Put h)) out′ w′
+  unfolding eventOf writeItem tableOf
+  comment-lands fit q {out′ = out′} {w′ = w′} {h = h} p s =
+      lands text a st _ w (eventOf Comment e) refl st refl (fit .shallow) 16390 (Put h) out′ w′ (omega arith) (rw (← (q .0)) (stands-behind 1 (puts-one p) (omega arith) s))
+      (let b = q .1 in let f = s .few in omega arith)
+
+  pub instruction-full : within link (writeId text (tableOf 3) (vocabulary (st .counts) w) (locatedOf (e .name)) .words) ≡ false
+      → within link (writeItem link text a (known st w) (eventOf Instruction e) .state .words) ≡ false
+  unfolding eventOf writeItem tableOf adding place within
+  instruction-full f = value-within text OTHER-STRING _ (locatedOf (e .value)) refl ∙ f
+
+  pub instruction-lands : Fit text st w Instruction e → {at : ℕ} → (at ≡ aligned (st .at) / 2) × (at ≤ 16385) → {out out₁ out₂ out′ w₁ w′ : List ℕ} {h g : Here} → out₁ ≡ set out at 0xE1
+      → Stands text out₁ (at + 1) 16389 h out₂ w₁ (writeId text (tableOf 3) (vocabulary (st .counts) w) (locatedOf (e .name)) .octets)
+      (writeId text (tableOf 3) (vocabulary (st .counts) w) (locatedOf (e .name)) .words)
+      → Stands text out₂ (h .at) 16389 g out′ w′ (writeValue link text (tableOf 7) (vocabulary (h .counts) w₁) (locatedOf (e .value)) .octets)
+      (writeValue link text (tableOf 7) (vocabulary (h .counts) w₁) (locatedOf (e .value)) .words)
+      → Lands text a st out w (eventOf Instruction e) (landing st (Put g)) out′ w′
+  unfolding eventOf writeItem tableOf
+  instruction-lands fit q {out′ = out′} {w′ = w′} {g = g} p s r =
+      lands text a st _ w (eventOf Instruction e) refl st refl (fit .shallow) 32779 (Put g) out′ w′ (omega arith)
+      (rw (← (q .0)) (stands-behind 1 (puts-one p) (omega arith) (value-behind OTHER-STRING _ s r)))
+      (let b = q .1 in let f = s .few in let k = r .few in omega arith)
+
+  pub declare-lands : Fit text st w Namespace e → {at₀ at : ℕ} {out out₁ : List ℕ} → (at₀ ≡ aligned (st .at) / 2) × (at₀ ≤ 16385)
+      → Puts out at₀ at out₁ (beforeDeclaration (modeOf (st .mode)) a) × (at ≤ at₀ + 1) → (r : W.Wrote) (out′ w′ : List ℕ)
+      → Meets text out₁ at 32779 r out′ w′ (declaredBy text (vocabulary (st .counts) w) (optionalOf (e .prefix)) (optionalOf (e .namespace)))
+      → Lands text a st out w (eventOf Namespace e) (landing (movedTo st (Declaring a)) r) out′ w′
+  unfolding eventOf writeItem declaredBy pairBehind
+  declare-lands fit q p r out′ w′ m =
+      let s = element-room (st .level) (st .mode) (fit .shallow) (fit .roomy) in
+      let b = q .1 in
+      let l = p .1 in
+      let n = meets-near text _ _ 32779 r out′ w′ _ (omega arith) m in
+      lands-behind text a st _ w (eventOf Namespace e) refl (movedTo st (Declaring a)) refl (omega arith) _ 32779 (rw (q .0) at (p .0)) (rw (q .0) at l) refl refl r out′ w′
+      (simp length-append (omega arith)) m n
+
+  module _ (fit : Fit text st w Start e) {at₀ at lead : ℕ} {out out₁ : List ℕ} (q : (at₀ ≡ aligned (st .at) / 2) × (at₀ ≤ 16385))
+      (p : Puts out at₀ at out₁ (beforeName (modeOf (st .mode))) × (at ≤ at₀ + 1)) (lead-is : lead ≡ nameLead (modeOf (st .mode)) a) where
+    start-some : 1 ≤ length (writeItem link text a (known st w) (eventOf Start e) .octets)
+    unfolding eventOf writeItem layoutOf nameTableOf ofElement
+    start-some =
+        let n = length-names (st .counts) w 8 (omega arith) (omega arith) in
+        let c = fit .order .counted 8 in
+        let o = name-by (layoutOf 8) (nameLead (modeOf (st .mode)) a) text (vocabulary (st .counts) w) (nameOf e) (sizes-name 8) (omega arith) _ refl in
+        simp length-append (omega arith)
+
+    pub start-lands : (name : Parts) → name ≡ record { prefix = e .prefix; namespace = e .namespace; local = e .name } → (r : W.Wrote) (out′ w′ : List ℕ)
+        → Meets text out₁ at 49168 r out′ w′ (writeName (layoutOf 8) lead text (vocabulary (st .counts) w) (namedOf name))
+        → Lands text a st out w (eventOf Start e) (landing (openedTo st a) r) out′ w′
+    unfolding eventOf writeItem layoutOf
+    start-lands name is r out′ w′ m =
+        let s = element-room (st .level) (st .mode) (fit .shallow) (fit .roomy) in
+        let b = q .1 in
+        let l = p .1 in
+        let n = meets-near text _ _ 49168 r out′ w′ _ (omega arith) m in
+        let k = coming-behind-start a in
+        lands-behind text a st _ w (eventOf Start e) refl (openedTo st a) (opened-is st a _ (vocabulary (st .counts) w)) (omega arith) _ 49168 (rw (q .0) at (p .0)) (rw (q .0) at l) refl refl r out′ w′
+        start-some (rw (lead-is, is) at m) n
+
+  module _ (fit : Fit text st w Attribute e) (name : Parts) (is : name ≡ record { prefix = e .prefix; namespace = e .namespace; local = e .name }) where
+    attribute-some : 1 ≤ length (writeItem link text a (known st w) (eventOf Attribute e) .octets)
+    unfolding eventOf writeItem layoutOf nameTableOf ofAttribute
+    attribute-some =
+        let n = length-names (st .counts) w 9 (omega arith) (omega arith) in
+        let c = fit .order .counted 9 in
+        let o = name-by (layoutOf 9) 0 text (vocabulary (st .counts) w) (nameOf e) (sizes-name 9) (omega arith) _ refl in
+        simp length-append (omega arith)
+
+    pub attribute-full : within link (writeName (layoutOf 9) 0 text (vocabulary (st .counts) w) (namedOf name) .words) ≡ false
+        → within link (writeItem link text a (known st w) (eventOf Attribute e) .state .words) ≡ false
+    unfolding eventOf writeItem layoutOf adding place within
+    attribute-full f = value-within text ATTRIBUTE-VALUE _ (locatedOf (e .value)) refl ∙ rw is at f
+
+    pub attribute-lands : {at : ℕ} → (at ≡ aligned (st .at) / 2) × (at ≤ 16385) → {out out₁ out′ w₁ w′ : List ℕ} {h g : Here}
+        → Stands text out at 49168 h out₁ w₁ (writeName (layoutOf 9) 0 text (vocabulary (st .counts) w) (namedOf name) .octets)
+        (writeName (layoutOf 9) 0 text (vocabulary (st .counts) w) (namedOf name) .words)
+        → Stands text out₁ (h .at) 16389 g out′ w′ (writeValue link text (tableOf 5) (vocabulary (h .counts) w₁) (locatedOf (e .value)) .octets)
+        (writeValue link text (tableOf 5) (vocabulary (h .counts) w₁) (locatedOf (e .value)) .words)
+        → Lands text a st out w (eventOf Attribute e) (landing (movedTo st (Listing true)) (Put g)) out′ w′
+    unfolding eventOf writeItem layoutOf tableOf
+    attribute-lands q {out′ = out′} {w′ = w′} {g = g} s r =
+        let b = q .1 in
+        let f = s .few in
+        let k = r .few in
+        let d = fit .shallow in
+        lands text a st _ w (eventOf Attribute e) refl (movedTo st (Listing true)) refl (omega arith) 65557 (Put g) out′ w′ attribute-some
+        (rw (← (q .0)) (value-behind ATTRIBUTE-VALUE _ (rw is at s) r)) (omega arith)
+
+pub end-lands : (text : List ℕ) (a : Bool) (st : State) (w : List ℕ) → InOrder text (st .counts) w → st .at ≤ 32769 → st .level ≤ 32 → {out out′ : List ℕ}
+    → out′ ≡ set out (st .at / 2) (endOctet (st .at)) → Lands text a st out w E.End (On (closedTo st)) out′ w
+unfolding writeItem
+end-lands text a st w order l d p = record { laid = (refl, p); near = omega arith; state = refl; order = order; shallow = omega arith }

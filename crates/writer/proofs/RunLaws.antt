@@ -1,0 +1,212 @@
+-- A law for each way out of the functions of a run, on plain values; and what holds while a run is underway.
+-- Assumes nothing.
+use mathlib.Core.Path.{_≡_, refl, sym, ap, _∙_}
+use mathlib.Core.Bool.{Bool, true, false, true≢false, _&&_}
+use mathlib.Core.List.{List, [], _∷_, _++_, append-assoc}
+use Prim.Native.Nat.{ℕ, zero, suc, _+_, _/_, _%_, _≤_, _<_, min}
+use native.Mathlib.Omega.{arith}
+use native.Mathlib.Numerals.{add-one}
+use borrow.Author.Tests.{le-leb, lt-leb}
+use lib.Dec.{eqb, lit<}
+use lib.ListN.{length, drop, set, replicate, drop-of-length-le, getD-replicate}
+use Rattle.format.specs.Numbers.{pick}
+use Rattle.format.specs.Tables.{Vocabulary, link}
+use Rattle.format.specs.Events as E
+use Rattle.format.specs.Events.{Item, _by_}
+use Rattle.format.specs.Items as F
+use Rattle.format.specs.Document.{aligned, header, beginning}
+use Rattle.tables.specs.Located.{Located, start}
+use Rattle.tables.specs.Counts.{words}
+use Rattle.tables.specs.Kept.{Clean}
+use Rattle.tables.proofs.Laws.{vocabulary-start, counts-are}
+use Rattle.events.specs.declared.Kind.{Kind}
+use Rattle.events.specs.declared.Kind.the-variants.{Blank, Namespace, Start, Attribute, Chunk, Comment, Instruction, End}
+use Rattle.events.specs.declared.Event.{Event}
+use Rattle.choices.proofs.Order.{order-start}
+use Rattle.writer.specs.declared.Answer.{Answer}
+use Rattle.writer.specs.declared.Answer.the-variants.{Accepted, Refused}
+use Rattle.writer.specs.declared.State.{State}
+use Rattle.writer.specs.declared.Step.{Step}
+use Rattle.writer.specs.declared.Step.the-variants.{On, Stop}
+use Rattle.writer.specs.Events.{eventOf, isContent, amongChildren, goesOn, wellMade}
+use Rattle.writer.specs.Items.{writeItem}
+use Rattle.writer.specs.Writing.{announced, isAttribute, Result, written, refusal, plus, fits, judge, settled, finish, run, writing, outcome, refusing}
+use Rattle.writer.specs.Output.{Holds, endOctet}
+use Rattle.writer.specs.Code.{modeOf}
+use Rattle.writer.specs.Steps.{known, itemOf, halvesFor, verdict, Steps}
+use Rattle.writer.specs.RunStages.{fresh, Foretold, behind, remains, Underway, Finishes}
+use Rattle.writer.proofs.OutputLaws.{held-length, held-whole, document-end-held}
+use Rattle.writer.proofs.AheadLaws.{announced-on}
+
+-- ---- the attribute bit
+bit-started : (a b : Bool) → Foretold (F.afterStart a) b
+bit-started true b = tt
+bit-started false b = tt
+
+bit-settled : (w : Vocabulary Located) (l : ℕ) (r : Bool) (m : F.Mode) (x : E.Event Located) (b : Bool) → isAttribute x ≡ false → amongChildren m ≡ true
+    → Foretold (settled (record { words = w; level = l; root = r; mode = m }) x .mode) b
+unfolding settled
+bit-settled w l r F.content x b f h = tt
+bit-settled w l r (F.declaring a) x b f h = absurd (true≢false (sym h))
+bit-settled w l r (F.listing any) x b f h = rw f tt
+
+both : (a b : Bool) → (a && b) ≡ true → (a ≡ true) × (b ≡ true)
+both true true h = (refl, refl)
+both true false h = absurd (true≢false (sym h))
+both false b h = absurd (true≢false (sym h))
+
+-- declarations go on only behind one of them, whose own bit is theirs
+bit-behind : (text : List ℕ) (a : Bool) (v : F.State Located) (k : Kind) (e : Event) (b : Bool) → (k ≡ Namespace → a ≡ b) → wellMade text k e ≡ true → goesOn v (eventOf k e) ≡ true
+    → Foretold (writeItem link text a (settled v (eventOf k e)) (eventOf k e) .state .mode) b
+unfolding wellMade goesOn eventOf writeItem
+bit-behind text a v Blank e b q h g = absurd (true≢false (sym h))
+bit-behind text a v Namespace e b q h g = q refl
+bit-behind text a v Start e b q h g = bit-started a b
+bit-behind text a v Attribute e b q h g = tt
+bit-behind text a v Chunk e b q h g = bit-settled _ _ _ _ _ b refl (both _ _ g .0)
+bit-behind text a v Comment e b q h g = bit-settled _ _ _ _ _ b refl g
+bit-behind text a v Instruction e b q h g = bit-settled _ _ _ _ _ b refl g
+bit-behind text a v End e b q h g = tt
+
+first-test : (b : Bool) (n : ℕ) → pick b n 16 ≡ 0 → b ≡ true
+first-test true n h = refl
+first-test false n h = absurd (omega arith)
+
+behind-plus : (i : Item Located) (hs ks : List ℕ) (x : Result) (room : ℕ) → behind hs (plus i ks x) room ≡ behind (hs ++ ks) x room
+behind-plus i hs ks (written is js z) room = rw (append-assoc hs ks js)
+behind-plus i hs ks (refusal n p) room = refl
+
+module _ (text : List ℕ) (room at : ℕ) (v : F.State Located) (e : Event) (es : List Event) where
+  abbrev bit : Bool
+  bit = announced (e ∷ es)
+
+  bit-next : verdict text room bit at v e ≡ 0 → Foretold (itemOf text bit v e .state .mode) (announced es)
+  unfolding verdict judge itemOf
+  bit-next h =
+      let g = both _ _ (first-test _ _ h) in
+      bit-behind text bit v (e .kind) e (announced es) (λ k. announced-on e es k) (g .0) (g .1)
+
+  -- ---- one event of a run
+  module _ (i : ℕ) where
+    abbrev wrote : Item Located
+    wrote = eventOf (e .kind) e by itemOf text bit v e .choice
+
+    abbrev rest : Result
+    rest = run link text room (at + length (halvesFor text room bit at v e)) (itemOf text bit v e .state) (suc i) es
+
+    run-on : {n : ℕ} → verdict text room bit at v e ≡ n → run link text room at v i (e ∷ es) ≡ elim n [ zero ↦ plus wrote (halvesFor text room bit at v e) rest | suc k ↦ refusal (suc k) i ]
+    unfolding run verdict itemOf halvesFor
+    run-on h = ap (λ (n : ℕ). elim n [ zero ↦ plus wrote (halvesFor text room bit at v e) rest | suc k ↦ refusal (suc k) i ]) h
+
+    behind-on : (hs : List ℕ) → verdict text room bit at v e ≡ 0 → behind hs (run link text room at v i (e ∷ es)) room ≡ behind (hs ++ halvesFor text room bit at v e) rest room
+    behind-on hs h = ap (λ (x : Result). behind hs x room) (run-on h) ∙ behind-plus wrote hs (halvesFor text room bit at v e) rest room
+
+    run-stop : (n : ℕ) → verdict text room bit at v e ≡ n → 1 ≤ n → run link text room at v i (e ∷ es) ≡ refusal n i
+    run-stop zero h l = absurd (omega arith)
+    run-stop (suc n) h l = run-on h
+
+behind-none : (x : Result) (room : ℕ) → behind [] x room ≡ outcome x room
+behind-none (written is hs z) room = refl
+behind-none (refusal n p) room = refl
+
+-- ---- room that is cleared
+pub zeroed : (x : List ℕ) (n m : ℕ) → x ≡ replicate n 0 → n ≡ m → x ≡ replicate m 0
+zeroed x n m e q = e ∙ ap (λ (k : ℕ). replicate k 0) q
+
+pub held-room : {n m : ℕ} {out : List ℕ} → n ≡ m → Holds n [] 10 out → Holds m [] 10 out
+held-room q h = rw q at h
+
+-- ---- a run of the events es, with `room` octets of output
+module _ (text : List ℕ) (room : ℕ) (es : List Event) where
+  start-known : (w : List ℕ) → w ≡ replicate words 0 → known fresh w ≡ beginning start
+  unfolding beginning
+  start-known w e = rw (e, vocabulary-start (replicate words 0) (getD-replicate {A = ℕ} words 1 0 0 (lit< tt)) (getD-replicate {A = ℕ} words 769 0 0 (lit< tt)))
+
+  pub underway-start : length text ≤ 16384 → {out w : List ℕ} → Holds room [] 10 out → w ≡ replicate words 0 → Underway text room es 0 fresh out w
+  unfolding writing header
+  underway-start h {out} {w} o e =
+      record {
+        hs = [];
+        holds = o;
+        ready = record { order = rw e (order-start text h); at = omega arith; shallow = omega arith };
+        bit-known = tt;
+        small = omega arith;
+        leads = rw (start-known w e) (behind-none (run link text room 10 (beginning start) 0 es) room);
+      }
+
+module _ {text : List ℕ} {room : ℕ} {es : List Event} {i : ℕ} {st : State} {out w : List ℕ} (u : Underway text room es i st out w) where
+  pub underway-number : i ≤ 32768
+  underway-number = let l = u .ready .at in let m = u .small in omega arith
+
+  -- a step with the next event
+  module _ {e : Event} (d : drop i es ≡ e ∷ drop (suc i) es) {a : Bool} (b : a ≡ announced (drop i es)) (r : Step) (out′ w′ : List ℕ) (p : Steps text room a st out w e r out′ w′) where
+    leads-here : behind (u .hs) (run link text room (st .at) (known st w) i (e ∷ drop (suc i) es)) room ≡ outcome (writing text room es) room
+    leads-here = rw d at (u .leads)
+
+    stepped : Steps text room (announced (e ∷ drop (suc i) es)) st out w e r out′ w′
+    stepped = rw (b ∙ ap announced d) at p
+
+    pub underway-on : {next : State} → r ≡ On next → Underway text room es (i + 1) next out′ w′
+    underway-on {next} q =
+        let g = rw q at stepped in
+        let l = u .small in
+        let o = g .onward in
+        let k = halvesFor text room (announced (e ∷ drop (suc i) es)) (st .at) (known st w) e in
+        let grown = g .grown (u .hs) (u .holds) in
+        let m : modeOf (next .mode) ≡ itemOf text (announced (e ∷ drop (suc i) es)) (known st w) e .state .mode = ap (λ (v : F.State Located). v .mode) (g .state) in
+        record {
+          hs = u .hs ++ k;
+          holds = rw (grown .place) (grown .holds);
+          ready = g .ready;
+          bit-known = rw (m, add-one i) (bit-next text room (st .at) (known st w) e (drop (suc i) es) (g .judged));
+          small = omega arith;
+          leads = rw (g .state, grown .place, add-one i) (sym (behind-on text room (st .at) (known st w) e (drop (suc i) es) i (u .hs) (g .judged)) ∙ leads-here);
+        }
+
+    pub run-refused : {n : ℕ} → r ≡ Stop n → refusing n i room words ≡ outcome (writing text room es) room
+    run-refused {n} q =
+        let g = rw q at stepped in
+        sym (ap (λ (x : Result). behind (u .hs) x room) (run-stop text room (st .at) (known st w) e (drop (suc i) es) i n (g .0) (g .1))) ∙ leads-here
+
+  -- the end behind the last event
+  pub run-finished : length es ≤ i → (r : Answer) (out′ : List ℕ) → Finishes room st out i r out′ → remains room words r out′ w ≡ outcome (writing text room es) room
+  unfolding run
+  run-finished l r out′ f = f text w (u .hs) (u .ready) (u .holds) ∙ (rw (drop-of-length-le es l) at (u .leads))
+
+-- ---- the document's end
+module _ (text : List ℕ) (room at : ℕ) where
+  fits-not : min room 16384 < (at + 2) / 2 → fits link text room (suc at) ≡ false
+  unfolding fits link aligned
+  fits-not l = let k : min room 16384 < (suc at + suc at % 2) / 2 = omega arith in lt-leb _ _ k
+
+  fits-so : (at + 2) / 2 ≤ min room 16384 → fits link text room (suc at) ≡ true
+  unfolding fits link aligned
+  fits-so l = let k : (suc at + suc at % 2) / 2 ≤ min room 16384 = omega arith in le-leb _ _ k
+
+whole-octets : (at : ℕ) → aligned (aligned (suc at)) / 2 ≡ (at + 2) / 2
+unfolding aligned
+whole-octets at = omega arith
+
+module _ (room : ℕ) (st : State) (out : List ℕ) (i : ℕ) where
+  abbrev complete : Bool
+  complete = isContent (modeOf (st .mode)) && (eqb (st .level) 0 && st .root)
+
+  pub finish-owed : false ≡ complete → Finishes room st out i (Refused 16 i) out
+  unfolding finish
+  finish-owed e text w hs g h = rw (← e)
+
+  module _ (e : true ≡ complete) where
+    pub finish-full : min room 16384 < (st .at + 2) / 2 → Finishes room st out i (Refused 14 i) out
+    unfolding finish
+    finish-full l text w hs g h = rw (← e, fits-not text room (st .at) l)
+
+    pub finish-written : (st .at + 2) / 2 ≤ min room 16384 → {out′ : List ℕ} → out′ ≡ set out (st .at / 2) (endOctet (st .at))
+        → Finishes room st out i (Accepted ((st .at + 2) / 2) (st .counts)) out′
+    unfolding finish Clean
+    finish-written l {out′} p text w hs g h =
+        let held = document-end-held h p in
+        let n = held-length held ∙ whole-octets (st .at) in
+        let k : aligned (aligned (suc (st .at))) / 2 ≤ room = rw (whole-octets (st .at)) (omega arith) in
+        let o = held-whole held k in
+        let c = counts-are (st .counts) w in
+        rw (← e, fits-so text room (st .at) l) (λ j. record { answer = Accepted (sym n j) (sym c j); out = o j; tables = sym (g .order .clean) j })

@@ -1,0 +1,46 @@
+-- `State::comment` meets its contract: a law for each way out.
+-- Assumes nothing.
+use borrow.Author.Needs.{needs}
+use native.Mathlib.Omega.{arith}
+use Rattle.events.specs.declared.Kind.the-variants.{Comment}
+use Rattle.writer.proofs.WellMade.{by-kind}
+use Rattle.writer.proofs.ItemLaws.{value-fills, comment-lands}
+use Rattle.writer.proofs.State.comment.Statement.{statement}
+use Rattle.writer.proofs.State.comment.Tie as tie
+
+octet-requires : tie.Need-octet-requires
+octet-requires c κs = search needs
+
+put-requires : tie.Need-put-requires
+put-requires c κs = search needs
+
+add-t15 : tie.Need-add-t15
+add-t15 c = search needs
+
+value-requires : tie.Need-value-requires
+value-requires c κs = (c .before .before .before .before .before .before .before .before .before .before .before .pre .order, omega arith, omega arith, value-fills (c .before .before .before .before .before .before .before .before .before .before .before .args .text .now) (c .before .before .before .before .before .before .before .before .before .before .before .args .e .value) (by-kind (c .before .before .before .before .before .before .before .before .before .before .before .args .text .now) (c .before .before .before .before .before .before .before .before .before .before .before .args .e) Comment (c .before .before .before .before .before .before .before .before .before .before .before .pre .made) .2))
+
+landed-requires : tie.Need-landed-requires
+landed-requires c κs = search needs
+
+same-length : tie.Need-same-length
+same-length c = search needs
+
+same-length-2 : tie.Need-same-length-2
+same-length-2 c = search needs
+
+returns : tie.Need-returns
+returns c = rw (c .landed .ensures) (comment-lands _ _ _ _ _ (c .before .before .before .before .before .before .before .before .before .before .before .before .before .before .before .before .before .pre) (c .before .before .before .before .before .before .before .before .before .before .before .before .octet .ensures) (c .before .before .before .before .before .before .before .before .before .before .put .ensures) (c .before .before .before .before .before .value .ensures))
+
+pub comment-spec : {M : Type 1} → statement M
+comment-spec =
+    tie.close
+    (tie.spec
+    octet-requires
+    put-requires
+    add-t15
+    value-requires
+    landed-requires
+    same-length
+    same-length-2
+    returns)

@@ -1,0 +1,46 @@
+-- `State::declare` meets its contract: a law for each way out.
+-- Assumes nothing.
+use borrow.Author.Needs.{needs}
+use native.Mathlib.Omega.{arith}
+use Rattle.events.specs.declared.Kind.the-variants.{Namespace}
+use Rattle.writer.proofs.WellMade.{by-kind}
+use Rattle.writer.proofs.ItemLaws.{prefix-suits, namespace-suits, meets-near, declare-lands}
+use Rattle.writer.proofs.State.declare.Statement.{statement}
+use Rattle.writer.proofs.State.declare.Tie as tie
+
+octet-requires : tie.Need-octet-requires
+octet-requires c κs = search needs
+
+before-declaration-requires : tie.Need-before-declaration-requires
+before-declaration-requires c κs = search needs
+
+declared-requires : tie.Need-declared-requires
+declared-requires c κs = (c .before .before .before .before .before .before .before .before .before .before .before .pre .order, omega arith, prefix-suits (c .before .before .before .before .before .before .before .before .before .before .before .args .text .now) (c .before .before .before .before .before .before .before .before .before .before .before .args .e .prefix) (by-kind (c .before .before .before .before .before .before .before .before .before .before .before .args .text .now) (c .before .before .before .before .before .before .before .before .before .before .before .args .e) Namespace (c .before .before .before .before .before .before .before .before .before .before .before .pre .made) .0), namespace-suits (c .before .before .before .before .before .before .before .before .before .before .before .args .text .now) (c .before .before .before .before .before .before .before .before .before .before .before .args .e .namespace) (by-kind (c .before .before .before .before .before .before .before .before .before .before .before .args .text .now) (c .before .before .before .before .before .before .before .before .before .before .before .args .e) Namespace (c .before .before .before .before .before .before .before .before .before .before .before .pre .made) .1))
+
+moved-requires : tie.Need-moved-requires
+moved-requires c κs = search needs
+
+landed-requires : tie.Need-landed-requires
+landed-requires c κs = meets-near _ _ (c .before .before .before .before .before .before .before .before .before .before .before-declaration .result) 32779 (c .before .before .before .before .before .declared .result) _ _ _ (omega (arith, c .before .before .before .before .before .before .before .before .before .before .before .octet .ensures .1, c .before .before .before .before .before .before .before .before .before .before .before-declaration .ensures .1)) (c .before .before .before .before .before .declared .ensures)
+
+same-length : tie.Need-same-length
+same-length c = search needs
+
+same-length-2 : tie.Need-same-length-2
+same-length-2 c = search needs
+
+returns : tie.Need-returns
+returns c = rw (c .landed .ensures, c .before .moved .ensures) (declare-lands _ _ _ _ _ (c .before .before .before .before .before .before .before .before .before .before .before .before .before .before .before .before .before .before .pre) (c .before .before .before .before .before .before .before .before .before .before .before .before .octet .ensures) (c .before .before .before .before .before .before .before .before .before .before .before .before-declaration .ensures) (c .before .before .before .before .before .before .declared .result) _ _ (c .before .before .before .before .before .before .declared .ensures))
+
+pub declare-spec : {M : Type 1} → statement M
+declare-spec =
+    tie.close
+    (tie.spec
+    octet-requires
+    before-declaration-requires
+    declared-requires
+    moved-requires
+    landed-requires
+    same-length
+    same-length-2
+    returns)

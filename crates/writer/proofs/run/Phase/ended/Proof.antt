@@ -1,0 +1,30 @@
+-- `Phase::ended` meets its contract: a law for each way out.
+-- Assumes nothing.
+use borrow.Author.Needs.{needs}
+use mathlib.Core.Path.{refl}
+use Rattle.writer.proofs.PhaseLaws.{bounded-onward, ends-onward, ends-halted}
+use Rattle.writer.proofs.run.Phase.ended.Statement.{statement}
+use Rattle.writer.proofs.run.Phase.ended.Tie as tie
+
+enum-known-self : tie.Need-enum-known-self
+enum-known-self c = search needs
+
+finish-requires : tie.Need-finish-requires
+finish-requires c κs = bounded-onward _ (c .before .before .self .given .1) (c .before .before .before .before .before .pre)
+
+enum-known-self-2 : tie.Need-enum-known-self-2
+enum-known-self-2 c = search needs
+
+same-length : tie.Need-same-length
+same-length c = search needs
+
+returns : tie.Need-returns
+returns c = ends-onward _ _ _ (c .before .before .finish .result) (c .before .before .finish .last .1 .0) _ _ (c .before .before .before .before .before .self .given .1) (c .before .before .finish .ensures)
+
+returns-2 : tie.Need-returns-2
+returns-2 c = ends-halted _ _ _ _ (c .before .before .before .before .args .out .now) _ _ _ (c .before .self2 .given .1) refl
+
+pub ended-spec : {M : Type 1} → statement M
+ended-spec =
+    tie.close
+    (tie.spec enum-known-self finish-requires enum-known-self-2 same-length returns returns-2)

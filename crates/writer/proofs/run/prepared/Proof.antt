@@ -1,0 +1,50 @@
+-- `prepared` meets its contract: a law for each way out.
+-- Assumes nothing.
+use borrow.Author.Needs.{needs}
+use native.Mathlib.Omega.{arith}
+use lib.ListN.{length}
+use Rattle.writer.proofs.RunLaws.{zeroed, held-room}
+use Rattle.writer.proofs.PhaseLaws.{going-size, going-room, going-start}
+use Rattle.writer.proofs.run.prepared.Statement.{statement}
+use Rattle.writer.proofs.run.prepared.Tie as tie
+
+returns : tie.Need-returns
+returns c = λ es. going-size es _ _ _ (omega arith)
+
+returns-2 : tie.Need-returns-2
+returns-2 c = λ es. going-room es _ _ _ (omega arith) (omega arith)
+
+clear-requires : tie.Need-clear-requires
+clear-requires c κs = search needs
+
+clear-requires-2 : tie.Need-clear-requires-2
+clear-requires-2 c κs = search needs
+
+put-header-requires : tie.Need-put-header-requires
+put-header-requires c κs = zeroed _ (length (c .before .before .before .before .before .before .before .before .before .before .before .before .before .before .args .out .now)) (length (c .before .before .before .before .before .before .before .clear .last .0)) (c .before .before .before .before .before .before .before .clear .ensures) (omega arith)
+
+begin-requires : tie.Need-begin-requires
+begin-requires c κs = search needs
+
+same-length : tie.Need-same-length
+same-length c = search needs
+
+same-length-2 : tie.Need-same-length-2
+same-length-2 c = search needs
+
+returns-3 : tie.Need-returns-3
+returns-3 c = λ es. going-start es _ _ _ (omega arith) (omega arith) (c .begin .ensures) (held-room (omega arith) (c .before .before .before .put-header .ensures)) (zeroed _ (length (c .before .before .before .before .before .before .before .before .before .before .before .before .before .before .before .before .before .before .args .t .now)) 7680 (c .before .before .before .before .before .before .before .clear2 .ensures) (omega arith))
+
+pub prepared-spec : {M : Type 1} → statement M
+prepared-spec =
+    tie.close
+    (tie.spec
+    returns
+    returns-2
+    clear-requires
+    clear-requires-2
+    put-header-requires
+    begin-requires
+    same-length
+    same-length-2
+    returns-3)

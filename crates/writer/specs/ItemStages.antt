@@ -1,0 +1,97 @@
+-- The stages of a step: the end that an attribute list owes, the item behind it, and whether all of it fits. Each stage's code stands for one of these.
+use Prim.Native.Nat.{ℕ, _+_, _-_, _*_, _/_, _<_, _≤_}
+use mathlib.Core.Path.{_≡_}
+use mathlib.Core.Bool.{Bool, true, false, not, _&&_}
+use mathlib.Core.List.{List}
+use lib.ListN.{length, set}
+use lib.Dec.{leb}
+use Rattle.format.specs.Numbers.{pick}
+use Rattle.format.specs.Events as E
+use Rattle.format.specs.Tables.{link}
+use Rattle.format.specs.Document.{aligned}
+use Rattle.fields.specs.Put.{Puts}
+use Rattle.tables.specs.Located.{Located}
+use Rattle.events.specs.declared.Kind.{Kind}
+use Rattle.events.specs.declared.Event.{Event}
+use Rattle.choices.specs.declared.Wrote.{Wrote}
+use Rattle.choices.specs.declared.Wrote.the-variants.{Put, Full}
+use Rattle.choices.specs.Choices.{within}
+use Rattle.choices.specs.Code.{InOrder}
+use Rattle.writer.specs.declared.Mode.{Mode}
+use Rattle.writer.specs.declared.Mode.the-variants.{Content, Listing}
+use Rattle.writer.specs.declared.State.{State}
+use Rattle.writer.specs.declared.Step.{Step}
+use Rattle.writer.specs.declared.Step.the-variants.{On, Stop}
+use Rattle.writer.specs.Events.{wellMade, eventOf, isListing}
+use Rattle.writer.specs.Items.{writeItem}
+use Rattle.writer.specs.Writing.{isAttribute, isEnd, opens, fits}
+use Rattle.writer.specs.Output.{endOctet}
+use Rattle.writer.specs.Code.{modeOf}
+use Rattle.writer.specs.Steps.{coming, known}
+
+-- The end of an attribute list is owed; the state and the output behind it, where it is.
+unfoldable pub owes : State → Event → Bool
+owes st e = isListing (modeOf (st .mode)) && not (isAttribute (eventOf (e .kind) e))
+
+abbrev pub listEnded : Bool → State → State
+listEnded true st = record { at = st .at + 1; level = st .level; root = st .root; mode = Content; counts = st .counts }
+listEnded false st = st
+
+abbrev pub endPut : Bool → (out : List ℕ) (at : ℕ) → List ℕ
+endPut true out at = set out (at / 2) (endOctet at)
+endPut false out at = out
+
+-- What an event of this kind is written from: it is well made, and the state is one that its item may follow.
+pub record Fit (text : List ℕ) (st : State) (w : List ℕ) (k : Kind) (e : Event) : Type 0 where
+  pub order : InOrder text (st .counts) w
+  pub at : st .at ≤ 32769
+  pub shallow : st .level + coming (st .mode) ≤ 32
+  pub made : wellMade text k e ≡ true
+  pub roomy : (opens (modeOf (st .mode)) (eventOf k e) && leb (link .depth) (st .level)) ≡ false
+  pub inside : isEnd (eventOf k e) ≡ true → 0 < st .level
+
+-- Another place; an element more; an element less.
+abbrev pub movedTo : State → Mode → State
+movedTo st m = record { at = st .at; level = st .level; root = st .root; mode = m; counts = st .counts }
+
+abbrev pub modeBehindStart : Bool → Mode
+modeBehindStart true = Listing false
+modeBehindStart false = Content
+
+abbrev pub openedTo : State → Bool → State
+openedTo st a = record { at = st .at; level = st .level + 1; root = true; mode = modeBehindStart a; counts = st .counts }
+
+abbrev pub closedTo : State → State
+closedTo st = record { at = st .at + 1; level = st .level - 1; root = st .root; mode = Content; counts = st .counts }
+
+-- The state behind octets that were put; a table that is full is the refusal 12.
+abbrev pub landing : State → Wrote → Step
+landing st (Put h) = On (record { at = 2 * h .at; level = st .level; root = st .root; mode = st .mode; counts = h .counts })
+landing st Full = Stop 12
+
+-- The place behind what was put is no large number.
+abbrev pub Near : Wrote → Type 0
+Near (Put h) = h .at ≤ 200000
+Near Full = Unit {0}
+
+-- From the half `at` to the half `next`: an end, or an item's octets from the next whole octet.
+abbrev pub Laid : (end : Bool) → (out : List ℕ) (at next : ℕ) (out′ os : List ℕ) → Type 0
+Laid true out at next out′ os = (next ≡ at + 1) × (out′ ≡ set out (at / 2) (endOctet at))
+Laid false out at next out′ os = Puts out (aligned at / 2) (next / 2) out′ os × (next ≡ 2 * (next / 2)) × (1 ≤ length os)
+
+-- The item of the event is in the output, behind the end owed, and the writer stands behind it.
+pub record Landed (text : List ℕ) (a : Bool) (st : State) (out w : List ℕ) (e : E.Event Located) (next : State) (out′ w′ : List ℕ) : Type 0 where
+  pub laid : Laid (isEnd e) out (st .at) (next .at) out′ (writeItem link text a (known st w) e .octets)
+  pub near : next .at ≤ 400000
+  pub state : known next w′ ≡ writeItem link text a (known st w) e .state
+  pub order : InOrder text (next .counts) w′
+  pub shallow : next .level + coming (next .mode) ≤ 32
+
+-- Or a table is full, and the definition's has an entry too many.
+abbrev pub Lands : List ℕ → Bool → State → List ℕ → List ℕ → E.Event Located → Step → List ℕ → List ℕ → Type 0
+Lands text a st out w e (On next) out′ w′ = Landed text a st out w e next out′ w′
+Lands text a st out w e (Stop n) out′ w′ = (n ≡ 12) × (within link (writeItem link text a (known st w) e .state .words) ≡ false)
+
+-- The state, if what is written up to it fits; else the refusal 14.
+unfoldable pub holding : List ℕ → (room : ℕ) → State → Step
+holding text room st = pick (fits link text room (st .at)) (On st) (Stop 14)

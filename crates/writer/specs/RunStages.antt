@@ -1,0 +1,107 @@
+-- How a run of the writer stands for its definition: what is still to be written, behind what is, leaves what the definition says; and the phases of a run.
+use Prim.Native.Nat.{ℕ, suc, _+_, _≤_}
+use mathlib.Core.Path.{_≡_}
+use mathlib.Core.Bool.{Bool, false}
+use mathlib.Core.List.{List, _∷_, _++_}
+use lib.ListN.{length, drop}
+use lib.Dec.{ltb}
+use Rattle.format.specs.Tables.{link}
+use Rattle.format.specs.Items.{Mode, content, declaring, listing}
+use Rattle.format.specs.Document.{header}
+use Rattle.tables.specs.Located.{start}
+use Rattle.tables.specs.Counts.{countsOf, words}
+use Rattle.events.specs.declared.Event.{Event}
+use Rattle.writer.specs.declared.Answer.{Answer}
+use Rattle.writer.specs.declared.Answer.the-variants.{Accepted, Refused}
+use Rattle.writer.specs.declared.Mode as M
+use Rattle.writer.specs.declared.Mode.the-variants.{Content, Declaring, Listing}
+use Rattle.writer.specs.declared.State.{State}
+use Rattle.writer.specs.declared.run.Phase.{Phase}
+use Rattle.writer.specs.declared.run.Phase.the-variants.{Onward, Halted}
+use Rattle.writer.specs.Writing.{announced, Result, written, refusal, finish, run, joined, Outcome, refusing, accepting, outcome, writing, Leaves, writeOf}
+use Rattle.writer.specs.Output.{Holds}
+use Rattle.writer.specs.Code.{modeOf}
+use Rattle.writer.specs.Steps.{Ready, known}
+
+-- The writer before the first event.
+abbrev pub fresh : State
+fresh = record { at = 10; level = 0; root = false; mode = Content; counts = countsOf start }
+
+-- The attribute bit in front of an element's declarations is b.
+abbrev pub Foretold : Mode → Bool → Type 0
+Foretold content b = Unit {0}
+Foretold (declaring a) b = a ≡ b
+Foretold (listing any) b = Unit {0}
+
+-- What a call leaves whose run wrote the halves hs and then comes out so.
+abbrev pub behind : List ℕ → Result → (room : ℕ) → Outcome
+behind hs (written is ks z) room = accepting (header ++ joined (hs ++ ks)) (z .words) room
+behind hs (refusal n p) room = refusing n p room words
+
+-- What a run's answer leaves in `room` octets and `table` words: on a refusal, nothing.
+abbrev pub remains : (room table : ℕ) → Answer → (out tables : List ℕ) → Outcome
+remains room table (Accepted n c) out tables = record { answer = Accepted n c; out = out; tables = tables }
+remains room table (Refused n p) out tables = refusing n p room table
+
+-- Behind i of the events es; out and w are the output and the table words. Each event took a half.
+pub record Underway (text : List ℕ) (room : ℕ) (es : List Event) (i : ℕ) (st : State) (out w : List ℕ) : Type 0 where
+  pub hs : List ℕ
+  pub holds : Holds room hs (st .at) out
+  pub ready : Ready text st w
+  pub bit-known : Foretold (modeOf (st .mode)) (announced (drop i es))
+  pub small : i + 10 ≤ st .at
+  pub leads : behind hs (run link text room (st .at) (known st w) i (drop i es)) room ≡ outcome (writing text room es) room
+
+-- The document's end behind i events came out as the definition says; out and out′ are the output before and then.
+abbrev pub Finishes : (room : ℕ) → State → List ℕ → ℕ → Answer → List ℕ → Type 0
+Finishes room st out i r out′ =
+    (text w hs : List ℕ) → Ready text st w → Holds room hs (st .at) out → remains room words r out′ w ≡ behind hs (finish link text room (st .at) (known st w) i) room
+
+-- ---- phases: where a run stands between two records
+-- There is a further record, number i of n, and it is to be written.
+abbrev pub goesOn : Phase → (i n : ℕ) → Bool
+goesOn (Onward st) i n = ltb i n
+goesOn (Halted k p) i n = false
+
+-- The record from which the attribute bit is looked for: none among declarations, in front of which it stands; and the bit, if this was found there.
+abbrev pub fromMode : M.Mode → (i n : ℕ) → ℕ
+fromMode Content i n = i
+fromMode (Declaring b) i n = n
+fromMode (Listing any) i n = i
+
+abbrev pub lookFrom : Phase → (i n : ℕ) → ℕ
+lookFrom (Onward st) i n = fromMode (st .mode) i n
+lookFrom (Halted k p) i n = n
+
+abbrev pub bitOf : M.Mode → Bool → Bool
+bitOf Content a = a
+bitOf (Declaring b) a = b
+bitOf (Listing any) a = a
+
+-- Behind i of the events es, with `room` octets of output and `table` table words lent, which are out and w.
+abbrev pub Going : List Event → List ℕ → (room table i : ℕ) → Phase → (out w : List ℕ) → Type 0
+Going es text room table i (Onward st) out w = (length text ≤ 16384) × (table ≡ words) × Underway text room es i st out w
+Going es text room table i (Halted k p) out w = refusing k p room table ≡ writeOf es text room table
+
+-- What the step with event i asks, and the end behind i events.
+abbrev pub Steady : List ℕ → ℕ → Phase → List ℕ → Type 0
+Steady text i (Onward st) w = Ready text st w × (i + 10 ≤ st .at)
+Steady text i (Halted k p) w = Unit {0}
+
+abbrev pub Bounded : ℕ → Phase → Type 0
+Bounded i (Onward st) = (st .at ≤ 32768) × (i ≤ 32768)
+Bounded i (Halted k p) = Unit {0}
+
+-- The event e, number i, was taken: p, out and w became p′, out′ and w′.
+abbrev pub Turns : List ℕ → (room table i : ℕ) → Phase → (out w : List ℕ) → Event → Bool → Phase → (out′ w′ : List ℕ) → Type 0
+Turns text room table i p out w e a p′ out′ w′ =
+    (es : List Event) → Going es text room table i p out w → drop i es ≡ e ∷ drop (suc i) es → a ≡ announced (drop (lookFrom p i (length es)) es) → Going es text room table (i + 1) p′ out′ w′
+
+-- No further record is to be written, and this came of it; what is left in the room is then seen to.
+abbrev pub Ends : (room i : ℕ) → Phase → List ℕ → Answer → List ℕ → Type 0
+Ends room i p out r out′ =
+    (es : List Event) (text w : List ℕ) → Going es text room (length w) i p out w → goesOn p i (length es) ≡ false → remains room (length w) r out′ w ≡ writeOf es text room (length w)
+
+abbrev pub Settles : (room table i : ℕ) → Phase → (out w : List ℕ) → Answer → (out′ w′ : List ℕ) → Type 0
+Settles room table i p out w r out′ w′ =
+    (es : List Event) (text : List ℕ) → Going es text room table i p out w → goesOn p i (length es) ≡ false → Leaves r out′ w′ (writeOf es text room table)

@@ -1,0 +1,42 @@
+-- Writing from words and into them, for callers that have no enums: what a writer leaves, as words.
+use Prim.Native.Nat.{ℕ, _+_, _*_, _^_}
+use mathlib.Core.List.{List}
+use lib.ListN.{length, replicate}
+use lib.Dec.{eqb, leb}
+use Rattle.format.specs.Numbers.{pick}
+use Rattle.tables.specs.Kept.{listed}
+use Rattle.events.specs.FromWords.{recordsOf}
+use Rattle.writer.specs.declared.Answer.{Answer}
+use Rattle.writer.specs.declared.Answer.the-variants.{Accepted, Refused}
+use Rattle.writer.specs.Writing.{Outcome, writeOf}
+
+-- The octet count above the low 32 bits; in them 0, or the event's number times 32 plus the refusal's.
+abbrev pub answerWord : Answer → ℕ
+answerWord (Accepted n c) = n * 2 ^ 32
+answerWord (Refused k p) = p * 32 + k
+
+abbrev pub countWords : Answer → List ℕ
+countWords (Accepted n c) = listed c
+countWords (Refused k p) = replicate 10 0
+
+-- What a call answers and leaves: the answer, every octet of the output, every word for tables and counts.
+pub record Words : Type 0 where
+  pub answer : ℕ
+  pub out : List ℕ
+  pub tables : List ℕ
+  pub counts : List ℕ
+
+abbrev pub leaving : ℕ → (out tables counts : List ℕ) → Words
+leaving answer out tables counts = record { answer = answer; out = out; tables = tables; counts = counts }
+
+abbrev pub nothing : (number room tables counts : ℕ) → Words
+nothing k r t c = leaving k (replicate r 0) (replicate t 0) (replicate c 0)
+
+unfoldable pub inWords : Outcome → Words
+inWords o = leaving (answerWord (o .answer)) (o .out) (o .tables) (countWords (o .answer))
+
+-- From the records of these words over this text area, with r octets of output and t and c words for tables and counts lent: SIZE (1), then the room of the
+-- counts, which are the tables' (14), both at place 0; then what writing with r octets and t table words leaves.
+unfoldable pub writeWords : List ℕ → List ℕ → (r t c : ℕ) → Words
+writeWords records text r t c =
+    pick (leb (length text) 16384) (pick (eqb c 10) (inWords (writeOf (recordsOf records) text r t)) (nothing 14 r t c)) (nothing 1 r t c)

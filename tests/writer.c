@@ -1,0 +1,154 @@
+/* Reads event lists, one to a line, and prints for each what lomphachit_write answers and leaves in lent room that was full of other things. Each list is
+   written twice on the same room, and what was written is read back. A difference, an octet or word that is not 0 behind the part used or after a refusal, and
+   anything changed that was not lent to be changed, is printed as a fault and ends with status 1.
+
+   usage: writer < lines
+   A line has, with one blank between: the octets and the table and count words to lend, the text area in hex ('-' for none), the words of the records.
+   A line of output for each: "ok", the octets, the ten counts with commas between; or "refused", the number, the place. */
+#define _GNU_SOURCE
+#include <stdint.h>
+#include <stdio.h>
+#include <stdlib.h>
+#include <string.h>
+
+uint64_t lomphachit_read(const uint8_t *octets, size_t n, uint32_t *records, size_t r, uint32_t *tables, size_t t, uint32_t *counts, size_t c);
+uint64_t lomphachit_write(const uint32_t *records, size_t r, const uint8_t *text, size_t n, uint8_t *out, size_t o, uint32_t *tables, size_t t, uint32_t *counts,
+                          size_t c);
+
+enum { RECORD = 13, STRINGS = 4, TABLES = 7680, COUNTS = 10, ROWS = 256, NAMES = 8, EVENTS = 1 << 15, OCTETS = 1 << 16, FENCE = 16 };
+static const char *const XML = "xml", *const XMLNS = "http://www.w3.org/XML/1998/namespace";
+
+/* What one call is lent, and what it is lent to read only. Behind each lent part stands a fence that no call may change. */
+struct room {
+    size_t o, t, c;
+    uint8_t out[OCTETS];
+    uint32_t tables[2 * TABLES], counts[COUNTS + FENCE];
+};
+struct list {
+    size_t r, n;
+    uint32_t records[EVENTS * RECORD];
+    uint8_t text[OCTETS];
+};
+static struct room first, second, dirt;
+static struct list list, given;
+static uint32_t back[EVENTS * RECORD], back_tables[TABLES], back_counts[COUNTS];
+static int faults;
+
+static void fault(const char *what) {
+    printf("FAULT %s\n", what);
+    faults++;
+}
+
+static void dirty(void *room, size_t n, uint32_t seed) {
+    for (size_t i = 0; i < n; i++) ((uint8_t *)room)[i] = (uint8_t)((seed = seed * 1664525u + 1013904223u) >> 24);
+}
+
+static int all_zero(const void *room, size_t from, size_t to) {
+    for (size_t i = from; i < to; i++)
+        if (((const uint8_t *)room)[i]) return 0;
+    return 1;
+}
+
+static int same(const uint8_t *a, size_t n, const uint8_t *b, size_t m) { return n == m && !memcmp(a, b, n); }
+
+/* The octets of a string of a record, by its three words. */
+static const uint8_t *string(const uint8_t *s, const uint32_t *w, size_t *n) {
+    const char *built_in = w[0] == 3 ? XML : w[0] == 4 ? XMLNS : "";
+    *n = w[0] == 2 ? w[2] : strlen(built_in);
+    return w[0] == 2 ? s + w[1] : (const uint8_t *)built_in;
+}
+
+static int same_event(const uint8_t *s, const uint32_t *a, const uint8_t *d, const uint32_t *b) {
+    for (int k = 0; k < STRINGS; k++) {
+        size_t n, m;
+        const uint8_t *x = string(s, a + 1 + 3 * k, &n), *y = string(d, b + 1 + 3 * k, &m);
+        if (!a[1 + 3 * k] != !b[1 + 3 * k] || !same(x, n, y, m)) return 0;
+    }
+    return a[0] == b[0];
+}
+
+/* Entry i of a table, as the writer and as the reader left it: a triple or a built-in entry has the same words in both, a string the same octets. */
+static int same_entry(int table, uint32_t i) {
+    const uint32_t *a = first.tables + (ROWS * table + i) * 3, *b = back_tables + (ROWS * table + i) * 3;
+    if (table >= NAMES || !a[1] || !b[1]) return !memcmp(a, b, 3 * sizeof *a);
+    return !a[2] && !b[2] && same(list.text + a[0], a[1], first.out + b[0], b[1]);
+}
+
+static int same_tables(void) {
+    int good = 1;
+    for (int table = 0; table < COUNTS; table++)
+        for (uint32_t i = 0; i < first.counts[table]; i++) good &= same_entry(table, i);
+    return good;
+}
+
+static void read_back(size_t octets) {
+    uint64_t a = lomphachit_read(first.out, octets, back, EVENTS * RECORD, back_tables, TABLES, back_counts, COUNTS);
+    size_t events = list.r / RECORD;
+    if ((uint32_t)a || a >> 32 != events) {
+        fault("what was written is not read as so many events");
+        return;
+    }
+    for (size_t i = 0; i < events; i++)
+        if (!same_event(list.text, list.records + RECORD * i, first.out, back + RECORD * i)) fault("an event is read otherwise");
+    if (memcmp(first.counts, back_counts, sizeof back_counts) || !same_tables()) fault("the tables are read otherwise");
+}
+
+static uint64_t write_list(struct room *r) { return lomphachit_write(list.records, list.r, list.text, list.n, r->out, r->o, r->tables, r->t, r->counts, r->c); }
+
+/* What both calls left, with the first one's answer. */
+static void judge(uint64_t a) {
+    size_t used = (size_t)(a >> 32);
+    if (memcmp(list.records, given.records, list.r * 4) || memcmp(list.text, given.text, list.n)) fault("the list or its text is changed");
+    if (memcmp(first.out + first.o, dirt.out + first.o, FENCE) || memcmp(first.tables + first.t, dirt.tables + first.t, FENCE)
+        || memcmp(first.counts + first.c, dirt.counts + first.c, FENCE))
+        fault("something is written behind the lent room");
+    if ((uint32_t)a && (used || !all_zero(first.tables, 0, first.t * 4) || !all_zero(first.counts, 0, first.c * 4))) fault("a refusal leaves something");
+    if (used > first.o || !all_zero(first.out, used, first.o)) fault("an octet behind the document is not 0");
+    if ((uint32_t)a) return;
+    for (int k = 0; k < COUNTS; k++)
+        if (first.counts[k] > ROWS || !all_zero(first.tables, (ROWS * k + first.counts[k]) * 12, ROWS * (k + 1) * 12)) fault("a row behind a table's entries is not 0");
+    read_back(used);
+}
+
+static void print(uint64_t a) {
+    if ((uint32_t)a) {
+        printf("refused %u %u\n", (uint32_t)a % 32, (uint32_t)a / 32);
+        return;
+    }
+    printf("ok ");
+    for (size_t i = 0; i < a >> 32; i++) printf("%02x", first.out[i]);
+    for (int k = 0; k < COUNTS; k++) printf("%c%u", k ? ',' : ' ', first.counts[k]);
+    printf("\n");
+}
+
+static unsigned digit(char c) { return (unsigned)(c <= '9' ? c - '0' : c - 'a' + 10); }
+
+/* The text area; answers what follows it. */
+static char *hex(char *p) {
+    if (*p == '-') p++;
+    for (list.n = 0; *p > ' '; p += 2) list.text[list.n++] = (uint8_t)(digit(p[0]) << 4 | digit(p[1]));
+    return p;
+}
+
+static void take(char *p) {
+    first.o = strtoul(p, &p, 10), first.t = strtoul(p, &p, 10), first.c = strtoul(p, &p, 10);
+    p = hex(p + 1);
+    for (list.r = 0; *p == ' '; list.r++) list.records[list.r] = (uint32_t)strtoul(p, &p, 10);
+}
+
+int main(void) {
+    char *line = 0;
+    size_t size = 0;
+    for (uint32_t seed = 1; getline(&line, &size, stdin) > 0; seed++) {
+        dirty(&first, sizeof first, seed);
+        take(line);
+        dirt = first;
+        memcpy(given.records, list.records, list.r * 4), memcpy(given.text, list.text, list.n);
+        uint64_t a = write_list(&first);
+        second = first;
+        if (write_list(&second) != a || memcmp(&first, &second, sizeof first)) fault("the second writing differs");
+        judge(a);
+        print(a);
+    }
+    return faults != 0;
+}
