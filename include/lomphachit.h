@@ -1,0 +1,162 @@
+/* Fast infoset documents (ITU-T X.891) for the link to the switches: the three functions of the archive liblomphachit.a, for C and C++.
+
+   Every function takes all input: there is no document, list or length of lent room that it may not be given. What each answers, and every word and octet that
+   it leaves in lent room, is a function of what it was given to read and of the lengths lent. It is proved; docs/ARCHITECTURE.md lists the theorems.
+
+   A pointer points to as many items as its length says, and is not null even where that is 0. What is lent to be changed overlaps nothing else of the same call.
+   Places count octets from 0. The names SIZE, TRUNCATED and so on are those of the requirements; docs/DECISIONS.md says what each covers. */
+#ifndef LOMPHACHIT_H
+#define LOMPHACHIT_H
+
+#include <stddef.h>
+#include <stdint.h>
+
+#ifdef __cplusplus
+extern "C" {
+#endif
+
+/* Sizes. LOMPHACHIT_TABLES and LOMPHACHIT_COUNTS are asked for exactly: other lengths are ROOM, at place 0. They are macros, since C++20 frowns on sums and products
+   of constants of two enums. */
+#define LOMPHACHIT_OCTETS 16384 /* the most octets of a document, and of a writer's text area */
+#define LOMPHACHIT_EVENTS 21838 /* no document has more events, so no reader needs more records */
+#define LOMPHACHIT_RECORD 13    /* words of an event record */
+#define LOMPHACHIT_TABLES 7680  /* words of the ten tables: 256 rows of 3 words for each */
+#define LOMPHACHIT_COUNTS 10    /* words of the counts, one for each table */
+#define LOMPHACHIT_ROWS 256     /* rows of a table, which are the most entries it can have */
+#define LOMPHACHIT_ROW 3        /* words of a row */
+
+/* An event record: word 0 is its kind, then come four strings of three words each: a tag, a place and a length. The strings that a kind does not have are absent. */
+enum lomphachit_kind {
+    LOMPHACHIT_KIND_BLANK = 0,       /* no event; all 13 words are 0 */
+    LOMPHACHIT_KIND_NAMESPACE = 1,   /* prefix, namespace */
+    LOMPHACHIT_KIND_START = 2,       /* prefix, namespace, local name */
+    LOMPHACHIT_KIND_ATTRIBUTE = 3,   /* prefix, namespace, local name, value */
+    LOMPHACHIT_KIND_TEXT = 4,        /* value: one chunk, never joined to its neighbour */
+    LOMPHACHIT_KIND_COMMENT = 5,     /* value */
+    LOMPHACHIT_KIND_INSTRUCTION = 6, /* name: the target; value: the content */
+    LOMPHACHIT_KIND_END = 7
+};
+
+/* Where each string of a record has its tag; place and length are the two words behind it. */
+#define LOMPHACHIT_AT_PREFIX 1
+#define LOMPHACHIT_AT_NAMESPACE 4
+#define LOMPHACHIT_AT_NAME 7
+#define LOMPHACHIT_AT_VALUE 10
+
+/* What a string is. Place and length are 0 beside every tag but that of a stretch. */
+enum lomphachit_tag {
+    LOMPHACHIT_TAG_ABSENT = 0,
+    LOMPHACHIT_TAG_EMPTY = 1,
+    LOMPHACHIT_TAG_STRETCH = 2,      /* so many octets from that place on, never 0, in the document read or in the writer's text area */
+    LOMPHACHIT_TAG_XML_PREFIX = 3,   /* the built-in prefix, "xml" */
+    LOMPHACHIT_TAG_XML_NAMESPACE = 4 /* the built-in namespace, "http://www.w3.org/XML/1998/namespace" */
+};
+
+/* The ten tables in the order of their counts. Entry number n (from 1) of table t has the three words from lomphachit_row(t, n) on. In the first eight tables
+   they are place, length and 0, all 0 for a built-in entry; in the last two the numbers of a name's prefix, namespace and local name, 0 for none. */
+enum lomphachit_table {
+    LOMPHACHIT_TABLE_PREFIX = 0,
+    LOMPHACHIT_TABLE_NAMESPACE_NAME = 1,
+    LOMPHACHIT_TABLE_LOCAL_NAME = 2,
+    LOMPHACHIT_TABLE_OTHER_NCNAME = 3,
+    LOMPHACHIT_TABLE_OTHER_URI = 4,
+    LOMPHACHIT_TABLE_ATTRIBUTE_VALUE = 5,
+    LOMPHACHIT_TABLE_CONTENT_CHARACTER_CHUNK = 6,
+    LOMPHACHIT_TABLE_OTHER_STRING = 7,
+    LOMPHACHIT_TABLE_ELEMENT_NAME = 8,
+    LOMPHACHIT_TABLE_ATTRIBUTE_NAME = 9
+};
+
+/* The sixteen refusals. */
+enum lomphachit_refusal {
+    LOMPHACHIT_ACCEPTED = 0,
+    LOMPHACHIT_REFUSED_SIZE = 1,          /* document empty or over 16,384 octets; writer's text over 16,384 */
+    LOMPHACHIT_REFUSED_TRUNCATED = 2,     /* octets end too early, or a length passes the end */
+    LOMPHACHIT_REFUSED_HEADER = 3,        /* the first four octets are not E0 00 00 01 */
+    LOMPHACHIT_REFUSED_OPTIONAL_PART = 4, /* a presence bit of the fifth octet is 1 */
+    LOMPHACHIT_REFUSED_CODE = 5,          /* bits not assigned at this place */
+    LOMPHACHIT_REFUSED_PADDING = 6,       /* padding not as ruled, an end not where it stands */
+    LOMPHACHIT_REFUSED_RANGE = 7,         /* number over 1,048,576 */
+    LOMPHACHIT_REFUSED_FORMAT = 8,        /* other string format than utf-8, entity reference, type declaration */
+    LOMPHACHIT_REFUSED_TEXT = 9,          /* not well-formed UTF-8 */
+    LOMPHACHIT_REFUSED_INDEX = 10,        /* number beyond its table */
+    LOMPHACHIT_REFUSED_REPEAT = 11,       /* spelled though the table holds it */
+    LOMPHACHIT_REFUSED_FULL = 12,         /* an entry too many */
+    LOMPHACHIT_REFUSED_DEPTH = 13,        /* elements over 32 deep */
+    LOMPHACHIT_REFUSED_ROOM = 14,         /* event room or output full; tables or counts of another length */
+    LOMPHACHIT_REFUSED_STRUCTURE = 15,    /* no root, second root, empty list, prefix without namespace in a name, octets after the end */
+    LOMPHACHIT_REFUSED_EVENT = 16         /* writer: an event that cannot come here, or a string that is not allowed */
+};
+
+/* Whether these n octets are a document of the link: 0 if so, else place times 32 plus the refusal.
+
+   Promised: 0 exactly for the octets that the rules of writing of X.891 write from some events, within the limits of the link. Otherwise the first faulty field
+   in octet order decides, and the place is that of its first octet, or n where an octet is missing. It answers as lomphachit_read does with room enough, so never
+   ROOM, nor EVENT. Nothing is lent and nothing is left. */
+uint32_t lomphachit_check(const uint8_t *octets, size_t n);
+
+/* Reads a document of n octets into r words of event records (r / 13 records), t words of tables and c words of counts. The answer is taken apart by the
+   functions below; its count is that of the events.
+
+   Promised: it accepts what the check accepts, where there is a record for each event, t is LOMPHACHIT_TABLES and c is LOMPHACHIT_COUNTS. Every word lent is
+   determined: on acceptance the events' records, the tables' rows and their counts, and 0 in every word beyond the part used; on a refusal 0 in all r, t and c words.
+   Nothing that stood there before is read, and nothing of it is left. Stretches are places in the document, which the caller keeps as long as the records.
+
+   Refusals: 1 to 15. */
+uint64_t lomphachit_read(const uint8_t *octets, size_t n, uint32_t *records, size_t r, uint32_t *tables, size_t t, uint32_t *counts, size_t c);
+
+/* Writes the document of the events in r words of records (r / 13 records) over a text area of n octets, into o octets of output, of which at most 16,384 are
+   used, t words of tables and c words of counts. The answer is taken apart by the functions below; its count is that of the octets, and the place of a refusal is an
+   event's number from 0, or the number of events where the list stops too soon or the last end has no room.
+
+   Promised: where it accepts, X.891's rules write these octets from these events, and lomphachit_read gives back the same events and tables. Every octet and word
+   lent is determined: on acceptance the document, the tables' rows (places in the text area) and their counts, and 0 beyond the part used; on a refusal 0 in all o
+   octets and all t and c words. Nothing that stood there before is read, and nothing of it is left. Records and text are only read. The records are the whole
+   list: a blank one behind the last event is EVENT, so r is 13 times the number of events.
+
+   Refusals: SIZE, TEXT, FULL, DEPTH, ROOM, EVENT. */
+uint64_t lomphachit_write(const uint32_t *records, size_t r, const uint8_t *text, size_t n, uint8_t *out, size_t o, uint32_t *tables, size_t t, uint32_t *counts,
+                          size_t c);
+
+/* The parts of an answer of any of the three; a check's answer has the count 0. */
+
+/* LOMPHACHIT_ACCEPTED, or which refusal. */
+static inline uint32_t lomphachit_refusal_of(uint64_t answer) { return (uint32_t)(answer % 32); }
+
+/* Where, for a refusal; 0 for accepted. */
+static inline uint32_t lomphachit_place_of(uint64_t answer) { return (uint32_t)answer / 32; }
+
+/* How many events were read or octets written; 0 for a refusal. */
+static inline uint32_t lomphachit_count_of(uint64_t answer) { return (uint32_t)(answer >> 32); }
+
+/* The first word of entry `number`, from 1 to the table's count, of a table. */
+static inline size_t lomphachit_row(size_t table, size_t number) { return LOMPHACHIT_ROW * (LOMPHACHIT_ROWS * table + number - 1); }
+
+/* The name of a refusal as people know it, "accepted" for 0; "unknown" for a number that no function answers. */
+static inline const char *lomphachit_name_of(uint32_t refusal) {
+    switch (refusal) {
+    case LOMPHACHIT_ACCEPTED: return "accepted";
+    case LOMPHACHIT_REFUSED_SIZE: return "SIZE";
+    case LOMPHACHIT_REFUSED_TRUNCATED: return "TRUNCATED";
+    case LOMPHACHIT_REFUSED_HEADER: return "HEADER";
+    case LOMPHACHIT_REFUSED_OPTIONAL_PART: return "OPTIONAL PART";
+    case LOMPHACHIT_REFUSED_CODE: return "CODE";
+    case LOMPHACHIT_REFUSED_PADDING: return "PADDING";
+    case LOMPHACHIT_REFUSED_RANGE: return "RANGE";
+    case LOMPHACHIT_REFUSED_FORMAT: return "FORMAT";
+    case LOMPHACHIT_REFUSED_TEXT: return "TEXT";
+    case LOMPHACHIT_REFUSED_INDEX: return "INDEX";
+    case LOMPHACHIT_REFUSED_REPEAT: return "REPEAT";
+    case LOMPHACHIT_REFUSED_FULL: return "FULL";
+    case LOMPHACHIT_REFUSED_DEPTH: return "DEPTH";
+    case LOMPHACHIT_REFUSED_ROOM: return "ROOM";
+    case LOMPHACHIT_REFUSED_STRUCTURE: return "STRUCTURE";
+    case LOMPHACHIT_REFUSED_EVENT: return "EVENT";
+    default: return "unknown";
+    }
+}
+
+#ifdef __cplusplus
+}
+#endif
+#endif

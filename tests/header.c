@@ -1,0 +1,95 @@
+/* Uses include/lomphachit.h, as C and as C++: reads two documents that have all kinds and tags, writes one again, and takes answers apart. Each thing that is
+   otherwise than it should be is printed and ends with status 1. */
+#include "lomphachit.h"
+
+#include <stdio.h>
+#include <string.h>
+
+static int faults;
+
+static void is(const char *what, uint64_t got, uint64_t want) {
+    if (got == want) return;
+    printf("%s is %llu, and should be %llu\n", what, (unsigned long long)got, (unsigned long long)want);
+    faults++;
+}
+
+/* <a b="c">hi</a>, and behind its 18 octets one that no document has there. */
+static const uint8_t SAMPLE[] = {0xE0, 0, 0, 1, 0, 0x7C, 0, 'a', 0x78, 0, 'b', 0x40, 'c', 0xF0, 0x91, 'h', 'i', 0xFF, 0};
+enum { OCTETS = 18, EVENTS = 4 };
+
+static uint32_t records[EVENTS * LOMPHACHIT_RECORD], tables[LOMPHACHIT_TABLES], counts[LOMPHACHIT_COUNTS];
+static uint8_t out[LOMPHACHIT_OCTETS];
+
+static void string(const char *what, const uint32_t *w, uint32_t tag, uint32_t place, uint32_t length) {
+    is(what, w[0], tag), is(what, w[1], place), is(what, w[2], length);
+}
+
+static void reading(void) {
+    uint64_t a = lomphachit_read(SAMPLE, OCTETS, records, EVENTS * LOMPHACHIT_RECORD, tables, LOMPHACHIT_TABLES, counts, LOMPHACHIT_COUNTS);
+    const uint32_t *attribute = records + LOMPHACHIT_RECORD, *name = tables + lomphachit_row(LOMPHACHIT_TABLE_ATTRIBUTE_NAME, 1);
+    is("the answer of reading", lomphachit_refusal_of(a), LOMPHACHIT_ACCEPTED), is("its place", lomphachit_place_of(a), 0), is("its count", lomphachit_count_of(a), EVENTS);
+    is("kind 0", records[0], LOMPHACHIT_KIND_START), is("kind 1", attribute[0], LOMPHACHIT_KIND_ATTRIBUTE);
+    is("kind 2", records[2 * LOMPHACHIT_RECORD], LOMPHACHIT_KIND_TEXT), is("kind 3", records[3 * LOMPHACHIT_RECORD], LOMPHACHIT_KIND_END);
+    string("the attribute's prefix", attribute + LOMPHACHIT_AT_PREFIX, LOMPHACHIT_TAG_ABSENT, 0, 0);
+    string("the attribute's namespace", attribute + LOMPHACHIT_AT_NAMESPACE, LOMPHACHIT_TAG_ABSENT, 0, 0);
+    string("the attribute's name", attribute + LOMPHACHIT_AT_NAME, LOMPHACHIT_TAG_STRETCH, 10, 1);
+    string("the attribute's value", attribute + LOMPHACHIT_AT_VALUE, LOMPHACHIT_TAG_STRETCH, 12, 1);
+    string("ATTRIBUTE NAME 1", name, 0, 0, 2);
+    string("LOCAL NAME 2", tables + lomphachit_row(LOMPHACHIT_TABLE_LOCAL_NAME, 2), 10, 1, 0);
+    string("ATTRIBUTE VALUE 1", tables + lomphachit_row(LOMPHACHIT_TABLE_ATTRIBUTE_VALUE, 1), 12, 1, 0);
+    is("the count of PREFIX", counts[LOMPHACHIT_TABLE_PREFIX], 1), is("the count of LOCAL NAME", counts[LOMPHACHIT_TABLE_LOCAL_NAME], 2);
+    is("the count of CONTENT CHARACTER CHUNK", counts[LOMPHACHIT_TABLE_CONTENT_CHARACTER_CHUNK], 1), is("the count of OTHER URI", counts[LOMPHACHIT_TABLE_OTHER_URI], 0);
+}
+
+/* <xml:a xmlns:xml=".." b=""><!--x--><?c ?></xml:a>: the kinds, tags and tables that the sample lacks. */
+static const uint8_t REST[] = {0xE0, 0, 0, 1, 0, 0x78, 0xCF, 0x80, 0x80, 0xF0, 0x3F, 0x80, 0x80, 0, 'a', 0x78, 0, 'b', 0xFF, 0xF0, 0xE2, 0x40, 'x', 0xE1, 0, 'c', 0xFF, 0xFF};
+
+static void rest(void) {
+    static uint32_t row[6 * LOMPHACHIT_RECORD];
+    uint64_t a = lomphachit_read(REST, sizeof REST, row, 6 * LOMPHACHIT_RECORD, tables, LOMPHACHIT_TABLES, counts, LOMPHACHIT_COUNTS);
+    const uint32_t kinds[] = {LOMPHACHIT_KIND_NAMESPACE, LOMPHACHIT_KIND_START, LOMPHACHIT_KIND_ATTRIBUTE, LOMPHACHIT_KIND_COMMENT, LOMPHACHIT_KIND_INSTRUCTION, LOMPHACHIT_KIND_END};
+    is("the rest's answer", lomphachit_refusal_of(a), LOMPHACHIT_ACCEPTED), is("its count", lomphachit_count_of(a), 6);
+    for (int k = 0; k < 6; k++) is("a kind of the rest", row[k * LOMPHACHIT_RECORD], kinds[k]);
+    string("the declared prefix", row + LOMPHACHIT_AT_PREFIX, LOMPHACHIT_TAG_XML_PREFIX, 0, 0);
+    string("the declared namespace", row + LOMPHACHIT_AT_NAMESPACE, LOMPHACHIT_TAG_XML_NAMESPACE, 0, 0);
+    string("the empty value", row + 2 * LOMPHACHIT_RECORD + LOMPHACHIT_AT_VALUE, LOMPHACHIT_TAG_EMPTY, 0, 0);
+    string("the target", row + 4 * LOMPHACHIT_RECORD + LOMPHACHIT_AT_NAME, LOMPHACHIT_TAG_STRETCH, 25, 1);
+    string("ELEMENT NAME 1", tables + lomphachit_row(LOMPHACHIT_TABLE_ELEMENT_NAME, 1), 1, 1, 1);
+    string("NAMESPACE NAME 1", tables + lomphachit_row(LOMPHACHIT_TABLE_NAMESPACE_NAME, 1), 0, 0, 0);
+    string("OTHER NCNAME 1", tables + lomphachit_row(LOMPHACHIT_TABLE_OTHER_NCNAME, 1), 25, 1, 0);
+    string("OTHER STRING 1", tables + lomphachit_row(LOMPHACHIT_TABLE_OTHER_STRING, 1), 22, 1, 0);
+    is("the count of NAMESPACE NAME", counts[LOMPHACHIT_TABLE_NAMESPACE_NAME], 1), is("the count of ATTRIBUTE VALUE", counts[LOMPHACHIT_TABLE_ATTRIBUTE_VALUE], 0);
+}
+
+/* The document is its own events' text area. */
+static void writing(void) {
+    uint64_t a = lomphachit_write(records, EVENTS * LOMPHACHIT_RECORD, SAMPLE, OCTETS, out, sizeof out, tables, LOMPHACHIT_TABLES, counts, LOMPHACHIT_COUNTS);
+    is("the answer of writing", lomphachit_refusal_of(a), LOMPHACHIT_ACCEPTED), is("its count", lomphachit_count_of(a), OCTETS);
+    is("a difference of what is written", (uint64_t)!!memcmp(out, SAMPLE, OCTETS), 0);
+    a = lomphachit_write(records, 3 * LOMPHACHIT_RECORD, SAMPLE, OCTETS, out, sizeof out, tables, LOMPHACHIT_TABLES, counts, LOMPHACHIT_COUNTS);
+    is("a list that stops", lomphachit_refusal_of(a), LOMPHACHIT_REFUSED_EVENT), is("its place", lomphachit_place_of(a), 3), is("its count", lomphachit_count_of(a), 0);
+    is("an octet after a refusal", out[0], 0), is("a count after a refusal", counts[0], 0);
+}
+
+static void checking(void) {
+    uint32_t a = lomphachit_check(SAMPLE, OCTETS + 1);
+    is("the check of the sample", lomphachit_check(SAMPLE, OCTETS), LOMPHACHIT_ACCEPTED);
+    is("octets after the end", lomphachit_refusal_of(a), LOMPHACHIT_REFUSED_STRUCTURE), is("their place", lomphachit_place_of(a), OCTETS), is("their count", lomphachit_count_of(a), 0);
+    is("no octets", lomphachit_check(SAMPLE, 0), LOMPHACHIT_REFUSED_SIZE);
+    uint64_t b = lomphachit_read(SAMPLE, OCTETS, records, LOMPHACHIT_RECORD, tables, LOMPHACHIT_TABLES, counts, LOMPHACHIT_COUNTS);
+    is("one record for four events", lomphachit_refusal_of(b), LOMPHACHIT_REFUSED_ROOM), is("its place", lomphachit_place_of(b), 8);
+    b = lomphachit_read(SAMPLE, OCTETS, records, EVENTS * LOMPHACHIT_RECORD, tables, LOMPHACHIT_TABLES - 1, counts, LOMPHACHIT_COUNTS);
+    is("a table word too few", b, LOMPHACHIT_REFUSED_ROOM), is("a kind after a refusal", records[0], LOMPHACHIT_KIND_BLANK);
+}
+
+int main(void) {
+    rest();
+    reading();
+    writing();
+    checking();
+    is("the words of the tables", LOMPHACHIT_TABLES, lomphachit_row(LOMPHACHIT_COUNTS, 1));
+    is("the words of a row", lomphachit_row(0, 2), LOMPHACHIT_ROW), is("the words of a table", lomphachit_row(1, 1), LOMPHACHIT_ROWS * LOMPHACHIT_ROW);
+    /* The names go to the script, which knows them from elsewhere. */
+    for (uint32_t refusal = 0; refusal < 32; refusal++) printf("%u %s\n", (unsigned)refusal, lomphachit_name_of(refusal));
+    return faults != 0;
+}
