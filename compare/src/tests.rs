@@ -1,0 +1,213 @@
+//! The reader and the writer held against the vectors, without the archive.
+use crate::words::*;
+use crate::{reader, writer};
+
+fn unhex(s: &str) -> Vec<u8> {
+    (0..s.len() / 2).map(|i| u8::from_str_radix(&s[2 * i..2 * i + 2], 16).unwrap()).collect()
+}
+
+fn rows(file: &'static str) -> Vec<Vec<&'static str>> {
+    file.lines().map(|l| l.split('\t').collect()).collect()
+}
+
+const READ: &str = include_str!("../../vectors/read.tsv");
+const WRITE: &str = include_str!("../../vectors/write.tsv");
+const ADVERSARIAL: &str = include_str!("../../vectors/adversarial.tsv");
+const BOUNDARY: &str = include_str!("../../vectors/boundary.tsv");
+const EVENTS: &str = include_str!("../../vectors/events.tsv");
+
+fn string(s: &str) -> Text {
+    match s {
+        "-" => Text::Absent,
+        "0" => Text::Empty,
+        "X" => Text::XmlPrefix,
+        "U" => Text::XmlNamespace,
+        _ => {
+            let (place, length) = s.split_once('+').unwrap();
+            Text::Stretch(place.parse().unwrap(), length.parse().unwrap())
+        }
+    }
+}
+
+fn events(s: &str) -> Vec<Option<Event>> {
+    s.split_whitespace()
+        .map(|e| {
+            let parts: Vec<&str> = e.split(',').collect();
+            let kind = *KINDS.get("NSATCPE".find(parts[0])?)?;
+            Some(Event { kind, strings: [string(parts[1]), string(parts[2]), string(parts[3]), string(parts[4])] })
+        })
+        .collect()
+}
+
+fn line(octets: &[u8], e: &Event) -> String {
+    let has: &[usize] = match e.kind {
+        Kind::Namespace => &[0, 1],
+        Kind::Start => &[0, 1, 2],
+        Kind::Attribute => &[0, 1, 2, 3],
+        Kind::Chunk | Kind::Comment => &[3],
+        Kind::Instruction => &[2, 3],
+        Kind::End => &[],
+    };
+    let mut out = "NSATCPE"[e.kind as usize - 1..e.kind as usize].to_string();
+    for i in has {
+        match e.strings[*i].octets(octets) {
+            None => out += " -",
+            Some(s) => out += &format!(" ={}", crate::hex(s)),
+        }
+    }
+    out + "\n"
+}
+
+fn listing(octets: &[u8]) -> String {
+    match reader::read(octets, 512) {
+        Err(r) => format!("refused {} at {}\n", r.number, r.place),
+        Ok(done) => done.events.iter().map(|e| line(octets, e)).collect::<String>() + &format!("end {}\n", done.events.len()),
+    }
+}
+
+/// SHA-1 (FIPS 180-4), in which read.tsv keeps the listings.
+fn sha1(message: &[u8]) -> String {
+    let mut h: [u32; 5] = [0x67452301, 0xEFCDAB89, 0x98BADCFE, 0x10325476, 0xC3D2E1F0];
+    let mut m = message.to_vec();
+    m.push(0x80);
+    while m.len() % 64 != 56 {
+        m.push(0);
+    }
+    m.extend_from_slice(&(message.len() as u64 * 8).to_be_bytes());
+    for block in m.chunks(64) {
+        let mut w: Vec<u32> = block.chunks(4).map(|c| u32::from_be_bytes([c[0], c[1], c[2], c[3]])).collect();
+        for i in 16..80 {
+            w.push((w[i - 3] ^ w[i - 8] ^ w[i - 14] ^ w[i - 16]).rotate_left(1));
+        }
+        let [mut a, mut b, mut c, mut d, mut e] = h;
+        for (i, word) in w.iter().enumerate() {
+            let (f, k) = match i / 20 {
+                0 => (b & c | !b & d, 0x5A827999),
+                1 => (b ^ c ^ d, 0x6ED9EBA1),
+                2 => (b & c | b & d | c & d, 0x8F1BBCDC),
+                _ => (b ^ c ^ d, 0xCA62C1D6u32),
+            };
+            let next = a.rotate_left(5).wrapping_add(f).wrapping_add(e).wrapping_add(k).wrapping_add(*word);
+            e = d;
+            d = c;
+            c = b.rotate_left(30);
+            b = a;
+            a = next;
+        }
+        for (x, y) in h.iter_mut().zip([a, b, c, d, e]) {
+            *x = x.wrapping_add(y);
+        }
+    }
+    h.iter().map(|x| format!("{x:08x}")).collect()
+}
+
+fn check(octets: &[u8]) -> u64 {
+    reader::outcome(octets, 32768 * RECORD, TABLES, 10).0.answer & 0xFFFF_FFFF
+}
+
+#[test]
+fn documents_of_read_tsv() {
+    for r in rows(READ) {
+        let octets = unhex(r[1]);
+        assert_eq!(check(&octets).to_string(), r[2], "check of {}", r[0]);
+        assert_eq!(sha1(listing(&octets).as_bytes()), r[3], "listing of {}", r[0]);
+    }
+}
+
+#[test]
+fn documents_of_boundary_tsv() {
+    for r in rows(BOUNDARY) {
+        let octets = unhex(r[1]);
+        let count = reader::read(&octets, 32768).map_or(0, |done| done.events.len());
+        assert_eq!((check(&octets).to_string(), count.to_string()), (r[2].to_string(), r[3].to_string()), "{}", r[0]);
+    }
+}
+
+#[test]
+fn documents_of_adversarial_tsv() {
+    for r in rows(ADVERSARIAL) {
+        let answer = match reader::read(&unhex(r[1]), r[2].parse().unwrap()) {
+            Ok(done) => format!("accepted {}", done.events.len()),
+            Err(x) => format!("refused {} {}", x.number, x.place),
+        };
+        assert_eq!(answer, r[3], "{}", r[0]);
+    }
+}
+
+fn entry(t: &Text) -> String {
+    match t {
+        Text::Stretch(place, length) => format!("{place}+{length}"),
+        Text::XmlPrefix => "X".to_string(),
+        _ => "U".to_string(),
+    }
+}
+
+fn tables(t: &Tables) -> String {
+    let strings = t.strings.iter().map(|s| s.rows.iter().map(entry).collect::<Vec<_>>().join(" "));
+    let triple = |r: &[usize; 3]| format!("{}.{}.{}", r[0], r[1], r[2]);
+    let names = t.names.iter().map(|n| n.rows.iter().map(triple).collect::<Vec<_>>().join(" "));
+    strings.chain(names).collect::<Vec<_>>().join("|")
+}
+
+#[test]
+fn events_and_tables_of_events_tsv() {
+    let documents: std::collections::HashMap<_, _> = rows(READ).into_iter().map(|r| (r[0], r[1])).collect();
+    for r in rows(EVENTS) {
+        let done = reader::read(&unhex(documents[r[0]]), 512).unwrap();
+        assert_eq!(done.events.iter().map(|e| Some(*e)).collect::<Vec<_>>(), events(r[1]), "{}", r[0]);
+        assert_eq!(tables(&done.tables), r[2], "{}", r[0]);
+    }
+}
+
+#[test]
+fn lists_of_write_tsv() {
+    for (i, r) in rows(WRITE).iter().enumerate() {
+        let text = unhex(r[1]);
+        let records: Vec<u32> = events(r[3]).iter().flat_map(|e| e.map_or([0; RECORD], |e| e.record())).collect();
+        let (got, refusal) = writer::outcome(&records, &text, r[2].parse().unwrap(), TABLES, 10);
+        let answer = match refusal {
+            Some(x) => format!("refused {} {}", x.number, x.place),
+            None => {
+                let counts: Vec<String> = got.counts.iter().map(|c| c.to_string()).collect();
+                format!("ok {} {}", crate::hex(&got.out[..(got.answer >> 32) as usize]), counts.join(","))
+            }
+        };
+        assert_eq!(answer, r[4], "line {}, {}", i + 1, r[0]);
+    }
+}
+
+#[test]
+fn the_order_document_of_annex_d() {
+    let octets = unhex(include_str!("../../vectors/d5_000_header_corrected.hex").trim());
+    assert_eq!(listing(&octets), include_str!("../../vectors/d5_listing.txt"));
+    let done = reader::read(&octets, 512).unwrap();
+    let events: Vec<_> = done.events.into_iter().map(Some).collect();
+    assert_eq!(writer::write(&events, &octets, MOST).ok().unwrap().octets, octets);
+}
+
+#[test]
+fn shrinking_finds_the_shortest() {
+    let differs = |s: &[u8]| s.iter().position(|o| *o >= 7).map_or(false, |i| s[i..].contains(&2));
+    let input: Vec<u8> = (0..100).chain(0..100).collect();
+    assert_eq!(crate::shrink::octets(&input, &[], &differs).len(), 2);
+    let pairs = |s: &[u8]| s.len() % 2 == 0 && s.contains(&50);
+    assert_eq!(crate::shrink::shorter(&input, &pairs).len(), 2);
+}
+
+#[test]
+fn numbers_at_the_ends_of_their_forms() {
+    use crate::forms::*;
+    for (start, forms) in [(2, C22), (5, C23), (7, C24), (2, C25), (3, C27), (4, C28)] {
+        for f in forms {
+            for value in [f.low, f.high()] {
+                let mut row = BitRow::default();
+                row.put(0, start - 1);
+                row.number(value, forms);
+                let found = form_at(&row.octets, start - 1, forms).unwrap();
+                let field = start - 1 + found.code.len() + found.zeros;
+                assert_eq!(found.low + bits(&row.octets, field, found.bits), value);
+                assert_eq!((row.octets.len(), row.aligned()), (found.octets(start), true));
+            }
+        }
+    }
+}
