@@ -38,7 +38,7 @@ fn aim(dice: &mut Dice, d: &mut Vec<u8>) {
         2 => insert(dice, d, place),
         3 => deeper(d, place),
         _ => {
-            let new = dice.pick(faults(kind));
+            let new = dice.pick(&faults(kind));
             d.splice(place..behind, new.iter().copied());
             if dice.percent(15) {
                 d.truncate(place + new.len());

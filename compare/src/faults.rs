@@ -2,8 +2,18 @@
 
 type Faults = &'static [&'static [u8]];
 
+/// Numbers of C.25 behind a 1 bit: beyond every table, out of range, or cut.
+const NUMBERS: Faults = &[&[0xBF], &[0xC0, 0xBF], &[0xC0, 0xC0], &[0xE0, 0, 0], &[0xEF, 0xDF, 0xBF], &[0xEF, 0xDF, 0xC0], &[0xEF]];
+
 /// What a field of a kind is replaced by: each row is at fault by one rule, if nothing before it is.
-pub fn faults(kind: &str) -> Faults {
+pub fn faults(kind: &str) -> Vec<&'static [u8]> {
+    match kind {
+        "prefix" | "namespace" | "local name" | "target" | "value" | "content" | "comment" => [of_kind(kind), NUMBERS].concat(),
+        _ => of_kind(kind).to_vec(),
+    }
+}
+
+fn of_kind(kind: &str) -> Faults {
     match kind {
         "header" => &[&[0xE0, 1, 0, 0], &[0xE0, 0, 0, 2], &[0x3C, 0x3F, 0x78, 0x6D], &[0, 0, 0, 1]],
         "fifth octet" => &[&[0x80], &[0xC0], &[0x40], &[0x20], &[0x10], &[8], &[4], &[2], &[1]],
@@ -83,13 +93,6 @@ pub fn faults(kind: &str) -> Faults {
         "prefix" | "namespace" | "local name" | "target" => &[
             &[0xF0],
             &[0xFF],
-            &[0xBF],
-            &[0xC0, 0xBF],
-            &[0xC0, 0xC0],
-            &[0xE0, 0, 0],
-            &[0xEF, 0xDF, 0xBF],
-            &[0xEF, 0xDF, 0xC0],
-            &[0xEF],
             &[0x41, 0],
             &[0x50, 0],
             &[0x61, 0, 0, 0, 0],
@@ -112,13 +115,6 @@ pub fn faults(kind: &str) -> Faults {
         "value" | "content" | "comment" => &[
             &[0xF0],
             &[0xFE],
-            &[0xBF],
-            &[0xC0, 0xBF],
-            &[0xC0, 0xC0],
-            &[0xE0, 0, 0],
-            &[0xEF, 0xDF, 0xBF],
-            &[0xEF, 0xDF, 0xC0],
-            &[0xEF],
             &[0x10],
             &[0x20],
             &[0x30],
