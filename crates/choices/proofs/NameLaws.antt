@@ -20,7 +20,7 @@ use Rattle.tables.specs.declared.Row.{Row}
 use Rattle.tables.specs.Located.{Located, octetsOf}
 use Rattle.tables.specs.Search.{numberIn, numberOfTriple}
 use Rattle.tables.specs.Rows.{tableOf, tripleAt, entries, vocabulary}
-use Rattle.tables.specs.Kept.{nameTableOf, countOf}
+use Rattle.tables.specs.Kept.{nameTableOf, countOf, layoutOf, tripleOf}
 use Rattle.tables.proofs.Laws.{length-strings, length-names, names-are, name-number-within}
 use Rattle.events.specs.declared.Text.{Text}
 use Rattle.events.specs.declared.Text.the-variants.{Absent, Empty, Stretch, XmlPrefix, XmlNamespace}
@@ -31,7 +31,7 @@ use Rattle.choices.specs.declared.Parts.{Parts}
 use Rattle.choices.specs.declared.Wrote as W
 use Rattle.choices.specs.declared.Wrote.the-variants.{Put, Full}
 use Rattle.choices.specs.Choices.{Wrote, writeId, writeOptional, writeName, within}
-use Rattle.choices.specs.Code.{layoutOf, InOrder, heldAs, namedOf, Held, numberThen, tripleOf, tripleFor, nameHeldAs, Tripled, pairBehind, declaredBy, Stands, Meets}
+use Rattle.choices.specs.Code.{InOrder, heldAs, namedOf, Held, numberThen, tripleFor, nameHeldAs, Tripled, pairBehind, declaredBy, Stands, Meets}
 use Rattle.choices.proofs.Order.{name-more, order-name, grows-on, grows-id, grows-optional, grows-name, within-grown, full-name}
 use Rattle.choices.proofs.StringLaws.{held-is, stands-put}
 

@@ -1,13 +1,13 @@
 -- Tables in order stay so when an entry is added; they only grow, so a table that has an entry too many keeps it.
 -- Assumes nothing.
-use mathlib.Core.Path.{_≡_, refl, sym, ap, _∙_}
+use mathlib.Core.Path.{_≡_, refl, _∙_}
 use mathlib.Core.Bool.{Bool, true, false, _&&_}
 use mathlib.Core.Option.{Option, none, some}
-use mathlib.Core.List.{List, [], _∷_, _++_, map}
+use mathlib.Core.List.{List, [], _∷_, map}
 use Prim.Native.Nat.{ℕ, zero, suc, _+_, _*_, _≤_, _<_}
 use native.Mathlib.Omega.{arith}
-use borrow.Author.Tests.{lt-leb, leb-true, le-leb}
-use lib.Dec.{eqb, leb}
+use borrow.Author.Tests.{leb-true, le-leb}
+use lib.Dec.{eqb}
 use lib.ListN.{length, replicate, length-append, length-replicate}
 use lib.Seq.{length-sets}
 use Rattle.format.specs.Numbers.{pick}

@@ -1,17 +1,16 @@
 -- A law for each way out of the functions that write strings, on plain values.
 -- Assumes nothing.
 use mathlib.Core.Path.{_≡_, refl, sym, ap, _∙_}
-use mathlib.Core.Bool.{Bool, true, false}
+use mathlib.Core.Bool.{true, false}
 use mathlib.Core.Option.{some}
-use mathlib.Core.List.{List, [], _∷_, _++_, map}
-use Prim.Native.Nat.{ℕ, zero, suc, _+_, _-_, _*_, _≤_, _<_}
+use mathlib.Core.List.{List, [], _∷_, map}
+use Prim.Native.Nat.{ℕ, suc, _+_, _-_, _*_, _≤_, _<_}
 use native.Mathlib.Omega.{arith}
 use borrow.Author.Tests.{eq-eqb, ne-eqb, lt-leb, le-leb, le-ltb, lt-ltb}
-use lib.Dec.{eqb}
 use lib.ListN.{length, set, take, drop, length-map}
-use Rattle.format.specs.Numbers.{pick, lengths, numbers, c25, spell}
+use Rattle.format.specs.Numbers.{lengths, numbers, c25, spell}
 use Rattle.format.specs.Events.{spelled, numbered}
-use Rattle.format.specs.Tables.{StringTable, CONTENT-CHARACTER-CHUNK, Vocabulary, strings, adding, same, xmlPrefix, xmlNamespace, link}
+use Rattle.format.specs.Tables.{StringTable, CONTENT-CHARACTER-CHUNK, Vocabulary, strings, adding, same, link}
 use Rattle.format.specs.Strings.{withLength, Layout, c14, c15}
 use Rattle.format.specs.Names.{has, ofElement, ofAttribute}
 use Rattle.fields.specs.Put.{Puts}
@@ -21,7 +20,7 @@ use Rattle.tables.specs.declared.Counts.{Counts}
 use Rattle.tables.specs.Located.{Located, stretch, builtInPrefix, builtInNamespace, octetsOf}
 use Rattle.tables.specs.Search.{lowest, numberIn}
 use Rattle.tables.specs.Rows.{tableOf, stringAt, entries, vocabulary}
-use Rattle.tables.specs.Kept.{countOf, oneMore, stored, Inside}
+use Rattle.tables.specs.Kept.{countOf, oneMore, stored, Inside, layoutOf}
 use Rattle.tables.proofs.Laws.{strings-are, length-strings, number-within, inside-table}
 use Rattle.events.specs.declared.Text.{Text}
 use Rattle.events.specs.declared.Text.the-variants.{Absent, Empty, Stretch, XmlPrefix, XmlNamespace}
@@ -31,7 +30,7 @@ use Rattle.choices.specs.declared.Here.{Here}
 use Rattle.choices.specs.declared.Wrote as W
 use Rattle.choices.specs.declared.Wrote.the-variants.{Put, Full}
 use Rattle.choices.specs.Choices.{Wrote, writeId, writeOptional, writeLiteral, writeValue, worthAdding, within}
-use Rattle.choices.specs.Code.{layoutOf, Begins, InOrder, Suits, Fills, Spells, heldAs, spelledOctets, spelledWords, Stands, Meets}
+use Rattle.choices.specs.Code.{Begins, InOrder, Suits, Fills, Spells, heldAs, spelledOctets, spelledWords, Stands, Meets}
 use Rattle.choices.proofs.Order.{string-more, order-string, full-string}
 
 -- ---- a string of an event

@@ -10,7 +10,7 @@ use Rattle.format.specs.Numbers.{pick, lengths}
 use Rattle.format.specs.Events.{Name, How, Choice, forNamespace}
 use Rattle.format.specs.Tables.{StringTable, PREFIX, NAMESPACE-NAME, LOCAL-NAME, Triple, Vocabulary, strings, names, link}
 use Rattle.format.specs.Strings.{withLength, bit, keeping}
-use Rattle.format.specs.Names.{has, NameLayout, ofElement, ofAttribute}
+use Rattle.format.specs.Names.{has, NameLayout}
 use Rattle.fields.specs.Put.{Puts}
 use Rattle.tables.specs.declared.Counts.{Counts}
 use Rattle.tables.specs.declared.Row.{Row}
@@ -28,10 +28,6 @@ use Rattle.choices.specs.declared.Wrote as W
 use Rattle.choices.specs.declared.Wrote.the-variants.{Put, Full}
 use Rattle.choices.specs.declared.Parts.{Parts}
 use Rattle.choices.specs.Choices.{Wrote, writeId, writeOptional, worthAdding, within}
-
--- The tables of names by number: 8 elements, 9 attributes.
-unfoldable pub layoutOf : ℕ → NameLayout
-layoutOf n = pick (eqb n 8) ofElement ofAttribute
 
 -- A list begins with x.
 abbrev pub Begins : Located → List Located → Type 0
@@ -102,10 +98,7 @@ pub record Held (text : List ℕ) (v : Vocabulary Located) (x : Parts) (k : Row)
 unfoldable pub numberThen : (n : ℕ) → Text → (k : ℕ) → ℕ
 numberThen n x k = pick (eqb k 0) (pick (eqb (textTag x) 0) 0 (suc n)) k
 
--- A row as a triple; the numbers that a name's strings have once they are written; and the name's own number, 0 if it has none.
-abbrev pub tripleOf : Row → Triple
-tripleOf x = record { prefix = x .a; namespace = x .b; local = x .c }
-
+-- The numbers that a name's strings have once they are written; and the name's own number, 0 if it has none.
 unfoldable pub tripleFor : List ℕ → Vocabulary Located → Name Located → Triple
 tripleFor text v x =
     let p = writeOptional text PREFIX v (x .prefix) in

@@ -1,6 +1,6 @@
 // Strings and names as octets, by the choices that 01 fixes: by number where the table holds them, else spelled.
 // May depend on format, fields, tables and events.
-mod names;
+mod naming;
 
 ghost use mathlib.Core.Path.{_≡_};
 ghost use Prim.Native.Nat.{_+_, _^_, _-_, _<_, _≤_};
@@ -13,11 +13,11 @@ ghost use Rattle.fields.specs.Put.{Puts};
 ghost use Rattle.tables.specs.Counts.{words};
 ghost use Rattle.tables.specs.Located.{stretch, octetsOf};
 ghost use Rattle.tables.specs.Rows.{tableOf, vocabulary};
-ghost use Rattle.tables.specs.Kept.{countOf, oneMore, stored};
+ghost use Rattle.tables.specs.Kept.{countOf, oneMore, stored, layoutOf};
 ghost use Rattle.events.specs.Records.{locatedOf, optionalOf};
 ghost use Rattle.events.specs.Words.{textTag};
 ghost use Rattle.choices.specs.Choices.{writeId, writeOptional, writeLiteral, writeValue};
-ghost use Rattle.choices.specs.Code.{layoutOf, InOrder, Suits, Fills, heldAs, Spells, spelledOctets, spelledWords, Stands, Meets};
+ghost use Rattle.choices.specs.Code.{InOrder, Suits, Fills, heldAs, Spells, spelledOctets, spelledWords, Stands, Meets};
 use events::Text;
 use fields::put::put;
 use fields::put::put_length;

@@ -21,8 +21,7 @@ use Rattle.events.specs.declared.Event.{Event}
 use Rattle.events.specs.Records.{recordOf}
 use Rattle.reader.specs.declared.Answer.{Answer}
 use Rattle.reader.specs.declared.Answer.the-variants.{Accepted, Refused}
-use Rattle.steps.specs.Items.{Stand}
-use Rattle.reader.specs.Reading.{Result, accepted, refusal, sized, opening, reading, Outcome, Leaves, refusing, accepting, outcome, readOf, numberOf, checkOf}
+use Rattle.reader.specs.Reading.{Result, accepted, refusal, sized, reading, Outcome, Leaves, refusing, accepting, outcome, readOf, numberOf, checkOf}
 use Rattle.reader.specs.Words.{answerWord, leaving, nothing, inWords, readWords}
 use Rattle.demands.proofs.Lists.{both-true}
 use Rattle.demands.proofs.Fits.{accepted-sized}

@@ -1,6 +1,6 @@
 -- The writer's choices for strings and names: what it writes is what the rules write, and its tables are theirs.
-use mathlib.Core.Path.{_≡_, refl, sym, ap, ap₂, _∙_, subst}
-use mathlib.Core.Bool.{Bool, true, false, not, _&&_}
+use mathlib.Core.Path.{_≡_, refl, ap, _∙_, subst}
+use mathlib.Core.Bool.{Bool, true, false, not}
 use mathlib.Core.Option.{Option, none, some, Option·map}
 use mathlib.Core.List.{List, [], _∷_, _++_, map}
 use Prim.Native.Nat.{ℕ, zero, suc, _+_, _-_, _*_, _≤_, _<_}
@@ -9,7 +9,7 @@ use borrow.Author.Tests.{ltb-true, eq-eqb, ne-eqb}
 use lib.Dec.{eqb, ltb, leb}
 use lib.ListN.{length, getD, length-append, length-map, List·getD-append}
 use lib.Seq.{getD-append-seam}
-use Rattle.format.specs.Numbers.{pick, coded, spell, sizes, lengths, c25, numbers, top}
+use Rattle.format.specs.Numbers.{pick, coded, spell, sizes, lengths, c25, top}
 use Rattle.format.specs.Text.{isText}
 use Rattle.format.specs.Events.{Name, nameMap, How, spelled, numbered, NameHow, inParts, byNumber}
 use Rattle.format.specs.Tables.{StringTable, PREFIX, NAMESPACE-NAME, LOCAL-NAME, NameTable, ELEMENT-NAME, ATTRIBUTE-NAME, Triple, noTriple, Vocabulary, strings, names, place, extended, adding, addingName, holds, holdsName, Entry, partOf, nameOf, vocabularyMap, Limits}

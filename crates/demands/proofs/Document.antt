@@ -1,17 +1,17 @@
 -- A whole document: an accepted one is what the rules write, and what they write is accepted; and what room does to it.
-use Prim.Native.Nat.{ℕ, zero, suc, _+_, _-_, _*_, _≤_, _<_}
-use mathlib.Core.Path.{_≡_, refl, sym, ap, ap₂, _∙_, subst}
+use Prim.Native.Nat.{ℕ, _+_, _-_, _≤_, _<_}
+use mathlib.Core.Path.{_≡_, refl, sym, ap, _∙_, subst}
 use mathlib.Core.Bool.{false}
-use mathlib.Core.List.{List, [], _∷_, _++_, map}
+use mathlib.Core.List.{List, _++_, map}
 use native.Mathlib.Omega.{arith}
-use lib.ListN.{length, getD, drop, length-append, length-map, length-drop}
+use lib.ListN.{length, getD, drop, length-drop}
 use Rattle.format.specs.Numbers.{AreOctets}
 use Rattle.format.specs.Events.{Item}
-use Rattle.format.specs.Tables.{Vocabulary, starting, xmlPrefix, xmlNamespace, link}
+use Rattle.format.specs.Tables.{starting, xmlPrefix, xmlNamespace, link}
 use Rattle.format.specs.Items.{content, State}
-use Rattle.format.specs.Document.{halves, Written, knownAfter, beginning, Document, header, Writes}
-use Rattle.tables.specs.Located.{Located, builtInPrefix, builtInNamespace, octetsOf, plain, plainState, start}
-use Rattle.reader.specs.Reading.{Result, accepted, refusal, Mark, run, trace, Opening, onward, halt, opening, origin, fuelOf, resultFrom, reading, marksFrom, marks, Accepts}
+use Rattle.format.specs.Document.{halves, Written, knownAfter, beginning, header, Writes}
+use Rattle.tables.specs.Located.{builtInPrefix, builtInNamespace, octetsOf, plain, plainState, start}
+use Rattle.reader.specs.Reading.{Result, accepted, refusal, Mark, run, Opening, onward, halt, opening, origin, fuelOf, resultFrom, reading, marksFrom, marks, Accepts}
 use Rattle.demands.proofs.Lists.{Fault, halves-append, halves-length, halves-drop, halves-complete, drop-past}
 use Rattle.demands.proofs.Words.{starting-map}
 use Rattle.demands.proofs.Run.{Right, run-right, fuel-free, trace-few, placesOf, room-short, room-enough, Reads, run-complete}

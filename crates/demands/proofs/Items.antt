@@ -1,18 +1,18 @@
 -- Items, C.3 to C.8: what is read at an octet is what the rules write, and what they write is read.
 use mathlib.Core.Path.{_≡_, refl, sym, ap, ap₂, _∙_, subst}
 use mathlib.Core.Bool.{Bool, true, false, not, _&&_, _||_}
-use mathlib.Core.Option.{Option, none, some, Option·map}
+use mathlib.Core.Option.{Option, some}
 use mathlib.Core.List.{List, [], _∷_, _++_, append-assoc}
-use Prim.Native.Nat.{ℕ, zero, suc, _+_, _-_, _*_, _/_, _%_, _^_, _≤_, _<_}
+use Prim.Native.Nat.{ℕ, suc, _+_, _-_, _*_, _/_, _%_, _≤_, _<_}
 use native.Mathlib.Omega.{arith}
 use borrow.Author.Tests.{lt-ltb, le-ltb, le-leb, eq-eqb, ne-eqb}
 use lib.Dec.{eqb, ltb, leb}
-use lib.ListN.{length, getD, take, drop, length-append}
+use lib.ListN.{length, getD, drop, length-append}
 use lib.Seq.{drop-cons}
 use Rattle.format.specs.Numbers.{pick, coded, rooms, numbers, c25, top}
 use Rattle.format.specs.Events.{Name, Namespace, Start, Attribute, Text, Comment, Instruction, How, NameHow, forNamespace, forStart, forAttribute, forText, forComment, forInstruction, Item, _by_, eventMap}
 use Rattle.format.specs.Tables.{OTHER-NCNAME, ATTRIBUTE-VALUE, CONTENT-CHARACTER-CHUNK, OTHER-STRING, Vocabulary, Limits}
-use Rattle.format.specs.Strings.{bit, c15, Identifying, Literal, Value}
+use Rattle.format.specs.Strings.{bit, c15, Value}
 use Rattle.format.specs.Names.{ofElement, ofAttribute, Named, Declared}
 use Rattle.format.specs.Items.{Mode, content, declaring, listing, State, mayStart, knowing, moved, opened, Octets, o-start, o-first-namespace, o-namespace, o-named-start, o-attribute, o-text, o-comment, o-instruction}
 use Rattle.fields.specs.declared.Cursor.{Cursor}
@@ -20,15 +20,15 @@ use Rattle.fields.specs.declared.Number.{Number}
 use Rattle.fields.specs.declared.Number.the-variants.{Got as Num, Refused as NoNum}
 use Rattle.fields.specs.Fields.{readIn, fieldAt}
 use Rattle.fields.proofs.Laws.{case}
-use Rattle.tables.specs.Located.{Located, octetsOf, plain, plainWords, plainState}
-use Rattle.names.specs.Strings.{Got, got, refused, idAt, literalAt, valueAt}
+use Rattle.tables.specs.Located.{Located, plain, plainWords, plainState}
+use Rattle.names.specs.Strings.{Got, idAt, literalAt, valueAt}
 use Rattle.names.specs.Names.{NameRead, lonePrefix, partsAt, numberedAt, nameAt, declaredAt}
-use Rattle.steps.specs.Items.{Stand, Step, more, quiet, done, stop, into, octet, namePadding, startOf, namespaceAt, elementAt, namedAt, attributeAt, chunkAt, commentAt, instructionAt, otherAt, childAt, declaringAt, itemAt}
+use Rattle.steps.specs.Items.{Stand, Step, more, quiet, done, stop, octet, namePadding, startOf, namespaceAt, elementAt, namedAt, attributeAt, chunkAt, commentAt, instructionAt, otherAt, childAt, declaringAt, itemAt}
 use Rattle.steps.specs.Steps.{byHalves}
-use Rattle.demands.proofs.Lists.{Fault, fault, test, test-lt, test-le, test-not, test-ge, either, either-lt, either-eq, drop-head, drop-past, pick-yes, pick-no}
+use Rattle.demands.proofs.Lists.{Fault, fault, test, test-lt, test-not, either-lt, either-eq, drop-head, drop-past, pick-yes, pick-no}
 use Rattle.demands.proofs.Fields.{FieldRead, Ok, in-step, Hit}
-use Rattle.demands.proofs.Strings.{shape15, inside, IdR, id-sound, LiteralR, literal-sound, ValueR, value-sound, IdQ, id-complete, StringQ, LiteralHit, literal-complete, value-complete}
-use Rattle.demands.proofs.Names.{element-shape, attribute-shape, NameR, numbered-sound, parts-sound, name-sound, DeclaredR, declared-sound, NameQ, NameHit, hit-numbered, hit-parts, name-complete, DeclaredQ, declared-complete}
+use Rattle.demands.proofs.Strings.{shape15, inside, IdR, id-sound, LiteralR, literal-sound, ValueR, value-sound, id-complete, literal-complete, value-complete}
+use Rattle.demands.proofs.Names.{element-shape, attribute-shape, NameR, numbered-sound, parts-sound, name-sound, DeclaredR, declared-sound, NameQ, NameHit, hit-numbered, hit-parts, name-complete, declared-complete}
 
 -- ---- the six bits of an element's name
 or-right : (a : Bool) → (a || true) ≡ true

@@ -1,15 +1,14 @@
 -- What stands where in a list of octets or of halves, both ways: read as it is written, written as it is read.
-use mathlib.Core.Path.{_≡_, refl, sym, ap, ap₂, _∙_, subst}
-use mathlib.Core.Bool.{Bool, true, false, _&&_, _||_}
-use mathlib.Core.List.{List, [], _∷_, _++_, append-assoc, map}
+use mathlib.Core.Path.{_≡_, refl, sym, ap, ap₂, _∙_}
+use mathlib.Core.Bool.{Bool, true, false, _&&_}
+use mathlib.Core.List.{List, [], _∷_, _++_}
 use Prim.Native.Nat.{ℕ, zero, suc, _+_, _-_, _*_, _/_, _%_, _≤_, _<_}
-use native.Mathlib.Nat.{suc-add}
 use native.Mathlib.Omega.{arith}
 use native.Mathlib.Decide.{ℕ-discrete}
 use borrow.Author.Tests.{eqb-true, eqb-false, eq-eqb, ltb-true, ltb-false, leb-true}
 use lib.Dec.{eqb, ltb, leb}
-use lib.ListN.{length, getD, take, drop, length-append, length-take, length-drop, take-append-drop, length-replicate}
-use lib.Seq.{drop-cons, drop-drop, take-at, drop-at, length-take-le, drop-nil}
+use lib.ListN.{length, getD, take, drop, length-append, length-drop, take-append-drop, length-replicate}
+use lib.Seq.{drop-drop, take-at, drop-at, length-take-le, drop-nil}
 use Rattle.format.specs.Numbers.{pick}
 use Rattle.format.specs.Tables.{same}
 use Rattle.format.specs.Document.{halves, pad, aligned}

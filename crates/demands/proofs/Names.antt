@@ -1,17 +1,17 @@
 -- Names, C.17 and C.18, and namespace declarations, C.12: what is read is what the rules write, and what they write is read.
 use mathlib.Core.Path.{_≡_, refl, sym, ap, ap₂, _∙_, subst, subst₂}
-use mathlib.Core.Bool.{Bool, true, false}
+use mathlib.Core.Bool.{false}
 use mathlib.Core.Option.{Option, none, some, Option·map}
 use mathlib.Core.List.{List, [], _∷_, _++_, append-assoc}
-use Prim.Native.Nat.{ℕ, zero, suc, _+_, _-_, _*_, _/_, _%_, _^_, _≤_, _<_}
+use Prim.Native.Nat.{ℕ, zero, suc, _+_, _-_, _*_, _%_, _^_, _≤_, _<_}
 use native.Mathlib.Omega.{arith}
-use borrow.Author.Tests.{lt-ltb, le-ltb, le-leb, eq-eqb, ne-eqb}
-use lib.Dec.{T, eqb, ltb, leb}
-use lib.ListN.{length, getD, take, drop, length-append}
+use borrow.Author.Tests.{lt-ltb, le-ltb, le-leb}
+use lib.Dec.{T, eqb, leb}
+use lib.ListN.{length, getD, drop, length-append}
 use lib.Seq.{drop-cons}
-use Rattle.format.specs.Numbers.{coded, spell, sizes, rooms, sound, numbers, c25, top}
+use Rattle.format.specs.Numbers.{coded, spell, rooms, sound, numbers, c25, top}
 use Rattle.format.specs.Events.{Name, nameMap, How, NameHow, inParts, byNumber}
-use Rattle.format.specs.Tables.{PREFIX, NAMESPACE-NAME, LOCAL-NAME, Triple, noTriple, Vocabulary, names, addingName, vocabularyMap, holdsName, Entry, nameOf, Limits}
+use Rattle.format.specs.Tables.{PREFIX, NAMESPACE-NAME, LOCAL-NAME, Triple, noTriple, Vocabulary, names, addingName, holdsName, Entry, nameOf, Limits}
 use Rattle.format.specs.Strings.{bit, Identifying, Optional}
 use Rattle.format.specs.Names.{has, NameLayout, ofElement, ofAttribute, Named, in-parts, by-number, Declared, declared}
 use Rattle.fields.specs.declared.Cursor.{Cursor}
@@ -19,12 +19,12 @@ use Rattle.fields.specs.declared.Number.the-variants.{Got as Num}
 use Rattle.fields.specs.Fields.{fieldAt}
 use Rattle.fields.proofs.RoundTrip.{some-first}
 use Rattle.tables.specs.Located.{Located, empty, octetsOf, plainWords}
-use Rattle.names.specs.Strings.{Got, got, refused, OptionalRead, idAt, optionalAt}
+use Rattle.names.specs.Strings.{Got, refused, idAt, optionalAt}
 use Rattle.names.specs.Names.{NameRead, DeclaredRead, prefixBit, namespaceBit, lonePrefix, partsAt, numberedAt, nameAt, declaredAt}
-use Rattle.demands.proofs.Lists.{Fault, fault, test-lt, test-le, test-not, test-ge, either-lt, either-eq, drop-head, drop-past}
+use Rattle.demands.proofs.Lists.{fault, test-lt, test-le, test-not, test-ge, either-lt, either-eq, drop-head, drop-past}
 use Rattle.demands.proofs.Words.{names-map, adding-name-map, name-map}
 use Rattle.demands.proofs.Numbers.{num-sound, num-complete, num-first}
-use Rattle.demands.proofs.Fields.{FieldRead, Ok, on-number, on-field, Hit, hit-at}
+use Rattle.demands.proofs.Fields.{Ok, on-number, on-field, Hit, hit-at}
 use Rattle.demands.proofs.Strings.{IdR, id-sound, OptionalR, optional-sound, IdQ, id-complete, there, OptionalQ, optional-complete}
 
 -- ---- the bits p and n

@@ -1,12 +1,12 @@
 -- What the writer makes of one event is what the rules write, and its tables keep in order.
-use mathlib.Core.Path.{_≡_, refl, sym, ap, ap₂, _∙_, subst}
-use mathlib.Core.Bool.{Bool, true, false, not, _&&_, _||_}
+use mathlib.Core.Path.{_≡_, refl, sym, ap, _∙_, subst}
+use mathlib.Core.Bool.{Bool, true, false}
 use mathlib.Core.Option.{Option, none, some, Option·map}
 use mathlib.Core.List.{List, [], _∷_, _++_}
-use Prim.Native.Nat.{ℕ, zero, suc, _+_, _-_, _*_, _≤_, _<_}
+use Prim.Native.Nat.{ℕ, _+_, _-_, _*_, _≤_, _<_}
 use native.Mathlib.Omega.{arith}
 use borrow.Author.Tests.{leb-true, eqb-true, ne-eqb}
-use lib.Dec.{eqb, ltb, leb}
+use lib.Dec.{eqb, leb}
 use lib.ListN.{length, length-append}
 use Rattle.format.specs.Numbers.{coded, sizes, lengths, numbers, c25, top}
 use Rattle.format.specs.Events as E
@@ -14,11 +14,11 @@ use Rattle.format.specs.Events.{How, NameHow, nameMap, Item, _by_, eventMap}
 use Rattle.format.specs.Tables.{StringTable, PREFIX, NAMESPACE-NAME, LOCAL-NAME, OTHER-NCNAME, OTHER-URI, ATTRIBUTE-VALUE, CONTENT-CHARACTER-CHUNK, OTHER-STRING, NameTable, ELEMENT-NAME, ATTRIBUTE-NAME, Vocabulary, strings, names, place, extended, adding, Limits}
 use Rattle.format.specs.Strings.{Spelling, bit, Layout, c15}
 use Rattle.format.specs.Names.{has, NameLayout, ofElement, ofAttribute, Named, Declared, declared}
-use Rattle.format.specs.Items.{Mode, content, declaring, listing, State, mayStart, knowing, moved, opened, Octets, o-start, o-first-namespace, o-namespace, o-named-start, o-attribute, o-text, o-comment, o-instruction}
+use Rattle.format.specs.Items.{Mode, content, declaring, listing, State, mayStart, opened, Octets, o-start, o-first-namespace, o-namespace, o-named-start, o-attribute, o-text, o-comment, o-instruction}
 use Rattle.tables.specs.Located.{Located, octetsOf, plain, plainWords, plainState}
 use Rattle.tables.specs.Rows.{tableOf}
 use Rattle.tables.proofs.Laws.{strings-adding, names-adding}
-use Rattle.choices.specs.Choices.{Wrote, writeId, writeOptional, writeName, writeLiteral, writeValue, within}
+use Rattle.choices.specs.Choices.{Wrote, writeId, writeOptional, writeName, within}
 use Rattle.writer.specs.Items.{WroteItem, beforeDeclaration, beforeName, nameLead, writeItem}
 use Rattle.demands.proofs.Lists.{both-true}
 use Rattle.demands.proofs.Growing.{strings-adding-name}

@@ -1,13 +1,13 @@
 -- Steps and runs: an accepted run is what the rules write, and what they write is an accepted run, with room enough.
-use mathlib.Core.Path.{_≡_, refl, sym, ap, ap₂, _∙_, subst, subst₂}
-use mathlib.Core.Bool.{Bool, true, false, not, _&&_, _||_}
+use mathlib.Core.Path.{_≡_, refl, sym, ap, ap₂, _∙_, subst}
+use mathlib.Core.Bool.{Bool, true, false, _&&_}
 use mathlib.Core.Option.{Option}
-use mathlib.Core.List.{List, [], _∷_, _++_, append-assoc, append-nil, map}
+use mathlib.Core.List.{List, [], _∷_, _++_, append-nil, map}
 use Prim.Native.Nat.{ℕ, zero, suc, _+_, _-_, _*_, _/_, _%_, _≤_, _<_}
 use native.Mathlib.Omega.{arith}
 use borrow.Author.Tests.{lt-ltb, le-ltb, eq-eqb, eqb-true}
-use lib.Dec.{eqb, ltb, leb}
-use lib.ListN.{length, getD, take, drop, length-append, length-drop, replicate}
+use lib.Dec.{eqb}
+use lib.ListN.{length, getD, drop, length-append, length-drop, replicate}
 use lib.Seq.{drop-cons, drop-length}
 use Rattle.format.specs.Numbers.{spell, lengths}
 use Rattle.format.specs.Events.{Name, How, NameHow, End, forEnd, Item, _by_, eventMap}
@@ -17,12 +17,12 @@ use Rattle.format.specs.Names.{NameLayout, Named, in-parts, by-number, Declared
 use Rattle.format.specs.Items.{Mode, content, declaring, listing, State, moved, Octets, o-start, o-first-namespace, o-namespace, o-named-start, o-attribute, o-text, o-comment, o-instruction}
 use Rattle.format.specs.Document.{halves, pad, aligned, closed, Written, document-end, attributes-end, element-end, item, knownAfter}
 use Rattle.fields.proofs.RoundTrip.{some-first}
-use Rattle.tables.specs.Located.{Located, octetsOf, plain, plainWords, plainState}
+use Rattle.tables.specs.Located.{Located, plain, plainState}
 use Rattle.steps.specs.Items.{Stand, Step, more, quiet, done, stop, octet, itemAt}
 use Rattle.steps.specs.Steps.{endsAt, padsAt, documentEnd, endAt, byHalves, step}
 use Rattle.reader.specs.Reading.{Result, accepted, refusal, plus, turn, Mark, marked, run, trace}
 use Rattle.demands.proofs.Lists.{Fault, fault, test, either, either-lt, both-true, not-true, drop-head, drop-past, ends-sound, ends-complete, pads-sound, pads-complete, halves-drop, halves-length, halves-sound, halves-complete, align-is, aligned-ge, aligned-in, pad-length}
-use Rattle.demands.proofs.Items.{ItemRead, Took, item-sound, ItemHit, item-complete}
+use Rattle.demands.proofs.Items.{Took, item-sound, item-complete}
 
 -- ---- an item has octets, and opens one element at most
 module _ {L : Limits} where

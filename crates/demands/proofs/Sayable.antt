@@ -1,13 +1,13 @@
 -- The strings of a record that the writer takes can be spelled; and what it means that an event is passed.
-use mathlib.Core.Path.{_≡_, refl, sym, ap, _∙_}
+use mathlib.Core.Path.{_≡_, refl}
 use mathlib.Core.Bool.{Bool, true, false, not, _&&_, _||_}
-use mathlib.Core.Option.{Option, none, some}
-use mathlib.Core.List.{List, [], _∷_}
-use Prim.Native.Nat.{ℕ, zero, suc, _+_, _-_, _≤_, _<_}
+use mathlib.Core.Option.{some}
+use mathlib.Core.List.{List}
+use Prim.Native.Nat.{ℕ, _+_, _-_, _≤_, _<_}
 use native.Mathlib.Omega.{arith}
-use borrow.Author.Tests.{ltb-true, leb-true, leb-false}
-use lib.Dec.{eqb, ltb, leb}
-use lib.ListN.{length, take, drop, length-take, length-drop}
+use borrow.Author.Tests.{ltb-true, leb-true}
+use lib.Dec.{ltb, leb}
+use lib.ListN.{length, drop, length-take, length-drop}
 use lib.Seq.{length-take-le}
 use Rattle.format.specs.Numbers.{pick, coded, sizes, lengths}
 use Rattle.format.specs.Text as T
@@ -23,7 +23,7 @@ use Rattle.events.specs.declared.Kind.{Kind}
 use Rattle.events.specs.declared.Kind.the-variants.{Blank, Namespace, Start, Attribute, Chunk, Comment, Instruction, End}
 use Rattle.events.specs.declared.Event.{Event}
 use Rattle.tables.specs.Located.{Located, empty, stretch, builtInPrefix, builtInNamespace, octetsOf}
-use Rattle.writer.specs.Events.{isAbsent, isStretch, isPrefix, isNamespace, isValue, isName, noName, wellMade, locatedOf, optionalOf, nameOf, eventOf, goesOn, optionalText, nameText, allText}
+use Rattle.writer.specs.Events.{isAbsent, isStretch, isPrefix, isNamespace, isName, noName, wellMade, locatedOf, optionalOf, nameOf, eventOf, goesOn, optionalText, nameText, allText}
 use Rattle.choices.specs.Choices.{within}
 use Rattle.writer.specs.Items.{WroteItem}
 use Rattle.writer.specs.Writing.{opens, fits, judge}

@@ -1,18 +1,17 @@
 -- Strings, C.13 to C.15: what is read is what the rules write, and what they write is read.
-use mathlib.Core.Path.{_≡_, refl, sym, ap, ap₂, _∙_, subst}
+use mathlib.Core.Path.{_≡_, refl, sym, ap, _∙_, subst}
 use mathlib.Core.Bool.{Bool, true, false, not, _||_}
 use mathlib.Core.Option.{Option, none, some, Option·map}
 use mathlib.Core.List.{List, [], _∷_, _++_, map}
-use Prim.Native.Nat.{ℕ, zero, suc, _+_, _-_, _*_, _%_, _^_, _≤_, _<_}
+use Prim.Native.Nat.{ℕ, suc, _+_, _-_, _*_, _%_, _^_, _≤_, _<_}
 use native.Mathlib.Omega.{arith}
 use borrow.Author.Tests.{lt-ltb, le-ltb, le-leb, eq-eqb, ne-eqb, ltb-true}
-use lib.Dec.{T, eqb, ltb, leb}
-use lib.ListN.{length, getD, take, drop, length-append, length-map, List·getD-map, List·getD-eq-default}
+use lib.Dec.{T, ltb}
+use lib.ListN.{length, getD, drop, length-append, List·getD-eq-default}
 use lib.Seq.{drop-cons}
 use Rattle.format.specs.Numbers.{coded, spell, sizes, rooms, sound, lengths, numbers, c25, top}
-use Rattle.format.specs.Text.{isText}
 use Rattle.format.specs.Events.{How, spelled, numbered}
-use Rattle.format.specs.Tables.{StringTable, Vocabulary, strings, adding, vocabularyMap, holds, Entry, Limits}
+use Rattle.format.specs.Tables.{StringTable, Vocabulary, strings, adding, holds, Entry, Limits}
 use Rattle.format.specs.Strings.{withLength, Spelling, bit, Layout, c14, c15, keeping, Identifying, id-spelled, id-numbered, Optional, absent, present, Literal, literal-spelled, literal-numbered, Value, value-empty, value}
 use Rattle.format.specs.Names.{has}
 use Rattle.fields.specs.Fields.{fieldAt, noTop}
@@ -20,10 +19,10 @@ use Rattle.fields.proofs.Laws.{case}
 use Rattle.fields.proofs.RoundTrip.{some-first}
 use Rattle.tables.specs.Located.{Located, empty, stretch, octetsOf, plainWords}
 use Rattle.names.specs.Strings.{Got, got, refused, IdRead, OptionalRead, StringRead, idAt, optionalAt, spelledAt, literalAt, valueAt}
-use Rattle.demands.proofs.Lists.{Fault, fault, test, test-lt, test-le, test-not, test-ge, either-lt, either-eq, drop-head}
+use Rattle.demands.proofs.Lists.{fault, test, test-lt, test-le, test-not, test-ge, either-lt, either-eq, drop-head}
 use Rattle.demands.proofs.Words.{strings-map, length-strings, adding-map, keeping-map, entry-map}
 use Rattle.demands.proofs.Numbers.{num-sound, num-complete, num-first}
-use Rattle.demands.proofs.Fields.{FieldRead, Ok, on-number, on-field, spelling-sound, Hit, hit-at, Spelt, spelt, spelling-is}
+use Rattle.demands.proofs.Fields.{Ok, on-number, on-field, spelling-sound, Hit, hit-at, Spelt, spelt, spelling-is}
 
 module _ (s : List ℕ) where
   -- entry n of a table, both ways

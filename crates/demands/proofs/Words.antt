@@ -1,13 +1,13 @@
 -- Tables by places and tables by octets: the plain form of what is looked up and of what is added.
 use mathlib.Core.Path.{_≡_, refl, sym, ap, _∙_}
 use mathlib.Core.Bool.{Bool, true, false}
-use mathlib.Core.Option.{Option, none, some, Option·map}
+use mathlib.Core.Option.{some, Option·map}
 use mathlib.Core.List.{List, [], _∷_, _++_, map}
 use Prim.Native.Nat.{ℕ, zero, suc, _-_, _<_}
 use native.Mathlib.Omega.{arith}
 use lib.Dec.{eqb}
 use lib.ListN.{length, getD, length-map, List·getD-map}
-use Rattle.format.specs.Events.{Name, nameMap}
+use Rattle.format.specs.Events.{nameMap}
 use Rattle.format.specs.Tables.{StringTable, PREFIX, NAMESPACE-NAME, LOCAL-NAME, OTHER-NCNAME, OTHER-URI, ATTRIBUTE-VALUE, CONTENT-CHARACTER-CHUNK, OTHER-STRING, NameTable, ELEMENT-NAME, ATTRIBUTE-NAME, Triple, Vocabulary, strings, names, place, extended, adding, addingName, vocabularyMap, starting, Entry, partOf, nameOf}
 use Rattle.format.specs.Strings.{keeping}
 

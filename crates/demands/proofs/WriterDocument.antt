@@ -1,15 +1,15 @@
 -- A whole document that the writer wrote: it is what the rules write, within the limits and the room, and what was known after each event is what the rules know.
-use mathlib.Core.Path.{_≡_, refl, sym, ap, ap₂, _∙_, subst}
-use mathlib.Core.Bool.{Bool, true, false, _&&_}
+use mathlib.Core.Path.{_≡_, refl, sym, ap, _∙_, subst}
+use mathlib.Core.Bool.{_&&_}
 use mathlib.Core.List.{List, [], _∷_, _++_, map}
 use Prim.Native.Nat.{ℕ, zero, suc, _+_, _-_, _*_, _/_, _%_, _≤_, _<_, min}
 use native.Mathlib.Omega.{arith}
 use borrow.Author.Tests.{leb-true}
 use lib.Dec.{eqb, leb}
-use lib.ListN.{length, length-append, length-map, length-replicate, replicate}
-use Rattle.format.specs.Numbers.{pick, top}
+use lib.ListN.{length, length-append, length-map}
+use Rattle.format.specs.Numbers.{top}
 use Rattle.format.specs.Events.{Item, _by_}
-use Rattle.format.specs.Tables.{StringTable, NameTable, ELEMENT-NAME, ATTRIBUTE-NAME, PREFIX, NAMESPACE-NAME, LOCAL-NAME, OTHER-NCNAME, OTHER-URI, ATTRIBUTE-VALUE, CONTENT-CHARACTER-CHUNK, OTHER-STRING, strings, names, starting, xmlPrefix, xmlNamespace, Limits, link}
+use Rattle.format.specs.Tables.{StringTable, NameTable, ELEMENT-NAME, ATTRIBUTE-NAME, PREFIX, NAMESPACE-NAME, LOCAL-NAME, OTHER-NCNAME, OTHER-URI, ATTRIBUTE-VALUE, CONTENT-CHARACTER-CHUNK, OTHER-STRING, strings, names, starting, Limits, link}
 use Rattle.format.specs.Items.{State}
 use Rattle.format.specs.Document.{halves, pad, aligned, Written, document-end, attributes-end, element-end, item, knownAfter, beginning, header, Writes}
 use Rattle.events.specs.declared.Event.{Event}
@@ -19,7 +19,6 @@ use Rattle.writer.specs.Items.{writeItem}
 use Rattle.writer.specs.Writing.{announced, Result, written, refusal, plus, settled, fits, halvesOf, judge, finish, run, joined, writing, knownWriting}
 use Rattle.demands.proofs.Lists.{test, parity, align-is, halves-append, halves-length, pad-length}
 use Rattle.demands.proofs.Document.{plain-start}
-use Rattle.demands.proofs.Chosen.{Fits, Ranged}
 use Rattle.demands.proofs.Produced.{Order}
 use Rattle.demands.proofs.WriterRun.{Knows, Right, run-right}
 

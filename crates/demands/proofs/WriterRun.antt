@@ -1,28 +1,28 @@
 -- A writer's run: what it writes from a list of events is what the rules write from their plain form and 01's choices; what it knows after each is what they know.
-use mathlib.Core.Path.{_≡_, refl, sym, ap, ap₂, _∙_, subst, subst₂}
+use mathlib.Core.Path.{_≡_, refl, sym, ap, _∙_, subst}
 use mathlib.Core.Bool.{Bool, true, false, not, _&&_, _||_}
 use mathlib.Core.List.{List, [], _∷_, _++_, append-assoc, map}
-use Prim.Native.Nat.{ℕ, zero, suc, _+_, _-_, _*_, _/_, _%_, _≤_, _<_}
+use Prim.Native.Nat.{ℕ, zero, suc, _+_, _-_, _*_, _≤_, _<_}
 use native.Mathlib.Omega.{arith}
-use borrow.Author.Tests.{ltb-true, leb-true, leb-false, eqb-true}
+use borrow.Author.Tests.{ltb-true, leb-false, eqb-true}
 use lib.Dec.{eqb, ltb, leb}
 use lib.ListN.{length, length-append}
 use Rattle.format.specs.Numbers.{pick, top}
 use Rattle.format.specs.Events as E
-use Rattle.format.specs.Events.{Item, _by_, forEnd, eventMap}
-use Rattle.format.specs.Tables.{Vocabulary, Limits}
+use Rattle.format.specs.Events.{Item, _by_, eventMap}
+use Rattle.format.specs.Tables.{Limits}
 use Rattle.format.specs.Items.{Mode, content, declaring, listing, State, mayStart, moved}
 use Rattle.format.specs.Document.{halves, pad, aligned, closed, Written, document-end, attributes-end, element-end, item, knownAfter}
 use Rattle.events.specs.declared.Kind.{Kind}
 use Rattle.events.specs.declared.Kind.the-variants.{Blank, Namespace, Start, Attribute, Chunk, Comment, Instruction, End}
 use Rattle.events.specs.declared.Event.{Event}
-use Rattle.tables.specs.Located.{Located, octetsOf, plain, plainWords, plainState}
+use Rattle.tables.specs.Located.{Located, plain, plainState}
 use Rattle.writer.specs.Events.{eventOf, amongChildren, isContent, isDeclaring, isListing, goesOn}
 use Rattle.choices.specs.Choices.{within}
 use Rattle.writer.specs.Items.{WroteItem, writeItem}
 use Rattle.writer.specs.Writing.{announced, Result, written, refusal, plus, isAttribute, isEnd, opens, owed, settled, fits, halvesOf, judge, finish, run, trace}
 use Rattle.demands.proofs.Lists.{clash, test, both-true, halves-length, pad-length}
-use Rattle.demands.proofs.Sayable.{Said, said, Passed, passed}
+use Rattle.demands.proofs.Sayable.{Said, said, passed}
 use Rattle.demands.proofs.Produced.{Order, Made, Where, first-namespace, next-namespace, first-start, named-start, in-list, in-element, comment, instruction, made}
 
 -- ---- where an event may stand, once the end of an attribute list is behind it

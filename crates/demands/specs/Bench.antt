@@ -1,15 +1,13 @@
 -- The bench (01, "Documents on the bench"): each case marked M and the readings that look right and are not, in one list, proved at once by computing the definitions.
 use Prim.Native.Nat.{ℕ}
 use mathlib.Core.Path.{_≡_, refl}
-use mathlib.Core.Option.{Option, none, some}
+use mathlib.Core.Option.{none, some}
 use mathlib.Core.List.{List, [], _∷_, _++_, map}
 use Rattle.format.specs.Events.{Name, Event, Namespace, Start, Attribute, Text, End, Item, eventMap}
 use Rattle.format.specs.Tables.{Triple, Vocabulary, xmlPrefix, xmlNamespace}
-use Rattle.format.specs.Items.{State}
 use Rattle.format.specs.Document.{header}
 use Rattle.tables.specs.Located.{Located, octetsOf, plainWords}
 use Rattle.events.specs.Records.{recordOf}
-use Rattle.steps.specs.Items.{Stand}
 use Rattle.format.specs.Numbers as FNumbers
 use Rattle.format.specs.Text as FText
 use Rattle.format.specs.Events as FEvents

@@ -1,20 +1,25 @@
 -- Octets put one behind the other are put together: in a sequence, and by a loop.
 -- Assumes nothing.
-use mathlib.Core.Path.{_≡_, refl}
+use mathlib.Core.Path.{_≡_, refl, sym}
 use mathlib.Core.List.{List, [], _∷_, _++_}
-use Prim.Native.Nat.{ℕ, zero, suc, _+_, _-_, _*_, _/_, _%_, _^_, _≤_, _<_}
+use Prim.Native.Nat.{ℕ, zero, suc, _+_, _-_, _*_, _/_, _%_, _^_, _≤_, _<_, min}
 use native.Mathlib.Nat.{pow-suc}
 use native.Mathlib.Numerals.{add-one}
 use native.Mathlib.Omega.{arith}
-use lib.ListN.{length, getD, take, drop, set, length-append, length-drop}
+use native.Mathlib.Decide.{decLt}
+use lib.ListN.{length, getD, take, drop, set, length-append, length-drop, take-append-drop}
 use lib.Pow.{pow-add}
-use lib.Seq.{sets, length-sets, take-suc, take-all, length-take-le, getD-take, getD-drop}
+use lib.Seq.{sets, length-sets, set-out, take-suc, take-all, length-take-le, getD-take, getD-drop}
 use Rattle.format.specs.Numbers.{octets}
 use Rattle.fields.specs.Put.{Puts}
 
 sets-append : (xs ys out : List ℕ) (at : ℕ) → sets out at (xs ++ ys) ≡ sets (sets out at xs) (at + length xs) ys
 sets-append [] ys out at = let z : at + 0 ≡ at = omega arith in rw z
 sets-append (x ∷ xs) ys out at = let z : at + suc (length xs) ≡ suc at + length xs = omega arith in rw z (sets-append xs ys (set out at x) (suc at))
+
+sets-past : (xs out : List ℕ) (at : ℕ) → length out ≤ at → sets out at xs ≡ out
+sets-past [] out at h = refl
+sets-past (x ∷ xs) out at h = rw (set-out out at x h) (sets-past xs out (suc at) (omega arith))
 
 pub puts-kept : {out out′ os : List ℕ} {at r : ℕ} → Puts out at r out′ os → length out′ ≡ length out
 puts-kept {out} {out′} {os} {at} p = rw (p .is) (length-sets out at os)
@@ -46,6 +51,15 @@ module _ (os : List ℕ) (i : ℕ) {out₀ out : List ℕ} {at : ℕ} (p : Puts 
       let z : i ≡ length os = omega arith in
       let t : take i os ≡ os = take-all i os (omega arith) in
       rw (← l, ← z) (rw t at p)
+
+  -- the output has no room for those that are left
+  past : {n : ℕ} → length os ≡ n → length out₀ ≤ at + i → i ≤ n → Puts out₀ at (at + n) out os
+  past l h k =
+      let q = rw (length-take-le i os (omega arith), ← p .is, sets-past (drop i os) out (at + i) (rw (puts-kept p) h), take-append-drop i os) at (sets-append (take i os) (drop i os) out₀ at) in
+      record { behind = omega arith; is = sym q }
+
+  pub puts-fitting : {n : ℕ} → length os ≡ n → i ≡ min n (length out₀ - at) → Puts out₀ at (at + n) out os
+  puts-fitting {n} l e = elim (decLt i n) [ yes k ↦ past l (omega arith) (omega arith) | no k ↦ puts-all l (omega arith) (omega arith) ]
 
 -- ---- which octet is the next one
 

@@ -1,14 +1,16 @@
-// One field of a document at a time: numbers and lengths by a cursor, with an enum for the answer; and text.
+// One field of a document at a time: numbers and lengths read by a cursor, with an enum for the answer, or put into an output; and text.
 // May depend on format alone.
 pub mod put;
 
 ghost use mathlib.Core.Path.{_≡_};
+ghost use mathlib.Core.Bool.{_&&_};
 ghost use Prim.Native.Nat.{_+_, _-_, _^_, _<_, _≤_};
+ghost use lib.Dec.{leb};
 ghost use lib.ListN.{length, take, drop};
 ghost use Rattle.format.specs.Numbers.{lengths, numbers, c25, top};
-ghost use Rattle.format.specs.Text.{between, astray, rows, first, next, isText};
+ghost use Rattle.format.specs.Text.{isText};
 ghost use Rattle.fields.specs.Fields.{bitsOf, valueFrom, behind, fieldAt, noTop};
-ghost use Rattle.fields.specs.Text.{within};
+ghost use Rattle.fields.specs.Text.{within, fromFirst, character, higher, highestOf};
 
 pub const TRUNCATED: u32 = 2;
 
@@ -169,26 +171,18 @@ impl Cursor {
     }
 }
 
+fn among(b: u8, low: u8, high: u8) -> bool
+    ensures { λ r. ⌜ r ≡ (leb low b && leb b high) ⌝ }
+{
+    low <= b && b <= high
+}
+
 // Within a character: how many octets are still to come, and from which to which the next may be.
 struct Within {
     left: u8,
     low: u8,
     high: u8,
 }
-
-// Between two characters.
-const BETWEEN: Within = Within {
-    left: 0,
-    low: 0,
-    high: 0,
-};
-
-// Where no octet may follow: none is from 1 to 0.
-const ASTRAY: Within = Within {
-    left: 4,
-    low: 1,
-    high: 0,
-};
 
 impl Within {
     fn coming(left: u8, low: u8, high: u8) -> Within
@@ -197,53 +191,97 @@ impl Within {
         Within { left, low, high }
     }
 
-    // After a character's first octet: the rows of RFC 3629.
-    fn first(b: u8) -> Within
-        ensures { λ r. ⌜ within r ≡ first rows b ⌝ }
+    // How many octets the character has whose first stands at i, 0 where one that is to come is missing or may not follow.
+    // Without a loop: where `self` is known, as in `character`, only the comparisons that it needs are left.
+    fn from_first(self, s: &[u8], i: usize, to: usize) -> usize
+        requires { ⌜ (i < to) × (to ≤ length (now s)) × (1 ≤ self .left) × (self .left ≤ 3) ⌝ }
+        ensures { λ r. ⌜ r ≡ fromFirst (within self) (take (to - (i + 1)) (drop (i + 1) (now (s .entry)))) ⌝ }
     {
-        match b {
-            0x00..=0x7F => BETWEEN,
-            0xC2..=0xDF => Within::coming(1, 0x80, 0xBF),
-            0xE0 => Within::coming(2, 0xA0, 0xBF),
-            0xE1..=0xEC => Within::coming(2, 0x80, 0xBF),
-            0xED => Within::coming(2, 0x80, 0x9F),
-            0xEE..=0xEF => Within::coming(2, 0x80, 0xBF),
-            0xF0 => Within::coming(3, 0x90, 0xBF),
-            0xF1..=0xF3 => Within::coming(3, 0x80, 0xBF),
-            0xF4 => Within::coming(3, 0x80, 0x8F),
-            _ => ASTRAY,
+        let n = self.left as usize;
+        if to - i <= n {
+            return 0;
         }
-    }
-
-    // After one more octet.
-    fn next(self, b: u8) -> Within
-        ensures { λ r. ⌜ within r ≡ next (within self) b ⌝ }
-    {
-        if self.left == 0 {
-            return Within::first(b);
+        if !among(s[i + 1], self.low, self.high) {
+            return 0;
         }
-        if b < self.low || self.high < b {
-            return ASTRAY;
+        if n == 1 {
+            return n + 1;
         }
-        Within::coming(self.left - 1, 0x80, 0xBF)
+        if !among(s[i + 2], 0x80, 0xBF) {
+            return 0;
+        }
+        if n == 2 {
+            return n + 1;
+        }
+        if !among(s[i + 3], 0x80, 0xBF) {
+            return 0;
+        }
+        n + 1
     }
 }
 
-// The octets from `from` to before `to` are text.
+// How many octets the character at i has, 0 where none is: the rows of RFC 3629.
+fn character(s: &[u8], i: usize, to: usize) -> usize
+    requires { ⌜ (i < to) × (to ≤ length (now s)) ⌝ }
+    ensures { λ r. ⌜ r ≡ character (take (to - i) (drop i (now (s .entry)))) ⌝ }
+{
+    match s[i] {
+        0x00..=0x7F => 1,
+        0xC2..=0xDF => Within::coming(1, 0x80, 0xBF).from_first(s, i, to),
+        0xE0 => Within::coming(2, 0xA0, 0xBF).from_first(s, i, to),
+        0xE1..=0xEC => Within::coming(2, 0x80, 0xBF).from_first(s, i, to),
+        0xED => Within::coming(2, 0x80, 0x9F).from_first(s, i, to),
+        0xEE..=0xEF => Within::coming(2, 0x80, 0xBF).from_first(s, i, to),
+        0xF0 => Within::coming(3, 0x90, 0xBF).from_first(s, i, to),
+        0xF1..=0xF3 => Within::coming(3, 0x80, 0xBF).from_first(s, i, to),
+        0xF4 => Within::coming(3, 0x80, 0x8F).from_first(s, i, to),
+        _ => 0,
+    }
+}
+
+fn higher(a: u8, b: u8) -> u8
+    ensures { λ r. ⌜ r ≡ higher a b ⌝ }
+{
+    if a < b {
+        return b;
+    }
+    a
+}
+
+// The highest octet from `from` to before `to`, 0 where there is none. Nothing ends the loop early, so that one instruction looks at many octets.
+fn highest(s: &[u8], from: usize, to: usize) -> u8
+    requires { ⌜ (from ≤ to) × (to ≤ length (now s)) ⌝ }
+    ensures { λ r. ⌜ r ≡ highestOf 0 (take (to - from) (drop from (now (s .entry)))) ⌝ }
+{
+    let mut high = 0;
+    let mut i = from;
+    while i < to {
+        high = higher(high, s[i]);
+        i += 1;
+    }
+    high
+}
+
+// The octets from `from` to before `to` are text. Where none is above 0x7F, they are.
 pub fn is_text(s: &[u8], from: usize, to: usize) -> bool
     requires { ⌜ (from ≤ to) × (to ≤ length (now s)) ⌝ }
     ensures { λ r. ⌜ r ≡ isText (take (to - from) (drop from (now (s .entry)))) ⌝ }
 {
-    let mut u = BETWEEN;
+    if highest(s, from, to) < 0x80 {
+        return true;
+    }
     let mut i = from;
     while i < to {
-        let b = s[i];
-        i += 1;
-        // Most octets are characters by themselves.
-        if u.left == 0 && b < 0x80 {
+        // Also where some characters have more octets, most have one.
+        if s[i] < 0x80 {
+            i += 1;
             continue;
         }
-        u = u.next(b);
+        let n = character(s, i, to);
+        if n == 0 {
+            return false;
+        }
+        i += n;
     }
-    u.left == 0
+    true
 }

@@ -1,7 +1,7 @@
 // Numbers, lengths and text as they are written: what the output has no room for is left out.
 ghost use mathlib.Core.Path.{_≡_};
 ghost use mathlib.Core.List.{_∷_};
-ghost use Prim.Native.Nat.{_+_, _-_, _/_, _^_, _<_, _≤_};
+ghost use Prim.Native.Nat.{_+_, _-_, _/_, _^_, _<_, _≤_, min};
 ghost use lib.ListN.{length, take, drop, set};
 ghost use Rattle.format.specs.Numbers.{lengths, numbers, c25, top, octets, spell};
 ghost use Rattle.fields.specs.Put.{Puts};
@@ -110,14 +110,28 @@ pub fn put_number_at_bit_2(out: &mut [u8], at: usize, lead: u8, n: u32) -> usize
     put_form(out, at, first + 96, v, 2)
 }
 
-// The `size` octets of the text from `place` on.
+// How many of `size` octets an output of so many octets has room for, from `at` on.
+fn fitting(octets: usize, at: usize, size: usize) -> usize
+    ensures { λ r. ⌜ r ≡ min size (octets - at) ⌝ }
+{
+    if octets <= at {
+        return 0;
+    }
+    if octets - at < size {
+        return octets - at;
+    }
+    size
+}
+
+// The `size` octets of the text from `place` on. What fits is copied with no test for each octet.
 pub fn put_part(out: &mut [u8], at: usize, text: &[u8], place: usize, size: usize) -> usize
     requires { ⌜ (at + size < 2 ^ 64) × (place + size ≤ length (now text)) ⌝ }
     ensures { λ r. ⌜ Puts (now (out .entry)) at r (now (out .exit)) (take size (drop place (now (text .entry)))) ⌝ }
 {
+    let n = fitting(out.len(), at, size);
     let mut i = 0;
-    while i < size {
-        put(out, at + i, text[place + i]);
+    while i < n {
+        out[at + i] = text[place + i];
         i += 1;
     }
     at + size

@@ -28,7 +28,7 @@ use Rattle.tables.specs.Located.{Located, empty, stretch, octetsOf}
 use Rattle.tables.specs.Counts.{words}
 use Rattle.tables.specs.Search.{numberOfTriple}
 use Rattle.tables.specs.Rows.{tableOf, stringAt, tripleAt, entries, vocabulary}
-use Rattle.tables.specs.Kept.{nameTableOf, countOf, oneMore, Counted, rowAt, stored}
+use Rattle.tables.specs.Kept.{nameTableOf, countOf, oneMore, Counted, rowAt, stored, layoutOf, tripleOf}
 use Rattle.tables.proofs.ByNumber.{eight-nine}
 use Rattle.tables.proofs.Laws.{strings-adding, names-are, length-strings, length-names, string-nth, name-nth, counted-more, name-added, clean-name, holds-name-number, inside-name}
 use Rattle.events.specs.declared.Text.{Text}
@@ -41,8 +41,8 @@ use Rattle.names.specs.declared.Named.{Named}
 use Rattle.names.specs.Strings as S
 use Rattle.names.specs.Strings.{IdRead, OptionalRead, idAt, optionalAt, spelling}
 use Rattle.names.specs.Names.{NameRead, prefixBit, namespaceBit, partsAt, numberedAt, nameAt, declaredAt}
-use Rattle.names.specs.Code.{layoutOf, Ranged, Tidy, Seen, idSeen, optionalSeen, seenName, NameTidy, nameSeen, declaredSeen}
-use Rattle.names.specs.NameStages.{stringFault, numberFault, textAt, tripleOf, textsAt, newName}
+use Rattle.names.specs.Code.{Ranged, Tidy, Seen, idSeen, optionalSeen, seenName, NameTidy, nameSeen, declaredSeen}
+use Rattle.names.specs.NameStages.{stringFault, numberFault, textAt, textsAt, newName}
 use Rattle.names.proofs.StringLaws.{tests, ranged-kept}
 
 -- ---- a table's layout

@@ -3,10 +3,7 @@ use Prim.Native.Nat.{ℕ, _≤_}
 use mathlib.Core.Path.{_≡_}
 use mathlib.Core.List.{List, [], _∷_}
 use lib.ListN.{length}
-use lib.Dec.{eqb}
-use Rattle.format.specs.Numbers.{pick}
 use Rattle.format.specs.Tables.{NameTable, Triple, names}
-use Rattle.format.specs.Names.{NameLayout, ofElement, ofAttribute}
 use Rattle.tables.specs.declared.Counts.{Counts}
 use Rattle.tables.specs.Counts.{words}
 use Rattle.tables.specs.Rows.{vocabulary}
@@ -22,10 +19,6 @@ use Rattle.names.specs.declared.Named.the-variants.{Read, Faulty}
 use Rattle.names.specs.Strings as S
 use Rattle.names.specs.Strings.{IdRead, OptionalRead, StringRead}
 use Rattle.names.specs.Names.{NameRead, DeclaredRead}
-
--- The tables of names by number: 8 elements, 9 attributes.
-unfoldable pub layoutOf : ℕ → NameLayout
-layoutOf n = pick (eqb n 8) ofElement ofAttribute
 
 -- The numbers of a triple name entries that are there; a name has a local name.
 abbrev pub Ranged : Counts → List Triple → Type 0

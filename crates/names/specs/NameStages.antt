@@ -7,7 +7,6 @@ use Rattle.format.specs.Numbers.{pick}
 use Rattle.format.specs.Tables.{NameTable, Triple, Vocabulary, names, addingName, holdsName, Limits}
 use Rattle.fields.specs.declared.Number.{Number}
 use Rattle.fields.specs.declared.Number.the-variants.{Got as Num, Refused as NoNum}
-use Rattle.tables.specs.declared.Row.{Row}
 use Rattle.tables.specs.Located.{Located}
 use Rattle.tables.specs.Rows.{tableOf, stringAt}
 use Rattle.events.specs.declared.Text.{Text}
@@ -36,10 +35,7 @@ unfoldable pub textAt : List ℕ → (table number : ℕ) → Text
 textAt w table zero = Absent
 textAt w table (suc k) = textOf (stringAt (tableOf table) w (768 * table + 3 * k))
 
--- A name's numbers, and the strings behind them.
-abbrev pub tripleOf : Row → Triple
-tripleOf x = record { prefix = x .a; namespace = x .b; local = x .c }
-
+-- The strings behind a name's numbers.
 unfoldable pub textsAt : List ℕ → Triple → Parts
 textsAt w x = record { prefix = textAt w 0 (x .prefix); namespace = textAt w 1 (x .namespace); local = textAt w 2 (x .local) }
 

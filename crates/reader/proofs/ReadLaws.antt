@@ -67,7 +67,7 @@ module _ (s : List ℕ) (p : Place) (c : Counts) (v : List ℕ) (from : State) (
     pub going-quiet : (st′ : State) → r ≡ Quiet st′ → Going s (p .left) from v (left - 1) st′ w
     going-quiet st′ e = let f = u .fewer in record { good = rw e at (q .1); fewer = omega arith; leads = rw e at (leads-here ∙ u .leads) }
 
-    pub reaches-found : (place : ℕ) (x : Event) (st′ : State) → r ≡ More place x st′ → (b : Place) → b ≡ placeOf st′ (left - 1) → Reaches s p c v (Found place x b) (st′ .counts) w
+    pub reaches-found : (place : ℕ) (x : Event) (st′ : State) → r ≡ More st′ place x → (b : Place) → b ≡ placeOf st′ (left - 1) → Reaches s p c v (Found place x b) (st′ .counts) w
     reaches-found place x st′ e b k = let f = u .fewer in rw k (rw e at (leads-here ∙ leads-on), (rw e at (q .1), rw e at placed-here, omega arith))
 
     pub reaches-end : r ≡ Done → Reaches s p c v Finished (st .counts) w

@@ -290,7 +290,7 @@ module _ {s v : List ℕ} {room left n : ℕ} {st : State} {t w : List ℕ} (u :
             same-length = u .same-length;
           }
 
-    module _ {place : ℕ} {e : Event} {st′ : State} (q : r ≡ More place e st′) where
+    module _ {place : ℕ} {e : Event} {st′ : State} (q : r ≡ More st′ place e) where
       pub more-place : place ≤ 16384
       more-place = let l : place ≤ length s = rw q at placed-here in let g = u .good .tidy .size in omega arith
 

@@ -2,14 +2,13 @@
 -- Assumes nothing.
 use mathlib.Core.Path.{_≡_, refl, sym, ap, _∙_}
 use mathlib.Core.Bool.{true, false}
-use mathlib.Core.List.{List, [], _∷_, _++_, map, append-nil, append-assoc}
-use Prim.Native.Nat.{ℕ, zero, suc, _+_, _-_, _*_, _/_, _%_, _^_, _≤_, _<_}
+use mathlib.Core.List.{List, [], _∷_, _++_, map, append-assoc}
+use Prim.Native.Nat.{ℕ, zero, suc, _+_, _-_, _*_, _/_, _%_, _^_, _≤_}
 use native.Mathlib.Omega.{arith}
-use native.Mathlib.Numerals.{add-one}
 use native.Mathlib.Decide.{ℕ-discrete}
 use borrow.Author.Tests.{eq-eqb, ne-eqb}
-use lib.ListN.{length, getD, take, drop, set, replicate, length-append, length-map, length-drop, length-replicate, replicate-append-replicate, drop-of-length-le}
-use lib.Seq.{drop-cons, take-suc, take-all, length-take-le, set-at, append-snoc, drop-at, sets-eq}
+use lib.ListN.{length, drop, replicate, length-append, length-map, length-replicate, replicate-append-replicate}
+use lib.Seq.{drop-at, sets-eq}
 use Rattle.format.specs.Events.{Item}
 use Rattle.format.specs.Tables.{link}
 use Rattle.tables.specs.declared.Counts.{Counts}
@@ -26,20 +25,6 @@ use Rattle.reader.specs.declared.Answer.the-variants.{Accepted, Refused}
 use Rattle.reader.specs.Reading.{Result, accepted, refusal, sized, reading, outcome, readOf}
 use Rattle.reader.specs.Words.{leaving, nothing, inWords, readWords}
 use Rattle.reader.specs.RunStages.{ended, faulty, endingOf, itemWords, keptFrom, answerNumber, Ran}
-
--- ---- a list copied over words, up to i
-module _ (l w₀ w : List ℕ) (i : ℕ) (same : length w₀ ≡ length l) (e : w ≡ take i l ++ drop i w₀) where
-  pub copied-length : i ≤ length l → length w ≡ length w₀
-  copied-length h = ap length e ∙ simp (length-append, length-take-le i l h, length-drop) (omega arith)
-
-  pub copied-next : i < length l → set w i (getD l i 0) ≡ take (i + 1) l ++ drop (i + 1) w₀
-  copied-next h =
-      let k : i < length w₀ = omega arith in
-      let f : i ≤ length l = omega arith in
-      rw (e, drop-cons w₀ i 0 k, set-at (take i l) _ (drop (suc i) w₀) (getD l i 0) i (length-take-le i l f), add-one i, take-suc l i 0 h) (sym (append-snoc (take i l) (getD l i 0) (drop (suc i) w₀)))
-
-  pub copied-all : length l ≤ i → w ≡ l
-  copied-all h = let k : length w₀ ≤ i = omega arith in e ∙ rw (take-all i l h, drop-of-length-le w₀ k, append-nil)
 
 -- ---- what a run's end comes to in words
 drop-zeros : (r k : ℕ) → k ≤ r → drop k (replicate {A = ℕ} r 0) ≡ replicate (r - k) 0

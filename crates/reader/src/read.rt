@@ -87,7 +87,7 @@ fn advance(p: Place, c: Counts, s: &[u8], t: &mut [u32]) -> Turn
         left -= 1;
         let counts = st.counts;
         match st.step(s, t) {
-            Step::More(place, e, behind) => {
+            Step::More(behind, place, e) => {
                 let counts = behind.counts;
                 return Turn {
                     counts,

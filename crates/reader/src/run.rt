@@ -7,7 +7,6 @@ ghost use Rattle.format.specs.Tables.{link, same};
 ghost use Rattle.format.specs.Document.{header};
 ghost use Rattle.tables.specs.Located.{start};
 ghost use Rattle.tables.specs.Counts.{words};
-ghost use Rattle.tables.specs.Kept.{listed};
 ghost use Rattle.events.specs.Words.{textWords};
 ghost use Rattle.reader.specs.Reading.{sized, opening, run, origin, fuelOf, reading, checkOf};
 ghost use Rattle.reader.specs.RunStages.{openingOf, fresh, kept, Ran, Small, answerNumber};
@@ -29,14 +28,12 @@ const OPTIONAL: u32 = 4;
 
 pub const ROOM: u32 = 14;
 
-// Octets of the longest document; event records that the check counts; words of a record; counts.
+// Octets of the longest document; event records that the check counts; words of a record.
 const OCTETS: usize = 16384;
 
 const CHECKED: usize = 32768;
 
 const RECORD: usize = 13;
-
-const COUNTS: usize = 10;
 
 // E0 00 (12.6) and version 1 (12.7).
 const FIRST: [u8; 4] = [0xE0, 0x00, 0x00, 0x01];
@@ -157,7 +154,7 @@ fn steps(s: &[u8], t: &mut [u32], records: &mut [u32], room: usize) -> Answer
     while 0 < left {
         left -= 1;
         match st.step(s, t) {
-            Step::More(p, e, next) => {
+            Step::More(next, p, e) => {
                 if n == room {
                     return refused(ROOM, p);
                 }
@@ -212,18 +209,6 @@ pub fn check(octets: &[u8]) -> u32
     number(reading(octets, &mut t, &mut none, CHECKED))
 }
 
-// The ten counts, in 01's order.
-fn put_counts(w: &mut [u32], c: Counts)
-    requires { ⌜ length (now w) ≡ 10 ⌝ }
-    ensures { λ _. ⌜ now (w .exit) ≡ listed c ⌝ }
-{
-    let mut i = 0;
-    while i < COUNTS {
-        w[i] = c.of(i);
-        i += 1;
-    }
-}
-
 // A document into words: a record for each event, the tables, the ten counts. The answer has the event count above its low 32 bits, and in them 0 or the
 // refusal's number, which leaves every word 0.
 // Ruled out: a refusal that leaves the tables read before the fault; an acceptance that leaves a word of what stood behind the last whole record.
@@ -240,7 +225,7 @@ pub fn read_words(octets: &[u8], records: &mut [u32], tables: &mut [u32], counts
     if tables.len() != Counts::WORDS {
         return ROOM as u64;
     }
-    if counts.len() != COUNTS {
+    if counts.len() != Counts::TABLES {
         return ROOM as u64;
     }
     let a = reading(octets, tables, records, room);
@@ -249,6 +234,6 @@ pub fn read_words(octets: &[u8], records: &mut [u32], tables: &mut [u32], counts
         tables::clear(tables);
         return number(a) as u64;
     };
-    put_counts(counts, c);
+    tables::put_counts(counts, c);
     (n as u64) << 32
 }

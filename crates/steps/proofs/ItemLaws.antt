@@ -133,7 +133,7 @@ module _ (s w : List ℕ) (st : State) (g : Good s st w) where
         rw (ap (λ (x : Mode). endAt s (standOf st w) (modeOf x)) m ∙ e) p
 
     pub end-element : (st .level ≡ 0 → ⊥) → st .at < 2 * length s
-        → Meets s w (More (st .at / 2) endRecord (afterEnd st (st .level - 1))) w (endAt s (standOf st w) (modeOf (st .mode)))
+        → Meets s w (More (afterEnd st (st .level - 1)) (st .at / 2) endRecord) w (endAt s (standOf st w) (modeOf (st .mode)))
     unfolding endAt recordOf
     end-element l h =
         let z : 0 < st .level = omega arith in
@@ -245,14 +245,14 @@ module _ (s W w : List ℕ) (st : State) (k : ℕ) (r : Field) (n p : ℕ) (e : 
 
 module _ (s W w : List ℕ) (st : State) (g : Good s st W) (k : ℕ) (r : Field) (x : Text) (n : ℕ) (h : Here) (e : r ≡ Got x n h) (y : FieldTidy s r w) where
   pub chunk-more : seenField r w ≡ stringSeen (literalAt link c15 s CONTENT-CHARACTER-CHUNK k (vocabulary (st .counts) W))
-      → Meets s W (More k (chunkRecord x) (movedTo st h (st .mode))) w (chunkAt link s k (standOf st W .state))
+      → Meets s W (More (movedTo st h (st .mode)) k (chunkRecord x)) w (chunkAt link s k (standOf st W .state))
   unfolding chunkAt recordOf
   chunk-more q =
       let i = string-is (literalAt link c15 s CONTENT-CHARACTER-CHUNK k (vocabulary (st .counts) W)) w e q in
       record { is = rw (i .is, text-is i); good = field-good st (st .mode) e y (g .shallow) }
 
   pub comment-more : seenField r w ≡ stringSeen (valueAt link s OTHER-STRING (k + 1) (vocabulary (st .counts) W))
-      → Meets s W (More k (commentRecord x) (movedTo st h (st .mode))) w (commentAt link s k (standOf st W .state))
+      → Meets s W (More (movedTo st h (st .mode)) k (commentRecord x)) w (commentAt link s k (standOf st W .state))
   unfolding commentAt recordOf
   comment-more q =
       let i = string-is (valueAt link s OTHER-STRING (suc k) (vocabulary (st .counts) W)) w e (rw add-one at q) in
@@ -271,7 +271,7 @@ module _ (s W w₁ w : List ℕ) (st : State) (g : Good s st W) (k : ℕ) (r : F
       field-refuse f z (rw (i .is, string-not (valueAt link s OTHER-STRING (h .at) (vocabulary (h .counts) w₁)) w f u))
 
   pub instruction-more : (y : Text) (m : ℕ) (h₂ : Here) → v ≡ Got y m h₂
-      → Meets s W (More k (instructionRecord x y) (movedTo st h₂ (st .mode))) w (instructionAt link s k (standOf st W .state))
+      → Meets s W (More (movedTo st h₂ (st .mode)) k (instructionRecord x y)) w (instructionAt link s k (standOf st W .state))
   unfolding instructionAt recordOf
   instruction-more y m h₂ f =
       let i = target in
@@ -354,7 +354,7 @@ module _ (s W w : List ℕ) (st : State) (k : ℕ) (a : Bool) (r : Named) (y : N
   namespace-refused n p e = name-refuse e y (rw (declared-not (declaredAt link s k (vocabulary (st .counts) W)) w e q))
 
   pub namespace-more : (x : Parts) (h : Here) → r ≡ Read x h → st .level < 32
-      → Meets s W (More k (namespaceRecord (x .prefix) (x .namespace)) (movedTo st h (Declaring a))) w (namespaceAt link s k (standOf st W .state) a)
+      → Meets s W (More (movedTo st h (Declaring a)) k (namespaceRecord (x .prefix) (x .namespace))) w (namespaceAt link s k (standOf st W .state) a)
   unfolding namespaceAt recordOf
   namespace-more x h e l =
       let i = declared-is (declaredAt link s k (vocabulary (st .counts) W)) w e q in
@@ -518,7 +518,7 @@ module _ (s W : List ℕ) (st : State) (g : Good s st W) (k : ℕ) where
             field-refuse f z (rw (lt-ltb _ _ h, low, few, i .is, string-not (valueAt link s ATTRIBUTE-VALUE (h₁ .at) (vocabulary (h₁ .counts) w₁)) w f u))
 
         pub attribute-more : (y : Text) (n : ℕ) (h₂ : Here) → v ≡ Got y n h₂
-            → Meets s W (More k (attributeRecord (x .prefix) (x .namespace) (x .local) y) (movedTo st h₂ (Listing true))) w (attributeAt link s k (standOf st W .state))
+            → Meets s W (More (movedTo st h₂ (Listing true)) k (attributeRecord (x .prefix) (x .namespace) (x .local) y)) w (attributeAt link s k (standOf st W .state))
         unfolding attributeAt recordOf
         attribute-more y n h₂ f =
             let i = called in

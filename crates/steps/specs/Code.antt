@@ -32,7 +32,7 @@ pub data SeenStep : Type 0 where
   stop : (number place : ℕ) → SeenStep
 
 abbrev pub seenStep : Step → List ℕ → SeenStep
-seenStep (More p e st) w = more p e (standOf st w)
+seenStep (More st p e) w = more p e (standOf st w)
 seenStep (Quiet st) w = quiet (standOf st w)
 seenStep Done w = done
 seenStep (Stop n p) w = stop n p
@@ -56,7 +56,7 @@ pub record Good (s : List ℕ) (st : State) (w : List ℕ) : Type 0 where
   pub shallow : st .level + coming (st .mode) ≤ 32
 
 abbrev pub StepGood : List ℕ → List ℕ → Step → List ℕ → Type 0
-StepGood s v (More p e st) w = Good s st w
+StepGood s v (More st p e) w = Good s st w
 StepGood s v (Quiet st) w = Good s st w
 StepGood s v Done w = w ≡ v
 StepGood s v (Stop n p) w = length w ≡ words

@@ -70,7 +70,7 @@ nextOf (Faulty n p) = 0
 
 -- A Start whose name is read.
 abbrev pub startBy : ℕ → Bool → State → Named → Step
-startBy k a st (Read x h) = More k (startRecord (x .prefix) (x .namespace) (x .local)) (openedAt st h a)
+startBy k a st (Read x h) = More (openedAt st h a) k (startRecord (x .prefix) (x .namespace) (x .local))
 startBy k a st (Faulty n p) = Stop n p
 
 -- An element by its name's number: its faults, then depth (13).

@@ -110,7 +110,8 @@ impl State {
                 if self.level == 0 {
                     return self.document_end(s);
                 }
-                Step::More(self.at / 2, events::end(), self.behind_end(self.level - 1))
+                let e = events::end();
+                Step::More(self.behind_end(self.level - 1), self.at / 2, e)
             }
         }
     }

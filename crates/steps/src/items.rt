@@ -181,7 +181,8 @@ impl State {
         let Named::Read(x, next) = r else {
             return faulty(r);
         };
-        Step::More(k, start_event(x), self.opened(next, a))
+        let e = start_event(x);
+        Step::More(self.opened(next, a), k, e)
     }
 
     // A chunk at octet k, whose bits start with 10.
@@ -193,7 +194,8 @@ impl State {
         let Field::Got(x, _, next) = r else {
             return refused(r);
         };
-        Step::More(k, events::chunk(x), self.knowing(next))
+        let e = events::chunk(x);
+        Step::More(self.knowing(next), k, e)
     }
 
     // A comment, behind the octet k.
@@ -205,7 +207,8 @@ impl State {
         let Field::Got(x, _, next) = r else {
             return refused(r);
         };
-        Step::More(k, events::comment(x), self.knowing(next))
+        let e = events::comment(x);
+        Step::More(self.knowing(next), k, e)
     }
 
     // An instruction: the target and the content, behind the octet k.
@@ -221,7 +224,8 @@ impl State {
         let Field::Got(y, _, next) = v else {
             return refused(v);
         };
-        Step::More(k, events::instruction(x, y), self.knowing(next))
+        let e = events::instruction(x, y);
+        Step::More(self.knowing(next), k, e)
     }
 
     // No item of this profile: one of another (8), or what no rule assigns (5); 1111 is an end that stands where none is due (6).
@@ -248,7 +252,8 @@ impl State {
         let Named::Read(x, next) = r else {
             return faulty(r);
         };
-        Step::More(k, namespace_event(x), self.moved(next, Mode::Declaring(a)))
+        let e = namespace_event(x);
+        Step::More(self.moved(next, Mode::Declaring(a)), k, e)
     }
 
     // An element by its name's number, whose faults come before the depth.
@@ -349,11 +354,8 @@ impl State {
         let Field::Got(y, _, next) = v else {
             return refused(v);
         };
-        Step::More(
-            k,
-            attribute_event(x, y),
-            self.moved(next, Mode::Listing(true)),
-        )
+        let e = attribute_event(x, y);
+        Step::More(self.moved(next, Mode::Listing(true)), k, e)
     }
 
     // A child by its first octet, k: 0 element, 10 chunk, which is inside elements only, E1 instruction, E2 comment.

@@ -25,9 +25,10 @@ pub struct State {
     pub counts: Counts,
 }
 
-// An event, its place and where the reader stands behind it; an end that is no event; the document's end; a refusal and its place.
+// Where the reader stands behind an event, the event's place, and the event; an end that is no event; the document's end; a refusal and its place. `More`
+// and `Quiet` have their state at the same place in memory, so that it is moved whole.
 pub enum Step {
-    More(usize, Event, State),
+    More(State, usize, Event),
     Quiet(State),
     Done,
     Stop(u32, usize),

@@ -1,15 +1,17 @@
 // The ten tables in lent room: how many entries each has, and what is found and added there.
 // May depend on format.
 ghost use mathlib.Core.Path.{_≡_};
+ghost use mathlib.Core.Bool.{false};
 ghost use mathlib.Core.List.{map};
-ghost use Prim.Native.Nat.{_+_, _*_, _<_, _≤_};
-ghost use lib.ListN.{length, replicate};
+ghost use Prim.Native.Nat.{_+_, _-_, _*_, _<_, _≤_};
+ghost use lib.ListN.{length, getD, replicate};
 ghost use Rattle.format.specs.Tables.{same, sameTriple};
 ghost use Rattle.tables.specs.Located.{stretch, octetsOf, start};
+ghost use Rattle.tables.specs.Weights.{weight, Small};
 ghost use Rattle.tables.specs.Counts.{countsOf};
 ghost use Rattle.tables.specs.Rows.{tableOf, builtIn, stringAt, tripleAt, entries};
 ghost use Rattle.tables.specs.Search.{numberIn, numberOfTriple};
-ghost use Rattle.tables.specs.Kept.{countOf, oneMore, rowAt, stored, Ends, Inside};
+ghost use Rattle.tables.specs.Kept.{listed, countOf, oneMore, rowAt, stored, Ends, Inside};
 
 // How many entries each table has, in 01's order.
 pub struct Counts {
@@ -30,6 +32,8 @@ impl Counts {
     pub const ENTRIES: u32 = 256;
     // Words in the room of all ten tables, three for an entry.
     pub const WORDS: usize = 7680;
+
+    pub const TABLES: usize = 10;
 
     // PREFIX and NAMESPACE NAME start with their built-in entry, the others empty.
     pub fn start() -> Counts
@@ -90,6 +94,18 @@ impl Counts {
     }
 }
 
+// The ten counts, in 01's order.
+pub fn put_counts(w: &mut [u32], c: Counts)
+    requires { ⌜ length (now w) ≡ 10 ⌝ }
+    ensures { λ _. ⌜ now (w .exit) ≡ listed c ⌝ }
+{
+    let mut i = 0;
+    while i < Counts::TABLES {
+        w[i] = c.of(i);
+        i += 1;
+    }
+}
+
 // A row's words: a string's place, its length and 0, or the numbers of a name's prefix, namespace and local name.
 pub struct Row {
     pub a: u32,
@@ -147,7 +163,50 @@ pub fn clear(t: &mut [u32])
     }
 }
 
-// Whether m octets of x, from a on, are n octets of y, from b on. Lengths are compared before octets.
+// An octet as a number, so that casts are proved here alone.
+fn wide8(x: u8) -> u64
+    ensures { λ r. ⌜ (r ≡ x) × (r < 256) ⌝ }
+{
+    x as u64
+}
+
+// Four octets from `at` on as one number, the first the lowest.
+fn four(x: &[u8], at: usize) -> u64
+    requires { ⌜ at + 4 ≤ length (now x) ⌝ }
+    ensures { λ r. ⌜ (r ≡ weight (octetsOf (now (x .entry)) (stretch at 4))) × Small (octetsOf (now (x .entry)) (stretch at 4)) × (r < 0x1_0000_0000) ⌝ }
+{
+    wide8(x[at])
+        + 0x100 * wide8(x[at + 1])
+        + 0x1_0000 * wide8(x[at + 2])
+        + 0x100_0000 * wide8(x[at + 3])
+}
+
+// Eight octets from `at` on as one number, so that they are loaded and compared at once.
+fn eight(x: &[u8], at: usize) -> u64
+    requires { ⌜ at + 8 ≤ length (now x) ⌝ }
+    ensures { λ r. ⌜ (r ≡ weight (octetsOf (now (x .entry)) (stretch at 8))) × Small (octetsOf (now (x .entry)) (stretch at 8)) ⌝ }
+{
+    four(x, at) + 0x1_0000_0000 * four(x, at + 4)
+}
+
+// Whether n octets of x, from a on, are those of y, from b on: octet by octet, from the last one back, for strings that have no eight.
+fn same_few(x: &[u8], a: usize, y: &[u8], b: usize, n: usize) -> bool
+    requires { ⌜ (a + n ≤ length (now x)) × (b + n ≤ length (now y)) ⌝ }
+    ensures { λ r. ⌜ r ≡ same (octetsOf (now (x .entry)) (stretch a n)) (octetsOf (now (y .entry)) (stretch b n)) ⌝ }
+{
+    let mut i = n;
+    while 0 < i {
+        i -= 1;
+        if x[a + i] != y[b + i] {
+            return false;
+        }
+    }
+    true
+}
+
+// Whether m octets of x, from a on, are n octets of y, from b on. Lengths are compared before octets, and octets from the last ones back: names
+// that are alike, as those of ports, mostly differ at their end. The first eight are compared at once as well, some of them a second time where n is
+// no multiple of eight: that is cheaper than the few octet by octet.
 fn same_octets(x: &[u8], a: usize, m: usize, y: &[u8], b: usize, n: usize) -> bool
     requires { ⌜ (a + m ≤ length (now x)) × (b + n ≤ length (now y)) ⌝ }
     ensures { λ r. ⌜ r ≡ same (octetsOf (now (x .entry)) (stretch a m)) (octetsOf (now (y .entry)) (stretch b n)) ⌝ }
@@ -155,14 +214,17 @@ fn same_octets(x: &[u8], a: usize, m: usize, y: &[u8], b: usize, n: usize) -> bo
     if m != n {
         return false;
     }
-    let mut i = 0;
-    while i < n {
-        if x[a + i] != y[b + i] {
+    if n < 8 {
+        return same_few(x, a, y, b, n);
+    }
+    let mut i = n;
+    while 8 < i {
+        i -= 8;
+        if eight(x, a + i) != eight(y, b + i) {
             return false;
         }
-        i += 1;
     }
-    true
+    eight(x, a) == eight(y, b)
 }
 
 // Whether the string that is built into a table, empty where none is, is that of s at place.
@@ -196,8 +258,8 @@ fn is_string(s: &[u8], t: &[u32], table: usize, i: u32, place: usize, len: usize
     same_octets(s, wide(e.a), wide(e.b), s, place, len)
 }
 
-// The lowest number of a table's first n entries that is the string of s at place; 0 if none is.
-pub fn find(s: &[u8], t: &[u32], table: usize, n: u32, place: usize, len: usize) -> u32
+// The lowest number of a table's first n entries that is the string of s at place, whatever an entry may be; 0 if none is.
+fn find_any(s: &[u8], t: &[u32], table: usize, n: u32, place: usize, len: usize) -> u32
     requires { ⌜ (length (now t) ≡ 7680) × (table < 8) × (n ≤ 256) × (place + len ≤ length (now s)) × Inside (now s) (entries (stringAt (tableOf table) (now t)) (768 * table) n) ⌝ }
     ensures { λ r. ⌜ r ≡ numberIn (map (octetsOf (now (s .entry))) (entries (stringAt (tableOf table) (now (t .entry))) (768 * table) n)) (octetsOf (now (s .entry)) (stretch place len)) ⌝ }
 {
@@ -211,19 +273,66 @@ pub fn find(s: &[u8], t: &[u32], table: usize, n: u32, place: usize, len: usize)
     0
 }
 
-// Whether entry i of a table, from 0, is the name with these numbers.
-fn is_name(t: &[u32], table: usize, i: u32, prefix: u32, namespace: u32, local: u32) -> bool
-    requires { ⌜ (length (now t) ≡ 7680) × (table < 10) × (i < 256) ⌝ }
-    ensures { λ r. ⌜ r ≡ sameTriple (tripleAt (now (t .entry)) (768 * table + 3 * i)) (record { prefix = prefix; namespace = namespace; local = local }) ⌝ }
+// Whether the row at word j has the octets of s at place, of which `last` is the last. A built-in entry has no length, so it is none of these.
+fn is_spelled(s: &[u8], t: &[u32], j: usize, place: usize, len: usize, last: u8) -> bool
+    requires { ⌜ (length (now t) ≡ 7680) × (j + 3 ≤ 7680) × (1 ≤ len) × (place + len ≤ length (now s)) × (last ≡ getD (now s) (place + (len - 1)) 0) × ((getD (now t) (j + 1) 0 ≡ 0 → ⊥) → getD (now t) j 0 + getD (now t) (j + 1) 0 ≤ length (now s)) ⌝ }
+    ensures { λ r. ⌜ r ≡ same (octetsOf (now (s .entry)) (stretch (getD (now (t .entry)) j 0) (getD (now (t .entry)) (j + 1) 0))) (octetsOf (now (s .entry)) (stretch place len)) ⌝ }
 {
-    let e = entry(t, table, i);
-    if e.a != prefix {
+    if wide(t[j + 1]) != len {
         return false;
     }
-    if e.b != namespace {
+    let at = wide(t[j]);
+    if s[at + (len - 1)] != last {
         return false;
     }
-    e.c == local
+    same_octets(s, at, len, s, place, len)
+}
+
+// The same as `find_any`, for a string that has octets and is not built in. Full tables are searched here, so the loop is kept short: most rows differ in
+// their length or in the last octet.
+fn find_spelled(s: &[u8], t: &[u32], table: usize, n: u32, place: usize, len: usize) -> u32
+    requires { ⌜ (length (now t) ≡ 7680) × (table < 8) × (n ≤ 256) × (1 ≤ len) × (place + len ≤ length (now s)) × Inside (now s) (entries (stringAt (tableOf table) (now t)) (768 * table) n) × (same (octetsOf (now s) (builtIn (tableOf table))) (octetsOf (now s) (stretch place len)) ≡ false) ⌝ }
+    ensures { λ r. ⌜ r ≡ numberIn (map (octetsOf (now (s .entry))) (entries (stringAt (tableOf table) (now (t .entry))) (768 * table) n)) (octetsOf (now (s .entry)) (stretch place len)) ⌝ }
+{
+    let last = s[place + (len - 1)];
+    let mut j = 768 * table;
+    let mut i = 0;
+    while i < n {
+        if is_spelled(s, t, j, place, len, last) {
+            return i + 1;
+        }
+        i += 1;
+        j += 3;
+    }
+    0
+}
+
+// The lowest number of a table's first n entries that is the string of s at place; 0 if none is.
+pub fn find(s: &[u8], t: &[u32], table: usize, n: u32, place: usize, len: usize) -> u32
+    requires { ⌜ (length (now t) ≡ 7680) × (table < 8) × (n ≤ 256) × (place + len ≤ length (now s)) × Inside (now s) (entries (stringAt (tableOf table) (now t)) (768 * table) n) ⌝ }
+    ensures { λ r. ⌜ r ≡ numberIn (map (octetsOf (now (s .entry))) (entries (stringAt (tableOf table) (now (t .entry))) (768 * table) n)) (octetsOf (now (s .entry)) (stretch place len)) ⌝ }
+{
+    if len == 0 {
+        return find_any(s, t, table, n, place, len);
+    }
+    if is_built_in(s, table, place, len) {
+        return find_any(s, t, table, n, place, len);
+    }
+    find_spelled(s, t, table, n, place, len)
+}
+
+// Whether the row at word j is the name with these numbers. Most names of a document have the same prefix and namespace.
+fn is_name(t: &[u32], j: usize, prefix: u32, namespace: u32, local: u32) -> bool
+    requires { ⌜ (length (now t) ≡ 7680) × (j + 3 ≤ 7680) ⌝ }
+    ensures { λ r. ⌜ r ≡ sameTriple (tripleAt (now (t .entry)) j) (record { prefix = prefix; namespace = namespace; local = local }) ⌝ }
+{
+    if t[j + 2] != local {
+        return false;
+    }
+    if t[j + 1] != namespace {
+        return false;
+    }
+    t[j] == prefix
 }
 
 // The lowest number of a table's first n entries that is the name with these numbers; 0 if none is.
@@ -231,12 +340,14 @@ pub fn find_name(t: &[u32], table: usize, n: u32, prefix: u32, namespace: u32, l
     requires { ⌜ (length (now t) ≡ 7680) × (table < 10) × (n ≤ 256) ⌝ }
     ensures { λ r. ⌜ r ≡ numberOfTriple (entries (tripleAt (now (t .entry))) (768 * table) n) (record { prefix = prefix; namespace = namespace; local = local }) ⌝ }
 {
+    let mut j = 768 * table;
     let mut i = 0;
     while i < n {
-        if is_name(t, table, i, prefix, namespace, local) {
+        if is_name(t, j, prefix, namespace, local) {
             return i + 1;
         }
         i += 1;
+        j += 3;
     }
     0
 }

@@ -24,7 +24,7 @@ use Rattle.fields.proofs.Puts.{puts-one, puts-append, part-length}
 use Rattle.tables.specs.Located.{Located, octetsOf}
 use Rattle.tables.specs.Search.{numberIn, numberOfTriple}
 use Rattle.tables.specs.Rows.{tableOf, vocabulary}
-use Rattle.tables.specs.Kept.{nameTableOf}
+use Rattle.tables.specs.Kept.{nameTableOf, layoutOf}
 use Rattle.tables.proofs.Laws.{length-strings, length-names, number-within, name-number-within}
 use Rattle.events.specs.declared.Text.{Text}
 use Rattle.events.specs.declared.Text.the-variants.{Absent, Empty, Stretch, XmlPrefix, XmlNamespace}
@@ -38,7 +38,7 @@ use Rattle.choices.specs.declared.Wrote as W
 use Rattle.choices.specs.declared.Wrote.the-variants.{Put, Full}
 use Rattle.choices.specs.declared.Parts.{Parts}
 use Rattle.choices.specs.Choices.{Wrote, writeId, writeOptional, writeName, writeLiteral, writeValue, worthAdding, within}
-use Rattle.choices.specs.Code.{layoutOf, InOrder, Suits, Fills, Spells, namedOf, tripleFor, pairBehind, declaredBy, Stands, Meets}
+use Rattle.choices.specs.Code.{InOrder, Suits, Fills, Spells, namedOf, tripleFor, pairBehind, declaredBy, Stands, Meets}
 use Rattle.choices.proofs.NameLaws.{names-kept}
 use Rattle.choices.proofs.StringLaws.{spells-suits, spells-stretch}
 use Rattle.writer.specs.declared.Mode.{Mode}

@@ -21,7 +21,7 @@ use Rattle.tables.specs.Located.{Located}
 use Rattle.writer.specs.Events.{isListing}
 use Rattle.writer.specs.Items.{WroteItem}
 use Rattle.writer.specs.Writing.{isAttribute, isEnd, owed, halvesOf, joined}
-use Rattle.writer.specs.Output.{Ended, Holds, Grown, endOctet}
+use Rattle.writer.specs.Output.{Holds, Grown, endOctet}
 
 -- ---- halves and the octets that they are joined to
 

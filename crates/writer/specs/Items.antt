@@ -1,11 +1,11 @@
 -- One event as octets, by 01's choices, and what is known then. `a` says whether the element's Start is followed by an attribute.
-use Prim.Native.Nat.{ℕ, zero, suc, _+_, _*_, _≤_}
-use mathlib.Core.Bool.{Bool, true, false}
+use Prim.Native.Nat.{ℕ, _+_, _*_}
+use mathlib.Core.Bool.{Bool, true}
 use mathlib.Core.Option.{Option}
 use mathlib.Core.List.{List, [], _∷_, _++_}
 use Rattle.format.specs.Events as E
 use Rattle.format.specs.Events.{Choice, forNamespace, forStart, forAttribute, forText, forComment, forInstruction, forEnd, How, NameHow}
-use Rattle.format.specs.Tables.{PREFIX, NAMESPACE-NAME, OTHER-NCNAME, ATTRIBUTE-VALUE, CONTENT-CHARACTER-CHUNK, OTHER-STRING, Vocabulary, Limits}
+use Rattle.format.specs.Tables.{PREFIX, NAMESPACE-NAME, OTHER-NCNAME, ATTRIBUTE-VALUE, CONTENT-CHARACTER-CHUNK, OTHER-STRING, Limits}
 use Rattle.format.specs.Strings.{bit, c15}
 use Rattle.format.specs.Names.{has, ofElement, ofAttribute}
 use Rattle.format.specs.Items.{Mode, content, declaring, listing, State, knowing, moved, opened}

@@ -1,18 +1,17 @@
 -- The writer's definition: what it answers and leaves in the lent room, for every input.
 use Prim.Native.Nat.{ℕ, zero, suc, _+_, _-_, _*_, _/_, min}
 use mathlib.Core.Path.{_≡_}
-use mathlib.Core.Bool.{Bool, true, false, not, _&&_, _||_}
+use mathlib.Core.Bool.{Bool, true, false, not, _&&_}
 use mathlib.Core.List.{List, [], _∷_, _++_}
 use lib.ListN.{length, replicate}
-use lib.Dec.{eqb, ltb, leb}
+use lib.Dec.{eqb, leb}
 use Rattle.format.specs.Numbers.{pick}
 use Rattle.format.specs.Events as E
-use Rattle.format.specs.Events.{Item, _by_, forEnd}
+use Rattle.format.specs.Events.{Item, _by_}
 use Rattle.format.specs.Tables.{Vocabulary, Limits, link}
-use Rattle.format.specs.Items.{Mode, content, declaring, listing, State, moved}
-use Rattle.format.specs.Document.{halves, pad, aligned, closed, beginning, header}
+use Rattle.format.specs.Items.{Mode, content, State, moved}
+use Rattle.format.specs.Document.{halves, pad, aligned, beginning, header}
 use Rattle.tables.specs.Counts.{countsOf, words, entryWords, wordsOf}
-use Rattle.events.specs.declared.Kind.{Kind}
 use Rattle.events.specs.declared.Kind.the-variants.{Blank, Namespace, Start, Attribute, Chunk, Comment, Instruction, End}
 use Rattle.events.specs.declared.Event.{Event}
 use Rattle.tables.specs.Located.{Located, start}

@@ -7,7 +7,6 @@ mod records;
 mod run;
 pub mod write;
 
-ghost use mathlib.Core.Path.{_≡_};
 pub use run::write_words;
 use tables::Counts;
 

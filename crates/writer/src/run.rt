@@ -6,7 +6,6 @@ ghost use mathlib.Core.List.{List};
 ghost use Prim.Native.Nat.{_≤_};
 ghost use lib.Dec.{eqb};
 ghost use lib.ListN.{length};
-ghost use Rattle.tables.specs.Kept.{listed};
 ghost use Rattle.events.specs.declared.Event.{Event};
 ghost use Rattle.events.specs.FromWords.{recordsOf};
 ghost use Rattle.writer.specs.Events.{isContent};
@@ -30,12 +29,10 @@ const ROOM: u32 = 14;
 
 const EVENT: u32 = 16;
 
-// Octets of the longest text area and document; words of a record; counts.
+// Octets of the longest text area and document; words of a record.
 const OCTETS: usize = 16384;
 
 const RECORD: usize = 13;
-
-const COUNTS: usize = 10;
 
 // Between two records: where the writer stands, or the refusal and the event's number.
 pub enum Phase {
@@ -218,18 +215,6 @@ fn written(records: &[u32], text: &[u8], out: &mut [u8], t: &mut [u32]) -> Answe
     p.settle(out, t, i)
 }
 
-// The ten counts, in 01's order.
-fn put_counts(w: &mut [u32], c: Counts)
-    requires { ⌜ length (now w) ≡ 10 ⌝ }
-    ensures { λ _. ⌜ now (w .exit) ≡ listed c ⌝ }
-{
-    let mut i = 0;
-    while i < COUNTS {
-        w[i] = c.of(i);
-        i += 1;
-    }
-}
-
 fn number(a: Answer) -> u64
     ensures { λ r. ⌜ r ≡ answerWord a ⌝ }
 {
@@ -252,7 +237,7 @@ pub fn write_words(
     ensures { λ r. ⌜ leaving r (now (out .exit)) (now (tables .exit)) (now (counts .exit)) ≡ writeWords (now (records .entry)) (now (text .entry)) (length (now (out .entry))) (length (now (tables .entry))) (length (now (counts .entry))) ⌝ }
 {
     tables::clear(counts);
-    if counts.len() != COUNTS {
+    if counts.len() != Counts::TABLES {
         output::clear(out);
         tables::clear(tables);
         if OCTETS < text.len() {
@@ -264,6 +249,6 @@ pub fn write_words(
     let Answer::Accepted(_, c) = a else {
         return number(a);
     };
-    put_counts(counts, c);
+    tables::put_counts(counts, c);
     number(a)
 }

@@ -1,5 +1,4 @@
 // Writing from a lent row: its records one by one, into lent output and tables, as `run` does from words.
-ghost use mathlib.Core.Path.{_≡_};
 ghost use lib.ListN.{length};
 ghost use Rattle.writer.specs.Writing.{Leaves, writeOf};
 use crate::Answer;

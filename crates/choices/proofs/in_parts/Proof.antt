@@ -1,6 +1,5 @@
 -- `in_parts` meets its contract: a law for each way out.
 -- Assumes nothing.
-use borrow.Author.Needs.{needs}
 use native.Mathlib.Omega.{arith}
 use Rattle.choices.proofs.StringLaws.{element-parts, attribute-parts}
 use Rattle.choices.proofs.in_parts.Statement.{statement}

@@ -1,30 +1,33 @@
--- `is_text` meets its contract: what is left to pass from here leaves as many octets to come as the whole does from between two characters.
+-- `is_text` meets its contract: character by character, what is left to pass from here leaves as many octets to come as the whole does.
 -- Assumes nothing.
-use mathlib.Core.Path.{_≡_, refl, sym, ap, _∙_}
+use mathlib.Core.Path.{_≡_, refl, sym, _∙_}
 use Prim.Native.Nat.{_-_, _≤_}
 use native.Mathlib.Omega.{arith}
 use borrow.Author.Needs.{needs}
-use borrow.Author.Tests.{ltb-true}
-use lib.Dec.{eqb}
+use borrow.Author.Tests.{eq-eqb, ne-eqb}
 use lib.ListN.{take, drop}
 use Rattle.format.specs.Text.{between, after, isText}
-use Rattle.fields.specs.Text.{within}
-use Rattle.fields.proofs.Text.{after-alone, after-next, after-end}
+use Rattle.fields.proofs.Text.{low-text, after-alone, after-character, after-none, after-end}
 use Rattle.fields.proofs.is_text.Statement.{statement}
 use Rattle.fields.proofs.is_text.Tie as tie
 
 abbrev Inv-loop : tie.InvT-loop
-Inv-loop s from to u₀ i₀ u i = (i ≤ to) × (after (within u) (take (to - i) (drop i s)) .left ≡ after between (take (to - from) (drop from s)) .left)
+Inv-loop s from to i₀ i = (i ≤ to) × (after between (take (to - i) (drop i s)) .left ≡ after between (take (to - from) (drop from s)) .left)
 
 abbrev μ-loop : tie.MeasureT-loop
-μ-loop s from to u₀ i₀ u i = to - i
+μ-loop s from to i₀ i = to - i
+
+highest-requires : tie.Need-highest-requires Inv-loop μ-loop
+highest-requires c κs = search needs
+
+returns : tie.Need-returns Inv-loop μ-loop
+returns c = low-text _ (rw (c .before .highest .ensures) at (c .if1 .taken))
 
 loop-holds : tie.Need-loop-holds Inv-loop μ-loop
-unfolding between
 loop-holds c = (omega arith, refl)
 
-shared-slice-read-b : tie.Need-shared-slice-read-b Inv-loop μ-loop
-shared-slice-read-b c = search needs
+shared-slice-read-if2 : tie.Need-shared-slice-read-if2 Inv-loop μ-loop
+shared-slice-read-if2 c = search needs
 
 add-i : tie.Need-add-i Inv-loop μ-loop
 add-i c = search needs
@@ -35,27 +38,45 @@ loop-less c = search needs
 loop-again : tie.Need-loop-again Inv-loop μ-loop
 loop-again c =
     let a = c .before .before .before .before .before .before .before .args in
-    let l = c .before .before .before .before .before .loop in
-    (omega arith, after-alone (a .s .now) (a .to) _ (within (l .u)) (l .i) (omega arith) (omega arith) (omega arith) (omega (arith, ltb-true)) (l .inv .1))
+    let l = c .before .before .before .loop in
+    (omega arith, after-alone (a .s .now) (a .to) (l .i) (omega arith) (omega arith) _ (omega arith) (l .inv .1))
 
-next-requires : tie.Need-next-requires Inv-loop μ-loop
-next-requires c κs = search needs
+character-requires : tie.Need-character-requires Inv-loop μ-loop
+character-requires c κs = search needs
+
+returns-2 : tie.Need-returns-2 Inv-loop μ-loop
+unfolding isText
+returns-2 c =
+    let a = c .before .before .before .before .before .before .before .before .before .args in
+    let l = c .before .before .before .before .before .loop in
+    sym (ne-eqb _ _ (after-none (a .s .now) (a .to) (l .i) (omega arith) (omega arith) _ (sym (c .if3 .taken) ∙ c .before .character .ensures) (l .inv .1)))
+
+add-i-2 : tie.Need-add-i-2 Inv-loop μ-loop
+add-i-2 c =
+    let a = c .before .before .before .before .before .before .before .before .before .args in
+    let l = c .before .before .before .before .before .loop in
+    let p = after-character (a .s .now) (a .to) (l .i) (omega arith) (omega arith) _ _ (c .before .character .ensures) (λ z. omega arith) (l .inv .1) in
+    omega arith
 
 loop-less-2 : tie.Need-loop-less-2 Inv-loop μ-loop
-loop-less-2 c = search needs
+loop-less-2 c =
+    let a = c .before .before .before .before .before .before .before .before .before .args in
+    let l = c .before .before .before .before .before .loop in
+    let p = after-character (a .s .now) (a .to) (l .i) (omega arith) (omega arith) _ _ (c .before .character .ensures) (λ z. omega arith) (l .inv .1) in
+    omega arith
 
 loop-again-2 : tie.Need-loop-again-2 Inv-loop μ-loop
 loop-again-2 c =
-    let a = c .before .before .before .before .before .before .before .args in
+    let a = c .before .before .before .before .before .before .before .before .before .args in
     let l = c .before .before .before .before .before .loop in
-    (omega arith, after-next (a .s .now) (a .to) _ (within (l .u)) _ (l .i) (omega arith) (omega arith) (c .next .ensures) (l .inv .1))
+    after-character (a .s .now) (a .to) (l .i) (omega arith) (omega arith) _ _ (c .before .character .ensures) (λ z. omega arith) (l .inv .1)
 
-returns : tie.Need-returns Inv-loop μ-loop
+returns-3 : tie.Need-returns-3 Inv-loop μ-loop
 unfolding isText
-returns c =
-    let a = c .before .before .before .before .args in
-    let l = c .before .before .loop in
-    ap (λ n. eqb n 0) (sym (after-end (a .s .now) (a .to) (within (l .u)) (l .i) (omega arith)) ∙ l .inv .1)
+returns-3 c =
+    let a = c .before .before .before .before .before .args in
+    let l = c .before .loop in
+    sym (eq-eqb _ _ (sym (l .inv .1) ∙ after-end (a .s .now) (a .to) (l .i) (omega arith)))
 
 pub is-text-spec : {M : Type 1} → statement M
 is-text-spec =
@@ -63,12 +84,16 @@ is-text-spec =
     (tie.spec
     Inv-loop
     μ-loop
+    highest-requires
+    returns
     loop-holds
-    shared-slice-read-b
+    shared-slice-read-if2
     add-i
     loop-less
     loop-again
-    next-requires
+    character-requires
+    returns-2
+    add-i-2
     loop-less-2
     loop-again-2
-    returns)
+    returns-3)

@@ -19,7 +19,10 @@ same-length-2 : tie.Need-same-length-2
 same-length-2 c = search needs
 
 returns : tie.Need-returns
-returns c = chunk-numbered _ _ _ (c .before .before .before .before .before .before .before .before .before .before .pre .0) (c .before .before .before .before .before .before .before .before .before .before .args .x) (c .before .before .before .before .before .before .before .before .before .before .pre .2) _ (c .before .before .before .before .before .number-of .ensures .0) (omega arith) (c .before .before .put-number .ensures)
+returns c =
+    let pre = c .before .before .before .before .before .before .before .before .before .before .pre in
+    let a = c .before .before .before .before .before .before .before .before .before .before .args in
+    chunk-numbered _ _ _ (pre .0) (a .x) (pre .2) _ (c .before .before .before .before .before .number-of .ensures .0) (omega arith) (c .before .before .put-number .ensures)
 
 literal-requires : tie.Need-literal-requires
 literal-requires c κs = search needs
@@ -31,7 +34,11 @@ same-length-4 : tie.Need-same-length-4
 same-length-4 c = search needs
 
 returns-2 : tie.Need-returns-2
-returns-2 c = chunk-spelled _ _ _ (c .before .before .before .before .before .before .before .before .before .before .before .before .before .pre .0) (c .before .before .before .before .before .before .before .before .before .before .before .before .before .args .x) (c .before .before .before .before .before .before .before .before .before .before .before .before .before .pre .2) _ (c .before .before .before .before .before .before .before .before .number-of .ensures .0) (omega arith) _ (c .before .before .before .before .literal .ensures)
+returns-2 c =
+    let pre = c .before .before .before .before .before .before .before .before .before .before .before .before .before .pre in
+    let a = c .before .before .before .before .before .before .before .before .before .before .before .before .before .args in
+    let number-of = c .before .before .before .before .before .before .before .before .number-of in
+    chunk-spelled _ _ _ (pre .0) (a .x) (pre .2) _ (number-of .ensures .0) (omega arith) _ (c .before .before .before .before .literal .ensures)
 
 pub chunk-spec : {M : Type 1} → statement M
 chunk-spec =

@@ -13,13 +13,19 @@ same-length : tie.Need-same-length
 same-length c = search needs
 
 returns : tie.Need-returns
-returns c = id-numbered _ _ _ _ (c .before .before .before .before .before .before .before .before .pre .0) (c .before .before .before .before .before .before .before .before .args .x) (c .before .before .before .before .before .before .before .before .args .k) (c .before .before .before .before .before .before .before .before .pre .4) (c .before .before .before .before .before .before .before .before .pre .3) (c .before .before .before .before .before .before .before .before .pre .5) (omega arith) (c .before .before .put-number-at-bit-2 .ensures)
+returns c =
+    let pre = c .before .before .before .before .before .before .before .before .pre in
+    let a = c .before .before .before .before .before .before .before .before .args in
+    id-numbered _ _ _ _ (pre .0) (a .x) (a .k) (pre .4) (pre .3) (pre .5) (omega arith) (c .before .before .put-number-at-bit-2 .ensures)
 
 of-requires : tie.Need-of-requires
 of-requires c κs = search needs
 
 returns-2 : tie.Need-returns-2
-returns-2 c = id-full _ _ _ _ (c .before .before .before .before .before .before .pre .0) (c .before .before .before .before .before .before .args .x) (c .before .before .before .before .before .before .args .k) (c .before .before .before .before .before .before .pre .4) (c .before .before .before .before .before .before .pre .3) (c .before .before .before .before .before .before .pre .5) (omega arith) (omega arith) (omega arith)
+returns-2 c =
+    let pre = c .before .before .before .before .before .before .pre in
+    let a = c .before .before .before .before .before .before .args in
+    id-full _ _ _ _ (pre .0) (a .x) (a .k) (pre .4) (pre .3) (pre .5) (omega arith) (omega arith) (omega arith)
 
 place-requires : tie.Need-place-requires
 place-requires c κs = search needs
@@ -28,7 +34,10 @@ size-requires : tie.Need-size-requires
 size-requires c κs = search needs
 
 spelled-requires : tie.Need-spelled-requires
-spelled-requires c κs = omega (arith, id-stretch _ _ _ _ (c .before .before .before .before .before .before .before .before .before .pre .0) (c .before .before .before .before .before .before .before .before .before .args .x) (c .before .before .before .before .before .before .before .before .before .args .k) (c .before .before .before .before .before .before .before .before .before .pre .4) (c .before .before .before .before .before .before .before .before .before .pre .3) (c .before .before .before .before .before .before .before .before .before .pre .5) (omega arith), c .before .before .before .before .before .before .before .before .before .pre .0 .size)
+spelled-requires c κs =
+    let pre = c .before .before .before .before .before .before .before .before .before .pre in
+    let a = c .before .before .before .before .before .before .before .before .before .args in
+    omega (arith, id-stretch _ _ _ _ (pre .0) (a .x) (a .k) (pre .4) (pre .3) (pre .5) (omega arith), pre .0 .size)
 
 added-requires : tie.Need-added-requires
 added-requires c κs = search needs
@@ -40,7 +49,13 @@ same-length-3 : tie.Need-same-length-3
 same-length-3 c = search needs
 
 returns-3 : tie.Need-returns-3
-returns-3 c = id-added _ _ _ _ (c .before .before .before .before .before .before .before .before .before .before .before .before .before .before .before .before .pre .0) (c .before .before .before .before .before .before .before .before .before .before .before .before .before .before .before .before .args .x) (c .before .before .before .before .before .before .before .before .before .before .before .before .before .before .before .before .args .k) (c .before .before .before .before .before .before .before .before .before .before .before .before .before .before .before .before .pre .4) (c .before .before .before .before .before .before .before .before .before .before .before .before .before .before .before .before .pre .3) (c .before .before .before .before .before .before .before .before .before .before .before .before .before .before .before .before .pre .5) (omega arith) (omega arith) (omega arith) _ _ (c .before .before .before .before .before .before .before .before .before .place .ensures) (c .before .before .before .before .before .before .before .before .size .ensures) _ _ (c .before .before .added .ensures) (c .before .before .before .before .before .before .spelled .ensures)
+returns-3 c =
+    let pre = c .before .before .before .before .before .before .before .before .before .before .before .before .before .before .before .before .pre in
+    let a = c .before .before .before .before .before .before .before .before .before .before .before .before .before .before .before .before .args in
+    let place = c .before .before .before .before .before .before .before .before .before .place in
+    let size = c .before .before .before .before .before .before .before .before .size in
+    let spelled = c .before .before .before .before .before .before .spelled in
+    id-added _ _ _ _ (pre .0) (a .x) (a .k) (pre .4) (pre .3) (pre .5) (omega arith) (omega arith) (omega arith) _ _ (place .ensures) (size .ensures) _ _ (c .before .before .added .ensures) (spelled .ensures)
 
 pub id-spec : {M : Type 1} → statement M
 id-spec =

@@ -23,7 +23,11 @@ same-length-2 : tie.Need-same-length-2
 same-length-2 c = search needs
 
 returns-2 : tie.Need-returns-2
-returns-2 c = optional-there _ _ _ _ (c .before .before .before .before .before .before .before .before .before .before .before .before .pre .0) (c .before .before .before .before .before .before .before .before .before .before .before .before .args .x) (omega arith) (c .before .before .before .before .id .result) _ _ _ _ (c .before .before .before .before .id .ensures)
+returns-2 c =
+    let pre = c .before .before .before .before .before .before .before .before .before .before .before .before .pre in
+    let a = c .before .before .before .before .before .before .before .before .before .before .before .before .args in
+    let id = c .before .before .before .before .id in
+    optional-there _ _ _ _ (pre .0) (a .x) (omega arith) (id .result) _ _ _ _ (id .ensures)
 
 pub optional-spec : {M : Type 1} → statement M
 optional-spec =

@@ -19,10 +19,16 @@ same-length : tie.Need-same-length
 same-length c = search needs
 
 returns : tie.Need-returns
-returns c = value-empty _ _ _ _ (c .before .before .before .before .before .before .before .before .before .before .pre .0) (c .before .before .before .before .before .before .before .before .before .before .args .x) (c .before .before .before .before .before .before .before .before .before .before .pre .3) (omega arith) (c .before .before .before .put .ensures)
+returns c =
+    let pre = c .before .before .before .before .before .before .before .before .before .before .pre in
+    let a = c .before .before .before .before .before .before .before .before .before .before .args in
+    value-empty _ _ _ _ (pre .0) (a .x) (pre .3) (omega arith) (c .before .before .before .put .ensures)
 
 number-of-requires : tie.Need-number-of-requires
-number-of-requires c κs = (c .before .before .before .before .before .before .pre .0, c .before .before .before .before .before .before .pre .2, spells-suits (c .before .before .before .before .before .before .args .text .now) (c .before .before .before .before .before .before .args .table) (c .before .before .before .before .before .before .args .x) (fills-spells (c .before .before .before .before .before .before .args .text .now) (c .before .before .before .before .before .before .args .x) (c .before .before .before .before .before .before .pre .3) (omega arith)))
+number-of-requires c κs =
+    let pre = c .before .before .before .before .before .before .pre in
+    let a = c .before .before .before .before .before .before .args in
+    (pre .0, pre .2, spells-suits (a .text .now) (a .table) (a .x) (fills-spells (a .text .now) (a .x) (pre .3) (omega arith)))
 
 put-number-at-bit-2-requires : tie.Need-put-number-at-bit-2-requires
 put-number-at-bit-2-requires c κs = search needs
@@ -34,10 +40,16 @@ same-length-3 : tie.Need-same-length-3
 same-length-3 c = search needs
 
 returns-2 : tie.Need-returns-2
-returns-2 c = value-numbered _ _ _ _ (c .before .before .before .before .before .before .before .before .before .before .before .before .pre .0) (c .before .before .before .before .before .before .before .before .before .before .before .before .args .x) _ (c .before .before .before .before .before .number-of .ensures .0) (c .before .before .before .before .before .before .before .before .before .before .before .before .pre .3) (omega arith) (omega arith) (c .before .before .put-number-at-bit-2 .ensures)
+returns-2 c =
+    let pre = c .before .before .before .before .before .before .before .before .before .before .before .before .pre in
+    let a = c .before .before .before .before .before .before .before .before .before .before .before .before .args in
+    value-numbered _ _ _ _ (pre .0) (a .x) _ (c .before .before .before .before .before .number-of .ensures .0) (pre .3) (omega arith) (omega arith) (c .before .before .put-number-at-bit-2 .ensures)
 
 literal-requires : tie.Need-literal-requires
-literal-requires c κs = (c .before .before .before .before .before .before .before .before .before .before .pre .0, omega arith, omega arith, (fills-spells (c .before .before .before .before .before .before .before .before .before .before .args .text .now) (c .before .before .before .before .before .before .before .before .before .before .args .x) (c .before .before .before .before .before .before .before .before .before .before .pre .3) (omega arith)), omega arith, omega arith, omega arith)
+literal-requires c κs =
+    let pre = c .before .before .before .before .before .before .before .before .before .before .pre in
+    let a = c .before .before .before .before .before .before .before .before .before .before .args in
+    (pre .0, omega arith, omega arith, (fills-spells (a .text .now) (a .x) (pre .3) (omega arith)), omega arith, omega arith, omega arith)
 
 same-length-4 : tie.Need-same-length-4
 same-length-4 c = search needs
@@ -46,7 +58,11 @@ same-length-5 : tie.Need-same-length-5
 same-length-5 c = search needs
 
 returns-3 : tie.Need-returns-3
-returns-3 c = value-spelled _ _ _ _ (c .before .before .before .before .before .before .before .before .before .before .before .before .before .before .before .pre .0) (c .before .before .before .before .before .before .before .before .before .before .before .before .before .before .before .args .x) _ (c .before .before .before .before .before .before .before .before .number-of .ensures .0) (c .before .before .before .before .before .before .before .before .before .before .before .before .before .before .before .pre .3) (omega arith) (omega arith) _ (c .before .before .before .before .literal .ensures)
+returns-3 c =
+    let pre = c .before .before .before .before .before .before .before .before .before .before .before .before .before .before .before .pre in
+    let a = c .before .before .before .before .before .before .before .before .before .before .before .before .before .before .before .args in
+    let number-of = c .before .before .before .before .before .before .before .before .number-of in
+    value-spelled _ _ _ _ (pre .0) (a .x) _ (number-of .ensures .0) (pre .3) (omega arith) (omega arith) _ (c .before .before .before .before .literal .ensures)
 
 pub value-spec : {M : Type 1} → statement M
 value-spec =

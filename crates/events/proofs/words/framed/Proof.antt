@@ -51,7 +51,10 @@ blank-requires-4 : tie.Need-blank-requires-4
 blank-requires-4 c κs = search needs
 
 returns-4 : tie.Need-returns-4
-returns-4 c = c .blank4 .ensures ∙ rw (c .before .before .before .before .before .before .before .before .before .before .prefix .given .1, c .before .before .before .before .before .before .before .namespace .given .1, c .before .before .before .before .name .given .1, c .before .enum-told4 .given .1)
+returns-4 c =
+    let prefix = c .before .before .before .before .before .before .before .before .before .before .prefix in
+    let namespace = c .before .before .before .before .before .before .before .namespace in
+    c .blank4 .ensures ∙ rw (prefix .given .1, namespace .given .1, c .before .before .before .before .name .given .1, c .before .enum-told4 .given .1)
 
 returns-5 : tie.Need-returns-5
 returns-5 c = rw (c .before .before .before .before .before .before .before .before .before .before .prefix .given .1, c .before .before .before .before .before .before .before .namespace .given .1, c .before .before .before .before .name .given .1, c .before .value .given .1)

@@ -1,34 +1,38 @@
--- `put_part` meets its contract: i octets are put, and the rest are left.
+-- `put_part` meets its contract: i octets are put, and for what is left of them behind the last one there is no room.
 -- Assumes nothing.
-use Prim.Native.Nat.{_+_, _-_, _≤_}
+use mathlib.Core.Path.{_≡_, refl}
+use Prim.Native.Nat.{_+_, _-_, _≤_, min}
 use native.Mathlib.Omega.{arith}
 use borrow.Author.Needs.{needs}
-use lib.ListN.{take, drop}
+use lib.ListN.{length, take, drop}
 use Rattle.fields.specs.Put.{Puts}
-use Rattle.fields.proofs.Puts.{puts-nothing, puts-kept, puts-next, puts-all, part-length, part-at}
+use Rattle.fields.proofs.Puts.{puts-nothing, puts-kept, puts-next, puts-fitting, part-length, part-at}
 use Rattle.fields.proofs.put.put_part.Statement.{statement}
 use Rattle.fields.proofs.put.put_part.Tie as tie
 
 abbrev Inv-loop : tie.InvT-loop
-Inv-loop out₀ at text place size i₀ out i = (i ≤ size) × Puts out₀ at (at + i) out (take i (take size (drop place text)))
+Inv-loop out₀ at text place size n i₀ out i = (i ≤ n) × (n ≡ min size (length out₀ - at)) × Puts out₀ at (at + i) out (take i (take size (drop place text)))
 
 abbrev μ-loop : tie.MeasureT-loop
-μ-loop out₀ at text place size i₀ out i = size - i
+μ-loop out₀ at text place size n i₀ out i = n - i
+
+fitting-requires : tie.Need-fitting-requires Inv-loop μ-loop
+fitting-requires c κs = search needs
 
 loop-holds : tie.Need-loop-holds Inv-loop μ-loop
-loop-holds c = (omega arith, puts-nothing (omega arith))
+loop-holds c = (omega arith, c .fitting .ensures, puts-nothing (omega arith))
 
-add-put : tie.Need-add-put Inv-loop μ-loop
-add-put c = search needs
+add-out : tie.Need-add-out Inv-loop μ-loop
+add-out c = search needs
 
-add-put-2 : tie.Need-add-put-2 Inv-loop μ-loop
-add-put-2 c = search needs
+shared-slice-read-out : tie.Need-shared-slice-read-out Inv-loop μ-loop
+shared-slice-read-out c = search needs
 
-shared-slice-read-put : tie.Need-shared-slice-read-put Inv-loop μ-loop
-shared-slice-read-put c = search needs
+add-out-2 : tie.Need-add-out-2 Inv-loop μ-loop
+add-out-2 c = search needs
 
-put-requires : tie.Need-put-requires Inv-loop μ-loop
-put-requires c κs = search needs
+slice-write-out : tie.Need-slice-write-out Inv-loop μ-loop
+slice-write-out c = let e = puts-kept (c .before .before .loop .inv .2) in omega arith
 
 add-i : tie.Need-add-i Inv-loop μ-loop
 add-i c = search needs
@@ -38,20 +42,22 @@ loop-less c = search needs
 
 loop-again : tie.Need-loop-again Inv-loop μ-loop
 loop-again c =
-    let text = c .before .before .before .before .before .before .before .before .before .args .text .now in
-    let place = c .before .before .before .before .before .before .before .before .before .args .place in
-    let size = c .before .before .before .before .before .before .before .before .before .args .size in
-    let n = part-length text place size (omega arith) in
-    (omega arith, puts-next _ _ (c .before .before .before .before .before .before .loop .inv .1) (omega arith) (part-at text place size (c .before .before .before .before .before .before .loop .i) (omega arith)) (c .before .before .put .ensures))
+    let a = c .before .before .before .before .before .before .args in
+    let l = c .before .before .loop in
+    let n = part-length (a .text .now) (a .place) (a .size) (omega arith) in
+    (omega arith, l .inv .1, puts-next _ _ (l .inv .2) (omega arith) (part-at (a .text .now) (a .place) (a .size) (l .i) (omega arith)) refl)
 
 add-result : tie.Need-add-result Inv-loop μ-loop
 add-result c = search needs
 
 same-length : tie.Need-same-length Inv-loop μ-loop
-same-length c = puts-kept (c .before .loop .inv .1)
+same-length c = puts-kept (c .before .loop .inv .2)
 
 returns : tie.Need-returns Inv-loop μ-loop
-returns c = puts-all _ _ (c .before .loop .inv .1) (part-length _ (c .before .before .before .before .args .place) (c .before .before .before .before .args .size) (omega arith)) (omega arith) (omega arith)
+returns c =
+    let a = c .before .before .before .before .before .args in
+    let l = c .before .loop in
+    puts-fitting _ _ (l .inv .2) (part-length (a .text .now) (a .place) (a .size) (omega arith)) (omega arith)
 
 pub put-part-spec : {M : Type 1} → statement M
 put-part-spec =
@@ -59,11 +65,12 @@ put-part-spec =
     (tie.spec
     Inv-loop
     μ-loop
+    fitting-requires
     loop-holds
-    add-put
-    add-put-2
-    shared-slice-read-put
-    put-requires
+    add-out
+    shared-slice-read-out
+    add-out-2
+    slice-write-out
     add-i
     loop-less
     loop-again

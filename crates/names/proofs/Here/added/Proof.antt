@@ -34,7 +34,10 @@ same-length : tie.Need-same-length
 same-length c = search needs
 
 returns-2 : tie.Need-returns-2
-returns-2 c = added-more _ _ _ _ _ _ _ _ _ _ (c .before .before .before .before .before .before .before .before .of .ensures) (omega arith) (c .before .before .before .before .before .before .narrow .ensures) (c .before .before .before .before .before .narrow2 .ensures) (c .more .ensures) (c .before .before .before .add .ensures)
+returns-2 c =
+    let of = c .before .before .before .before .before .before .before .before .of in
+    let narrow = c .before .before .before .before .before .before .narrow in
+    added-more _ _ _ _ _ _ _ _ _ _ (of .ensures) (omega arith) (narrow .ensures) (c .before .before .before .before .before .narrow2 .ensures) (c .more .ensures) (c .before .before .before .add .ensures)
 
 pub added-spec : {M : Type 1} → statement M
 added-spec =

@@ -29,14 +29,19 @@ same-length c = search needs
 
 returns : tie.Need-returns
 unfolding tableOf
-returns c = chunk-held _ _ _ 6 (c .before .before .before .before .before .before .before .before .before .pre .0) (omega arith) _ (c .before .before .before .before .before .before .octet .ensures) (omega arith) (omega arith) _ (c .before .before .before .before .before .bits .ensures) (c .before .before .before .before .if1 .taken) _ (c .before .before .number .ensures) _ _ (c .before .held .ensures) (c .unnumbered .ensures)
+returns c =
+    let pre = c .before .before .before .before .before .before .before .before .before .pre in
+    let octet = c .before .before .before .before .before .before .octet in
+    chunk-held _ _ _ 6 (pre .0) (omega arith) _ (octet .ensures) (omega arith) (omega arith) _ (c .before .before .before .before .before .bits .ensures) (c .before .before .before .before .if1 .taken) _ (c .before .before .number .ensures) _ _ (c .before .held .ensures) (c .unnumbered .ensures)
 
 bits-requires-2 : tie.Need-bits-requires-2
 bits-requires-2 c κs = search needs
 
 returns-2 : tie.Need-returns-2
 unfolding tableOf
-returns-2 c = chunk-other _ _ _ 6 (c .before .before .before .before .before .before .before .pre .0) (omega arith) _ (c .before .before .before .before .octet .ensures) (omega arith) (omega arith) _ (c .before .before .before .bits .ensures) (c .before .before .if1 .left) _ (c .before .bits2 .ensures) (c .if2 .taken)
+returns-2 c =
+    let pre = c .before .before .before .before .before .before .before .pre in
+    chunk-other _ _ _ 6 (pre .0) (omega arith) _ (c .before .before .before .before .octet .ensures) (omega arith) (omega arith) _ (c .before .before .before .bits .ensures) (c .before .before .if1 .left) _ (c .before .bits2 .ensures) (c .if2 .taken)
 
 bits-requires-3 : tie.Need-bits-requires-3
 bits-requires-3 c κs = search needs
@@ -49,7 +54,14 @@ same-length-2 c = search needs
 
 returns-3 : tie.Need-returns-3
 unfolding tableOf
-returns-3 c = chunk-spelled _ _ _ 6 (c .before .before .before .before .before .before .before .before .before .before .before .before .pre .0) (omega arith) _ (c .before .before .before .before .before .before .before .before .before .octet .ensures) (omega arith) (omega arith) _ (c .before .before .before .before .before .before .before .before .bits .ensures) (c .before .before .before .before .before .before .before .if1 .left) _ (c .before .before .before .before .before .before .bits2 .ensures) (c .before .before .before .before .before .if2 .left) _ (c .before .before .before .bits3 .ensures) (c .before .before .spelled .result) (c .before .before .spelled .last .1 .1 .0) (c .before .before .spelled .ensures)
+returns-3 c =
+    let pre = c .before .before .before .before .before .before .before .before .before .before .before .before .pre in
+    let octet = c .before .before .before .before .before .before .before .before .before .octet in
+    let bits = c .before .before .before .before .before .before .before .before .bits in
+    let if1 = c .before .before .before .before .before .before .before .if1 in
+    let bits2 = c .before .before .before .before .before .before .bits2 in
+    let spelled = c .before .before .spelled in
+    chunk-spelled _ _ _ 6 (pre .0) (omega arith) _ (octet .ensures) (omega arith) (omega arith) _ (bits .ensures) (if1 .left) _ (bits2 .ensures) (c .before .before .before .before .before .if2 .left) _ (c .before .before .before .bits3 .ensures) (spelled .result) (spelled .last .1 .1 .0) (spelled .ensures)
 
 pub chunk-spec : {M : Type 1} → statement M
 chunk-spec =

@@ -2,10 +2,10 @@
 -- Assumes nothing.
 use native.Mathlib.Omega.{arith}
 use borrow.Author.Needs.{needs}
-use Rattle.names.specs.NameStages.{tripleOf}
 use Rattle.names.proofs.NameLaws.{name-held, name-full, name-new}
 use Rattle.names.proofs.Here.triple.Statement.{statement}
 use Rattle.names.proofs.Here.triple.Tie as tie
+use Rattle.tables.specs.Kept.{tripleOf}
 
 of-requires : tie.Need-of-requires
 of-requires c κs = search needs

@@ -19,7 +19,10 @@ opened-requires : tie.Need-opened-requires
 opened-requires c κs = search needs
 
 returns-3 : tie.Need-returns-3
-returns-3 c = c .opened .ensures ∙ admits-room (c .before .before .before .before .before .args .s .now) (c .before .before .before .before .before .args .room) (c .before .before .before .sized .result) (c .before .before .before .sized .ensures) (c .before .before .if1 .left) (c .before .if2 .left)
+returns-3 c =
+    let a = c .before .before .before .before .before .args in
+    let sized = c .before .before .before .sized in
+    c .opened .ensures ∙ admits-room (a .s .now) (a .room) (sized .result) (sized .ensures) (c .before .before .if1 .left) (c .before .if2 .left)
 
 pub admitted-spec : {M : Type 1} → statement M
 admitted-spec = tie.close (tie.spec sized-requires returns returns-2 opened-requires returns-3)

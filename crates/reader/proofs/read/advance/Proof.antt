@@ -25,26 +25,43 @@ sub-left c = search needs
 step-requires : tie.Need-step-requires Inv-loop μ-loop
 step-requires c κs = c .before .before .before .loop .inv .good
 
-enum-known-place : tie.Need-enum-known-place Inv-loop μ-loop
-enum-known-place c = search needs
+enum-known-behind : tie.Need-enum-known-behind Inv-loop μ-loop
+enum-known-behind c = search needs
 
 pause-requires : tie.Need-pause-requires Inv-loop μ-loop
 pause-requires c κs = search needs
 
 same-length : tie.Need-same-length Inv-loop μ-loop
-same-length c = let a = c .before .before .before .before .before .before .before .before .before .before .before .loop .inv .good .tidy .room in let b = c .before .before .before .before .before .before .before .before .before .before .before .before .before .before .before .pre .tidy .room in omega arith
+same-length c =
+    let pre = c .before .before .before .before .before .before .before .before .before .before .before .before .before .before .before .pre in
+    let loop = c .before .before .before .before .before .before .before .before .before .before .before .loop in
+    let a = loop .inv .good .tidy .room in let b = pre .tidy .room in omega arith
 
 returns : tie.Need-returns Inv-loop μ-loop
-returns c = reaches-found (c .before .before .before .before .before .before .before .before .before .before .before .before .before .before .before .args .s .now) (c .before .before .before .before .before .before .before .before .before .before .before .before .before .before .before .args .p) (c .before .before .before .before .before .before .before .before .before .before .before .before .before .before .before .args .c) (c .before .before .before .before .before .before .before .before .before .before .before .before .before .before .before .args .t .now) (c .before .before .before .before .before .before .before .before .before .before .before .before .resume .result) (c .before .before .before .before .before .before .before .before .before .before .before .before .resume .ensures) (c .before .before .before .before .before .before .before .before .before .before .before .loop .left) (c .before .before .before .before .before .before .before .before .before .before .before .loop .st) (c .before .before .before .before .before .before .before .before .before .before .before .loop .t) (c .before .before .before .before .before .before .before .before .before .before .before .loop .inv) (c .before .before .before .before .before .before .before .before .before .before .loop-test .taken) (c .before .before .before .before .before .before .before .step .result) (c .before .before .before .before .before .before .before .step .last .1 .1 .0) (c .before .before .before .before .before .before .before .step .ensures) (c .before .before .before .place .given .0 .0) (c .before .before .before .place .given .0 .1 .0) (c .before .before .before .place .given .0 .1 .1 .0) (c .before .before .before .place .given .1) (c .pause .result) (c .pause .ensures)
+returns c =
+    let a = c .before .before .before .before .before .before .before .before .before .before .before .before .before .before .before .args in
+    let resume = c .before .before .before .before .before .before .before .before .before .before .before .before .resume in
+    let loop = c .before .before .before .before .before .before .before .before .before .before .before .loop in
+    let loop-test = c .before .before .before .before .before .before .before .before .before .before .loop-test in
+    let step = c .before .before .before .before .before .before .before .step in
+    let behind = c .before .before .before .behind in
+    reaches-found (a .s .now) (a .p) (a .c) (a .t .now) (resume .result) (resume .ensures) (loop .left) (loop .st) (loop .t) (loop .inv) (loop-test .taken) (step .result) (step .last .1 .1 .0) (step .ensures) (behind .given .0 .1 .0) (behind .given .0 .1 .1 .0) (behind .given .0 .0) (behind .given .1) (c .pause .result) (c .pause .ensures)
 
-enum-known-behind : tie.Need-enum-known-behind Inv-loop μ-loop
-enum-known-behind c = search needs
+enum-known-behind-2 : tie.Need-enum-known-behind-2 Inv-loop μ-loop
+enum-known-behind-2 c = search needs
 
 loop-less : tie.Need-loop-less Inv-loop μ-loop
 loop-less c = search needs
 
 loop-again : tie.Need-loop-again Inv-loop μ-loop
-loop-again c = going-quiet (c .before .before .before .before .before .before .before .before .before .before .before .before .before .args .s .now) (c .before .before .before .before .before .before .before .before .before .before .before .before .before .args .p) (c .before .before .before .before .before .before .before .before .before .before .before .before .before .args .c) (c .before .before .before .before .before .before .before .before .before .before .before .before .before .args .t .now) (c .before .before .before .before .before .before .before .before .before .before .resume .result) (c .before .before .before .before .before .before .before .before .before .before .resume .ensures) (c .before .before .before .before .before .before .before .before .before .loop .left) (c .before .before .before .before .before .before .before .before .before .loop .st) (c .before .before .before .before .before .before .before .before .before .loop .t) (c .before .before .before .before .before .before .before .before .before .loop .inv) (c .before .before .before .before .before .before .before .before .loop-test .taken) (c .before .before .before .before .before .step .result) (c .before .before .before .before .before .step .last .1 .1 .0) (c .before .before .before .before .before .step .ensures) (c .before .behind .given .0 .0) (c .before .behind .given .1)
+loop-again c =
+    let a = c .before .before .before .before .before .before .before .before .before .before .before .before .before .args in
+    let resume = c .before .before .before .before .before .before .before .before .before .before .resume in
+    let loop = c .before .before .before .before .before .before .before .before .before .loop in
+    let loop-test = c .before .before .before .before .before .before .before .before .loop-test in
+    let step = c .before .before .before .before .before .step in
+    let behind2 = c .before .behind2 in
+    going-quiet (a .s .now) (a .p) (a .c) (a .t .now) (resume .result) (resume .ensures) (loop .left) (loop .st) (loop .t) (loop .inv) (loop-test .taken) (step .result) (step .last .1 .1 .0) (step .ensures) (behind2 .given .0 .0) (behind2 .given .1)
 
 enum-told : tie.Need-enum-told Inv-loop μ-loop
 enum-told c = search needs
@@ -53,7 +70,13 @@ same-length-2 : tie.Need-same-length-2 Inv-loop μ-loop
 same-length-2 c = let a = c .before .before .before .before .before .before .before .before .loop .inv .good .tidy .room in let b = c .before .before .before .before .before .before .before .before .before .before .before .before .pre .tidy .room in omega arith
 
 returns-2 : tie.Need-returns-2 Inv-loop μ-loop
-returns-2 c = reaches-end (c .before .before .before .before .before .before .before .before .before .before .before .before .args .s .now) (c .before .before .before .before .before .before .before .before .before .before .before .before .args .p) (c .before .before .before .before .before .before .before .before .before .before .before .before .args .c) (c .before .before .before .before .before .before .before .before .before .before .before .before .args .t .now) (c .before .before .before .before .before .before .before .before .before .resume .result) (c .before .before .before .before .before .before .before .before .before .resume .ensures) (c .before .before .before .before .before .before .before .before .loop .left) (c .before .before .before .before .before .before .before .before .loop .st) (c .before .before .before .before .before .before .before .before .loop .t) (c .before .before .before .before .before .before .before .before .loop .inv) (c .before .before .before .before .before .before .before .loop-test .taken) (c .before .before .before .before .step .result) (c .before .before .before .before .step .last .1 .1 .0) (c .before .before .before .before .step .ensures) (c .enum-told .given .1)
+returns-2 c =
+    let a = c .before .before .before .before .before .before .before .before .before .before .before .before .args in
+    let resume = c .before .before .before .before .before .before .before .before .before .resume in
+    let loop = c .before .before .before .before .before .before .before .before .loop in
+    let loop-test = c .before .before .before .before .before .before .before .loop-test in
+    let step = c .before .before .before .before .step in
+    reaches-end (a .s .now) (a .p) (a .c) (a .t .now) (resume .result) (resume .ensures) (loop .left) (loop .st) (loop .t) (loop .inv) (loop-test .taken) (step .result) (step .last .1 .1 .0) (step .ensures) (c .enum-told .given .1)
 
 enum-known-number : tie.Need-enum-known-number Inv-loop μ-loop
 enum-known-number c = search needs
@@ -62,13 +85,24 @@ same-length-3 : tie.Need-same-length-3 Inv-loop μ-loop
 same-length-3 c = let a = c .before .before .before .before .before .before .before .before .before .loop .inv .good .tidy .room in let b = c .before .before .before .before .before .before .before .before .before .before .before .before .before .pre .tidy .room in omega arith
 
 returns-3 : tie.Need-returns-3 Inv-loop μ-loop
-returns-3 c = reaches-stop (c .before .before .before .before .before .before .before .before .before .before .before .before .before .args .s .now) (c .before .before .before .before .before .before .before .before .before .before .before .before .before .args .p) (c .before .before .before .before .before .before .before .before .before .before .before .before .before .args .c) (c .before .before .before .before .before .before .before .before .before .before .before .before .before .args .t .now) (c .before .before .before .before .before .before .before .before .before .before .resume .result) (c .before .before .before .before .before .before .before .before .before .before .resume .ensures) (c .before .before .before .before .before .before .before .before .before .loop .left) (c .before .before .before .before .before .before .before .before .before .loop .st) (c .before .before .before .before .before .before .before .before .before .loop .t) (c .before .before .before .before .before .before .before .before .before .loop .inv) (c .before .before .before .before .before .before .before .before .loop-test .taken) (c .before .before .before .before .before .step .result) (c .before .before .before .before .before .step .last .1 .1 .0) (c .before .before .before .before .before .step .ensures) (c .before .number .given .0 .0) (c .before .number .given .0 .1 .0) (c .before .number .given .1)
+returns-3 c =
+    let a = c .before .before .before .before .before .before .before .before .before .before .before .before .before .args in
+    let resume = c .before .before .before .before .before .before .before .before .before .before .resume in
+    let loop = c .before .before .before .before .before .before .before .before .before .loop in
+    let loop-test = c .before .before .before .before .before .before .before .before .loop-test in
+    let step = c .before .before .before .before .before .step in
+    let number = c .before .number in
+    reaches-stop (a .s .now) (a .p) (a .c) (a .t .now) (resume .result) (resume .ensures) (loop .left) (loop .st) (loop .t) (loop .inv) (loop-test .taken) (step .result) (step .last .1 .1 .0) (step .ensures) (number .given .0 .0) (number .given .0 .1 .0) (number .given .1)
 
 same-length-4 : tie.Need-same-length-4 Inv-loop μ-loop
 same-length-4 c = let a = c .before .before .before .loop .inv .good .tidy .room in let b = c .before .before .before .before .before .before .before .pre .tidy .room in omega arith
 
 returns-4 : tie.Need-returns-4 Inv-loop μ-loop
-returns-4 c = reaches-spent (c .before .before .before .before .before .before .before .args .s .now) (c .before .before .before .before .before .before .before .args .p) (c .before .before .before .before .before .before .before .args .c) (c .before .before .before .before .before .before .before .args .t .now) (c .before .before .before .before .resume .result) (c .before .before .before .before .resume .ensures) (c .before .before .before .loop .left) (c .before .before .before .loop .st) (c .before .before .before .loop .t) (c .before .before .before .loop .inv) (c .before .before .loop-test .left)
+returns-4 c =
+    let a = c .before .before .before .before .before .before .before .args in
+    let resume = c .before .before .before .before .resume in
+    let loop = c .before .before .before .loop in
+    reaches-spent (a .s .now) (a .p) (a .c) (a .t .now) (resume .result) (resume .ensures) (loop .left) (loop .st) (loop .t) (loop .inv) (c .before .before .loop-test .left)
 
 pub advance-spec : {M : Type 1} → statement M
 advance-spec =
@@ -80,11 +114,11 @@ advance-spec =
     loop-holds
     sub-left
     step-requires
-    enum-known-place
+    enum-known-behind
     pause-requires
     same-length
     returns
-    enum-known-behind
+    enum-known-behind-2
     loop-less
     loop-again
     enum-told

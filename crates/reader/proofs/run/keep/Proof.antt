@@ -39,19 +39,33 @@ add-put-text-3 : tie.Need-add-put-text-3
 add-put-text-3 c = search needs
 
 put-text-requires-3 : tie.Need-put-text-requires-3
-put-text-requires-3 c κs = let l = length-set (c .before .before .before .before .before .before .before .before .before .before .before .before .args .records .now) (13 * c .before .before .before .before .before .before .before .before .before .before .before .before .args .n) (c .before .before .before .before .before .before .before .before .before .number .result) in omega arith
+put-text-requires-3 c κs =
+    let a = c .before .before .before .before .before .before .before .before .before .before .before .before .args in
+    let number = c .before .before .before .before .before .before .before .before .before .number in
+    let l = length-set (a .records .now) (13 * a .n) (number .result) in omega arith
 
 add-put-text-4 : tie.Need-add-put-text-4
 add-put-text-4 c = search needs
 
 put-text-requires-4 : tie.Need-put-text-requires-4
-put-text-requires-4 c κs = let l = length-set (c .before .before .before .before .before .before .before .before .before .before .before .before .before .before .before .before .args .records .now) (13 * c .before .before .before .before .before .before .before .before .before .before .before .before .before .before .before .before .args .n) (c .before .before .before .before .before .before .before .before .before .before .before .before .before .number .result) in omega arith
+put-text-requires-4 c κs =
+    let a = c .before .before .before .before .before .before .before .before .before .before .before .before .before .before .before .before .args in
+    let number = c .before .before .before .before .before .before .before .before .before .before .before .before .before .number in
+    let l = length-set (a .records .now) (13 * a .n) (number .result) in omega arith
 
 same-length : tie.Need-same-length
-same-length c = let l = length-set (c .before .before .before .before .before .before .before .before .before .before .before .before .before .before .before .before .before .before .before .args .records .now) (13 * c .before .before .before .before .before .before .before .before .before .before .before .before .before .before .before .before .before .before .before .args .n) (c .before .before .before .before .before .before .before .before .before .before .before .before .before .before .before .before .number .result) in omega arith
+same-length c =
+    let a = c .before .before .before .before .before .before .before .before .before .before .before .before .before .before .before .before .before .before .before .args in
+    let number = c .before .before .before .before .before .before .before .before .before .before .before .before .before .before .before .before .number in
+    let l = length-set (a .records .now) (13 * a .n) (number .result) in omega arith
 
 returns-2 : tie.Need-returns-2
-returns-2 c = kept-all _ _ _ (c .before .before .before .before .before .before .before .before .before .before .before .before .before .before .before .before .number .result) _ _ _ _ (omega arith) (c .before .before .before .before .before .before .before .before .before .before .before .before .before .before .before .before .number .ensures) (c .before .before .before .before .before .before .before .before .before .before .before .before .before .before .put-text .ensures) (c .before .before .before .before .before .before .before .before .before .before .put-text2 .ensures) (c .before .before .before .before .before .before .put-text3 .ensures) (c .before .before .put-text4 .ensures)
+returns-2 c =
+    let number = c .before .before .before .before .before .before .before .before .before .before .before .before .before .before .before .before .number in
+    let put-text = c .before .before .before .before .before .before .before .before .before .before .before .before .before .before .put-text in
+    let put-text2 = c .before .before .before .before .before .before .before .before .before .before .put-text2 in
+    let put-text3 = c .before .before .before .before .before .before .put-text3 in
+    kept-all _ _ _ (number .result) _ _ _ _ (omega arith) (number .ensures) (put-text .ensures) (put-text2 .ensures) (put-text3 .ensures) (c .before .before .put-text4 .ensures)
 
 pub keep-spec : {M : Type 1} → statement M
 keep-spec =

@@ -30,13 +30,22 @@ shared-slice-read-o : tie.Need-shared-slice-read-o
 shared-slice-read-o c = search needs
 
 returns-5 : tie.Need-returns-5
-returns-5 c = open-padding _ (sym (not-false _ (c .before .before .before .before .before .before .if1 .left)) ∙ c .before .before .before .before .before .before .before .sized .ensures) (omega arith) (sym (not-false _ (c .before .before .before .if3 .left)) ∙ c .before .before .before .before .headed .ensures) (omega arith) (omega arith)
+returns-5 c =
+    let sized = c .before .before .before .before .before .before .before .sized in
+    let if1 = c .before .before .before .before .before .before .if1 in
+    open-padding _ (sym (not-false _ (if1 .left)) ∙ sized .ensures) (omega arith) (sym (not-false _ (c .before .before .before .if3 .left)) ∙ c .before .before .before .before .headed .ensures) (omega arith) (omega arith)
 
 returns-6 : tie.Need-returns-6
-returns-6 c = open-optional _ (sym (not-false _ (c .before .before .before .before .before .before .before .if1 .left)) ∙ c .before .before .before .before .before .before .before .before .sized .ensures) (omega arith) (sym (not-false _ (c .before .before .before .before .if3 .left)) ∙ c .before .before .before .before .before .headed .ensures) (omega arith) (omega arith) (omega arith)
+returns-6 c =
+    let sized = c .before .before .before .before .before .before .before .before .sized in
+    let if1 = c .before .before .before .before .before .before .before .if1 in
+    open-optional _ (sym (not-false _ (if1 .left)) ∙ sized .ensures) (omega arith) (sym (not-false _ (c .before .before .before .before .if3 .left)) ∙ c .before .before .before .before .before .headed .ensures) (omega arith) (omega arith) (omega arith)
 
 returns-7 : tie.Need-returns-7
-returns-7 c = open-onward _ (sym (not-false _ (c .before .before .before .before .before .before .before .if1 .left)) ∙ c .before .before .before .before .before .before .before .before .sized .ensures) (omega arith) (sym (not-false _ (c .before .before .before .before .if3 .left)) ∙ c .before .before .before .before .before .headed .ensures) (omega arith) (omega arith)
+returns-7 c =
+    let sized = c .before .before .before .before .before .before .before .before .sized in
+    let if1 = c .before .before .before .before .before .before .before .if1 in
+    open-onward _ (sym (not-false _ (if1 .left)) ∙ sized .ensures) (omega arith) (sym (not-false _ (c .before .before .before .before .if3 .left)) ∙ c .before .before .before .before .before .headed .ensures) (omega arith) (omega arith)
 
 pub opened-spec : {M : Type 1} → statement M
 opened-spec =

@@ -32,11 +32,11 @@ sub-left c = omega arith
 step-requires : tie.Need-step-requires Inv-loop μ-loop
 step-requires c κs = c .before .before .loop .inv .1 .good
 
-enum-known-p : tie.Need-enum-known-p Inv-loop μ-loop
-enum-known-p c = search needs
+enum-known-next : tie.Need-enum-known-next Inv-loop μ-loop
+enum-known-next c = search needs
 
 refused-requires : tie.Need-refused-requires Inv-loop μ-loop
-refused-requires c κs = more-place (c .before .before .before .before .before .before .before .before .before .loop .inv .1) (omega arith) _ _ (c .before .before .before .before .before .before .step .ensures) (c .before .before .p .given .1)
+refused-requires c κs = more-place (c .before .before .before .before .before .before .before .before .before .loop .inv .1) (omega arith) _ _ (c .before .before .before .before .before .before .step .ensures) (c .before .before .next .given .1)
 
 same-length : tie.Need-same-length Inv-loop μ-loop
 same-length c = let l = c .before .before .before .before .before .before .before .before .before .before .loop .inv .1 .same-length in omega arith
@@ -45,7 +45,10 @@ same-length-2 : tie.Need-same-length-2 Inv-loop μ-loop
 same-length-2 c = let l = c .before .before .before .before .before .before .before .before .before .before .loop .inv .1 .same-length in omega arith
 
 returns : tie.Need-returns Inv-loop μ-loop
-returns c = rw (c .refused .ensures) (ran-full (c .before .before .before .before .before .before .before .before .before .before .loop .inv .1) (omega arith) _ _ (c .before .before .before .before .before .before .before .step .ensures) (c .before .before .before .p .given .1) (c .before .if1 .taken))
+returns c =
+    let loop = c .before .before .before .before .before .before .before .before .before .before .loop in
+    let step = c .before .before .before .before .before .before .before .step in
+    rw (c .refused .ensures) (ran-full (loop .inv .1) (omega arith) _ _ (step .ensures) (c .before .before .before .next .given .1) (c .before .if1 .taken))
 
 keep-requires : tie.Need-keep-requires Inv-loop μ-loop
 keep-requires c κs = search needs
@@ -57,16 +60,20 @@ loop-less : tie.Need-loop-less Inv-loop μ-loop
 loop-less c = omega arith
 
 loop-again : tie.Need-loop-again Inv-loop μ-loop
-loop-again c = (omega arith, underway-more (c .before .before .before .before .before .before .before .before .before .before .before .before .before .loop .inv .1) (omega arith) _ _ (c .before .before .before .before .before .before .before .before .before .before .step .ensures) (c .before .before .before .before .before .before .p .given .1) (c .before .before .before .before .if1 .left) (c .before .before .keep .ensures) (omega arith))
+loop-again c =
+    let loop = c .before .before .before .before .before .before .before .before .before .before .before .before .before .loop in
+    let step = c .before .before .before .before .before .before .before .before .before .before .step in
+    let next = c .before .before .before .before .before .before .next in
+    (omega arith, underway-more (loop .inv .1) (omega arith) _ _ (step .ensures) (next .given .1) (c .before .before .before .before .if1 .left) (c .before .before .keep .ensures) (omega arith))
 
-enum-known-next : tie.Need-enum-known-next Inv-loop μ-loop
-enum-known-next c = search needs
+enum-known-next-2 : tie.Need-enum-known-next-2 Inv-loop μ-loop
+enum-known-next-2 c = search needs
 
 loop-less-2 : tie.Need-loop-less-2 Inv-loop μ-loop
 loop-less-2 c = omega arith
 
 loop-again-2 : tie.Need-loop-again-2 Inv-loop μ-loop
-loop-again-2 c = (omega arith, underway-quiet (c .before .before .before .before .before .before .before .before .loop .inv .1) (omega arith) _ _ (c .before .before .before .before .before .step .ensures) (c .before .next .given .1))
+loop-again-2 c = (omega arith, underway-quiet (c .before .before .before .before .before .before .before .before .loop .inv .1) (omega arith) _ _ (c .before .before .before .before .before .step .ensures) (c .before .next2 .given .1))
 
 enum-told : tie.Need-enum-told Inv-loop μ-loop
 enum-told c = search needs
@@ -122,7 +129,7 @@ steps-spec =
     loop-holds
     sub-left
     step-requires
-    enum-known-p
+    enum-known-next
     refused-requires
     same-length
     same-length-2
@@ -131,7 +138,7 @@ steps-spec =
     add-n
     loop-less
     loop-again
-    enum-known-next
+    enum-known-next-2
     loop-less-2
     loop-again-2
     enum-told

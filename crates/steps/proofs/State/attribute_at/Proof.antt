@@ -3,7 +3,7 @@
 use native.Mathlib.Omega.{arith}
 use borrow.Author.Needs.{needs}
 use Rattle.tables.specs.Rows.{tableOf}
-use Rattle.names.specs.Code.{layoutOf}
+use Rattle.tables.specs.Kept.{layoutOf}
 use Rattle.steps.proofs.ItemLaws.{field-within, attribute-missing, attribute-bit, attribute-padding, attribute-faulty, attribute-refused, attribute-more}
 use Rattle.steps.proofs.State.attribute_at.Statement.{statement}
 use Rattle.steps.proofs.State.attribute_at.Tie as tie

@@ -25,7 +25,11 @@ same-length : tie.Need-same-length
 same-length c = search needs
 
 returns : tie.Need-returns
-returns c = rw (c .refused .ensures) (chunk-refused (c .before .before .before .before .before .before .before .before .before .before .args .s .now) (c .before .before .before .before .before .before .before .before .before .before .args .t .now) _ (c .before .before .before .before .before .before .before .before .before .before .args .self) _ _ _ _ (c .before .enum-told .given .1) (c .before .before .before .before .before .chunk .ensures .1) (rw (c .before .before .before .before .before .before .before .here .ensures) at (c .before .before .before .before .before .chunk .ensures .0)))
+returns c =
+    let a = c .before .before .before .before .before .before .before .before .before .before .args in
+    let here = c .before .before .before .before .before .before .before .here in
+    let chunk = c .before .before .before .before .before .chunk in
+    rw (c .refused .ensures) (chunk-refused (a .s .now) (a .t .now) _ (a .self) _ _ _ _ (c .before .enum-told .given .1) (chunk .ensures .1) (rw (here .ensures) at (chunk .ensures .0)))
 
 chunk-requires-2 : tie.Need-chunk-requires-2
 chunk-requires-2 c κs = search needs
@@ -37,7 +41,12 @@ same-length-2 : tie.Need-same-length-2
 same-length-2 c = search needs
 
 returns-2 : tie.Need-returns-2
-returns-2 c = rw (c .before .chunk2 .ensures, c .knowing .ensures) (chunk-more (c .before .before .before .before .before .before .before .before .before .before .before .before .args .s .now) (c .before .before .before .before .before .before .before .before .before .before .before .before .args .t .now) _ (c .before .before .before .before .before .before .before .before .before .before .before .before .args .self) (c .before .before .before .before .before .before .before .before .before .before .before .before .pre .0) _ _ _ _ _ (c .before .before .before .r .given .1) (c .before .before .before .before .before .before .before .chunk .ensures .1) (rw (c .before .before .before .before .before .before .before .before .before .here .ensures) at (c .before .before .before .before .before .before .before .chunk .ensures .0)))
+returns-2 c =
+    let a = c .before .before .before .before .before .before .before .before .before .before .before .before .args in
+    let pre = c .before .before .before .before .before .before .before .before .before .before .before .before .pre in
+    let here = c .before .before .before .before .before .before .before .before .before .here in
+    let chunk = c .before .before .before .before .before .before .before .chunk in
+    rw (c .before .chunk2 .ensures, c .knowing .ensures) (chunk-more (a .s .now) (a .t .now) _ (a .self) (pre .0) _ _ _ _ _ (c .before .before .before .r .given .1) (chunk .ensures .1) (rw (here .ensures) at (chunk .ensures .0)))
 
 pub chunk-at-spec : {M : Type 1} → statement M
 chunk-at-spec =

@@ -30,7 +30,11 @@ same-length c = search needs
 
 returns : tie.Need-returns
 unfolding tableOf
-returns c = rw (c .refused .ensures) (comment-refused (c .before .before .before .before .before .before .before .before .before .before .args .s .now) (c .before .before .before .before .before .before .before .before .before .before .args .t .now) _ (c .before .before .before .before .before .before .before .before .before .before .args .self) _ _ _ _ (c .before .enum-told .given .1) (c .before .before .before .before .before .value .ensures .1) (rw (c .before .before .before .before .before .before .before .here .ensures) at (c .before .before .before .before .before .value .ensures .0)))
+returns c =
+    let a = c .before .before .before .before .before .before .before .before .before .before .args in
+    let here = c .before .before .before .before .before .before .before .here in
+    let value = c .before .before .before .before .before .value in
+    rw (c .refused .ensures) (comment-refused (a .s .now) (a .t .now) _ (a .self) _ _ _ _ (c .before .enum-told .given .1) (value .ensures .1) (rw (here .ensures) at (value .ensures .0)))
 
 comment-requires : tie.Need-comment-requires
 comment-requires c κs = search needs
@@ -43,7 +47,12 @@ same-length-2 c = search needs
 
 returns-2 : tie.Need-returns-2
 unfolding tableOf
-returns-2 c = rw (c .before .comment .ensures, c .knowing .ensures) (comment-more (c .before .before .before .before .before .before .before .before .before .before .before .before .args .s .now) (c .before .before .before .before .before .before .before .before .before .before .before .before .args .t .now) _ (c .before .before .before .before .before .before .before .before .before .before .before .before .args .self) (c .before .before .before .before .before .before .before .before .before .before .before .before .pre .0) _ _ _ _ _ (c .before .before .before .r .given .1) (c .before .before .before .before .before .before .before .value .ensures .1) (rw (c .before .before .before .before .before .before .before .before .before .here .ensures) at (c .before .before .before .before .before .before .before .value .ensures .0)))
+returns-2 c =
+    let a = c .before .before .before .before .before .before .before .before .before .before .before .before .args in
+    let pre = c .before .before .before .before .before .before .before .before .before .before .before .before .pre in
+    let here = c .before .before .before .before .before .before .before .before .before .here in
+    let value = c .before .before .before .before .before .before .before .value in
+    rw (c .before .comment .ensures, c .knowing .ensures) (comment-more (a .s .now) (a .t .now) _ (a .self) (pre .0) _ _ _ _ _ (c .before .before .before .r .given .1) (value .ensures .1) (rw (here .ensures) at (value .ensures .0)))
 
 pub comment-at-spec : {M : Type 1} → statement M
 comment-at-spec =

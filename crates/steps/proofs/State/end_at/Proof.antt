@@ -43,7 +43,10 @@ returns-4 : tie.Need-returns-4
 returns-4 c = λ w g. end-listing-none _ w (c .before .before .before .before .before .before .args .self) g _ (c .before .before .before .mode .given .1) (c .before .if1 .left)
 
 returns-5 : tie.Need-returns-5
-returns-5 c = λ w g. rw (c .before .before .end .ensures, c .behind-end2 .ensures) (end-element _ w (c .before .before .before .before .before .before .before .before .before .args .self) g (c .before .before .before .before .before .before .enum-told2 .given .1) (omega arith) (omega arith))
+returns-5 c =
+    let a = c .before .before .before .before .before .before .before .before .before .args in
+    let enum-told2 = c .before .before .before .before .before .before .enum-told2 in
+    λ w g. rw (c .before .before .before .end .ensures, c .before .behind-end2 .ensures) (end-element _ w (a .self) g (enum-told2 .given .1) (omega arith) (omega arith))
 
 pub end-at-spec : {M : Type 1} → statement M
 end-at-spec =

@@ -30,7 +30,11 @@ same-length c = search needs
 
 returns : tie.Need-returns
 unfolding tableOf
-returns c = rw (c .refused .ensures) (target-refused (c .before .before .before .before .before .before .before .before .before .before .args .s .now) (c .before .before .before .before .before .before .before .before .before .before .args .t .now) _ (c .before .before .before .before .before .before .before .before .before .before .args .self) _ _ _ _ (c .before .enum-told .given .1) (c .before .before .before .before .before .id .ensures .1) (rw (c .before .before .before .before .before .before .before .here .ensures) at (c .before .before .before .before .before .id .ensures .0)))
+returns c =
+    let a = c .before .before .before .before .before .before .before .before .before .before .args in
+    let here = c .before .before .before .before .before .before .before .here in
+    let id = c .before .before .before .before .before .id in
+    rw (c .refused .ensures) (target-refused (a .s .now) (a .t .now) _ (a .self) _ _ _ _ (c .before .enum-told .given .1) (id .ensures .1) (rw (here .ensures) at (id .ensures .0)))
 
 value-requires : tie.Need-value-requires
 value-requires c κs = let f = rw (c .before .before .r .given .1) at (c .before .before .before .before .before .before .id .ensures .1) in (f .0, f .1, omega arith)
@@ -49,20 +53,37 @@ same-length-2 c = search needs
 
 returns-2 : tie.Need-returns-2
 unfolding tableOf
-returns-2 c = rw (c .refused2 .ensures) (instruction-refused (c .before .before .before .before .before .before .before .before .before .before .before .before .before .before .before .before .before .args .s .now) (c .before .before .before .before .before .before .before .before .before .before .before .before .before .before .before .before .before .args .t .now) _ _ (c .before .before .before .before .before .before .before .before .before .before .before .before .before .before .before .before .before .args .self) (c .before .before .before .before .before .before .before .before .before .before .before .before .before .before .before .before .before .pre .0) _ _ _ _ _ (c .before .before .before .before .before .before .before .before .r .given .1) (rw (c .before .before .before .before .before .before .before .before .before .before .before .before .before .before .here .ensures) at (c .before .before .before .before .before .before .before .before .before .before .before .before .id .ensures .0)) _ (c .before .before .before .before .before .value .ensures .1) (c .before .before .before .before .before .value .ensures .0) _ _ (c .before .enum-told2 .given .1))
+returns-2 c =
+    let a = c .before .before .before .before .before .before .before .before .before .before .before .before .before .before .before .before .before .args in
+    let pre = c .before .before .before .before .before .before .before .before .before .before .before .before .before .before .before .before .before .pre in
+    let here = c .before .before .before .before .before .before .before .before .before .before .before .before .before .before .here in
+    let id = c .before .before .before .before .before .before .before .before .before .before .before .before .id in
+    let r = c .before .before .before .before .before .before .before .before .r in
+    let value = c .before .before .before .before .before .value in
+    rw (c .refused2 .ensures) (instruction-refused (a .s .now) (a .t .now) _ _ (a .self) (pre .0) _ _ _ _ _ (r .given .1) (rw (here .ensures) at (id .ensures .0)) _ (value .ensures .1) (value .ensures .0) _ _ (c .before .enum-told2 .given .1))
 
 instruction-requires : tie.Need-instruction-requires
 instruction-requires c κs = search needs
 
 knowing-requires : tie.Need-knowing-requires
-knowing-requires c κs = field-within _ _ (c .before .before .before .before .before .before .before .before .before .before .before .before .before .before .before .before .before .before .pre .0 .tidy .size) (c .before .before .v .given .1) (c .before .before .before .before .before .before .value .ensures .1)
+knowing-requires c κs =
+    let pre = c .before .before .before .before .before .before .before .before .before .before .before .before .before .before .before .before .before .before .pre in
+    let value = c .before .before .before .before .before .before .value in
+    field-within _ _ (pre .0 .tidy .size) (c .before .before .v .given .1) (value .ensures .1)
 
 same-length-3 : tie.Need-same-length-3
 same-length-3 c = omega (arith, c .before .before .before .before .before .before .before .value .kept, c .before .before .before .before .before .before .before .before .before .before .before .before .before .before .id .kept)
 
 returns-3 : tie.Need-returns-3
 unfolding tableOf
-returns-3 c = rw (c .before .instruction .ensures, c .knowing .ensures) (instruction-more (c .before .before .before .before .before .before .before .before .before .before .before .before .before .before .before .before .before .before .before .args .s .now) (c .before .before .before .before .before .before .before .before .before .before .before .before .before .before .before .before .before .before .before .args .t .now) _ _ (c .before .before .before .before .before .before .before .before .before .before .before .before .before .before .before .before .before .before .before .args .self) (c .before .before .before .before .before .before .before .before .before .before .before .before .before .before .before .before .before .before .before .pre .0) _ _ _ _ _ (c .before .before .before .before .before .before .before .before .before .before .r .given .1) (rw (c .before .before .before .before .before .before .before .before .before .before .before .before .before .before .before .before .here .ensures) at (c .before .before .before .before .before .before .before .before .before .before .before .before .before .before .id .ensures .0)) _ (c .before .before .before .before .before .before .before .value .ensures .1) (c .before .before .before .before .before .before .before .value .ensures .0) _ _ _ (c .before .before .before .v .given .1))
+returns-3 c =
+    let a = c .before .before .before .before .before .before .before .before .before .before .before .before .before .before .before .before .before .before .before .args in
+    let pre = c .before .before .before .before .before .before .before .before .before .before .before .before .before .before .before .before .before .before .before .pre in
+    let here = c .before .before .before .before .before .before .before .before .before .before .before .before .before .before .before .before .here in
+    let id = c .before .before .before .before .before .before .before .before .before .before .before .before .before .before .id in
+    let r = c .before .before .before .before .before .before .before .before .before .before .r in
+    let value = c .before .before .before .before .before .before .before .value in
+    rw (c .before .instruction .ensures, c .knowing .ensures) (instruction-more (a .s .now) (a .t .now) _ _ (a .self) (pre .0) _ _ _ _ _ (r .given .1) (rw (here .ensures) at (id .ensures .0)) _ (value .ensures .1) (value .ensures .0) _ _ _ (c .before .before .before .v .given .1))
 
 pub instruction-at-spec : {M : Type 1} → statement M
 instruction-at-spec =

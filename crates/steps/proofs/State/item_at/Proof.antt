@@ -15,7 +15,10 @@ enum-known-mode : tie.Need-enum-known-mode
 enum-known-mode c = search needs
 
 declaring-at-requires : tie.Need-declaring-at-requires
-declaring-at-requires c κs = (c .before .before .before .before .before .before .pre .0, c .before .before .before .before .before .before .pre .1, declaring-shallow _ _ (c .before .before .before .before .before .before .args .self) (c .before .before .before .before .before .before .pre .0) _ (c .before .before .mode .given .1))
+declaring-at-requires c κs =
+    let pre = c .before .before .before .before .before .before .pre in
+    let a = c .before .before .before .before .before .before .args in
+    (pre .0, pre .1, declaring-shallow _ _ (a .self) (pre .0) _ (c .before .before .mode .given .1))
 
 enum-told-2 : tie.Need-enum-told-2
 enum-told-2 c = search needs
@@ -33,13 +36,17 @@ same-length-2 : tie.Need-same-length-2
 same-length-2 c = search needs
 
 returns-2 : tie.Need-returns-2
-returns-2 c = item-declaring _ _ (c .before .before .before .before .before .before .before .before .before .args .self) (c .before .before .before .before .before .before .before .before .before .args .t .now) _ _ _ (c .before .before .before .before .before .mode .given .1) (c .before .before .declaring-at .ensures)
+returns-2 c =
+    let a = c .before .before .before .before .before .before .before .before .before .args in
+    item-declaring _ _ (a .self) (a .t .now) _ _ _ (c .before .before .before .before .before .mode .given .1) (c .before .before .declaring-at .ensures)
 
 same-length-3 : tie.Need-same-length-3
 same-length-3 c = search needs
 
 returns-3 : tie.Need-returns-3
-returns-3 c = item-attribute _ _ (c .before .before .before .before .before .before .before .before .args .self) (c .before .before .before .before .before .before .before .before .args .t .now) _ _ _ (c .before .before .before .before .enum-told2 .given .1) (c .before .before .attribute-at .ensures)
+returns-3 c =
+    let a = c .before .before .before .before .before .before .before .before .args in
+    item-attribute _ _ (a .self) (a .t .now) _ _ _ (c .before .before .before .before .enum-told2 .given .1) (c .before .before .attribute-at .ensures)
 
 pub item-at-spec : {M : Type 1} → statement M
 item-at-spec =

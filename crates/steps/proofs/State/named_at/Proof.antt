@@ -3,10 +3,10 @@
 use mathlib.Core.Path.{sym, _∙_}
 use native.Mathlib.Omega.{arith}
 use borrow.Author.Needs.{needs}
-use Rattle.names.specs.Code.{layoutOf}
 use Rattle.steps.proofs.ItemLaws.{name-within, named-missing, named-code, named-bits, named-padding, named-start}
 use Rattle.steps.proofs.State.named_at.Statement.{statement}
 use Rattle.steps.proofs.State.named_at.Tie as tie
+use Rattle.tables.specs.Kept.{layoutOf}
 
 returns : tie.Need-returns
 returns c = named-missing _ (c .before .before .before .args .t .now) (c .before .before .before .args .self) (c .before .before .before .pre .0) _ _ (omega arith)
@@ -24,13 +24,20 @@ bits-requires-2 : tie.Need-bits-requires-2
 bits-requires-2 c κs = search needs
 
 returns-3 : tie.Need-returns-3
-returns-3 c = named-bits _ (c .before .before .before .before .before .before .before .before .args .t .now) (c .before .before .before .before .before .before .before .before .args .self) (c .before .before .before .before .before .before .before .before .pre .0) _ _ (omega arith) (omega arith) (omega (arith, c .before .before .before .before .shared-slice-known2 .given (c .before .before .before .before .before .before .before .before .args .k)))
+returns-3 c =
+    let a = c .before .before .before .before .before .before .before .before .args in
+    let pre = c .before .before .before .before .before .before .before .before .pre in
+    named-bits _ (a .t .now) (a .self) (pre .0) _ _ (omega arith) (omega arith) (omega (arith, c .before .before .before .before .shared-slice-known2 .given (a .k)))
 
 name-padding-requires : tie.Need-name-padding-requires
 name-padding-requires c κs = omega (arith, c .before .before .before .before .shared-slice-known2 .given (c .before .before .before .before .before .before .before .before .args .k))
 
 returns-4 : tie.Need-returns-4
-returns-4 c = named-padding _ (c .before .before .before .before .before .before .before .before .before .before .args .t .now) (c .before .before .before .before .before .before .before .before .before .before .args .self) (c .before .before .before .before .before .before .before .before .before .before .pre .0) _ _ (omega arith) (omega arith) (omega (arith, c .before .before .before .before .before .before .shared-slice-known2 .given (c .before .before .before .before .before .before .before .before .before .before .args .k))) (sym (c .if4 .taken) ∙ c .before .name-padding .ensures)
+returns-4 c =
+    let a = c .before .before .before .before .before .before .before .before .before .before .args in
+    let pre = c .before .before .before .before .before .before .before .before .before .before .pre in
+    let shared-slice-known2 = c .before .before .before .before .before .before .shared-slice-known2 in
+    named-padding _ (a .t .now) (a .self) (pre .0) _ _ (omega arith) (omega arith) (omega (arith, shared-slice-known2 .given (a .k))) (sym (c .if4 .taken) ∙ c .before .name-padding .ensures)
 
 here-requires : tie.Need-here-requires
 here-requires c κs = search needs
@@ -39,14 +46,24 @@ name-requires : tie.Need-name-requires
 name-requires c κs = rw (c .before .here .ensures) (c .before .before .before .before .before .before .before .before .before .before .before .before .pre .0 .tidy, omega arith, omega arith, omega arith)
 
 start-of-requires : tie.Need-start-of-requires
-start-of-requires c κs = (name-within _ _ (c .before .before .name .result) (c .before .before .before .before .before .before .before .before .before .before .before .before .before .before .before .pre .0 .tidy .size) (c .before .before .name .ensures .1), c .before .before .before .before .before .before .before .before .before .before .before .before .before .before .before .pre .2)
+start-of-requires c κs =
+    let pre = c .before .before .before .before .before .before .before .before .before .before .before .before .before .before .before .pre in
+    let name = c .before .before .name in
+    (name-within _ _ (name .result) (pre .0 .tidy .size) (name .ensures .1), pre .2)
 
 same-length : tie.Need-same-length
 same-length c = search needs
 
 returns-5 : tie.Need-returns-5
 unfolding layoutOf
-returns-5 c = rw (c .start-of .ensures) (named-start _ (c .before .before .before .before .before .before .before .before .before .before .before .before .before .before .before .before .args .t .now) (c .before .before .before .before .before .before .before .before .before .before .before .before .before .before .before .before .args .self) (c .before .before .before .before .before .before .before .before .before .before .before .before .before .before .before .before .pre .0) _ _ (omega arith) (omega arith) (omega (arith, c .before .before .before .before .before .before .before .before .before .before .before .before .shared-slice-known2 .given (c .before .before .before .before .before .before .before .before .before .before .before .before .before .before .before .before .args .k))) (sym (c .before .before .before .before .before .before .if4 .left) ∙ c .before .before .before .before .before .before .before .name-padding .ensures) _ (c .before .before .before .name .result) (rw (c .before .before .before .before .before .here .ensures) at (c .before .before .before .name .ensures .0)) (c .before .before .before .name .ensures .1) (c .before .before .before .before .before .before .before .before .before .before .before .before .before .before .before .before .pre .2))
+returns-5 c =
+    let a = c .before .before .before .before .before .before .before .before .before .before .before .before .before .before .before .before .args in
+    let pre = c .before .before .before .before .before .before .before .before .before .before .before .before .before .before .before .before .pre in
+    let shared-slice-known2 = c .before .before .before .before .before .before .before .before .before .before .before .before .shared-slice-known2 in
+    let name-padding = c .before .before .before .before .before .before .before .name-padding in
+    let if4 = c .before .before .before .before .before .before .if4 in
+    let name = c .before .before .before .name in
+    rw (c .start-of .ensures) (named-start _ (a .t .now) (a .self) (pre .0) _ _ (omega arith) (omega arith) (omega (arith, shared-slice-known2 .given (a .k))) (sym (if4 .left) ∙ name-padding .ensures) _ (name .result) (rw (c .before .before .before .before .before .here .ensures) at (name .ensures .0)) (name .ensures .1) (pre .2))
 
 pub named-at-spec : {M : Type 1} → statement M
 named-at-spec =

@@ -24,19 +24,31 @@ same-length : tie.Need-same-length
 same-length c = search needs
 
 returns : tie.Need-returns
-returns c = rw (c .faulty .ensures) (namespace-refused (c .before .before .before .before .before .before .before .before .before .before .args .s .now) (c .before .before .before .before .before .before .before .before .before .before .args .t .now) _ (c .before .before .before .before .before .before .before .before .before .before .args .self) _ _ _ (c .before .before .before .before .before .declared .ensures .1) (rw (c .before .before .before .before .before .before .before .here .ensures) at (c .before .before .before .before .before .declared .ensures .0)) _ _ (c .before .enum-told .given .1))
+returns c =
+    let a = c .before .before .before .before .before .before .before .before .before .before .args in
+    let here = c .before .before .before .before .before .before .before .here in
+    let declared = c .before .before .before .before .before .declared in
+    rw (c .faulty .ensures) (namespace-refused (a .s .now) (a .t .now) _ (a .self) _ _ _ (declared .ensures .1) (rw (here .ensures) at (declared .ensures .0)) _ _ (c .before .enum-told .given .1))
 
 namespace-event-requires : tie.Need-namespace-event-requires
 namespace-event-requires c κs = search needs
 
 moved-requires : tie.Need-moved-requires
-moved-requires c κs = rw (c .before .before .r .given .1) at (name-within _ _ (c .before .before .before .before .before .before .declared .result) (c .before .before .before .before .before .before .before .before .before .before .before .pre .0 .tidy .size) (c .before .before .before .before .before .before .declared .ensures .1))
+moved-requires c κs =
+    let pre = c .before .before .before .before .before .before .before .before .before .before .before .pre in
+    let declared = c .before .before .before .before .before .before .declared in
+    rw (c .before .before .r .given .1) at (name-within _ _ (declared .result) (pre .0 .tidy .size) (declared .ensures .1))
 
 same-length-2 : tie.Need-same-length-2
 same-length-2 c = search needs
 
 returns-2 : tie.Need-returns-2
-returns-2 c = rw (c .before .namespace-event .ensures, c .moved .ensures) (namespace-more (c .before .before .before .before .before .before .before .before .before .before .before .before .args .s .now) (c .before .before .before .before .before .before .before .before .before .before .before .before .args .t .now) _ (c .before .before .before .before .before .before .before .before .before .before .before .before .args .self) _ _ _ (c .before .before .before .before .before .before .before .declared .ensures .1) (rw (c .before .before .before .before .before .before .before .before .before .here .ensures) at (c .before .before .before .before .before .before .before .declared .ensures .0)) _ _ (c .before .before .before .r .given .1) (c .before .before .before .before .before .before .before .before .before .before .before .before .pre .2))
+returns-2 c =
+    let a = c .before .before .before .before .before .before .before .before .before .before .before .before .args in
+    let pre = c .before .before .before .before .before .before .before .before .before .before .before .before .pre in
+    let here = c .before .before .before .before .before .before .before .before .before .here in
+    let declared = c .before .before .before .before .before .before .before .declared in
+    rw (c .before .namespace-event .ensures, c .moved .ensures) (namespace-more (a .s .now) (a .t .now) _ (a .self) _ _ _ (declared .ensures .1) (rw (here .ensures) at (declared .ensures .0)) _ _ (c .before .before .before .r .given .1) (pre .2))
 
 pub namespace-at-spec : {M : Type 1} → statement M
 namespace-at-spec =

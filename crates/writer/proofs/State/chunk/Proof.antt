@@ -12,7 +12,10 @@ octet-requires : tie.Need-octet-requires
 octet-requires c κs = search needs
 
 chunk-requires : tie.Need-chunk-requires
-chunk-requires c κs = (c .before .before .before .before .before .before .before .pre .order, omega arith, stretch-spells (c .before .before .before .before .before .before .before .args .text .now) (c .before .before .before .before .before .before .before .args .e .value) (by-kind (c .before .before .before .before .before .before .before .args .text .now) (c .before .before .before .before .before .before .before .args .e) Chunk (c .before .before .before .before .before .before .before .pre .made) .2))
+chunk-requires c κs =
+    let pre = c .before .before .before .before .before .before .before .pre in
+    let a = c .before .before .before .before .before .before .before .args in
+    (pre .order, omega arith, stretch-spells (a .text .now) (a .e .value) (by-kind (a .text .now) (a .e) Chunk (pre .made) .2))
 
 landed-requires : tie.Need-landed-requires
 landed-requires c κs = search needs
@@ -24,7 +27,10 @@ same-length-2 : tie.Need-same-length-2
 same-length-2 c = search needs
 
 returns : tie.Need-returns
-returns c = rw (c .landed .ensures) (chunk-lands _ _ _ _ _ (c .before .before .before .before .before .before .before .before .before .before .before .before .before .pre) (c .before .before .before .before .before .before .before .before .octet .ensures) (c .before .before .before .before .before .chunk .ensures))
+returns c =
+    let pre = c .before .before .before .before .before .before .before .before .before .before .before .before .before .pre in
+    let octet = c .before .before .before .before .before .before .before .before .octet in
+    rw (c .landed .ensures) (chunk-lands _ _ _ _ _ pre (octet .ensures) (c .before .before .before .before .before .chunk .ensures))
 
 pub chunk-spec : {M : Type 1} → statement M
 chunk-spec =

@@ -18,7 +18,10 @@ add-t15 : tie.Need-add-t15
 add-t15 c = search needs
 
 value-requires : tie.Need-value-requires
-value-requires c κs = (c .before .before .before .before .before .before .before .before .before .before .before .pre .order, omega arith, omega arith, value-fills (c .before .before .before .before .before .before .before .before .before .before .before .args .text .now) (c .before .before .before .before .before .before .before .before .before .before .before .args .e .value) (by-kind (c .before .before .before .before .before .before .before .before .before .before .before .args .text .now) (c .before .before .before .before .before .before .before .before .before .before .before .args .e) Comment (c .before .before .before .before .before .before .before .before .before .before .before .pre .made) .2))
+value-requires c κs =
+    let pre = c .before .before .before .before .before .before .before .before .before .before .before .pre in
+    let a = c .before .before .before .before .before .before .before .before .before .before .before .args in
+    (pre .order, omega arith, omega arith, value-fills (a .text .now) (a .e .value) (by-kind (a .text .now) (a .e) Comment (pre .made) .2))
 
 landed-requires : tie.Need-landed-requires
 landed-requires c κs = search needs
@@ -30,7 +33,11 @@ same-length-2 : tie.Need-same-length-2
 same-length-2 c = search needs
 
 returns : tie.Need-returns
-returns c = rw (c .landed .ensures) (comment-lands _ _ _ _ _ (c .before .before .before .before .before .before .before .before .before .before .before .before .before .before .before .before .before .pre) (c .before .before .before .before .before .before .before .before .before .before .before .before .octet .ensures) (c .before .before .before .before .before .before .before .before .before .before .put .ensures) (c .before .before .before .before .before .value .ensures))
+returns c =
+    let pre = c .before .before .before .before .before .before .before .before .before .before .before .before .before .before .before .before .before .pre in
+    let octet = c .before .before .before .before .before .before .before .before .before .before .before .before .octet in
+    let put = c .before .before .before .before .before .before .before .before .before .before .put in
+    rw (c .landed .ensures) (comment-lands _ _ _ _ _ pre (octet .ensures) (put .ensures) (c .before .before .before .before .before .value .ensures))
 
 pub comment-spec : {M : Type 1} → statement M
 comment-spec =

@@ -15,13 +15,20 @@ before-declaration-requires : tie.Need-before-declaration-requires
 before-declaration-requires c κs = search needs
 
 declared-requires : tie.Need-declared-requires
-declared-requires c κs = (c .before .before .before .before .before .before .before .before .before .before .before .pre .order, omega arith, prefix-suits (c .before .before .before .before .before .before .before .before .before .before .before .args .text .now) (c .before .before .before .before .before .before .before .before .before .before .before .args .e .prefix) (by-kind (c .before .before .before .before .before .before .before .before .before .before .before .args .text .now) (c .before .before .before .before .before .before .before .before .before .before .before .args .e) Namespace (c .before .before .before .before .before .before .before .before .before .before .before .pre .made) .0), namespace-suits (c .before .before .before .before .before .before .before .before .before .before .before .args .text .now) (c .before .before .before .before .before .before .before .before .before .before .before .args .e .namespace) (by-kind (c .before .before .before .before .before .before .before .before .before .before .before .args .text .now) (c .before .before .before .before .before .before .before .before .before .before .before .args .e) Namespace (c .before .before .before .before .before .before .before .before .before .before .before .pre .made) .1))
+declared-requires c κs =
+    let pre = c .before .before .before .before .before .before .before .before .before .before .before .pre in
+    let a = c .before .before .before .before .before .before .before .before .before .before .before .args in
+    (pre .order, omega arith, prefix-suits (a .text .now) (a .e .prefix) (by-kind (a .text .now) (a .e) Namespace (pre .made) .0), namespace-suits (a .text .now) (a .e .namespace) (by-kind (a .text .now) (a .e) Namespace (pre .made) .1))
 
 moved-requires : tie.Need-moved-requires
 moved-requires c κs = search needs
 
 landed-requires : tie.Need-landed-requires
-landed-requires c κs = meets-near _ _ (c .before .before .before .before .before .before .before .before .before .before .before-declaration .result) 32779 (c .before .before .before .before .before .declared .result) _ _ _ (omega (arith, c .before .before .before .before .before .before .before .before .before .before .before .octet .ensures .1, c .before .before .before .before .before .before .before .before .before .before .before-declaration .ensures .1)) (c .before .before .before .before .before .declared .ensures)
+landed-requires c κs =
+    let octet = c .before .before .before .before .before .before .before .before .before .before .before .octet in
+    let before-declaration = c .before .before .before .before .before .before .before .before .before .before .before-declaration in
+    let declared = c .before .before .before .before .before .declared in
+    meets-near _ _ (before-declaration .result) 32779 (declared .result) _ _ _ (omega (arith, octet .ensures .1, before-declaration .ensures .1)) (declared .ensures)
 
 same-length : tie.Need-same-length
 same-length c = search needs
@@ -30,7 +37,12 @@ same-length-2 : tie.Need-same-length-2
 same-length-2 c = search needs
 
 returns : tie.Need-returns
-returns c = rw (c .landed .ensures, c .before .moved .ensures) (declare-lands _ _ _ _ _ (c .before .before .before .before .before .before .before .before .before .before .before .before .before .before .before .before .before .before .pre) (c .before .before .before .before .before .before .before .before .before .before .before .before .octet .ensures) (c .before .before .before .before .before .before .before .before .before .before .before .before-declaration .ensures) (c .before .before .before .before .before .before .declared .result) _ _ (c .before .before .before .before .before .before .declared .ensures))
+returns c =
+    let pre = c .before .before .before .before .before .before .before .before .before .before .before .before .before .before .before .before .before .before .pre in
+    let octet = c .before .before .before .before .before .before .before .before .before .before .before .before .octet in
+    let before-declaration = c .before .before .before .before .before .before .before .before .before .before .before .before-declaration in
+    let declared = c .before .before .before .before .before .before .declared in
+    rw (c .landed .ensures, c .before .moved .ensures) (declare-lands _ _ _ _ _ pre (octet .ensures) (before-declaration .ensures) (declared .result) _ _ (declared .ensures))
 
 pub declare-spec : {M : Type 1} → statement M
 declare-spec =

@@ -29,10 +29,16 @@ too-deep-requires : tie.Need-too-deep-requires
 too-deep-requires c κs = search needs
 
 returns-4 : tie.Need-returns-4
-returns-4 c = λ v. fault-deep _ _ _ (passes (c .before .before .before .before .before .before .before .well-made .ensures) (c .before .before .before .before .before .before .if1 .left)) (passes (c .before .before .before .before .before .goes-on .ensures v _) (c .before .before .before .before .if2 .left)) (passes (c .before .before .before .all-text .ensures) (c .before .before .if3 .left)) (sym (c .before .too-deep .ensures _) ∙ c .if4 .taken)
+returns-4 c =
+    let well-made = c .before .before .before .before .before .before .before .well-made in
+    let if1 = c .before .before .before .before .before .before .if1 in
+    λ v. fault-deep _ _ _ (passes (well-made .ensures) (if1 .left)) (passes (c .before .before .before .before .before .goes-on .ensures v _) (c .before .before .before .before .if2 .left)) (passes (c .before .before .before .all-text .ensures) (c .before .before .if3 .left)) (sym (c .before .too-deep .ensures _) ∙ c .if4 .taken)
 
 returns-5 : tie.Need-returns-5
-returns-5 c = λ v. fault-free _ _ _ (passes (c .before .before .before .before .before .before .before .well-made .ensures) (c .before .before .before .before .before .before .if1 .left)) (passes (c .before .before .before .before .before .goes-on .ensures v _) (c .before .before .before .before .if2 .left)) (passes (c .before .before .before .all-text .ensures) (c .before .before .if3 .left)) (sym (c .before .too-deep .ensures _) ∙ c .if4 .left)
+returns-5 c =
+    let well-made = c .before .before .before .before .before .before .before .well-made in
+    let if1 = c .before .before .before .before .before .before .if1 in
+    λ v. fault-free _ _ _ (passes (well-made .ensures) (if1 .left)) (passes (c .before .before .before .before .before .goes-on .ensures v _) (c .before .before .before .before .if2 .left)) (passes (c .before .before .before .all-text .ensures) (c .before .before .if3 .left)) (sym (c .before .too-deep .ensures _) ∙ c .if4 .left)
 
 pub fault-spec : {M : Type 1} → statement M
 fault-spec =

@@ -25,13 +25,17 @@ cast-t10 : tie.Need-cast-t10
 cast-t10 c = search needs
 
 returns-2 : tie.Need-returns-2
-returns-2 c = finish-full (length (c .before .before .before .before .before .args .out .now)) (c .before .before .before .before .before .args .self) (c .before .before .before .before .before .args .out .now) (c .before .before .before .before .before .args .i) (sym (not-false _ (c .before .before .if1 .left)) ∙ c .before .before .before .complete .ensures) (omega arith)
+returns-2 c =
+    let a = c .before .before .before .before .before .args in
+    finish-full (length (a .out .now)) (a .self) (a .out .now) (a .i) (sym (not-false _ (c .before .before .if1 .left)) ∙ c .before .before .before .complete .ensures) (omega arith)
 
 cast-t11 : tie.Need-cast-t11
 cast-t11 c = search needs
 
 returns-3 : tie.Need-returns-3
-returns-3 c = finish-full (length (c .before .before .before .before .before .before .args .out .now)) (c .before .before .before .before .before .before .args .self) (c .before .before .before .before .before .before .args .out .now) (c .before .before .before .before .before .before .args .i) (sym (not-false _ (c .before .before .before .if1 .left)) ∙ c .before .before .before .before .complete .ensures) (omega arith)
+returns-3 c =
+    let a = c .before .before .before .before .before .before .args in
+    finish-full (length (a .out .now)) (a .self) (a .out .now) (a .i) (sym (not-false _ (c .before .before .before .if1 .left)) ∙ c .before .before .before .before .complete .ensures) (omega arith)
 
 put-end-requires : tie.Need-put-end-requires
 put-end-requires c κs = search needs
@@ -43,7 +47,11 @@ same-length : tie.Need-same-length
 same-length c = search needs
 
 returns-4 : tie.Need-returns-4
-returns-4 c = finish-written (length (c .before .before .before .before .before .before .before .before .before .before .before .args .out .now)) (c .before .before .before .before .before .before .before .before .before .before .before .args .self) (c .before .before .before .before .before .before .before .before .before .before .before .args .out .now) (c .before .before .before .before .before .before .before .before .before .before .before .args .i) (sym (not-false _ (c .before .before .before .before .before .before .before .before .if1 .left)) ∙ c .before .before .before .before .before .before .before .before .before .complete .ensures) (omega arith) (c .before .before .before .put-end .ensures)
+returns-4 c =
+    let a = c .before .before .before .before .before .before .before .before .before .before .before .args in
+    let complete = c .before .before .before .before .before .before .before .before .before .complete in
+    let if1 = c .before .before .before .before .before .before .before .before .if1 in
+    finish-written (length (a .out .now)) (a .self) (a .out .now) (a .i) (sym (not-false _ (if1 .left)) ∙ complete .ensures) (omega arith) (c .before .before .before .put-end .ensures)
 
 pub finish-spec : {M : Type 1} → statement M
 finish-spec =

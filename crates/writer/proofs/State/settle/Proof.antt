@@ -29,7 +29,12 @@ same-length : tie.Need-same-length
 same-length c = search needs
 
 returns-3 : tie.Need-returns-3
-returns-3 c = settled-behind _ _ _ (passes (c .before .before .before .before .before .before .before .before .before .is-listing .ensures) (c .before .before .before .before .before .before .before .before .if1 .left)) (sym (c .before .before .before .before .before .before .before .is-attribute .ensures _) ∙ c .before .before .before .before .before .before .if2 .left) (c .before .before .before .before .put-end .ensures)
+returns-3 c =
+    let is-listing = c .before .before .before .before .before .before .before .before .before .is-listing in
+    let if1 = c .before .before .before .before .before .before .before .before .if1 in
+    let is-attribute = c .before .before .before .before .before .before .before .is-attribute in
+    let if2 = c .before .before .before .before .before .before .if2 in
+    settled-behind _ _ _ (passes (is-listing .ensures) (if1 .left)) (sym (is-attribute .ensures _) ∙ if2 .left) (c .before .before .before .before .put-end .ensures)
 
 pub settle-spec : {M : Type 1} → statement M
 settle-spec =

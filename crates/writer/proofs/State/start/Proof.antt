@@ -21,13 +21,20 @@ name-of-requires : tie.Need-name-of-requires
 name-of-requires c κs = search needs
 
 name-requires : tie.Need-name-requires
-name-requires c κs = let n = name-ready (c .before .before .before .before .before .before .before .before .before .before .before .before .before .args .text .now) (c .before .before .before .before .before .before .before .before .before .before .before .before .before .args .e) _ (c .name-of .ensures) (by-kind (c .before .before .before .before .before .before .before .before .before .before .before .before .before .args .text .now) (c .before .before .before .before .before .before .before .before .before .before .before .before .before .args .e) Start (c .before .before .before .before .before .before .before .before .before .before .before .before .before .pre .made) .0) in (c .before .before .before .before .before .before .before .before .before .before .before .before .before .pre .order, omega arith, omega arith, omega arith, omega arith, n .0, n .1, n .2, n .3)
+name-requires c κs =
+    let a = c .before .before .before .before .before .before .before .before .before .before .before .before .before .args in
+    let pre = c .before .before .before .before .before .before .before .before .before .before .before .before .before .pre in
+    let n = name-ready (a .text .now) (a .e) _ (c .name-of .ensures) (by-kind (a .text .now) (a .e) Start (pre .made) .0) in (pre .order, omega arith, omega arith, omega arith, omega arith, n .0, n .1, n .2, n .3)
 
 opened-requires : tie.Need-opened-requires
 opened-requires c κs = search needs
 
 landed-requires : tie.Need-landed-requires
-landed-requires c κs = meets-near _ _ (c .before .before .before .before .before .before .before .before .before .before .before .before-name .result) 49168 (c .before .before .before .before .before .name .result) _ _ _ (omega (arith, c .before .before .before .before .before .before .before .before .before .before .before .before .octet .ensures .1, c .before .before .before .before .before .before .before .before .before .before .before .before-name .ensures .1)) (c .before .before .before .before .before .name .ensures)
+landed-requires c κs =
+    let octet = c .before .before .before .before .before .before .before .before .before .before .before .before .octet in
+    let before-name = c .before .before .before .before .before .before .before .before .before .before .before .before-name in
+    let name = c .before .before .before .before .before .name in
+    meets-near _ _ (before-name .result) 49168 (name .result) _ _ _ (omega (arith, octet .ensures .1, before-name .ensures .1)) (name .ensures)
 
 same-length : tie.Need-same-length
 same-length c = search needs
@@ -36,7 +43,14 @@ same-length-2 : tie.Need-same-length-2
 same-length-2 c = search needs
 
 returns : tie.Need-returns
-returns c = rw (c .landed .ensures, c .before .opened .ensures) (start-lands _ _ _ _ _ (c .before .before .before .before .before .before .before .before .before .before .before .before .before .before .before .before .before .before .before .before .pre) (c .before .before .before .before .before .before .before .before .before .before .before .before .before .octet .ensures) (c .before .before .before .before .before .before .before .before .before .before .before .before .before-name .ensures) (c .before .before .before .before .before .before .before .before .before .before .before .before .before .before .before .name-lead .ensures .0) _ (c .before .before .before .before .before .before .before .name-of .ensures) (c .before .before .before .before .before .before .name .result) _ _ (c .before .before .before .before .before .before .name .ensures))
+returns c =
+    let pre = c .before .before .before .before .before .before .before .before .before .before .before .before .before .before .before .before .before .before .before .before .pre in
+    let name-lead = c .before .before .before .before .before .before .before .before .before .before .before .before .before .before .before .name-lead in
+    let octet = c .before .before .before .before .before .before .before .before .before .before .before .before .before .octet in
+    let before-name = c .before .before .before .before .before .before .before .before .before .before .before .before .before-name in
+    let name-of = c .before .before .before .before .before .before .before .name-of in
+    let name = c .before .before .before .before .before .before .name in
+    rw (c .landed .ensures, c .before .opened .ensures) (start-lands _ _ _ _ _ pre (octet .ensures) (before-name .ensures) (name-lead .ensures .0) _ (name-of .ensures) (name .result) _ _ (name .ensures))
 
 pub start-spec : {M : Type 1} → statement M
 start-spec =

@@ -39,7 +39,11 @@ loop-less : tie.Need-loop-less Inv-loop μ-loop
 loop-less c = omega (arith, look-inside _ _ _ (sym (c .before .before .before .goes-on .ensures) ∙ c .before .before .if1 .taken))
 
 loop-again : tie.Need-loop-again Inv-loop μ-loop
-loop-again c = look-past _ _ (c .before .from-words .result) (recordsOf (c .before .before .before .before .before .before .args .records .now)) (c .before .before .before .before .loop .n) (c .before .before .before .before .loop .inv) (c .past .ensures) (rw (c .before .from-words .ensures) (records-drop _ _ (look-inside _ _ _ (sym (c .before .before .before .goes-on .ensures) ∙ c .before .before .if1 .taken))))
+loop-again c =
+    let a = c .before .before .before .before .before .before .args in
+    let loop = c .before .before .before .before .loop in
+    let from-words = c .before .from-words in
+    look-past _ _ (from-words .result) (recordsOf (a .records .now)) (loop .n) (loop .inv) (c .past .ensures) (rw (from-words .ensures) (records-drop _ _ (look-inside _ _ _ (sym (c .before .before .before .goes-on .ensures) ∙ c .before .before .if1 .taken))))
 
 answer-requires : tie.Need-answer-requires Inv-loop μ-loop
 answer-requires c κs = search needs

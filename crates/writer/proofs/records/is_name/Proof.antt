@@ -22,11 +22,18 @@ is-absent-requires-2 c κs = search needs
 
 returns : tie.Need-returns
 unfolding isName
-returns c = rw (← c .before .before .before .before .before .before .before .is-prefix .ensures, c .before .before .before .before .before .before .if1 .taken, ← c .before .before .before .before .before .is-namespace .ensures, c .before .before .before .before .if2 .taken, ← c .before .before .before .is-stretch .ensures, c .before .before .if3 .taken, ← c .before .is-absent .ensures, c .if4 .taken)
+returns c =
+    let is-prefix = c .before .before .before .before .before .before .before .is-prefix in
+    let if1 = c .before .before .before .before .before .before .if1 in
+    rw (← is-prefix .ensures, if1 .taken, ← c .before .before .before .before .before .is-namespace .ensures, c .before .before .before .before .if2 .taken, ← c .before .before .before .is-stretch .ensures, c .before .before .if3 .taken, ← c .before .is-absent .ensures, c .if4 .taken)
 
 returns-2 : tie.Need-returns-2
 unfolding isName
-returns-2 c = rw (← c .before .before .before .before .before .before .before .before .is-prefix .ensures, c .before .before .before .before .before .before .before .if1 .taken, ← c .before .before .before .before .before .before .is-namespace .ensures, c .before .before .before .before .before .if2 .taken, ← c .before .before .before .before .is-stretch .ensures, c .before .before .before .if3 .taken, ← c .before .before .is-absent .ensures, c .before .if4 .left, ← c .is-absent2 .ensures)
+returns-2 c =
+    let is-prefix = c .before .before .before .before .before .before .before .before .is-prefix in
+    let if1 = c .before .before .before .before .before .before .before .if1 in
+    let is-namespace = c .before .before .before .before .before .before .is-namespace in
+    rw (← is-prefix .ensures, if1 .taken, ← is-namespace .ensures, c .before .before .before .before .before .if2 .taken, ← c .before .before .before .before .is-stretch .ensures, c .before .before .before .if3 .taken, ← c .before .before .is-absent .ensures, c .before .if4 .left, ← c .is-absent2 .ensures)
 
 returns-3 : tie.Need-returns-3
 unfolding isName

@@ -95,11 +95,16 @@ returns c = rw (c .enum-told .given .1)
 
 returns-2 : tie.Need-returns-2
 unfolding wellMade
-returns-2 c = rw (c .before .before .before .before .before .before .before .enum-told2 .given .1, ← c .before .before .before .before .before .before .is-prefix .ensures, c .before .before .before .before .before .if1 .taken, ← c .before .before .before .before .is-namespace .ensures, c .before .before .before .if2 .taken, ← c .before .before .is-absent .ensures, c .before .if3 .taken, ← c .is-absent2 .ensures)
+returns-2 c =
+    let enum-told2 = c .before .before .before .before .before .before .before .enum-told2 in
+    let is-prefix = c .before .before .before .before .before .before .is-prefix in
+    rw (enum-told2 .given .1, ← is-prefix .ensures, c .before .before .before .before .before .if1 .taken, ← c .before .before .before .before .is-namespace .ensures, c .before .before .before .if2 .taken, ← c .before .before .is-absent .ensures, c .before .if3 .taken, ← c .is-absent2 .ensures)
 
 returns-3 : tie.Need-returns-3
 unfolding wellMade
-returns-3 c = rw (c .before .before .before .before .before .before .enum-told2 .given .1, ← c .before .before .before .before .before .is-prefix .ensures, c .before .before .before .before .if1 .taken, ← c .before .before .before .is-namespace .ensures, c .before .before .if2 .taken, ← c .before .is-absent .ensures, c .if3 .left)
+returns-3 c =
+    let enum-told2 = c .before .before .before .before .before .before .enum-told2 in
+    rw (enum-told2 .given .1, ← c .before .before .before .before .before .is-prefix .ensures, c .before .before .before .before .if1 .taken, ← c .before .before .before .is-namespace .ensures, c .before .before .if2 .taken, ← c .before .is-absent .ensures, c .if3 .left)
 
 returns-4 : tie.Need-returns-4
 unfolding wellMade

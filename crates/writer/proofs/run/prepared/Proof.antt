@@ -21,7 +21,10 @@ clear-requires-2 : tie.Need-clear-requires-2
 clear-requires-2 c κs = search needs
 
 put-header-requires : tie.Need-put-header-requires
-put-header-requires c κs = zeroed _ (length (c .before .before .before .before .before .before .before .before .before .before .before .before .before .before .args .out .now)) (length (c .before .before .before .before .before .before .before .clear .last .0)) (c .before .before .before .before .before .before .before .clear .ensures) (omega arith)
+put-header-requires c κs =
+    let a = c .before .before .before .before .before .before .before .before .before .before .before .before .before .before .args in
+    let clear = c .before .before .before .before .before .before .before .clear in
+    zeroed _ (length (a .out .now)) (length (clear .last .0)) (clear .ensures) (omega arith)
 
 begin-requires : tie.Need-begin-requires
 begin-requires c κs = search needs
@@ -33,7 +36,10 @@ same-length-2 : tie.Need-same-length-2
 same-length-2 c = search needs
 
 returns-3 : tie.Need-returns-3
-returns-3 c = λ es. going-start es _ _ _ (omega arith) (omega arith) (c .begin .ensures) (held-room (omega arith) (c .before .before .before .put-header .ensures)) (zeroed _ (length (c .before .before .before .before .before .before .before .before .before .before .before .before .before .before .before .before .before .before .args .t .now)) 7680 (c .before .before .before .before .before .before .before .clear2 .ensures) (omega arith))
+returns-3 c =
+    let a = c .before .before .before .before .before .before .before .before .before .before .before .before .before .before .before .before .before .before .args in
+    let clear2 = c .before .before .before .before .before .before .before .clear2 in
+    λ es. going-start es _ _ _ (omega arith) (omega arith) (c .begin .ensures) (held-room (omega arith) (c .before .before .before .put-header .ensures)) (zeroed _ (length (a .t .now)) 7680 (clear2 .ensures) (omega arith))
 
 pub prepared-spec : {M : Type 1} → statement M
 prepared-spec =

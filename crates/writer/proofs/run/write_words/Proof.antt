@@ -30,7 +30,10 @@ same-length-3 : tie.Need-same-length-3
 same-length-3 c = search needs
 
 returns : tie.Need-returns
-returns c = rw (c .before .before .before .before .before .before .before .clear2 .ensures, c .before .before .before .clear3 .ensures, c .before .before .before .before .before .before .before .before .before .before .before .before .clear .ensures) (words-size _ _ _ _ _ (omega arith) (omega arith))
+returns c =
+    let clear = c .before .before .before .before .before .before .before .before .before .before .before .before .clear in
+    let clear2 = c .before .before .before .before .before .before .before .clear2 in
+    rw (clear2 .ensures, c .before .before .before .clear3 .ensures, clear .ensures) (words-size _ _ _ _ _ (omega arith) (omega arith))
 
 cast-result-2 : tie.Need-cast-result-2
 cast-result-2 c = search needs
@@ -45,7 +48,10 @@ same-length-6 : tie.Need-same-length-6
 same-length-6 c = search needs
 
 returns-2 : tie.Need-returns-2
-returns-2 c = rw (c .before .before .before .before .before .before .before .clear2 .ensures, c .before .before .before .clear3 .ensures, c .before .before .before .before .before .before .before .before .before .before .before .before .clear .ensures) (words-counts _ _ _ _ _ (omega arith) (omega arith))
+returns-2 c =
+    let clear = c .before .before .before .before .before .before .before .before .before .before .before .before .clear in
+    let clear2 = c .before .before .before .before .before .before .before .clear2 in
+    rw (clear2 .ensures, c .before .before .before .clear3 .ensures, clear .ensures) (words-counts _ _ _ _ _ (omega arith) (omega arith))
 
 written-requires : tie.Need-written-requires
 written-requires c κs = search needs
@@ -69,7 +75,10 @@ same-length-9 : tie.Need-same-length-9
 same-length-9 c = search needs
 
 returns-3 : tie.Need-returns-3
-returns-3 c = words-refused _ _ _ _ _ (omega arith) (c .before .before .before .before .before .before .before .written .result) (c .before .before .before .before .before .before .before .written .ensures) (c .number .ensures) (c .before .enum-told .given .1) (c .before .before .before .before .before .before .before .before .before .before .before .before .before .clear .ensures)
+returns-3 c =
+    let clear = c .before .before .before .before .before .before .before .before .before .before .before .before .before .clear in
+    let written = c .before .before .before .before .before .before .before .written in
+    words-refused _ _ _ _ _ (omega arith) (written .result) (written .ensures) (c .number .ensures) (c .before .enum-told .given .1) (clear .ensures)
 
 put-counts-requires : tie.Need-put-counts-requires
 put-counts-requires c κs = search needs
@@ -87,7 +96,10 @@ same-length-12 : tie.Need-same-length-12
 same-length-12 c = search needs
 
 returns-4 : tie.Need-returns-4
-returns-4 c = words-accepted _ _ _ _ _ (omega arith) (c .before .before .before .before .before .before .before .before .before .before .before .before .written .result) (c .before .before .before .before .before .before .before .before .before .before .before .before .written .ensures) (c .number2 .ensures ∙ sym (ap answerWord (c .before .before .before .before .before .before .a .given .1))) (c .before .before .before .before .before .before .a .given .1) (c .before .before .before .put-counts .ensures)
+returns-4 c =
+    let written = c .before .before .before .before .before .before .before .before .before .before .before .before .written in
+    let a = c .before .before .before .before .before .before .a in
+    words-accepted _ _ _ _ _ (omega arith) (written .result) (written .ensures) (c .number2 .ensures ∙ sym (ap answerWord (a .given .1))) (a .given .1) (c .before .before .before .put-counts .ensures)
 
 pub write-words-spec : {M : Type 1} → statement M
 write-words-spec =

@@ -22,7 +22,10 @@ prepared-requires : tie.Need-prepared-requires Inv-loop μ-loop
 prepared-requires c κs = search needs
 
 loop-holds : tie.Need-loop-holds Inv-loop μ-loop
-loop-holds c = (omega arith, omega arith, going-room-is (recordsOf (c .before .before .before .before .before .before .before .before .before .before .before .args .records .now)) (c .before .before .before .before .before .before .before .before .before .before .before .args .text .now) (length (c .before .before .before .before .before .before .before .before .before .before .before .args .out .now)) (length (c .before .before .before .before .before .before .before .before .before .before .before .args .t .now)) 0 (length (c .before .before .before .before .prepared .last .1 .0)) (length (c .before .before .before .before .prepared .last .1 .1 .0)) (omega arith) (omega arith) (c .before .before .before .before .prepared .result) (c .before .before .before .before .prepared .last .1 .0) (c .before .before .before .before .prepared .last .1 .1 .0) (c .before .before .before .before .prepared .ensures (recordsOf (c .before .before .before .before .before .before .before .before .before .before .before .args .records .now))))
+loop-holds c =
+    let a = c .before .before .before .before .before .before .before .before .before .before .before .args in
+    let prepared = c .before .before .before .before .prepared in
+    (omega arith, omega arith, going-room-is (recordsOf (a .records .now)) (a .text .now) (length (a .out .now)) (length (a .t .now)) 0 (length (prepared .last .1 .0)) (length (prepared .last .1 .1 .0)) (omega arith) (omega arith) (prepared .result) (prepared .last .1 .0) (prepared .last .1 .1 .0) (prepared .ensures (recordsOf (a .records .now))))
 
 goes-on-requires : tie.Need-goes-on-requires Inv-loop μ-loop
 goes-on-requires c κs = search needs
@@ -34,22 +37,53 @@ announced-words-requires : tie.Need-announced-words-requires Inv-loop μ-loop
 announced-words-requires c κs = search needs
 
 from-words-requires : tie.Need-from-words-requires Inv-loop μ-loop
-from-words-requires c κs = omega (arith, (inside (c .before .before .before .before .before .before .loop .p) (c .before .before .before .before .before .before .loop .i) (length (c .before .before .before .before .before .before .before .before .before .before .before .before .before .before .before .before .before .before .args .records .now) / 13) (sym (c .before .before .before .before .before .goes-on .ensures) ∙ c .before .before .before .before .if1 .taken)))
+from-words-requires c κs =
+    let a = c .before .before .before .before .before .before .before .before .before .before .before .before .before .before .before .before .before .before .args in
+    let loop = c .before .before .before .before .before .before .loop in
+    omega (arith, (inside (loop .p) (loop .i) (length (a .records .now) / 13) (sym (c .before .before .before .before .before .goes-on .ensures) ∙ c .before .before .before .before .if1 .taken)))
 
 turn-requires : tie.Need-turn-requires Inv-loop μ-loop
-turn-requires c κs = going-steady (recordsOf (c .before .before .before .before .before .before .before .before .before .before .before .before .before .before .before .before .before .before .before .args .records .now)) (c .before .before .before .before .before .before .before .before .before .before .before .before .before .before .before .before .before .before .before .args .text .now) (length (c .before .before .before .before .before .before .before .before .before .before .before .before .prepared .last .1 .0)) (length (c .before .before .before .before .before .before .before .before .before .before .before .before .prepared .last .1 .1 .0)) (c .before .before .before .before .before .before .before .loop .i) (c .before .before .before .before .before .before .before .loop .p) (c .before .before .before .before .before .before .before .loop .out) (c .before .before .before .before .before .before .before .loop .t) (c .before .before .before .before .before .before .before .loop .inv .2)
+turn-requires c κs =
+    let a = c .before .before .before .before .before .before .before .before .before .before .before .before .before .before .before .before .before .before .before .args in
+    let prepared = c .before .before .before .before .before .before .before .before .before .before .before .before .prepared in
+    let loop = c .before .before .before .before .before .before .before .loop in
+    going-steady (recordsOf (a .records .now)) (a .text .now) (length (prepared .last .1 .0)) (length (prepared .last .1 .1 .0)) (loop .i) (loop .p) (loop .out) (loop .t) (loop .inv .2)
 
 add-i : tie.Need-add-i Inv-loop μ-loop
-add-i c = omega (arith, going-small (recordsOf (c .before .before .before .before .before .before .before .before .before .before .before .before .before .before .before .before .before .before .before .before .before .before .before .before .args .records .now)) (c .before .before .before .before .before .before .before .before .before .before .before .before .before .before .before .before .before .before .before .before .before .before .before .before .args .text .now) (length (c .before .before .before .before .before .before .before .before .before .before .before .before .before .before .before .before .before .prepared .last .1 .0)) (length (c .before .before .before .before .before .before .before .before .before .before .before .before .before .before .before .before .before .prepared .last .1 .1 .0)) (c .before .before .before .before .before .before .before .before .before .before .before .before .loop .i) (c .before .before .before .before .before .before .before .before .before .before .before .before .loop .p) (c .before .before .before .before .before .before .before .before .before .before .before .before .loop .out) (c .before .before .before .before .before .before .before .before .before .before .before .before .loop .t) (length (c .before .before .before .before .before .before .before .before .before .before .before .before .before .before .before .before .before .before .before .before .before .before .before .before .args .records .now) / 13) (c .before .before .before .before .before .before .before .before .before .before .before .before .loop .inv .2) (sym (c .before .before .before .before .before .before .before .before .before .before .before .goes-on .ensures) ∙ c .before .before .before .before .before .before .before .before .before .before .if1 .taken))
+add-i c =
+    let a = c .before .before .before .before .before .before .before .before .before .before .before .before .before .before .before .before .before .before .before .before .before .before .before .before .args in
+    let prepared = c .before .before .before .before .before .before .before .before .before .before .before .before .before .before .before .before .before .prepared in
+    let loop = c .before .before .before .before .before .before .before .before .before .before .before .before .loop in
+    let goes-on = c .before .before .before .before .before .before .before .before .before .before .before .goes-on in
+    let if1 = c .before .before .before .before .before .before .before .before .before .before .if1 in
+    omega (arith, going-small (recordsOf (a .records .now)) (a .text .now) (length (prepared .last .1 .0)) (length (prepared .last .1 .1 .0)) (loop .i) (loop .p) (loop .out) (loop .t) (length (a .records .now) / 13) (loop .inv .2) (sym (goes-on .ensures) ∙ if1 .taken))
 
 loop-less : tie.Need-loop-less Inv-loop μ-loop
-loop-less c = omega (arith, (inside (c .before .before .before .before .before .before .before .before .before .before .before .before .loop .p) (c .before .before .before .before .before .before .before .before .before .before .before .before .loop .i) (length (c .before .before .before .before .before .before .before .before .before .before .before .before .before .before .before .before .before .before .before .before .before .before .before .before .args .records .now) / 13) (sym (c .before .before .before .before .before .before .before .before .before .before .before .goes-on .ensures) ∙ c .before .before .before .before .before .before .before .before .before .before .if1 .taken)))
+loop-less c =
+    let a = c .before .before .before .before .before .before .before .before .before .before .before .before .before .before .before .before .before .before .before .before .before .before .before .before .args in
+    let loop = c .before .before .before .before .before .before .before .before .before .before .before .before .loop in
+    let goes-on = c .before .before .before .before .before .before .before .before .before .before .before .goes-on in
+    let if1 = c .before .before .before .before .before .before .before .before .before .before .if1 in
+    omega (arith, (inside (loop .p) (loop .i) (length (a .records .now) / 13) (sym (goes-on .ensures) ∙ if1 .taken)))
 
 loop-again : tie.Need-loop-again Inv-loop μ-loop
-loop-again c = (omega arith, omega arith, going-turned (recordsOf (c .before .before .before .before .before .before .before .before .before .before .before .before .before .before .before .before .before .before .before .before .before .before .before .before .args .records .now)) (c .before .before .before .before .before .before .before .before .before .before .before .before .before .before .before .before .before .before .before .before .before .before .before .before .args .text .now) (length (c .before .before .before .before .before .before .before .before .before .before .before .before .before .before .before .before .before .prepared .last .1 .0)) (length (c .before .before .before .before .before .before .before .before .before .before .before .before .before .before .before .before .before .prepared .last .1 .1 .0)) (c .before .before .before .before .before .before .before .before .before .before .before .before .loop .i) (c .before .before .before .before .before .before .before .before .before .before .before .before .loop .p) (c .before .before .before .before .before .before .before .before .before .before .before .before .loop .out) (c .before .before .before .before .before .before .before .before .before .before .before .before .loop .t) (c .before .before .before .before .before .before .before .before .before .before .before .before .loop .inv .2) (c .before .before .before .before .before .before .before .before .before .before .before .before .loop .inv .0) (c .before .before .before .before .before .before .before .before .before .before .before .before .loop .inv .1) (rw (records-length (c .before .before .before .before .before .before .before .before .before .before .before .before .before .before .before .before .before .before .before .before .before .before .before .before .args .records .now)) (inside (c .before .before .before .before .before .before .before .before .before .before .before .before .loop .p) (c .before .before .before .before .before .before .before .before .before .before .before .before .loop .i) (length (c .before .before .before .before .before .before .before .before .before .before .before .before .before .before .before .before .before .before .before .before .before .before .before .before .args .records .now) / 13) (sym (c .before .before .before .before .before .before .before .before .before .before .before .goes-on .ensures) ∙ c .before .before .before .before .before .before .before .before .before .before .if1 .taken))) {n = c .before .before .before .before .before .before .before .before .before .look-from .result} (c .before .before .before .before .before .from-words .ensures ∙ sym (record-nth (c .before .before .before .before .before .before .before .before .before .before .before .before .before .before .before .before .before .before .before .before .before .before .before .before .args .records .now) (c .before .before .before .before .before .before .before .before .before .before .before .before .loop .i) (inside (c .before .before .before .before .before .before .before .before .before .before .before .before .loop .p) (c .before .before .before .before .before .before .before .before .before .before .before .before .loop .i) (length (c .before .before .before .before .before .before .before .before .before .before .before .before .before .before .before .before .before .before .before .before .before .before .before .before .args .records .now) / 13) (sym (c .before .before .before .before .before .before .before .before .before .before .before .goes-on .ensures) ∙ c .before .before .before .before .before .before .before .before .before .before .if1 .taken)))) (rw (records-length (c .before .before .before .before .before .before .before .before .before .before .before .before .before .before .before .before .before .before .before .before .before .before .before .before .args .records .now)) (c .before .before .before .before .before .before .before .before .before .look-from .ensures)) (c .before .before .before .before .before .before .before .before .announced-words .ensures) (c .before .before .before .before .turn .result) (c .before .before .before .before .turn .last .1 .1 .0) (c .before .before .before .before .turn .last .1 .1 .1 .0) (c .before .before .before .before .turn .ensures))
+loop-again c =
+    let a = c .before .before .before .before .before .before .before .before .before .before .before .before .before .before .before .before .before .before .before .before .before .before .before .before .args in
+    let prepared = c .before .before .before .before .before .before .before .before .before .before .before .before .before .before .before .before .before .prepared in
+    let loop = c .before .before .before .before .before .before .before .before .before .before .before .before .loop in
+    let goes-on = c .before .before .before .before .before .before .before .before .before .before .before .goes-on in
+    let if1 = c .before .before .before .before .before .before .before .before .before .before .if1 in
+    let look-from = c .before .before .before .before .before .before .before .before .before .look-from in
+    let announced-words = c .before .before .before .before .before .before .before .before .announced-words in
+    let turn = c .before .before .before .before .turn in
+    (omega arith, omega arith, going-turned (recordsOf (a .records .now)) (a .text .now) (length (prepared .last .1 .0)) (length (prepared .last .1 .1 .0)) (loop .i) (loop .p) (loop .out) (loop .t) (loop .inv .2) (loop .inv .0) (loop .inv .1) (rw (records-length (a .records .now)) (inside (loop .p) (loop .i) (length (a .records .now) / 13) (sym (goes-on .ensures) ∙ if1 .taken))) {n = look-from .result} (c .before .before .before .before .before .from-words .ensures ∙ sym (record-nth (a .records .now) (loop .i) (inside (loop .p) (loop .i) (length (a .records .now) / 13) (sym (goes-on .ensures) ∙ if1 .taken)))) (rw (records-length (a .records .now)) (look-from .ensures)) (announced-words .ensures) (turn .result) (turn .last .1 .1 .0) (turn .last .1 .1 .1 .0) (turn .ensures))
 
 settle-requires : tie.Need-settle-requires Inv-loop μ-loop
-settle-requires c κs = going-bounded (recordsOf (c .before .before .before .before .before .before .before .before .before .before .before .before .before .before .before .before .args .records .now)) (c .before .before .before .before .before .before .before .before .before .before .before .before .before .before .before .before .args .text .now) (length (c .before .before .before .before .before .before .before .before .before .prepared .last .1 .0)) (length (c .before .before .before .before .before .before .before .before .before .prepared .last .1 .1 .0)) (c .before .before .before .before .loop .i) (c .before .before .before .before .loop .p) (c .before .before .before .before .loop .out) (c .before .before .before .before .loop .t) (c .before .before .before .before .loop .inv .2)
+settle-requires c κs =
+    let a = c .before .before .before .before .before .before .before .before .before .before .before .before .before .before .before .before .args in
+    let prepared = c .before .before .before .before .before .before .before .before .before .prepared in
+    let loop = c .before .before .before .before .loop in
+    going-bounded (recordsOf (a .records .now)) (a .text .now) (length (prepared .last .1 .0)) (length (prepared .last .1 .1 .0)) (loop .i) (loop .p) (loop .out) (loop .t) (loop .inv .2)
 
 same-length : tie.Need-same-length Inv-loop μ-loop
 same-length c = omega arith
@@ -58,7 +92,14 @@ same-length-2 : tie.Need-same-length-2 Inv-loop μ-loop
 same-length-2 c = omega arith
 
 returns : tie.Need-returns Inv-loop μ-loop
-returns c = going-settled (recordsOf (c .before .before .before .before .before .before .before .before .before .before .before .before .before .before .before .before .before .before .before .before .before .args .records .now)) (c .before .before .before .before .before .before .before .before .before .before .before .before .before .before .before .before .before .before .before .before .before .args .text .now) (length (c .before .before .before .before .before .before .before .before .before .before .before .before .before .before .before .before .before .before .before .before .before .args .out .now)) (length (c .before .before .before .before .before .before .before .before .before .before .before .before .before .before .before .before .before .before .before .before .before .args .t .now)) (c .before .before .before .before .before .before .before .before .before .loop .i) (c .before .before .before .before .before .before .before .before .before .loop .p) (c .before .before .before .before .before .before .before .before .before .loop .out) (c .before .before .before .before .before .before .before .before .before .loop .t) (going-room-is (recordsOf (c .before .before .before .before .before .before .before .before .before .before .before .before .before .before .before .before .before .before .before .before .before .args .records .now)) (c .before .before .before .before .before .before .before .before .before .before .before .before .before .before .before .before .before .before .before .before .before .args .text .now) (length (c .before .before .before .before .before .before .before .before .before .before .before .before .before .before .prepared .last .1 .0)) (length (c .before .before .before .before .before .before .before .before .before .before .before .before .before .before .prepared .last .1 .1 .0)) (c .before .before .before .before .before .before .before .before .before .loop .i) (length (c .before .before .before .before .before .before .before .before .before .before .before .before .before .before .before .before .before .before .before .before .before .args .out .now)) (length (c .before .before .before .before .before .before .before .before .before .before .before .before .before .before .before .before .before .before .before .before .before .args .t .now)) (omega arith) (omega arith) (c .before .before .before .before .before .before .before .before .before .loop .p) (c .before .before .before .before .before .before .before .before .before .loop .out) (c .before .before .before .before .before .before .before .before .before .loop .t) (c .before .before .before .before .before .before .before .before .before .loop .inv .2)) (omega arith) (omega arith) (rw (records-length (c .before .before .before .before .before .before .before .before .before .before .before .before .before .before .before .before .before .before .before .before .before .args .records .now)) (sym (c .before .before .before .before .before .before .before .before .goes-on .ensures) ∙ c .before .before .before .before .before .before .before .if1 .left)) (c .before .before .before .before .settle .result) (c .before .before .before .before .settle .last .1 .0) (c .before .before .before .before .settle .last .1 .1 .0) (c .before .before .before .before .settle .ensures)
+returns c =
+    let a = c .before .before .before .before .before .before .before .before .before .before .before .before .before .before .before .before .before .before .before .before .before .args in
+    let prepared = c .before .before .before .before .before .before .before .before .before .before .before .before .before .before .prepared in
+    let loop = c .before .before .before .before .before .before .before .before .before .loop in
+    let goes-on = c .before .before .before .before .before .before .before .before .goes-on in
+    let if1 = c .before .before .before .before .before .before .before .if1 in
+    let settle = c .before .before .before .before .settle in
+    going-settled (recordsOf (a .records .now)) (a .text .now) (length (a .out .now)) (length (a .t .now)) (loop .i) (loop .p) (loop .out) (loop .t) (going-room-is (recordsOf (a .records .now)) (a .text .now) (length (prepared .last .1 .0)) (length (prepared .last .1 .1 .0)) (loop .i) (length (a .out .now)) (length (a .t .now)) (omega arith) (omega arith) (loop .p) (loop .out) (loop .t) (loop .inv .2)) (omega arith) (omega arith) (rw (records-length (a .records .now)) (sym (goes-on .ensures) ∙ if1 .left)) (settle .result) (settle .last .1 .0) (settle .last .1 .1 .0) (settle .ensures)
 
 pub written-spec : {M : Type 1} → statement M
 written-spec =

@@ -30,13 +30,21 @@ same-length-2 : tie.Need-same-length-2
 same-length-2 c = search needs
 
 returns : tie.Need-returns
-returns c = settles-refused (length (c .before .before .before .before .before .before .before .before .before .before .before .before .before .before .before .before .args .out .now)) (c .before .before .before .before .before .before .before .before .before .before .before .before .before .before .before .before .args .i) (c .before .before .before .before .before .before .before .before .before .before .before .before .before .before .before .before .args .self) (c .before .before .before .before .before .before .before .before .before .before .before .before .before .before .before .before .args .out .now) (c .before .before .before .before .before .before .before .before .before .before .before .before .before .before .before .before .args .t .now) (c .before .before .before .before .before .before .before .before .before .before .before .before .ended .result) (c .before .before .before .before .before .before .before .before .before .before .before .before .ended .last .1 .0) (c .before .before .before .before .before .before .before .before .before .before .before .before .ended .ensures) (c .before .before .before .before .before .before .before .before .enum-told .given .1) (zeroed _ (length (c .before .before .before .before .before .before .before .before .before .before .before .before .ended .last .1 .0)) (length (c .before .before .before .before .before .before .before .before .before .before .before .before .before .before .before .before .args .out .now)) (c .before .before .before .before .before .before .clear .ensures) (omega arith)) (c .before .before .clear2 .ensures)
+returns c =
+    let a = c .before .before .before .before .before .before .before .before .before .before .before .before .before .before .before .before .args in
+    let ended = c .before .before .before .before .before .before .before .before .before .before .before .before .ended in
+    let enum-told = c .before .before .before .before .before .before .before .before .enum-told in
+    let clear = c .before .before .before .before .before .before .clear in
+    settles-refused (length (a .out .now)) (a .i) (a .self) (a .out .now) (a .t .now) (ended .result) (ended .last .1 .0) (ended .ensures) (enum-told .given .1) (zeroed _ (length (ended .last .1 .0)) (length (a .out .now)) (clear .ensures) (omega arith)) (c .before .before .clear2 .ensures)
 
 same-length-3 : tie.Need-same-length-3
 same-length-3 c = search needs
 
 returns-2 : tie.Need-returns-2
-returns-2 c = settles-accepted (length (c .before .before .before .before .before .before .before .before .before .args .out .now)) (c .before .before .before .before .before .before .before .before .before .args .i) (c .before .before .before .before .before .before .before .before .before .args .self) (c .before .before .before .before .before .before .before .before .before .args .out .now) (c .before .before .before .before .before .before .before .before .before .args .t .now) (c .before .before .before .before .before .ended .result) (c .before .before .before .before .before .ended .last .1 .0) (c .before .before .before .before .before .ended .ensures) (c .before .a .given .1)
+returns-2 c =
+    let a = c .before .before .before .before .before .before .before .before .before .args in
+    let ended = c .before .before .before .before .before .ended in
+    settles-accepted (length (a .out .now)) (a .i) (a .self) (a .out .now) (a .t .now) (ended .result) (ended .last .1 .0) (ended .ensures) (c .before .a .given .1)
 
 pub settle-spec : {M : Type 1} → statement M
 settle-spec =

@@ -14,7 +14,10 @@ bit-requires : tie.Need-bit-requires
 bit-requires c κs = search needs
 
 step-requires : tie.Need-step-requires
-step-requires c κs = steady-onward (c .before .before .before .before .before .before .before .before .before .args .text .now) (c .before .before .before .before .before .before .before .before .before .args .i) (c .before .before .before .before .before .before .before .before .before .args .t .now) (c .before .before .before .before .self .given .1) (c .before .before .before .before .before .before .before .before .before .pre) .0
+step-requires c κs =
+    let a = c .before .before .before .before .before .before .before .before .before .args in
+    let pre = c .before .before .before .before .before .before .before .before .before .pre in
+    steady-onward (a .text .now) (a .i) (a .t .now) (c .before .before .before .before .self .given .1) pre .0
 
 enum-known-next : tie.Need-enum-known-next
 enum-known-next c = search needs
@@ -23,7 +26,11 @@ enum-known-number : tie.Need-enum-known-number
 enum-known-number c = search needs
 
 cast-t22 : tie.Need-cast-t22
-cast-t22 c = let b = steady-onward (c .before .before .before .before .before .before .before .before .before .before .before .before .before .before .before .before .before .args .text .now) (c .before .before .before .before .before .before .before .before .before .before .before .before .before .before .before .before .before .args .i) (c .before .before .before .before .before .before .before .before .before .before .before .before .before .before .before .before .before .args .t .now) (c .before .before .before .before .before .before .before .before .before .before .before .before .self .given .1) (c .before .before .before .before .before .before .before .before .before .before .before .before .before .before .before .before .before .pre) in let a = b .0 .at in omega arith
+cast-t22 c =
+    let a′ = c .before .before .before .before .before .before .before .before .before .before .before .before .before .before .before .before .before .args in
+    let pre = c .before .before .before .before .before .before .before .before .before .before .before .before .before .before .before .before .before .pre in
+    let self = c .before .before .before .before .before .before .before .before .before .before .before .before .self in
+    let b = steady-onward (a′ .text .now) (a′ .i) (a′ .t .now) (self .given .1) pre in let a = b .0 .at in omega arith
 
 enum-known-self-2 : tie.Need-enum-known-self-2
 enum-known-self-2 c = search needs
@@ -35,7 +42,12 @@ same-length-2 : tie.Need-same-length-2
 same-length-2 c = search needs
 
 returns : tie.Need-returns
-returns c = turn-on (c .before .before .before .before .before .before .before .before .before .before .before .before .before .before .before .before .before .args .text .now) (length (c .before .before .before .before .before .before .before .before .before .before .before .before .before .before .before .before .before .args .out .now)) (length (c .before .before .before .before .before .before .before .before .before .before .before .before .before .before .before .before .before .args .t .now)) (c .before .before .before .before .before .before .before .before .before .before .before .before .before .before .before .before .before .args .i) (c .before .before .before .before .before .before .before .before .before .before .before .before .before .before .before .before .before .args .out .now) (c .before .before .before .before .before .before .before .before .before .before .before .before .before .before .before .before .before .args .t .now) (c .before .before .before .before .before .before .before .before .before .before .before .before .before .before .before .before .before .args .e) (c .before .before .before .before .before .before .before .before .before .before .before .before .before .before .before .before .before .args .a) (c .before .before .before .before .before .before .before .step .last .1 .1 .1 .0) (c .before .before .before .before .before .before .before .step .last .1 .1 .0) _ (c .before .before .before .before .before .before .before .before .before .before .before .before .before .before .before .before .before .args .self) (c .before .before .before .before .before .before .before .before .before .before .before .before .self .given .1) _ (c .before .before .before .before .before .before .before .before .bit .ensures) (c .before .before .before .before .before .before .before .step .result) (c .before .before .before .before .before .before .before .step .ensures) _ (c .before .next .given .1)
+returns c =
+    let a = c .before .before .before .before .before .before .before .before .before .before .before .before .before .before .before .before .before .args in
+    let self = c .before .before .before .before .before .before .before .before .before .before .before .before .self in
+    let bit = c .before .before .before .before .before .before .before .before .bit in
+    let step = c .before .before .before .before .before .before .before .step in
+    turn-on (a .text .now) (length (a .out .now)) (length (a .t .now)) (a .i) (a .out .now) (a .t .now) (a .e) (a .a) (step .last .1 .1 .1 .0) (step .last .1 .1 .0) _ (a .self) (self .given .1) _ (bit .ensures) (step .result) (step .ensures) _ (c .before .next .given .1)
 
 same-length-3 : tie.Need-same-length-3
 same-length-3 c = search needs
@@ -44,10 +56,17 @@ same-length-4 : tie.Need-same-length-4
 same-length-4 c = search needs
 
 returns-2 : tie.Need-returns-2
-returns-2 c = turn-stop (c .before .before .before .before .before .before .before .before .before .before .before .before .before .before .before .before .before .args .text .now) (length (c .before .before .before .before .before .before .before .before .before .before .before .before .before .before .before .before .before .args .out .now)) (length (c .before .before .before .before .before .before .before .before .before .before .before .before .before .before .before .before .before .args .t .now)) (c .before .before .before .before .before .before .before .before .before .before .before .before .before .before .before .before .before .args .i) (c .before .before .before .before .before .before .before .before .before .before .before .before .before .before .before .before .before .args .out .now) (c .before .before .before .before .before .before .before .before .before .before .before .before .before .before .before .before .before .args .t .now) (c .before .before .before .before .before .before .before .before .before .before .before .before .before .before .before .before .before .args .e) (c .before .before .before .before .before .before .before .before .before .before .before .before .before .before .before .before .before .args .a) (c .before .before .before .before .before .before .before .step .last .1 .1 .1 .0) (c .before .before .before .before .before .before .before .step .last .1 .1 .0) _ (c .before .before .before .before .before .before .before .before .before .before .before .before .before .before .before .before .before .args .self) (c .before .before .before .before .before .before .before .before .before .before .before .before .self .given .1) _ (c .before .before .before .before .before .before .before .before .bit .ensures) (c .before .before .before .before .before .before .before .step .result) (c .before .before .before .before .before .before .before .step .ensures) _ (c .before .number .given .1)
+returns-2 c =
+    let a = c .before .before .before .before .before .before .before .before .before .before .before .before .before .before .before .before .before .args in
+    let self = c .before .before .before .before .before .before .before .before .before .before .before .before .self in
+    let bit = c .before .before .before .before .before .before .before .before .bit in
+    let step = c .before .before .before .before .before .before .before .step in
+    turn-stop (a .text .now) (length (a .out .now)) (length (a .t .now)) (a .i) (a .out .now) (a .t .now) (a .e) (a .a) (step .last .1 .1 .1 .0) (step .last .1 .1 .0) _ (a .self) (self .given .1) _ (bit .ensures) (step .result) (step .ensures) _ (c .before .number .given .1)
 
 returns-3 : tie.Need-returns-3
-returns-3 c = turn-halted (c .before .before .before .before .before .before .args .text .now) (length (c .before .before .before .before .before .before .args .out .now)) (length (c .before .before .before .before .before .before .args .t .now)) (c .before .before .before .before .before .before .args .i) (c .before .before .before .before .before .before .args .out .now) (c .before .before .before .before .before .before .args .t .now) (c .before .before .before .before .before .before .args .e) (c .before .before .before .before .before .before .args .a) (c .before .before .before .before .before .before .args .out .now) (c .before .before .before .before .before .before .args .t .now) _ _ _ (c .before .self2 .given .1)
+returns-3 c =
+    let a = c .before .before .before .before .before .before .args in
+    turn-halted (a .text .now) (length (a .out .now)) (length (a .t .now)) (a .i) (a .out .now) (a .t .now) (a .e) (a .a) (a .out .now) (a .t .now) _ _ _ (c .before .self2 .given .1)
 
 pub turn-spec : {M : Type 1} → statement M
 turn-spec =

@@ -3,8 +3,8 @@
 use native.Mathlib.Omega.{arith}
 use borrow.Author.Needs.{needs}
 use Rattle.choices.proofs.NameLaws.{then-held, then-absent, then-next}
-use Rattle.choices.proofs.names.number_then.Statement.{statement}
-use Rattle.choices.proofs.names.number_then.Tie as tie
+use Rattle.choices.proofs.naming.number_then.Statement.{statement}
+use Rattle.choices.proofs.naming.number_then.Tie as tie
 
 returns : tie.Need-returns
 returns c = then-held _ _ _ (omega arith)

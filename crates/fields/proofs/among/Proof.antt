@@ -1,0 +1,14 @@
+-- `among` meets its contract: where the first comparison fails, the second does not count.
+-- Assumes nothing.
+use borrow.Author.Tests.{le-leb, lt-leb}
+use Rattle.fields.proofs.among.Statement.{statement}
+use Rattle.fields.proofs.among.Tie as tie
+
+returns : tie.Need-returns
+returns c = rw (le-leb _ _ (c .if1 .taken))
+
+returns-2 : tie.Need-returns-2
+returns-2 c = rw (lt-leb _ _ (c .if1 .left))
+
+pub among-spec : {M : Type 1} → statement M
+among-spec = tie.close (tie.spec returns returns-2)
