@@ -1,5 +1,7 @@
 //! The archive behind its C boundary: a slice is a pointer and a length. Lent room is dirty, and has a fence behind it that no call may touch.
 use crate::words::Outcome;
+use std::fmt::Debug;
+use std::ops::BitOr;
 
 extern "C" {
     fn lomphachit_check(octets: *const u8, n: usize) -> u32;
@@ -9,6 +11,21 @@ extern "C" {
 
 const FENCE: usize = 8;
 const POST: u32 = 0xA5C3_96F1;
+const OCTET_POST: u8 = 0xA5;
+
+/// Dirt, from which each room takes its own: most inputs are small, and so many new words for each would cost more than the call.
+static DIRT: [u32; DIRTY] = dirt();
+const DIRTY: usize = 8192;
+
+const fn dirt() -> [u32; DIRTY] {
+    let mut words = [1; DIRTY];
+    let mut i = 1;
+    while i < words.len() {
+        words[i] = 1_664_525u32.wrapping_mul(words[i - 1]).wrapping_add(1_013_904_223);
+        i += 1;
+    }
+    words
+}
 
 /// Room of words to lend: dirty, with a fence behind it.
 struct Room {
@@ -18,11 +35,10 @@ struct Room {
 
 impl Room {
     fn dirty(lent: usize, seed: u32) -> Room {
-        let mut x = seed | 1;
         let mut words = Vec::with_capacity(lent + FENCE);
-        for _ in 0..lent {
-            x = x.wrapping_mul(1_664_525).wrapping_add(1_013_904_223);
-            words.push(x);
+        while words.len() < lent {
+            let more = DIRTY.min(lent - words.len());
+            words.extend(DIRT[..more].iter().map(|w| w ^ seed));
         }
         words.resize(lent + FENCE, POST);
         Room { words, lent }
@@ -41,11 +57,20 @@ pub fn check(octets: &[u8]) -> u32 {
     unsafe { lomphachit_check(octets.as_ptr(), octets.len()) }
 }
 
-fn same(what: &'static str, wanted: &[u32], got: &[u32]) -> Result<(), String> {
-    match wanted.iter().zip(got).position(|(a, b)| a != b) {
-        None => Ok(()),
-        Some(i) => Err(format!("{what}: word {i} is {} and should be {}", got[i], wanted[i])),
+/// Whether what was left is what is wanted, and blank behind that. All of the rest is looked at: a loop that stops early takes it one by one.
+fn right<T: Copy + Default + PartialEq + BitOr<Output = T>>(wanted: &[T], got: &[T]) -> bool {
+    let (front, rest) = got.split_at(wanted.len());
+    front == wanted && rest.iter().fold(T::default(), |all, w| all | *w) == T::default()
+}
+
+/// Says the first word or octet that is not right.
+fn same<T: Copy + Default + PartialEq + BitOr<Output = T> + Debug>(what: &'static str, wanted: &[T], got: &[T]) -> Result<(), String> {
+    if right(wanted, got) {
+        return Ok(());
     }
+    let should = |i: usize| wanted.get(i).copied().unwrap_or_default();
+    let i = (0..got.len()).find(|i| got[*i] != should(*i)).expect("words that differ");
+    Err(format!("{what}: number {i} is {:?} and should be {:?}", got[i], should(i)))
 }
 
 fn show(answer: u64) -> String {
@@ -65,13 +90,23 @@ fn same_answer(wanted: u64, got: u64) -> Result<(), String> {
     }
 }
 
+/// Room that is lent to one call of the reader, in words, the dirt in it, and how often it is called on what it left.
+#[derive(Clone, Copy)]
+pub struct Lent {
+    pub records: usize,
+    pub tables: usize,
+    pub counts: usize,
+    pub calls: usize,
+    pub seed: u32,
+}
+
 /// Calls the reader on dirty room, and again on what it left; says the first thing that is not as wanted.
-pub fn compare_read(octets: &[u8], wanted: &Outcome, seed: u32, calls: usize) -> Result<(), String> {
-    let mut records = Room::dirty(wanted.filled.len(), seed);
-    let mut tables = Room::dirty(wanted.tables.len(), seed ^ 0x5555);
-    let mut counts = Room::dirty(wanted.counts.len(), seed ^ 0x3333);
+pub fn compare_read(octets: &[u8], wanted: &Outcome, lent: &Lent) -> Result<(), String> {
+    let mut records = Room::dirty(lent.records, lent.seed);
+    let mut tables = Room::dirty(lent.tables, lent.seed ^ 0x5555);
+    let mut counts = Room::dirty(lent.counts, lent.seed ^ 0x3333);
     let before = octets.to_vec();
-    for call in 0..calls {
+    for call in 1..=lent.calls {
         let answer = unsafe {
             lomphachit_read(
                 octets.as_ptr(),
@@ -88,23 +123,23 @@ pub fn compare_read(octets: &[u8], wanted: &Outcome, seed: u32, calls: usize) ->
             .and_then(|_| same("records", &wanted.filled, records.left()))
             .and_then(|_| same("tables", &wanted.tables, tables.left()))
             .and_then(|_| same("counts", &wanted.counts, counts.left()));
-        judged.map_err(|e| format!("read, call {}: {e}", call + 1))?;
+        judged.map_err(|e| format!("read, call {call}: {e}"))?;
         if !(records.fenced() && tables.fenced() && counts.fenced()) || before != octets {
-            return Err(format!("read, call {}: words outside of the lent room are changed", call + 1));
+            return Err(format!("read, call {call}: words outside of the lent room are changed"));
         }
     }
     Ok(())
 }
 
-/// The same for the writer.
-pub fn compare_write(records: &[u32], text: &[u8], wanted: &Outcome, seed: u32) -> Result<(), String> {
-    let lent = wanted.out.len();
+/// The same for the writer, which is lent so many octets, table words and counts.
+pub fn compare_write(records: &[u32], text: &[u8], wanted: &Outcome, room: [usize; 3], seed: u32) -> Result<(), String> {
+    let lent = room[0];
     let mut out: Vec<u8> = (0..lent).map(|i| (i as u32).wrapping_mul(seed | 1) as u8 | 1).collect();
-    out.resize(lent + FENCE, 0xA5);
-    let mut tables = Room::dirty(wanted.tables.len(), seed ^ 0x5555);
-    let mut counts = Room::dirty(wanted.counts.len(), seed ^ 0x3333);
+    out.resize(lent + FENCE, OCTET_POST);
+    let mut tables = Room::dirty(room[1], seed ^ 0x5555);
+    let mut counts = Room::dirty(room[2], seed ^ 0x3333);
     let before = (records.to_vec(), text.to_vec());
-    for call in 0..2 {
+    for call in 1..=2 {
         let answer = unsafe {
             lomphachit_write(
                 records.as_ptr(),
@@ -120,21 +155,14 @@ pub fn compare_write(records: &[u32], text: &[u8], wanted: &Outcome, seed: u32) 
             )
         };
         let judged = same_answer(wanted.answer, answer)
-            .and_then(|_| same_octets(&wanted.out, &out[..lent]))
+            .and_then(|_| same("output", &wanted.out, &out[..lent]))
             .and_then(|_| same("tables", &wanted.tables, tables.left()))
             .and_then(|_| same("counts", &wanted.counts, counts.left()));
-        judged.map_err(|e| format!("write, call {}: {e}", call + 1))?;
-        let fenced = out[lent..].iter().all(|o| *o == 0xA5) && tables.fenced() && counts.fenced();
+        judged.map_err(|e| format!("write, call {call}: {e}"))?;
+        let fenced = out[lent..].iter().all(|o| *o == OCTET_POST) && tables.fenced() && counts.fenced();
         if !fenced || before.0 != records || before.1 != text {
-            return Err(format!("write, call {}: octets or words outside of the lent room are changed", call + 1));
+            return Err(format!("write, call {call}: octets or words outside of the lent room are changed"));
         }
     }
     Ok(())
-}
-
-fn same_octets(wanted: &[u8], got: &[u8]) -> Result<(), String> {
-    match wanted.iter().zip(got).position(|(a, b)| a != b) {
-        None => Ok(()),
-        Some(i) => Err(format!("output: octet {i} is {:02x} and should be {:02x}", got[i], wanted[i])),
-    }
 }

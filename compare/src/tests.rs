@@ -52,7 +52,7 @@ fn line(octets: &[u8], e: &Event) -> String {
     for i in has {
         match e.strings[*i].octets(octets) {
             None => out += " -",
-            Some(s) => out += &format!(" ={}", crate::hex(s)),
+            Some(s) => out += &format!(" ={}", crate::report::hex(s)),
         }
     }
     out + "\n"
@@ -169,7 +169,7 @@ fn lists_of_write_tsv() {
             Some(x) => format!("refused {} {}", x.number, x.place),
             None => {
                 let counts: Vec<String> = got.counts.iter().map(|c| c.to_string()).collect();
-                format!("ok {} {}", crate::hex(&got.out[..(got.answer >> 32) as usize]), counts.join(","))
+                format!("ok {} {}", crate::report::hex(&got.out[..(got.answer >> 32) as usize]), counts.join(","))
             }
         };
         assert_eq!(answer, r[4], "line {}, {}", i + 1, r[0]);

@@ -109,8 +109,7 @@ impl Event {
     }
 }
 
-/// All that a call answers and leaves; `filled` is the records of a reading, `out` the octets of a writing.
-#[derive(PartialEq, Eq)]
+/// All that a call answers and leaves; `filled` is the records of a reading, `out` the octets of a writing. All lent room beyond these is blank.
 pub struct Outcome {
     pub answer: u64,
     pub filled: Vec<u32>,
@@ -121,7 +120,7 @@ pub struct Outcome {
 
 impl Outcome {
     /// A refusal blanks everything lent.
-    pub fn refused(r: &Refusal, filled: usize, out: usize, tables: usize, counts: usize) -> Outcome {
-        Outcome { answer: r.answer(), filled: vec![0; filled], out: vec![0; out], tables: vec![0; tables], counts: vec![0; counts] }
+    pub fn refused(r: &Refusal) -> Outcome {
+        Outcome { answer: r.answer(), filled: Vec::new(), out: Vec::new(), tables: Vec::new(), counts: Vec::new() }
     }
 }

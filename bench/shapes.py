@@ -1,0 +1,153 @@
+"""The documents of the bench, at any size: fast infoset octets, and the same infoset as XML text. For bench/run and bench/profile."""
+import os, struct
+
+ROOT = os.path.dirname(os.path.dirname(os.path.abspath(__file__)))
+# The opening and the root <a>; the last two ends; the three behind an empty element.
+OPEN, END, ENDS = b'\xe0\x00\x00\x01\x00\x3c\x00a', b'\xff', b'\xff\xf0'
+BLANK, NAMESPACE, START, ATTRIBUTE, TEXT, COMMENT, INSTRUCTION, LAST = range(8)
+ENTRIES = 256
+# Without erms, for the emulator counts a repeated string instruction once for each octet, and blanking by one would be all that is seen.
+EMULATOR = ['qemu-x86_64', '-cpu', 'max,-erms']
+
+
+def chunk(text, added):
+    """A spelled chunk (C.15.3): its length in C.24."""
+    n, head = len(text), 0x90 if added else 0x80
+    if n <= 2:
+        return bytes([head | n - 1]) + text
+    return (bytes([head | 2, n - 3]) if n <= 258 else bytes([head | 3]) + (n - 259).to_bytes(4, 'big')) + text
+
+
+def numbered_chunk(n):
+    """C.15.4: the number in C.28."""
+    return bytes([0xA0 | n - 1]) if n <= 16 else bytes([0xB0 | n - 17 >> 8, n - 17 & 255])
+
+
+def spelled_element(name):
+    """C.18.3 without prefix and namespace: a name of at most 64 octets."""
+    return bytes([0x3C, len(name) - 1]) + name
+
+
+def numbered_element(n):
+    """C.18.4: the number in C.27."""
+    return bytes([n - 1]) if n <= 32 else bytes([0x20 | n - 33 >> 8, n - 33 & 255])
+
+
+def unlike(k, octets, behind=0):
+    """String k of 256 that are alike but for two octets, which are the last or have some behind them."""
+    return b'n' * (octets - 2 - behind) + bytes([97 + k // 16, 97 + k % 16]) + b'n' * behind
+
+
+def small_elements(size):
+    """<a/> in the root again and again: an octet for the start, half of one for the end and half for padding."""
+    return OPEN + b'\x00\xf0' * ((size - 11) // 2) + b'\x00' + ENDS
+
+
+def long_texts(size, characters='abcd'):
+    """Four chunks, none added, each of one character again and again."""
+    texts = [c.encode() * ((size - 29) // 4 // len(c.encode())) for c in characters]
+    return OPEN + b''.join(chunk(text, False) for text in texts) + END
+
+
+def full_tables(size):
+    """256 chunks of two octets, which fill their table at every size; then chunks by number, all over the table."""
+    entries = b''.join(chunk(unlike(k, 2), True) for k in range(ENTRIES))
+    numbers, j = b'', 0
+    while len(OPEN + entries + numbers) + 3 <= size:
+        numbers += numbered_chunk(1 + 97 * j % ENTRIES)
+        j += 1
+    return OPEN + entries + numbers + END
+
+
+def new_names(size, middle=False):
+    """As many new element names as fit, up to a full table, all of one length and alike but for two octets: each is compared with all before it. It is what makes a
+    reader compare most, since it looks up nothing but new names."""
+    octets = max(3, size // ENTRIES - 3)
+    count = min(ENTRIES - 1, (size - 11) // (octets + 3))
+    return OPEN + b'\xf0'.join(spelled_element(unlike(k, octets, octets // 2 * middle)) for k in range(count)) + ENDS
+
+
+def repeated_names(size, middle=False):
+    """Half of the document is such names, the other half the last of them by number: a writer finds each in its table behind all the others."""
+    octets = max(5, size // 2 // ENTRIES - 3)
+    count = min(ENTRIES - 1, size // 2 // (octets + 3))
+    names = b''.join(spelled_element(unlike(k, octets, octets // 2 * middle)) + b'\xf0' for k in range(count))
+    again = numbered_element(count + 1)
+    return OPEN + names + (again + b'\xf0') * ((size - 12 - len(names)) // 3) + again + ENDS
+
+
+# Names that are unlike in the last octets cost most where octets are compared from the first on. Those that are unlike in the middle tell whether another order only
+# moves the cost.
+SHAPES = [
+    ('small elements', small_elements), ('full tables', full_tables),
+    ('long texts', long_texts), ('long texts, not ASCII', lambda size: long_texts(size, '机场端口')),
+    ('new names', new_names), ('repeated names', repeated_names),
+    ('new names, middle', lambda size: new_names(size, True)), ('repeated names, middle', lambda size: repeated_names(size, True)),
+]
+SIZES = [1024, 4096, 16384]
+
+
+def documents():
+    """Rows of shape, size in KB and octets; D.5 of the standard has no size."""
+    with open(os.path.join(ROOT, 'vectors', 'd5_000_header_corrected.hex')) as f:
+        d5 = bytes.fromhex(f.read().strip())
+    return [('D.5', None, d5)] + [(name, size // 1024, make(size)) for name, make in SHAPES for size in SIZES]
+
+
+def events(document, words):
+    """The records as rows of a kind and four strings, None where absent."""
+    marks = {1: b'', 3: b'xml', 4: b'http://www.w3.org/XML/1998/namespace'}
+    for record in struct.iter_unpack('<13I', words):
+        strings = [record[i:i + 3] for i in (1, 4, 7, 10)]
+        yield record[0], [document[place:place + n] if tag == 2 else marks.get(tag) for tag, place, n in strings]
+
+
+def escaped(text):
+    return text.replace(b'&', b'&amp;').replace(b'<', b'&lt;').replace(b'>', b'&gt;').replace(b'"', b'&quot;')
+
+
+def named(prefix, local):
+    return (prefix + b':' if prefix else b'') + local
+
+
+class Xml:
+    """XML text from events, one by one; a start tag stays open until its attributes are over."""
+
+    def __init__(self):
+        self.parts, self.declared, self.open, self.tagged = [], b'', [], False
+
+    def close_tag(self):
+        self.parts.append(b'>' if self.tagged else b'')
+        self.tagged = False
+
+    def put(self, kind, strings):
+        prefix, namespace, name, value = strings
+        if kind == NAMESPACE:
+            self.declared += b' %s="%s"' % (b'xmlns:' + prefix if prefix else b'xmlns', escaped(namespace or b''))
+            return
+        if kind == ATTRIBUTE:
+            self.parts.append(b' %s="%s"' % (named(prefix, name), escaped(value)))
+            return
+        self.close_tag()
+        if kind == START:
+            self.open.append(named(prefix, name))
+            self.parts.append(b'<' + self.open[-1] + self.declared)
+            self.declared, self.tagged = b'', True
+        elif kind == LAST:
+            self.parts.append(b'</%s>' % self.open.pop())
+        else:
+            self.parts.append({TEXT: b'%s', COMMENT: b'<!--%s-->', INSTRUCTION: b'<?%s?>'}[kind] % self.content(kind, name, value))
+
+    def content(self, kind, name, value):
+        return escaped(value) if kind == TEXT else value if kind == COMMENT else name + b' ' + value
+
+
+def xml(rows):
+    """The XML text, and how many starts, attributes and octets of text a parser must find in it."""
+    text, starts, attributes, octets = Xml(), 0, 0, 0
+    for kind, strings in rows:
+        text.put(kind, strings)
+        starts += kind == START
+        attributes += kind == ATTRIBUTE
+        octets += len(strings[3]) if kind == TEXT else 0
+    return b''.join(text.parts), (starts, attributes, octets)

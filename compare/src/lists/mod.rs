@@ -1,0 +1,85 @@
+//! Event lists for the writer: of documents, and made from a small pool of strings so that they come again; good and damaged.
+mod damage;
+mod pool;
+
+use crate::dice::Dice;
+use crate::make;
+use crate::reader::read;
+use crate::words::*;
+use crate::writer::{least_room, write};
+use pool::from_pool;
+
+/// All that is lent to the writer, and how much.
+#[derive(Clone)]
+pub struct List {
+    pub records: Vec<Record>,
+    pub text: Vec<u8>,
+    pub out: usize,
+    pub tables: usize,
+    pub counts: usize,
+    /// Words behind the last whole record, which are ignored.
+    pub rest: usize,
+}
+
+impl List {
+    pub fn words(&self) -> Vec<u32> {
+        let mut w: Vec<u32> = self.records.iter().flatten().copied().collect();
+        w.resize(w.len() + self.rest, 7);
+        w
+    }
+}
+
+pub fn list(dice: &mut Dice) -> List {
+    let mut l = if dice.percent(40) { of_document(dice) } else { from_pool(dice) };
+    if dice.percent(45) {
+        damage::damage(dice, &mut l);
+    }
+    lend(dice, &mut l);
+    l
+}
+
+fn with(events: &[Event], text: Vec<u8>) -> List {
+    List { records: events.iter().map(Event::record).collect(), text, out: MOST, tables: TABLES, counts: 10, rest: 0 }
+}
+
+fn of_document(dice: &mut Dice) -> List {
+    let style = make::Style::any(dice);
+    let document = make::document(dice, style);
+    match read(&document, MOST * 2) {
+        Ok(done) => with(&done.events, document),
+        Err(_) => from_pool(dice),
+    }
+}
+
+/// Room for the output: enough, just enough, a little or much too little; now and then table room of another length.
+fn lend(dice: &mut Dice, l: &mut List) {
+    let events: Vec<_> = l.records.iter().map(|r| Event::from_record(r)).collect();
+    let refused = match dice.below(100) {
+        0..=9 => dice.below(60),
+        10..=39 => least_room(&events, &l.text),
+        _ => MOST - 50,
+    };
+    let needed = write(&events, &l.text, MOST).map_or(refused, |w| w.octets.len());
+    l.out = match dice.below(if needed == refused && refused == MOST - 50 { 90 } else { 10 }) {
+        0 | 5 | 6 => needed,
+        1 => needed.saturating_sub(1),
+        2 => dice.below(needed + 1),
+        3 => needed + 3,
+        4 if dice.percent(20) => MOST + dice.below(3),
+        _ => needed + 50,
+    };
+    if dice.percent(1) {
+        l.tables = dice.pick(&[0, 1, TABLES - 1, TABLES + 1]);
+    }
+    if dice.percent(1) {
+        l.counts = dice.pick(&[0, 9, 11]);
+    }
+    if dice.percent(5) {
+        l.rest = 1 + dice.below(12);
+    }
+    if dice.below(1000) < 4 {
+        // SIZE comes before the table room, so the two are to meet.
+        l.text.resize(MOST + dice.below(3), b'a');
+        l.tables -= usize::from(l.tables > 0 && dice.percent(30));
+    }
+}

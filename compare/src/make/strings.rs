@@ -1,0 +1,141 @@
+//! Strings and names of a document that is made: by a number or spelled, added or not.
+use super::Maker;
+use crate::forms::{Form, C22, C23, C25};
+use crate::words::{LOCAL, NAMESPACE, PREFIX};
+
+impl<'d> Maker<'d> {
+    fn wrong(&mut self) -> bool {
+        self.style.wrong > 0 && self.dice.below(1000) < self.style.wrong
+    }
+
+    fn length(&mut self) -> usize {
+        if self.style.short {
+            1 + self.dice.below(3)
+        } else {
+            self.dice.length()
+        }
+    }
+
+    fn fresh(&mut self) -> bool {
+        self.dice.percent(self.style.fresh)
+    }
+
+    /// A number of the table, or None where a new string is to be spelled.
+    fn choose(&mut self, table: usize) -> Option<usize> {
+        let count = self.strings[table].len();
+        let full = count >= self.style.entries;
+        let new = count == 0 || (!full && self.fresh());
+        if new {
+            None
+        } else {
+            Some(self.number_below(count))
+        }
+    }
+
+    /// A number of a table, or, where it is to be wrong, one beyond it.
+    fn number_below(&mut self, count: usize) -> usize {
+        if self.wrong() {
+            count + 1 + self.dice.below(2)
+        } else {
+            1 + self.dice.below(count)
+        }
+    }
+
+    fn new_string(&mut self, table: usize) -> Vec<u8> {
+        if !self.strings[table].is_empty() && self.wrong() {
+            let i = self.dice.below(self.strings[table].len());
+            return self.strings[table][i].clone();
+        }
+        let length = self.length();
+        let mut s = self.dice.text(length);
+        while self.strings[table].contains(&s) {
+            s.extend(self.dice.text(1));
+        }
+        s
+    }
+
+    pub(super) fn put_identifying(&mut self, table: usize, choice: Option<usize>) -> usize {
+        if let Some(number) = choice {
+            self.bits.code("1");
+            self.bits.number(number as u64, C25);
+            return number;
+        }
+        let s = self.new_string(table);
+        self.bits.code("0");
+        self.bits.number(s.len() as u64, C22);
+        self.bits.text(&s);
+        self.strings[table].push(s);
+        self.strings[table].len()
+    }
+
+    pub(super) fn identifying(&mut self, table: usize) {
+        let choice = self.choose(table);
+        self.put_identifying(table, choice);
+    }
+
+    /// A name by its number, or spelled with parts that make a triple which is not there yet.
+    pub(super) fn name(&mut self, table: usize, code: &str, forms: &[Form]) {
+        let count = self.names[table].len();
+        if count > 0 && (count >= self.style.entries || !self.fresh()) {
+            let number = self.number_below(count);
+            return self.bits.number(number as u64, forms);
+        }
+        let n = self.dice.percent(50);
+        let p = n && self.dice.percent(50);
+        let choices = [self.choose(PREFIX), self.choose(NAMESPACE), self.choose(LOCAL)];
+        self.named(table, code, forms, [p, n, true], choices);
+    }
+
+    /// A name with these parts, each by a number or new; by its own number where it is held.
+    pub(super) fn named(&mut self, table: usize, code: &str, forms: &[Form], present: [bool; 3], choices: [Option<usize>; 3]) {
+        let mut known = [Some(0); 3];
+        for i in (0..3).filter(|i| present[*i]) {
+            known[i] = choices[i];
+        }
+        if let [Some(a), Some(b), Some(c)] = known {
+            let held = self.names[table].iter().position(|t| *t == [a, b, c]);
+            if let Some(i) = held.filter(|_| !self.wrong()) {
+                return self.bits.number(i as u64 + 1, forms);
+            }
+        }
+        self.bits.code(code);
+        self.bits.put(u64::from(present[0]) * 2 + u64::from(present[1]), 2);
+        let mut triple = [0; 3];
+        for i in (0..3).filter(|i| present[*i]) {
+            triple[i] = self.put_identifying(i, choices[i]);
+        }
+        self.names[table].push(triple);
+    }
+
+    pub(super) fn value(&mut self, table: usize) {
+        if self.dice.percent(15) {
+            self.bits.put(0xFF, 8);
+        } else {
+            self.literal(table, C23, C25);
+        }
+    }
+
+    pub(super) fn literal(&mut self, table: usize, lengths: &[Form], numbers: &[Form]) {
+        let count = self.strings[table].len();
+        if count > 0 && !self.fresh() {
+            self.bits.code("1");
+            let number = self.number_below(count);
+            return self.bits.number(number as u64, numbers);
+        }
+        let adds = count < self.style.entries && self.dice.percent(70);
+        let s = if count > 0 && self.dice.percent(10) {
+            // Spelled though it is held: allowed here, and added under a new number.
+            let i = self.dice.below(count);
+            self.strings[table][i].clone()
+        } else {
+            let length = self.length();
+            self.dice.text(length)
+        };
+        self.bits.code(if adds { "0100" } else { "0000" });
+        self.bits.number(s.len() as u64, lengths);
+        self.bits.text(&s);
+        if adds {
+            self.strings[table].push(s);
+        }
+    }
+}

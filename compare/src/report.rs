@@ -1,0 +1,45 @@
+//! A difference in print: the shortest input that shows it, and the room lent.
+use crate::archive::Lent;
+use crate::differ;
+use crate::lists::List;
+use crate::shrink;
+use crate::tails::starts;
+use crate::words::Record;
+
+pub fn hex(octets: &[u8]) -> String {
+    octets.iter().map(|o| format!("{o:02x}")).collect()
+}
+
+pub fn read(octets: &[u8], lent: &Lent, message: &str) {
+    println!("DIFFERENCE {message}");
+    let short = shrink::octets(octets, &starts(), &|o| differ::read(o, lent).0.is_err());
+    println!("shortest: {}", hex(&short));
+    println!("lent words: records {}, tables {}, counts {}", lent.records, lent.tables, lent.counts);
+    println!("there: {}", differ::read(&short, lent).0.unwrap_err());
+}
+
+pub fn write(l: &List, seed: u32, message: &str) {
+    println!("DIFFERENCE {message}");
+    let differs = |l: &List| differ::write(l, seed).0.is_err();
+    let with = |records: &[Record], text: &[u8]| List { records: records.to_vec(), text: text.to_vec(), ..*l };
+    let records = shrink::shorter(&l.records, &|r| differs(&with(r, &l.text)));
+    let short = Some(packed(&with(&records, &l.text))).filter(differs).unwrap_or_else(|| with(&records, &l.text));
+    let text = shrink::octets(&short.text, &[], &|t| differs(&with(&short.records, t)));
+    println!("shortest, text: {}", hex(&text));
+    short.records.iter().for_each(|r| println!("shortest, record: {r:?}"));
+    println!("lent: output {}, tables {}, counts {}", l.out, l.tables, l.counts);
+    println!("there: {}", differ::write(&with(&short.records, &text), seed).0.unwrap_err());
+}
+
+/// The same list over a text of its own strings only; one that passes the end of the text stays as it is.
+fn packed(l: &List) -> List {
+    let mut less = List { text: Vec::new(), ..l.clone() };
+    for string in less.records.iter_mut().flat_map(|r| r[1..].chunks_exact_mut(3)).filter(|s| s[0] == 2) {
+        let (place, length) = (string[1] as usize, string[2] as usize);
+        if let Some(octets) = l.text.get(place..place + length) {
+            string[1] = less.text.len() as u32;
+            less.text.extend_from_slice(octets);
+        }
+    }
+    less
+}

@@ -1,0 +1,121 @@
+//! An independent writer with 01's choices: events one by one into a row of bits, on which the ends that are owed are put before an event.
+mod items;
+mod judged;
+mod strings;
+
+use crate::forms::BitRow;
+use crate::words::*;
+
+/// Where the list stands, for the question which event may come next.
+#[derive(Clone, Copy, PartialEq, Eq)]
+enum Mode {
+    Content,
+    Declaring,
+    Attributes,
+}
+
+struct Writer<'a> {
+    text: &'a [u8],
+    bits: BitRow,
+    tables: Tables,
+    mode: Mode,
+    open: usize,
+    rooted: bool,
+    /// The attribute list of the element that was started last is announced and not yet ended.
+    owed: bool,
+    /// Octets of the events that were judged right.
+    right: usize,
+}
+
+pub struct Writing {
+    pub octets: Vec<u8>,
+    pub tables: Tables,
+}
+
+/// Writes records (None is a blank or malformed one) into so many octets.
+pub fn write(events: &[Option<Event>], text: &[u8], room: usize) -> Result<Writing, Refusal> {
+    let mut w = Writer::new(text);
+    w.all(events, room.min(MOST))?;
+    Ok(Writing { octets: w.bits.octets, tables: w.tables })
+}
+
+/// The least room with which a refused list is refused alike: its faulty event needs none, since ROOM is judged last.
+pub fn least_room(events: &[Option<Event>], text: &[u8]) -> usize {
+    let mut w = Writer::new(text);
+    let _ = w.all(events, MOST);
+    w.right
+}
+
+/// What a call of the writer must answer and leave, with room of these lengths.
+pub fn outcome(records: &[u32], text: &[u8], out: usize, tables: usize, counts: usize) -> (Outcome, Option<Refusal>) {
+    let events: Vec<Option<Event>> = records.chunks_exact(RECORD).map(Event::from_record).collect();
+    let got = if text.len() > MOST {
+        Err(Refusal { number: 1, place: 0, field: "size" })
+    } else if tables != TABLES || counts != 10 {
+        Err(Refusal { number: 14, place: 0, field: "table room" })
+    } else {
+        write(&events, text, out)
+    };
+    match got {
+        Err(r) => (Outcome::refused(&r), Some(r)),
+        Ok(done) => {
+            let answer = (done.octets.len() as u64) << 32;
+            (Outcome { answer, filled: Vec::new(), out: done.octets, tables: done.tables.words(), counts: done.tables.counts() }, None)
+        }
+    }
+}
+
+fn kind_name(kind: Kind) -> &'static str {
+    ["Namespace", "Start", "Attribute", "Text", "Comment", "Instruction", "End"][kind as usize - 1]
+}
+
+/// Whether the element that starts with the first of these events has attributes: its first octet says so before they come.
+fn has_attributes(events: &[Option<Event>]) -> bool {
+    let kinds = events.iter().map(|e| e.map(|e| e.kind));
+    let mut behind = kinds.skip_while(|k| *k == Some(Kind::Namespace));
+    behind.next() == Some(Some(Kind::Start)) && behind.next() == Some(Some(Kind::Attribute))
+}
+
+impl<'a> Writer<'a> {
+    fn new(text: &'a [u8]) -> Writer<'a> {
+        Writer { text, bits: BitRow::default(), tables: Tables::start(), mode: Mode::Content, open: 0, rooted: false, owed: false, right: 0 }
+    }
+
+    fn all(&mut self, events: &[Option<Event>], room: usize) -> Result<(), Refusal> {
+        for (place, event) in events.iter().enumerate() {
+            let field = event.map_or("blank record", |e| kind_name(e.kind));
+            self.first(&events[place..], room).map_err(|number| Refusal { number, place, field })?;
+            self.right = self.bits.octets.len();
+        }
+        self.finish(room).map_err(|number| Refusal { number, place: events.len(), field: "end of the list" })
+    }
+
+    /// The first of these events, judged in 01's order; Err is the refusal's number.
+    fn first(&mut self, events: &[Option<Event>], room: usize) -> Result<(), u32> {
+        let e = events[0].filter(|e| self.may_come(e.kind) && self.strings_right(e)).ok_or(16u32)?;
+        if !self.well_formed(&e) {
+            return Err(9);
+        }
+        if self.starts_element(e.kind) && self.open >= DEEPEST {
+            return Err(13);
+        }
+        self.put(&e, has_attributes(events)).ok_or(12u32)?;
+        self.fits(room)
+    }
+
+    fn finish(&mut self, room: usize) -> Result<(), u32> {
+        if !self.rooted || self.open > 0 || self.mode == Mode::Declaring {
+            return Err(16);
+        }
+        self.bits.code("1111");
+        self.fits(room)
+    }
+
+    fn fits(&self, room: usize) -> Result<(), u32> {
+        if self.bits.octets.len() > room {
+            Err(14)
+        } else {
+            Ok(())
+        }
+    }
+}

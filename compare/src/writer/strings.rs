@@ -1,0 +1,86 @@
+//! Strings and names with 01's choices: the lowest number that fits, else spelled.
+use super::Writer;
+use crate::forms::{Form, C22, C23, C25};
+use crate::words::*;
+
+impl<'a> Writer<'a> {
+    /// The number of a string in a table: 0 where it is absent, None where it is not held.
+    fn held(&self, table: usize, s: Text) -> Option<usize> {
+        match s.octets(self.text) {
+            None => Some(0),
+            Some(octets) => self.tables.strings[table].number_of(octets),
+        }
+    }
+
+    /// The bits that say whether a prefix and a namespace follow.
+    pub(super) fn presence(&mut self, e: &Event) {
+        self.bits.put((e.strings[0] != Text::Absent) as u64, 1);
+        self.bits.put((e.strings[1] != Text::Absent) as u64, 1);
+    }
+
+    pub(super) fn name(&mut self, e: &Event, code: &str, forms: &[Form], table: usize) -> Option<()> {
+        let held = [self.held(PREFIX, e.strings[0]), self.held(NAMESPACE, e.strings[1]), self.held(LOCAL, e.strings[2])];
+        if let [Some(p), Some(n), Some(l)] = held {
+            if let Some(number) = self.tables.names[table].number_of([p, n, l]) {
+                self.bits.number(number as u64, forms);
+                return Some(());
+            }
+        }
+        self.bits.code(code);
+        self.presence(e);
+        let triple = [self.part(PREFIX, e.strings[0])?, self.part(NAMESPACE, e.strings[1])?, self.part(LOCAL, e.strings[2])?];
+        if self.tables.names[table].full() {
+            return None;
+        }
+        self.tables.names[table].add(triple);
+        Some(())
+    }
+
+    /// C.13, or nothing for an absent string; gives its number.
+    pub(super) fn part(&mut self, table: usize, s: Text) -> Option<usize> {
+        let text = self.text;
+        let octets = match s.octets(text) {
+            None => return Some(0),
+            Some(octets) => octets,
+        };
+        if let Some(number) = self.tables.strings[table].number_of(octets) {
+            self.bits.code("1");
+            self.bits.number(number as u64, C25);
+            return Some(number);
+        }
+        if self.tables.strings[table].full() {
+            return None;
+        }
+        self.bits.code("0");
+        self.bits.number(octets.len() as u64, C22);
+        self.bits.text(octets);
+        Some(self.tables.strings[table].add(s, octets))
+    }
+
+    /// C.14: the empty string is the number 0.
+    pub(super) fn value(&mut self, s: Text, table: usize) {
+        if s == Text::Empty {
+            self.bits.put(0xFF, 8);
+        } else {
+            self.literal(s, table, C23, C25);
+        }
+    }
+
+    pub(super) fn literal(&mut self, s: Text, table: usize, lengths: &[Form], numbers: &[Form]) {
+        let text = self.text;
+        let octets = s.octets(text).expect("judged to be a stretch");
+        let strings = &mut self.tables.strings[table];
+        if let Some(number) = strings.number_of(octets) {
+            self.bits.code("1");
+            self.bits.number(number as u64, numbers);
+            return;
+        }
+        let adds = octets.len() <= 5 && !strings.full();
+        if adds {
+            strings.add(s, octets);
+        }
+        self.bits.code(if adds { "0100" } else { "0000" });
+        self.bits.number(octets.len() as u64, lengths);
+        self.bits.text(octets);
+    }
+}
