@@ -1,5 +1,5 @@
 """The documents of the bench, at any size: fast infoset octets, and the same infoset as XML text. For bench/run and bench/profile."""
-import os, struct
+import os, struct, subprocess
 
 ROOT = os.path.dirname(os.path.dirname(os.path.abspath(__file__)))
 # The opening and the root <a>; the last two ends; the three behind an empty element.
@@ -102,52 +102,17 @@ def events(document, words):
         yield record[0], [document[place:place + n] if tag == 2 else marks.get(tag) for tag, place, n in strings]
 
 
-def escaped(text):
-    return text.replace(b'&', b'&amp;').replace(b'<', b'&lt;').replace(b'>', b'&gt;').replace(b'"', b'&quot;')
-
-
-def named(prefix, local):
-    return (prefix + b':' if prefix else b'') + local
-
-
-class Xml:
-    """XML text from events, one by one; a start tag stays open until its attributes are over."""
-
-    def __init__(self):
-        self.parts, self.declared, self.open, self.tagged = [], b'', [], False
-
-    def close_tag(self):
-        self.parts.append(b'>' if self.tagged else b'')
-        self.tagged = False
-
-    def put(self, kind, strings):
-        prefix, namespace, name, value = strings
-        if kind == NAMESPACE:
-            self.declared += b' %s="%s"' % (b'xmlns:' + prefix if prefix else b'xmlns', escaped(namespace or b''))
-            return
-        if kind == ATTRIBUTE:
-            self.parts.append(b' %s="%s"' % (named(prefix, name), escaped(value)))
-            return
-        self.close_tag()
-        if kind == START:
-            self.open.append(named(prefix, name))
-            self.parts.append(b'<' + self.open[-1] + self.declared)
-            self.declared, self.tagged = b'', True
-        elif kind == LAST:
-            self.parts.append(b'</%s>' % self.open.pop())
-        else:
-            self.parts.append({TEXT: b'%s', COMMENT: b'<!--%s-->', INSTRUCTION: b'<?%s?>'}[kind] % self.content(kind, name, value))
-
-    def content(self, kind, name, value):
-        return escaped(value) if kind == TEXT else value if kind == COMMENT else name + b' ' + value
+def lines(rows):
+    """Event lines, as the program `listing` prints them."""
+    slots = {NAMESPACE: (0, 1), START: (0, 1, 2), ATTRIBUTE: (0, 1, 2, 3), TEXT: (3,), COMMENT: (3,), INSTRUCTION: (2, 3), LAST: ()}
+    for kind, strings in rows:
+        shown = ['-' if strings[slot] is None else '=' + strings[slot].hex() for slot in slots[kind]]
+        yield ' '.join([' NSATCPE'[kind]] + shown) + '\n'
 
 
 def xml(rows):
     """The XML text, and how many starts, attributes and octets of text a parser must find in it."""
-    text, starts, attributes, octets = Xml(), 0, 0, 0
-    for kind, strings in rows:
-        text.put(kind, strings)
-        starts += kind == START
-        attributes += kind == ATTRIBUTE
-        octets += len(strings[3]) if kind == TEXT else 0
-    return b''.join(text.parts), (starts, attributes, octets)
+    rows = list(rows)
+    kinds = [kind for kind, _ in rows]
+    text = subprocess.run([os.path.join(ROOT, 'xml')], input=''.join(lines(rows)).encode(), capture_output=True, check=True).stdout
+    return text, (kinds.count(START), kinds.count(ATTRIBUTE), sum(len(strings[3]) for kind, strings in rows if kind == TEXT))

@@ -1,15 +1,14 @@
 -- Tables in order stay so when an entry is added; they only grow, so a table that has an entry too many keeps it.
 -- Assumes nothing.
 use mathlib.Core.Path.{_≡_, refl, _∙_}
-use mathlib.Core.Bool.{Bool, true, false, _&&_}
+use mathlib.Core.Bool.{Bool, true, false}
 use mathlib.Core.Option.{Option, none, some}
 use mathlib.Core.List.{List, [], _∷_, map}
-use Prim.Native.Nat.{ℕ, zero, suc, _+_, _*_, _≤_, _<_}
+use Prim.Native.Nat.{ℕ, zero, suc, _+_, _≤_, _<_}
 use native.Mathlib.Omega.{arith}
 use borrow.Author.Tests.{leb-true, le-leb}
 use lib.Dec.{eqb}
 use lib.ListN.{length, replicate, length-append, length-replicate}
-use lib.Seq.{length-sets}
 use Rattle.format.specs.Numbers.{pick}
 use Rattle.format.specs.Events.{How}
 use Rattle.format.specs.Tables.{StringTable, PREFIX, NAMESPACE-NAME, LOCAL-NAME, OTHER-NCNAME, NameTable, ELEMENT-NAME, ATTRIBUTE-NAME, Triple, Vocabulary, strings, names, extended, adding, addingName, place, starting, link}
@@ -20,6 +19,8 @@ use Rattle.tables.specs.Counts.{countsOf, words}
 use Rattle.tables.specs.Rows.{tableOf, vocabulary}
 use Rattle.tables.specs.Kept.{nameTableOf, countOf, oneMore, stored}
 use Rattle.tables.proofs.Laws.{length-strings, length-names, counted-start, counted-more, string-added, name-added, clean-start, clean-string, clean-name, inside-start, inside-string, inside-name, vocabulary-start}
+use Rattle.tables.proofs.Found.{both-true}
+use Rattle.tables.proofs.Rooms.{stored-length}
 use Rattle.choices.specs.Choices.{Wrote, writeId, writeOptional, within}
 use Rattle.choices.specs.Code.{Begins, InOrder}
 
@@ -34,10 +35,6 @@ begins-named : (p n : Located) (v : Vocabulary Located) (t : NameTable) (x : Tri
 unfolding addingName
 begins-named p n v ELEMENT-NAME x a b = (a, b)
 begins-named p n v ATTRIBUTE-NAME x a b = (a, b)
-
-stored-length : (w : List ℕ) (t n a b c : ℕ) → length (stored w t n a b c) ≡ length w
-unfolding stored
-stored-length w t n a b c = length-sets w (768 * t + 3 * n) (a ∷ b ∷ c ∷ [])
 
 module _ (text : List ℕ) (c : Counts) (w : List ℕ) (t : ℕ) (order : InOrder text c w) (room : countOf c t < 256) where
   module _ (p n : ℕ) (small : t < 8) (some : 0 < n) (lies : p + n ≤ length text) where
@@ -152,21 +149,17 @@ grows-optional text t v none = grows-same v
 grows-optional text t v (some x) = grows-id text t v x
 
 -- ---- an entry too many
-both : (a b : Bool) → (a && b) ≡ true → (a ≡ true) × (b ≡ true)
-both true b e = (refl, e)
-both false b e = absurd (let z : _≡_ {A = ℕ} 0 1 = cc in omega arith)
-
 -- each of the six tables that a writer must not overfill
 within-lengths : (v : Vocabulary Located) → within link v ≡ true
     → (length (v .prefixes) ≤ 256) × (length (v .namespaces) ≤ 256) × (length (v .locals) ≤ 256) × (length (v .ncnames) ≤ 256) × (length (v .elements) ≤ 256)
     × (length (v .attributes) ≤ 256)
 unfolding within link
 within-lengths v e =
-    let p = both _ _ e in
-    let n = both _ _ (p .1) in
-    let l = both _ _ (n .1) in
-    let o = both _ _ (l .1) in
-    let m = both _ _ (o .1) in
+    let p = both-true _ _ e in
+    let n = both-true _ _ (p .1) in
+    let l = both-true _ _ (n .1) in
+    let o = both-true _ _ (l .1) in
+    let m = both-true _ _ (o .1) in
     (leb-true _ _ (p .0), leb-true _ _ (n .0), leb-true _ _ (l .0), leb-true _ _ (o .0), leb-true _ _ (m .0), leb-true _ _ (m .1))
 
 not-within : (v : Vocabulary Located) → (within link v ≡ true → ⊥) → within link v ≡ false

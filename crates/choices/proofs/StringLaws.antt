@@ -10,7 +10,7 @@ use borrow.Author.Tests.{eq-eqb, ne-eqb, lt-leb, le-leb, le-ltb, lt-ltb}
 use lib.ListN.{length, set, take, drop, length-map}
 use Rattle.format.specs.Numbers.{lengths, numbers, c25, spell}
 use Rattle.format.specs.Events.{spelled, numbered}
-use Rattle.format.specs.Tables.{StringTable, CONTENT-CHARACTER-CHUNK, Vocabulary, strings, adding, same, link}
+use Rattle.format.specs.Tables.{StringTable, CONTENT-CHARACTER-CHUNK, Vocabulary, strings, adding, link}
 use Rattle.format.specs.Strings.{withLength, Layout, c14, c15}
 use Rattle.format.specs.Names.{has, ofElement, ofAttribute}
 use Rattle.fields.specs.Put.{Puts}
@@ -26,6 +26,7 @@ use Rattle.events.specs.declared.Text.{Text}
 use Rattle.events.specs.declared.Text.the-variants.{Absent, Empty, Stretch, XmlPrefix, XmlNamespace}
 use Rattle.events.specs.Records.{locatedOf, optionalOf}
 use Rattle.events.specs.Words.{textTag, textPlace, textSize}
+use Rattle.tables.proofs.Found.{same-refl}
 use Rattle.choices.specs.declared.Here.{Here}
 use Rattle.choices.specs.declared.Wrote as W
 use Rattle.choices.specs.declared.Wrote.the-variants.{Put, Full}
@@ -82,15 +83,10 @@ module _ (t : ℕ) (e : t ≡ 8 → ⊥) where
   attribute-forms = rw (ne-eqb t 8 e)
 
 -- ---- a string's number
-same-itself : (xs : List ℕ) → same xs xs ≡ true
-unfolding same
-same-itself [] = refl
-same-itself (x ∷ xs) = rw (eq-eqb x x refl) (same-itself xs)
-
 first-is : (text : List ℕ) (x : Located) (l : List Located) → Begins x l → 1 ≡ numberIn (map (octetsOf text) l) (octetsOf text x)
 unfolding numberIn lowest
 first-is text x [] h = absurd h
-first-is text x (y ∷ l) h = rw (h, same-itself (octetsOf text x))
+first-is text x (y ∷ l) h = rw (h, same-refl (octetsOf text x))
 
 module _ (text w : List ℕ) (c : Counts) (t : ℕ) (order : InOrder text c w) (x : Text) where
   pub held-absent : x ≡ Absent → (0 ≡ heldAs text (tableOf t) (vocabulary c w) x) × (0 ≤ 256)

@@ -23,7 +23,7 @@ use Rattle.reader.specs.declared.Answer.{Answer}
 use Rattle.reader.specs.declared.Answer.the-variants.{Accepted, Refused}
 use Rattle.reader.specs.Reading.{Result, accepted, refusal, sized, reading, Outcome, Leaves, refusing, accepting, outcome, readOf, numberOf, checkOf}
 use Rattle.reader.specs.Words.{answerWord, leaving, nothing, inWords, readWords}
-use Rattle.demands.proofs.Lists.{both-true}
+use Rattle.tables.proofs.Found.{both-true}
 use Rattle.demands.proofs.Fits.{accepted-sized}
 use Rattle.demands.proofs.Document as Whole
 use Rattle.demands.proofs.Demands.{check-needs-none}

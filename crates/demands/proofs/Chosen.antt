@@ -21,7 +21,7 @@ use Rattle.tables.specs.Located.{Located, octetsOf, plainWords}
 use Rattle.tables.specs.Search.{numberIn, numberOfTriple}
 use Rattle.tables.proofs.Laws.{strings-adding, names-adding, holds-number, number-entry, holds-name-number, name-number-entry}
 use Rattle.choices.specs.Choices.{Wrote, writeId, writeOptional, writeName, worthAdding, writeLiteral, writeValue}
-use Rattle.demands.proofs.Lists.{both-true}
+use Rattle.tables.proofs.Found.{both-true}
 use Rattle.demands.proofs.Words.{strings-map, length-strings, names-map, adding-map, keeping-map, adding-name-map}
 use Rattle.demands.proofs.Growing.{names-adding-name, strings-adding-name}
 

@@ -20,7 +20,8 @@ use Rattle.tables.specs.Located.{Located, start}
 use Rattle.writer.specs.Events.{isAbsent, isStretch, isPrefix, isNamespace, isValue, isName, noName, isContent, wellMade, locatedOf, optionalOf, eventOf}
 use Rattle.writer.specs.Items.{WroteItem, writeItem}
 use Rattle.writer.specs.Writing.{announced, Result, written, refusal, plus, settled, fits, halvesOf, judge, finish, run, writing}
-use Rattle.demands.proofs.Lists.{clash, test, both-true}
+use Rattle.tables.proofs.Found.{clash, both-true}
+use Rattle.demands.proofs.Lists.{test}
 use Rattle.demands.proofs.Sayable.{passed}
 
 -- ---- a string and its record

@@ -10,38 +10,17 @@ use lib.Dec.{eqb, ltb, leb}
 use lib.ListN.{length, getD, take, drop, length-append, length-drop, take-append-drop, length-replicate}
 use lib.Seq.{drop-drop, take-at, drop-at, length-take-le, drop-nil}
 use Rattle.format.specs.Numbers.{pick}
-use Rattle.format.specs.Tables.{same}
 use Rattle.format.specs.Document.{halves, pad, aligned}
 use Rattle.steps.specs.Steps.{halfAt, endsAt, padsAt}
+use Rattle.tables.proofs.Found.{both-true}
 
 -- ---- tests
-pub clash : {X : Type 0} → false ≡ true → X
-clash e = absurd (let y : _≡_ {A = ℕ} 0 1 = cc in omega arith)
-
-pub both-true : (a b : Bool) → (a && b) ≡ true → (a ≡ true) × (b ≡ true)
-both-true true b e = (refl, e)
-both-true false b e = (e, cc)
-
 -- a refusal: one of 01's numbers for a reader, at a place in the document or at its length
 abbrev pub Fault : List ℕ → ℕ → ℕ → Type 0
 Fault s n p = (1 ≤ n) × (n ≤ 15) × (p ≤ length s)
 
 pub fault : (s : List ℕ) (n p : ℕ) → (leb 1 n && leb n 15) ≡ true → p ≤ length s → Fault s n p
 fault s n p t h = let a = both-true (leb 1 n) (leb n 15) t in (leb-true 1 n (a .0), leb-true n 15 (a .1), h)
-
-pub same-true : (xs ys : List ℕ) → same xs ys ≡ true → xs ≡ ys
-unfolding same
-same-true [] [] e = refl
-same-true [] (y ∷ ys) e = cc
-same-true (x ∷ xs) [] e = cc
-same-true (x ∷ xs) (y ∷ ys) e =
-    let p = both-true (eqb x y) (same xs ys) e in
-    ap₂ (λ (a : ℕ) (l : List ℕ). a ∷ l) (eqb-true x y (p .0)) (same-true xs ys (p .1))
-
-pub same-refl : (xs : List ℕ) → same xs xs ≡ true
-unfolding same
-same-refl [] = refl
-same-refl (x ∷ xs) = rw (eq-eqb x x refl) (same-refl xs)
 
 -- what holds of a refusal and, where a test is passed, of what follows, holds of the test
 module _ {X : Type 0} (P : X → Type 0) (r : X) (nay : P r) where
@@ -133,7 +112,7 @@ halves-drop (suc k) (o ∷ s) = let z : 2 * suc k ≡ suc (suc (2 * k)) = omega 
 pub halves-sound : (s : List ℕ) (k : ℕ) (o : List ℕ) (n : ℕ) → drop k s ≡ o ++ drop n s → drop (2 * k) (halves s) ≡ halves o ++ drop (2 * n) (halves s)
 halves-sound s k o n e = halves-drop k s ∙ ap halves e ∙ halves-append o (drop n s) ∙ ap (λ (l : List ℕ). halves o ++ l) (sym (halves-drop n s))
 
-octet-is : (a b : ℕ) → a / 16 ≡ b / 16 → a % 16 ≡ b % 16 → a ≡ b
+pub octet-is : (a b : ℕ) → a / 16 ≡ b / 16 → a % 16 ≡ b % 16 → a ≡ b
 octet-is a b p q = omega arith
 
 halves-split : (t w r : List ℕ) → halves t ≡ halves w ++ r → t ≡ w ++ drop (length w) t

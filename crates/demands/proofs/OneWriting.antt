@@ -3,7 +3,7 @@ use mathlib.Core.Path.{_≡_, refl, sym, ap, ap₂, _∙_}
 use mathlib.Core.Bool.{Bool, true, false}
 use mathlib.Core.Option.{Option}
 use mathlib.Core.List.{List, [], _∷_, _++_}
-use Prim.Native.Nat.{ℕ, suc, _+_, _*_, _/_, _%_}
+use Prim.Native.Nat.{ℕ, suc, _+_, _*_}
 use native.Mathlib.Omega.{arith}
 use Rattle.format.specs.Events.{Name, Event, Namespace, Start, Attribute, Text, Comment, Instruction, End, How, numbered, NameHow, Item, _by_, forEnd}
 use Rattle.format.specs.Tables.{StringTable, Vocabulary, addingName, Limits}
@@ -11,6 +11,7 @@ use Rattle.format.specs.Strings.{bit, Identifying, id-spelled, id-numbered, Opt
 use Rattle.format.specs.Names.{has, NameLayout, Named, in-parts, by-number, Declared, declared}
 use Rattle.format.specs.Items.{Mode, content, declaring, listing, State, afterStart, knowing, moved, opened, Octets, o-start, o-first-namespace, o-namespace, o-named-start, o-attribute, o-text, o-comment, o-instruction}
 use Rattle.format.specs.Document.{halves, pad, Written, document-end, attributes-end, element-end, item, Document}
+use Rattle.demands.proofs.Lists.{octet-is}
 
 -- Whether attributes follow is decided by the items: by the next, and behind declarations by the one behind the Start.
 abbrev isAttribute : Event (List ℕ) → Bool
@@ -67,15 +68,12 @@ no-member true e = clash (cc)
 no-member false e = clash (cc)
 
 -- Halves of octets determine the octets.
-one-octet : (a b : ℕ) → a / 16 ≡ b / 16 → a % 16 ≡ b % 16 → a ≡ b
-one-octet a b p q = omega arith
-
 halves-one : (a b : List ℕ) → halves a ≡ halves b → a ≡ b
 unfolding halves
 halves-one [] [] e = refl
 halves-one [] (y ∷ b) e = cc
 halves-one (x ∷ a) [] e = cc
-halves-one (x ∷ a) (y ∷ b) e = ap₂ (λ (z : ℕ) (l : List ℕ). z ∷ l) (one-octet x y (cc) (cc)) (halves-one a b (cc))
+halves-one (x ∷ a) (y ∷ b) e = ap₂ (λ (z : ℕ) (l : List ℕ). z ∷ l) (octet-is x y (cc) (cc)) (halves-one a b (cc))
 
 module _ {L : Limits} where
   -- strings: the octets, the number and the tables

@@ -10,7 +10,8 @@ use lib.ListN.{length, getD, take, drop, length-append, take-append-drop, drop-o
 use lib.Seq.{drop-cons, take-at, length-take-le}
 use Rattle.format.specs.Tables.{same, Limits}
 use Rattle.reader.specs.Reading.{sized, Opening, onward, halt, opening}
-use Rattle.demands.proofs.Lists.{Fault, fault, test, test-le, test-lt, both-true, same-true, same-refl}
+use Rattle.tables.proofs.Found.{both-true, same-eq, same-refl}
+use Rattle.demands.proofs.Lists.{Fault, fault, test, test-le, test-lt}
 
 -- a header of five octets, whose last is 0
 module _ (L : Limits) (head : List ℕ) (five : length head ≡ 5) (last : getD head 4 0 ≡ 0) (s : List ℕ) where
@@ -39,7 +40,7 @@ module _ (L : Limits) (head : List ℕ) (five : length head ≡ 5) (last : getD 
       λ t2. test-le Opened (halt 2 4) (fault s 2 4 refl t1) 5 (length s) _
       λ t3. test-lt Opened (halt 6 4) (fault s 6 4 refl t1) (getD s 4 0) 0x80 _
       λ t4. test Opened (halt 4 4) (fault s 4 4 refl t1) (eqb (getD s 4 0) 0) _
-      λ t5. (joins (same-true (take 4 s) (take 4 head) t2) (eqb-true (getD s 4 0) 0 t5) t3, leb-true (length s) (L .octets) (both-true (leb 1 (length s)) (leb (length s) (L .octets)) t0 .1), t3)
+      λ t5. (joins (same-eq (take 4 s) (take 4 head) t2) (eqb-true (getD s 4 0) 0 t5) t3, leb-true (length s) (L .octets) (both-true (leb 1 (length s)) (leb (length s) (L .octets)) t0 .1), t3)
 
   pub opening-complete : s ≡ head ++ drop 5 s → length s ≤ L .octets → opening L head s ≡ onward
   unfolding opening sized

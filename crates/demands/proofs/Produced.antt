@@ -20,7 +20,7 @@ use Rattle.tables.specs.Rows.{tableOf}
 use Rattle.tables.proofs.Laws.{strings-adding, names-adding}
 use Rattle.choices.specs.Choices.{Wrote, writeId, writeOptional, writeName, within}
 use Rattle.writer.specs.Items.{WroteItem, beforeDeclaration, beforeName, nameLead, writeItem}
-use Rattle.demands.proofs.Lists.{both-true}
+use Rattle.tables.proofs.Found.{both-true}
 use Rattle.demands.proofs.Growing.{strings-adding-name}
 use Rattle.demands.proofs.Chosen.{grows-on, Fits, fits-before, IdCase, held, new, id-case, id-grows, id-rule, OptionalCase, is-absent, is-present, optional-case, optional-grows, optional-rule, SpellingIfAny, LiteralCase, lit-held, lit-new, literal-case, literal-grows, literal-rule, ValueCase, is-empty, is-literal, value-case, value-grows, value-rule, Ranged, ranged-on, id-names, optional-names, NameCase, name-held, name-new, name-case, name-ranged, name-rule}
 use Rattle.demands.proofs.Sayable.{not-long, NameSaid, Said}

@@ -21,7 +21,8 @@ use Rattle.tables.specs.Located.{Located, plain, plainState}
 use Rattle.steps.specs.Items.{Stand, Step, more, quiet, done, stop, octet, itemAt}
 use Rattle.steps.specs.Steps.{endsAt, padsAt, documentEnd, endAt, byHalves, step}
 use Rattle.reader.specs.Reading.{Result, accepted, refusal, plus, turn, Mark, marked, run, trace}
-use Rattle.demands.proofs.Lists.{Fault, fault, test, either, either-lt, both-true, not-true, drop-head, drop-past, ends-sound, ends-complete, pads-sound, pads-complete, halves-drop, halves-length, halves-sound, halves-complete, align-is, aligned-ge, aligned-in, pad-length}
+use Rattle.tables.proofs.Found.{both-true}
+use Rattle.demands.proofs.Lists.{Fault, fault, test, either, either-lt, not-true, drop-head, drop-past, ends-sound, ends-complete, pads-sound, pads-complete, halves-drop, halves-length, halves-sound, halves-complete, align-is, aligned-ge, aligned-in, pad-length}
 use Rattle.demands.proofs.Items.{Took, item-sound, item-complete}
 
 -- ---- an item has octets, and opens one element at most

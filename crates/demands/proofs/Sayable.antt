@@ -27,7 +27,7 @@ use Rattle.writer.specs.Events.{isAbsent, isStretch, isPrefix, isNamespace, isN
 use Rattle.choices.specs.Choices.{within}
 use Rattle.writer.specs.Items.{WroteItem}
 use Rattle.writer.specs.Writing.{opens, fits, judge}
-use Rattle.demands.proofs.Lists.{clash, both-true}
+use Rattle.tables.proofs.Found.{clash, both-true}
 use Rattle.demands.proofs.Chosen.{SpellingIfAny}
 
 module _ (text : List ℕ) (short : length text ≤ 16384) where

@@ -21,7 +21,8 @@ use Rattle.writer.specs.Events.{eventOf, amongChildren, isContent, isDeclaring,
 use Rattle.choices.specs.Choices.{within}
 use Rattle.writer.specs.Items.{WroteItem, writeItem}
 use Rattle.writer.specs.Writing.{announced, Result, written, refusal, plus, isAttribute, isEnd, opens, owed, settled, fits, halvesOf, judge, finish, run, trace}
-use Rattle.demands.proofs.Lists.{clash, test, both-true, halves-length, pad-length}
+use Rattle.tables.proofs.Found.{clash, both-true}
+use Rattle.demands.proofs.Lists.{test, halves-length, pad-length}
 use Rattle.demands.proofs.Sayable.{Said, said, passed}
 use Rattle.demands.proofs.Produced.{Order, Made, Where, first-namespace, next-namespace, first-start, named-start, in-list, in-element, comment, instruction, made}
 

@@ -10,7 +10,7 @@ use native.Mathlib.Numerals.{add-one}
 use native.Mathlib.Decide.{decLt}
 use borrow.Author.Tests.{lt-ltb, le-ltb, le-leb, lt-leb, eq-eqb, ne-eqb, leb-true}
 use lib.Dec.{eqb, ltb, leb}
-use lib.ListN.{length, getD, take, drop, length-append, length-set}
+use lib.ListN.{length, getD, take, drop, length-append}
 use Rattle.format.specs.Numbers.{pick, Form, numbers, c25, lengths, top}
 use Rattle.format.specs.Text.{isText}
 use Rattle.format.specs.Tables.{StringTable, PREFIX, NAMESPACE-NAME, LOCAL-NAME}
@@ -34,6 +34,7 @@ use Rattle.tables.proofs.Laws.{strings-adding, names-are, length-strings, lengt
 use Rattle.events.specs.declared.Text.{Text}
 use Rattle.events.specs.declared.Text.the-variants.{Absent}
 use Rattle.events.specs.Records.{textOf, optionalText}
+use Rattle.tables.proofs.Rooms.{stored-length}
 use Rattle.names.specs.declared.Field.{Field}
 use Rattle.names.specs.declared.Field.the-variants.{Refused}
 use Rattle.names.specs.declared.Parts.{Parts}
@@ -155,10 +156,6 @@ module _ (s w : List ℕ) (c : Counts) (k t : ℕ) (low : 8 ≤ t) (high : t < 1
         (ap (λ (z : Parts). S.got z (next .at) (vocabulary c w)) (name-is c w (tripleOf x) row-ranged))
 
 -- ---- a new name
-stored-length : (w : List ℕ) (t n a b c : ℕ) → length (stored w t n a b c) ≡ length w
-unfolding stored
-stored-length w t n a b c = simp length-set
-
 module _ (c d : Counts) (p : c .prefix ≤ d .prefix) (n : c .namespace ≤ d .namespace) (l : c .local ≤ d .local) where
   ranged-more : (xs : List Triple) (x : Triple) → Ranged c xs → Ranged c (x ∷ []) → Ranged d (xs ++ (x ∷ []))
   ranged-more [] x r q = ranged-kept c d p n l (x ∷ []) q

@@ -20,6 +20,7 @@ use Rattle.tables.proofs.Laws.{vocabulary-start, counted-start, clean-start, in
 use Rattle.events.specs.declared.Event.{Event}
 use Rattle.events.specs.Records.{recordOf}
 use Rattle.events.specs.Words.{kindNumber, textWords, recordWords}
+use Rattle.tables.proofs.Found.{both-true}
 use Rattle.reader.specs.declared.Answer.{Answer}
 use Rattle.reader.specs.declared.Answer.the-variants.{Accepted, Refused}
 use Rattle.steps.specs.declared.State.{State}
@@ -33,7 +34,7 @@ use Rattle.names.specs.Code.{Ranged}
 use Rattle.steps.specs.Code.{standOf, SeenStep, more, quiet, done, stop, seenStep, stepSeen, Good, StepGood}
 use Rattle.reader.specs.RunStages.{fresh, Ending, ended, faulty, endingOf, seenEnding, itemWords, kept, keptFrom, Small, answerNumber, Ran}
 use Rattle.names.proofs.StringLaws.{tests}
-use Rattle.steps.proofs.Places.{both-true, Placed, step-placed}
+use Rattle.steps.proofs.Places.{Placed, step-placed}
 
 -- ---- the first four octets
 abbrev four : List ℕ
@@ -135,7 +136,7 @@ opens s o e =
     (λ _. tests (Opens s) (same (take 4 s) (take 4 header)) _ _
     (λ _. tests (Opens s) (leb 5 (length s)) _ _
     (λ b. tests (Opens s) (ltb (getD s 4 0) 0x80) _ _
-    (λ _. tests (Opens s) (eqb (getD s 4 0) 0) _ _ (λ _. (leb-true _ _ b, leb-true (length s) 16384 (both-true (leb 1 (length s)) (leb (length s) 16384) a))) (λ _. omega arith))
+    (λ _. tests (Opens s) (eqb (getD s 4 0) 0) _ _ (λ _. (leb-true _ _ b, leb-true (length s) 16384 (both-true (leb 1 (length s)) (leb (length s) 16384) a .1))) (λ _. omega arith))
     (λ _. omega arith))
     (λ _. omega arith))
     (λ _. omega arith))

@@ -106,9 +106,6 @@ accepted-words r n d w v (accepted is m) e h g k = λ i. leaving (count i * 2 ^ 
         k ∙ sets-eq (itemWords is) (replicate r 0) 0 (rw (length-replicate {A = ℕ} r 0) (omega arith)) ∙ ap (λ (q : List ℕ). itemWords is ++ q) (rw y (drop-zeros r (13 * length is) f))
         ∙ sym (filled is r (omega (arith, count₀)))
 
-pub zeroed : (x : List ℕ) (n m : ℕ) → x ≡ replicate n 0 → n ≡ m → x ≡ replicate m 0
-zeroed x n m e q = e ∙ ap (λ (k : ℕ). replicate k 0) q
-
 -- ---- by cases
 module _ (s : List ℕ) (r t c : ℕ) where
   pub words-size : false ≡ sized link s → nothing 1 r t c ≡ readWords s r t c

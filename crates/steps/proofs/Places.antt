@@ -1,6 +1,5 @@
 -- A refusal's number is at most 15, and every place that a step tells is within the octets.
 -- Assumes nothing.
-use mathlib.Core.Path.{_≡_, ap}
 use mathlib.Core.Bool.{Bool, true, false, _&&_}
 use mathlib.Core.List.{List}
 use Prim.Native.Nat.{ℕ, suc, _+_, _-_, _*_, _/_, _%_, _≤_, _<_}
@@ -17,15 +16,12 @@ use Rattle.format.specs.Document.{aligned}
 use Rattle.tables.specs.Located.{Located}
 use Rattle.names.specs.Strings.{Got, got, refused, idAt, literalAt, valueAt}
 use Rattle.names.specs.Names.{NameRead, lonePrefix, partsAt, numberedAt, nameAt, declaredAt}
+use Rattle.tables.proofs.Found.{both-true}
 use Rattle.steps.specs.Items.{Stand, Step, more, quiet, done, stop, into, namePadding, startOf, namespaceAt, elementAt, namedAt, attributeAt, chunkAt, commentAt, instructionAt, otherAt, childAt, declaringAt, itemAt}
 use Rattle.steps.specs.Steps.{endsAt, padsAt, documentEnd, endAt, byHalves, step}
 use Rattle.names.proofs.StringLaws.{tests, there-is}
 use Rattle.names.proofs.Places.{Fault, Within, id-within, literal-within, value-within, parts-within, numbered-within, name-within, declared-within}
 use Rattle.steps.proofs.ItemLaws.{end-within}
-
-pub both-true : (a b : Bool) → (a && b) ≡ true → b ≡ true
-both-true true b e = e
-both-true false b e = let z : _≡_ {A = ℕ} 0 1 = ap (λ (t : Bool). pick t 1 0) e in absurd (omega arith)
 
 module _ (s : List ℕ) where
   abbrev pub Placed : Step → Type 0
@@ -143,5 +139,5 @@ module _ (s : List ℕ) where
     unfolding step aligned
     step-placed m h =
         tests Placed (byHalves (m .state .mode) && endsAt s (m .at)) _ _
-        (λ e. end-placed m (m .state .mode) (end-within s (m .at) (both-true (byHalves (m .state .mode)) (endsAt s (m .at)) e)))
+        (λ e. end-placed m (m .state .mode) (end-within s (m .at) (both-true (byHalves (m .state .mode)) (endsAt s (m .at)) e .1)))
         λ _. tests Placed (padsAt s (m .at)) _ _ (λ _. item-placed _ (m .state) (m .state .mode) (omega arith)) (λ _. omega arith)

@@ -41,6 +41,7 @@ use Rattle.choices.specs.Choices.{Wrote, writeId, writeOptional, writeName, wri
 use Rattle.choices.specs.Code.{InOrder, Suits, Fills, Spells, namedOf, tripleFor, pairBehind, declaredBy, Stands, Meets}
 use Rattle.choices.proofs.NameLaws.{names-kept}
 use Rattle.choices.proofs.StringLaws.{spells-suits, spells-stretch}
+use Rattle.tables.proofs.Found.{clash}
 use Rattle.writer.specs.declared.Mode.{Mode}
 use Rattle.writer.specs.declared.Mode.the-variants.{Content, Declaring, Listing}
 use Rattle.writer.specs.declared.State.{State}
@@ -52,7 +53,7 @@ use Rattle.writer.specs.Output.{endOctet}
 use Rattle.writer.specs.Code.{modeOf, stateOf}
 use Rattle.writer.specs.Steps.{coming, known}
 use Rattle.writer.specs.ItemStages.{owes, listEnded, endPut, Fit, movedTo, modeBehindStart, openedTo, closedTo, landing, Near, Lands, holding}
-use Rattle.writer.proofs.WellMade.{clash, stretch-lies, Named, by-kind}
+use Rattle.writer.proofs.WellMade.{stretch-lies, Named, by-kind}
 
 -- ---- the strings of a record that is well made
 module _ (text : List ℕ) where

@@ -23,6 +23,7 @@ use Rattle.events.specs.declared.Kind.{Kind}
 use Rattle.events.specs.declared.Kind.the-variants.{Blank, Namespace, Start, Attribute, Chunk, Comment, Instruction, End}
 use Rattle.events.specs.declared.Event.{Event}
 use Rattle.choices.proofs.Order.{order-start}
+use Rattle.tables.proofs.Found.{both-true}
 use Rattle.writer.specs.declared.Answer.{Answer}
 use Rattle.writer.specs.declared.Answer.the-variants.{Accepted, Refused}
 use Rattle.writer.specs.declared.State.{State}
@@ -50,11 +51,6 @@ bit-settled w l r F.content x b f h = tt
 bit-settled w l r (F.declaring a) x b f h = absurd (true≢false (sym h))
 bit-settled w l r (F.listing any) x b f h = rw f tt
 
-both : (a b : Bool) → (a && b) ≡ true → (a ≡ true) × (b ≡ true)
-both true true h = (refl, refl)
-both true false h = absurd (true≢false (sym h))
-both false b h = absurd (true≢false (sym h))
-
 -- declarations go on only behind one of them, whose own bit is theirs
 bit-behind : (text : List ℕ) (a : Bool) (v : F.State Located) (k : Kind) (e : Event) (b : Bool) → (k ≡ Namespace → a ≡ b) → wellMade text k e ≡ true → goesOn v (eventOf k e) ≡ true
     → Foretold (writeItem link text a (settled v (eventOf k e)) (eventOf k e) .state .mode) b
@@ -63,7 +59,7 @@ bit-behind text a v Blank e b q h g = absurd (true≢false (sym h))
 bit-behind text a v Namespace e b q h g = q refl
 bit-behind text a v Start e b q h g = bit-started a b
 bit-behind text a v Attribute e b q h g = tt
-bit-behind text a v Chunk e b q h g = bit-settled _ _ _ _ _ b refl (both _ _ g .0)
+bit-behind text a v Chunk e b q h g = bit-settled _ _ _ _ _ b refl (both-true _ _ g .0)
 bit-behind text a v Comment e b q h g = bit-settled _ _ _ _ _ b refl g
 bit-behind text a v Instruction e b q h g = bit-settled _ _ _ _ _ b refl g
 bit-behind text a v End e b q h g = tt
@@ -83,7 +79,7 @@ module _ (text : List ℕ) (room at : ℕ) (v : F.State Located) (e : Event) (es
   bit-next : verdict text room bit at v e ≡ 0 → Foretold (itemOf text bit v e .state .mode) (announced es)
   unfolding verdict judge itemOf
   bit-next h =
-      let g = both _ _ (first-test _ _ h) in
+      let g = both-true _ _ (first-test _ _ h) in
       bit-behind text bit v (e .kind) e (announced es) (λ k. announced-on e es k) (g .0) (g .1)
 
   -- ---- one event of a run
@@ -110,9 +106,6 @@ behind-none (written is hs z) room = refl
 behind-none (refusal n p) room = refl
 
 -- ---- room that is cleared
-pub zeroed : (x : List ℕ) (n m : ℕ) → x ≡ replicate n 0 → n ≡ m → x ≡ replicate m 0
-zeroed x n m e q = e ∙ ap (λ (k : ℕ). replicate k 0) q
-
 pub held-room : {n m : ℕ} {out : List ℕ} → n ≡ m → Holds n [] 10 out → Holds m [] 10 out
 held-room q h = rw q at h
 

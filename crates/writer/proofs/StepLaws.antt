@@ -17,6 +17,7 @@ use Rattle.tables.specs.Located.{Located}
 use Rattle.events.specs.declared.Event.{Event}
 use Rattle.choices.specs.Choices.{within}
 use Rattle.choices.proofs.Order.{within-order}
+use Rattle.tables.proofs.Found.{clash, both-true}
 use Rattle.writer.specs.declared.State.{State}
 use Rattle.writer.specs.declared.Step.{Step}
 use Rattle.writer.specs.declared.Step.the-variants.{On, Stop}
@@ -27,7 +28,6 @@ use Rattle.writer.specs.Output.{Holds, Grown}
 use Rattle.writer.specs.Code.{modeOf, faultOf}
 use Rattle.writer.specs.Steps.{Ready, known, itemOf, halvesFor, verdict, Went, Steps}
 use Rattle.writer.specs.ItemStages.{owes, listEnded, endPut, Fit, Laid, Landed, holding}
-use Rattle.writer.proofs.WellMade.{clash, both-true}
 use Rattle.writer.proofs.Faults.{Faultless, fault-none, fault-most, judge-fault, judge-none}
 use Rattle.writer.proofs.OutputLaws.{length-pad, length-halves, end-written, item-written, end-written-behind-list, item-written-behind-list}
 

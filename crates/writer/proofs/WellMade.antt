@@ -1,10 +1,9 @@
 -- What a record that is well made has, by its kind; a stretch that a test takes lies in the text area.
 -- Assumes nothing.
 use mathlib.Core.Path.{_≡_, refl, subst}
-use mathlib.Core.Bool.{Bool, true, false, not, _&&_, _||_}
+use mathlib.Core.Bool.{true, not, _||_}
 use mathlib.Core.List.{List}
 use Prim.Native.Nat.{ℕ, _+_}
-use native.Mathlib.Omega.{arith}
 use borrow.Author.Tests.{ltb-true, leb-true}
 use lib.Dec.{ltb, leb}
 use lib.ListN.{length}
@@ -13,15 +12,9 @@ use Rattle.events.specs.declared.Text.the-variants.{Absent, Empty, Stretch, Xml
 use Rattle.events.specs.declared.Kind.{Kind}
 use Rattle.events.specs.declared.Kind.the-variants.{Blank, Namespace, Start, Attribute, Chunk, Comment, Instruction, End}
 use Rattle.events.specs.declared.Event.{Event}
+use Rattle.tables.proofs.Found.{clash, both-true}
 use Rattle.writer.specs.Events.{isAbsent, isStretch, isPrefix, isNamespace, isValue, isName, noName, wellMade}
 use Rattle.writer.specs.Code.{Lies, Placed}
-
-pub clash : {X : Type 0} → false ≡ true → X
-clash e = absurd (let y : _≡_ {A = ℕ} 0 1 = cc in omega arith)
-
-pub both-true : (a b : Bool) → (a && b) ≡ true → (a ≡ true) × (b ≡ true)
-both-true true b e = (refl, e)
-both-true false b e = clash e
 
 -- ---- strings
 module _ (text : List ℕ) where

@@ -5,7 +5,8 @@ use native.Mathlib.Omega.{arith}
 use borrow.Author.Needs.{needs}
 use borrow.Author.Tests.{not-true, not-false}
 use lib.ListN.{length}
-use Rattle.reader.proofs.WordLaws.{zeroed, words-size, words-tables, words-counts, words-refused, words-accepted}
+use Rattle.tables.proofs.Zeros.{zeroed}
+use Rattle.reader.proofs.WordLaws.{words-size, words-tables, words-counts, words-refused, words-accepted}
 use Rattle.reader.proofs.run.read_words.Statement.{statement}
 use Rattle.reader.proofs.run.read_words.Tie as tie
 

@@ -3,7 +3,8 @@
 use borrow.Author.Needs.{needs}
 use native.Mathlib.Omega.{arith}
 use lib.ListN.{length}
-use Rattle.writer.proofs.RunLaws.{zeroed, held-room}
+use Rattle.tables.proofs.Zeros.{zeroed}
+use Rattle.writer.proofs.RunLaws.{held-room}
 use Rattle.writer.proofs.PhaseLaws.{going-size, going-room, going-start}
 use Rattle.writer.proofs.run.prepared.Statement.{statement}
 use Rattle.writer.proofs.run.prepared.Tie as tie

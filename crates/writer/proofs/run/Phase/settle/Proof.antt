@@ -3,7 +3,7 @@
 use borrow.Author.Needs.{needs}
 use native.Mathlib.Omega.{arith}
 use lib.ListN.{length}
-use Rattle.writer.proofs.RunLaws.{zeroed}
+use Rattle.tables.proofs.Zeros.{zeroed}
 use Rattle.writer.proofs.PhaseLaws.{settles-accepted, settles-refused}
 use Rattle.writer.proofs.run.Phase.settle.Statement.{statement}
 use Rattle.writer.proofs.run.Phase.settle.Tie as tie
