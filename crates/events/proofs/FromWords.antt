@@ -2,7 +2,7 @@
 -- Assumes nothing.
 use mathlib.Core.Path.{_≡_, refl, ap, ap₂, _∙_}
 use mathlib.Core.Bool.{true, _&&_}
-use mathlib.Core.List.{List, [], _∷_, _++_, append-nil}
+use mathlib.Core.List.{List, [], _∷_, _++_}
 use Prim.Native.Nat.{ℕ, zero, suc, _+_, _*_, _/_, _<_}
 use native.Mathlib.Omega.{arith}
 use native.Mathlib.Nat.{add-assoc}
@@ -103,6 +103,3 @@ unfolding recordsOf
 records-back es rest l h =
     let n : length (rowWords es ++ rest) / 13 ≡ length es = simp (length-append, row-length) (omega arith) in
     rw n (from-back es rest h)
-
-pub row-back : (es : List Event) → AllKinded es → recordsOf (rowWords es) ≡ es
-row-back es h = rw append-nil at (records-back es [] (omega arith) h)

@@ -7,12 +7,12 @@ use native.Mathlib.Omega.{arith}
 use borrow.Author.Tests.{lt-ltb, le-ltb}
 use lib.ListN.{length, take, drop}
 use lib.Pow.{pow-pos, pow-add}
-use Rattle.format.specs.Numbers.{Form, form, coded, lengths, numbers, c25, octets, spell, sizes, rooms}
+use Rattle.format.specs.Numbers.{Form, form, octets, spell, sizes, rooms}
 use Rattle.fields.specs.Put.{Puts}
 use Rattle.fields.proofs.Laws.{case, octets-length}
 use Rattle.fields.proofs.FirstOctet.{doubled}
-use Rattle.fields.proofs.Lengths.{half, forms-are as length-forms-are}
-use Rattle.fields.proofs.Numbers.{behindCode, quarter, forms-are as number-forms-are}
+use Rattle.fields.proofs.Lengths.{half}
+use Rattle.fields.proofs.Numbers.{behindCode, quarter}
 
 -- behind the first octet each form has at most m
 abbrev pub AtMost : ℕ → List Form → Type 0
@@ -25,16 +25,6 @@ spell-most m [] lead v k = omega arith
 spell-most m (form span room more size ∷ fs) lead v k =
     case v size (λ y. rw (lt-ltb v size y) (let n = octets-length more v in omega arith))
     (λ n. rw (le-ltb v size n) (spell-most m fs (lead + room) (v - size) (k .1)))
-
-pub lengths-most : (bit lead v : ℕ) → bit ≤ 7 → length (spell (lengths bit) lead v) ≤ 5
-lengths-most bit lead v u = rw (length-forms-are bit u) (spell-most 4 _ lead v (omega arith))
-
-pub numbers-most : (bit lead v : ℕ) → bit ≤ 6 → length (spell (numbers bit) lead v) ≤ 4
-numbers-most bit lead v u = rw (number-forms-are bit u) (spell-most 3 _ lead v (omega arith))
-
-pub c25-most : (lead v : ℕ) → length (spell c25 lead v) ≤ 3
-unfolding c25 coded
-c25-most lead v = spell-most 2 _ lead v (omega arith)
 
 -- k forms are passed over
 passed : (k : ℕ) (fs : List Form) (lead v w : ℕ) → v ≡ sizes (take k fs) + w → spell fs lead v ≡ spell (drop k fs) (lead + rooms (take k fs)) w

@@ -1,4 +1,4 @@
--- Whether an element has attributes, record by record: a declaration leaves the question as it is, the Start leaves it to the next record; and what a look at the records comes to.
+-- Whether an element has attributes, record by record: a declaration leaves the question as it is; and what a look at the records comes to.
 -- Assumes nothing.
 use mathlib.Core.Path.{_≡_, sym, ap, _∙_}
 use mathlib.Core.Bool.{Bool, true, false, true≢false}
@@ -7,21 +7,17 @@ use Prim.Native.Nat.{ℕ, suc, _+_, _<_}
 use native.Mathlib.Numerals.{add-one}
 use borrow.Author.Tests.{ltb-true, ltb-false}
 use lib.ListN.{length, drop, drop-of-length-le}
-use Rattle.events.specs.declared.Kind.the-variants.{Namespace, Start}
+use Rattle.events.specs.declared.Kind.the-variants.{Namespace}
 use Rattle.events.specs.declared.Event.{Event}
 use Rattle.writer.specs.declared.ahead.Look.{Look}
 use Rattle.writer.specs.declared.ahead.Look.the-variants.{Before, Behind, Known}
-use Rattle.writer.specs.Writing.{attributeNext, announced}
+use Rattle.writer.specs.Writing.{announced}
 use Rattle.writer.specs.Ahead.{decided, onward}
 
 module _ (e : Event) (es : List Event) where
   pub announced-on : e .kind ≡ Namespace → announced (e ∷ es) ≡ announced es
   unfolding announced
   announced-on h = rw h
-
-  pub announced-start : e .kind ≡ Start → announced (e ∷ es) ≡ attributeNext es
-  unfolding announced
-  announced-start h = rw h
 
 -- ---- a look at the records from number n on
 pub look-inside : (a : Look) (n end : ℕ) → onward a n end ≡ true → n < end
