@@ -54,29 +54,34 @@ module _ (s : List ℕ) (bytes : AreOctets s) where
     by-room table n c true false e = absurd (let z : _≡_ {A = ℕ} 0 1 = cc in omega arith)
     by-room table n c false d e = absurd (let z : _≡_ {A = ℕ} 0 1 = cc in omega arith)
 
-    -- 12. READ ACCEPTS what the rules write, and the events in the row are those.
+    -- 13. READ ACCEPTS what the rules write, and the events in the row are those.
     pub read-accepts : (table n : ℕ) (c : Counts) → readOf s room table .answer ≡ Accepted n c → Handed s room (readOf s room table)
     unfolding readOf
     read-accepts table n c e = by-room table n c (sized link s) (eqb table words) e
 
-    --     And all that the rules write, if there is a record for each event and the table room is right.
-    pub written-is-read : (items : List (Item (List ℕ))) (z : State (List ℕ)) → Writes items z s → length items ≤ room → Handed s room (readOf s room words)
+    --     And all that the rules write, if there is a record for each event and the table room is right; the events in the row are those of the items, and the
+    --     tables in the words those that the rules know at the end.
+    pub written-is-read : (items : List (Item (List ℕ))) (z : State (List ℕ)) → Writes items z s → length items ≤ room
+        → (h : Handed s room (readOf s room words)) × (map (plain s) (h .events) ≡ items) × (plainState s (h .last) ≡ z)
     unfolding readOf
     written-is-read items z w h =
         let a = Whole.accepts s items z w room h in
-        let y = accepted-sized s room (a .events) (a .last) (a .reads) in
-        record {
-          events = a .events;
-          last = a .last .state;
-          is = rw (y, a .reads);
-          writes = rw (a .are, a .end-is) w;
-        }
+        let y = accepted-sized s room (a .events) (a .last) (a .reads) in (
+          record {
+            events = a .events;
+            last = a .last .state;
+            is = rw (y, a .reads);
+            writes = rw (a .are, a .end-is) w;
+          },
+          a .are,
+          a .end-is,
+        )
 
   from-number : (a : Result) → Whole.Means s bytes a → numberOf a ≡ 0 → Written s
   from-number (accepted is m) w e = record { items = map (plain s) is; last = plainState s (m .state); writes = w }
   from-number (refusal n p) w e = let h = w .0 in absurd (omega arith)
 
-  -- 13. THE CHECK answers 0 for what the rules write, and for nothing else.
+  -- 14. THE CHECK answers 0 for what the rules write, and for nothing else.
   pub check-accepts : checkOf s ≡ 0 → Written s
   unfolding checkOf
   check-accepts e = from-number (reading s 32768) (Whole.means s bytes 32768) e
@@ -86,7 +91,7 @@ module _ (s : List ℕ) (bytes : AreOctets s) where
       let a = Whole.accepts s items z w (32768 + length items) (omega arith) in
       check-needs-none s bytes (32768 + length items) (omega arith) ∙ ap numberOf (a .reads)
 
-  -- 14. READ INTO WORDS: what is accepted is left as the words of what `read` leaves; so the rules write s from the events in these words (12).
+  -- 15. READ INTO WORDS: what is accepted is left as the words of what `read` leaves; so the rules write s from the events in these words (13).
   module _ (r t : ℕ) where
     abbrev left : Outcome
     left = readOf s (r / 13) t
@@ -137,14 +142,14 @@ module _ (s : List ℕ) (bytes : AreOctets s) where
   unfolding readWords
   written-is-worded items z w r h =
       let a = Whole.accepts s items z w (r / 13) h in
-      (written-is-read (r / 13) items z w h, rw (accepted-sized s (r / 13) (a .events) (a .last) (a .reads)))
+      (written-is-read (r / 13) items z w h .0, rw (accepted-sized s (r / 13) (a .events) (a .last) (a .reads)))
 
--- 15. DEMAND 1: what a call answers and leaves depends on the octets, and on how much room is lent, but not on what stood in it: e and t before one call, f and u
+-- 16. DEMAND 1: what a call answers and leaves depends on the octets, and on how much room is lent, but not on what stood in it: e and t before one call, f and u
 --     before another.
 module _ (s : List ℕ) (e f : List Event) (t u : List ℕ) (a b : Answer) (e′ f′ : List Event) (t′ u′ : List ℕ) where
   pub whatever-stood : length e ≡ length f → length t ≡ length u → Leaves a e′ t′ (readOf s (length e) (length t)) → Leaves b f′ u′ (readOf s (length f) (length u))
       → (a ≡ b) × (e′ ≡ f′) × (t′ ≡ u′)
-  whatever-stood l m x y = let y′ = rw (← l, ← m) at y in (x .0 ∙ sym (y′ .0), x .1 ∙ sym (y′ .1), x .2 ∙ sym (y′ .2))
+  whatever-stood l m x y = let y′ = rw (← l, ← m) at y in (x .0 ∙ sym (y′ .0), x .2 ∙ sym (y′ .2), x .3 ∙ sym (y′ .3))
 
 --     And a second call on what the first left, whose lengths are what they were, answers and leaves the same.
 pub read-twice : (s : List ℕ) (e e′ e″ : List Event) (t t′ t″ : List ℕ) (a b : Answer) → length e′ ≡ length e → length t′ ≡ length t

@@ -1,28 +1,27 @@
--- The writer's choices for strings and names: what it writes is what the rules write, and its tables are theirs.
-use mathlib.Core.Path.{_≡_, refl, ap, _∙_, subst}
+-- The choices that 01 fixes, for strings and names: the octets that go with each are what the rules write, and the tables are theirs.
+use mathlib.Core.Path.{_≡_, refl, sym, ap, _∙_, subst}
 use mathlib.Core.Bool.{Bool, true, false, not}
-use mathlib.Core.Option.{Option, none, some, Option·map}
-use mathlib.Core.List.{List, [], _∷_, _++_, map}
+use mathlib.Core.Option.{Option, none, some}
+use mathlib.Core.List.{List, [], _∷_, _++_}
 use Prim.Native.Nat.{ℕ, zero, suc, _+_, _-_, _*_, _≤_, _<_}
 use native.Mathlib.Omega.{arith}
 use borrow.Author.Tests.{ltb-true, eq-eqb, ne-eqb}
 use lib.Dec.{eqb, ltb, leb}
-use lib.ListN.{length, getD, length-append, length-map, List·getD-append}
+use lib.ListN.{length, getD, length-append, List·getD-append}
 use lib.Seq.{getD-append-seam}
 use Rattle.format.specs.Numbers.{pick, coded, spell, sizes, lengths, c25, top}
-use Rattle.format.specs.Text.{isText}
-use Rattle.format.specs.Events.{Name, nameMap, How, spelled, numbered, NameHow, inParts, byNumber}
-use Rattle.format.specs.Tables.{StringTable, PREFIX, NAMESPACE-NAME, LOCAL-NAME, NameTable, ELEMENT-NAME, ATTRIBUTE-NAME, Triple, noTriple, Vocabulary, strings, names, place, extended, adding, addingName, holds, holdsName, Entry, partOf, nameOf, vocabularyMap, Limits}
+use Rattle.format.specs.Events.{Name, How, spelled, numbered, NameHow, inParts, byNumber}
+use Rattle.format.specs.Tables.{StringTable, PREFIX, NAMESPACE-NAME, LOCAL-NAME, NameTable, ELEMENT-NAME, ATTRIBUTE-NAME, Triple, noTriple, Vocabulary, strings, names, place, extended, adding, addingName, holdsName, Entry, partOf, nameOf, Limits, InLimits}
 use Rattle.format.specs.Strings.{withLength, Spelling, bit, Layout, c14, keeping, Identifying, id-spelled, id-numbered, Optional, absent, present, Literal, literal-spelled, literal-numbered, Value, value-empty, value}
 use Rattle.format.specs.Names.{has, NameLayout, Named, in-parts, by-number}
 use Rattle.format.specs.Uses.{sameNames}
 use Rattle.fields.proofs.Laws.{case}
-use Rattle.tables.specs.Located.{Located, octetsOf, plainWords}
 use Rattle.tables.specs.Search.{numberIn, numberOfTriple}
 use Rattle.tables.proofs.Laws.{strings-adding, names-adding, holds-number, number-entry, holds-name-number, name-number-entry}
-use Rattle.choices.specs.Choices.{Wrote, writeId, writeOptional, writeName, worthAdding, writeLiteral, writeValue}
-use Rattle.tables.proofs.Found.{both-true}
-use Rattle.demands.proofs.Words.{strings-map, length-strings, names-map, adding-map, keeping-map, adding-name-map}
+use Rattle.choices.specs.Choices.{worthAdding}
+use Rattle.choices.specs.Chosen.{Chose, chooseId, chooseOptional, chooseName, chooseLiteral, chooseValue}
+use Rattle.tables.proofs.Found.{clash, both-true}
+use Rattle.demands.specs.Permitted.{PermitsId, id-new, id-entry, PermitsIfAny, not-there, there, PermitsString, string-spelled, string-entry, PermitsValue, value-none, value-spelled, value-entry, PermitsName, name-parts, name-entry}
 use Rattle.demands.proofs.Growing.{names-adding-name, strings-adding-name}
 
 -- ---- tables grow, and stay within the limits
@@ -62,12 +61,7 @@ adding-name-grows v t x =
       names-grow = λ u. let e = ap length (names-adding-name v t x u) in let g = extended-grows (sameNames t u) (names v u) x in omega arith;
     }
 
--- no table is over its limit
-pub record Fits (L : Limits) {S : Type 0} (v : Vocabulary S) : Type 0 where
-  pub few : (t : StringTable) → length (strings v t) ≤ L .entries
-  pub few-names : (t : NameTable) → length (names v t) ≤ L .entries
-
-pub fits-before : {L : Limits} {S : Type 0} {v w : Vocabulary S} → Grows v w → Fits L w → Fits L v
+pub fits-before : {L : Limits} {S : Type 0} {v w : Vocabulary S} → Grows v w → InLimits L w → InLimits L v
 fits-before g f =
     record {
       few = λ t. let a = g .strings-grow t in let b = f .few t in omega arith;
@@ -80,134 +74,164 @@ one-longer v t x =
     let l = length-append (strings v t) (x ∷ []) in
     omega arith
 
--- ---- an identifying string is held, or new
-module _ (text : List ℕ) where
-  pub data IdCase (t : StringTable) (v : Vocabulary Located) (x : Located) : Wrote How → Type 0 where
-    held : {j : ℕ} → Entry (strings (plainWords text v) t) j [] (octetsOf text x) → j < length (strings v t)
-        → IdCase t v x (record { octets = spell c25 0x80 (suc j - 1); how = numbered (suc j); number = suc j; words = v })
-    new : holds (strings (plainWords text v) t) (octetsOf text x) ≡ false
-        → IdCase t v x (record { octets = withLength (lengths 2) 0 (octetsOf text x); how = spelled true; number = suc (length (strings v t)); words = adding v t x })
+-- ---- the octets of a string or a name, from how it is written
+abbrev pub idOctets : List ℕ → How → List ℕ
+idOctets x (spelled added) = withLength (lengths 2) 0 x
+idOctets x (numbered k) = spell c25 0x80 (k - 1)
 
-  -- what a number other than 0 says
-  found : (t : StringTable) (v : Vocabulary Located) (x : Located) (n : ℕ) → numberIn (map (octetsOf text) (strings v t)) (octetsOf text x) ≡ suc n
-      → Entry (strings (plainWords text v) t) n [] (octetsOf text x) × (n < length (strings v t))
-  found t v x n e =
-      let en = rw e at (number-entry (map (octetsOf text) (strings v t)) [] (octetsOf text x) (λ z. absurd (omega arith))) in
-      let m = en .made in
-      let y : suc n - 1 ≡ n = omega arith in
-      let l = length-map (strings v t) (octetsOf text) in
-      (rw (strings-map (octetsOf text) v t) (rw y at en), omega arith)
+abbrev pub optionalOctets : Option (List ℕ) → Option How → List ℕ
+optionalOctets none h = []
+optionalOctets (some x) none = []
+optionalOctets (some x) (some h) = idOctets x h
 
-  id-from : (t : StringTable) (v : Vocabulary Located) (x : Located) (k : ℕ) → numberIn (map (octetsOf text) (strings v t)) (octetsOf text x) ≡ k
-      → IdCase t v x (pick (eqb k 0)
-      (record { octets = withLength (lengths 2) 0 (octetsOf text x); how = spelled true; number = suc (length (strings v t)); words = adding v t x })
-      (record { octets = spell c25 0x80 (k - 1); how = numbered k; number = k; words = v }))
-  id-from t v x zero e = new (rw (strings-map (octetsOf text) v t) (holds-number (map (octetsOf text) (strings v t)) (octetsOf text x) ∙ ap (λ (k : ℕ). not (eqb k 0)) e))
-  id-from t v x (suc n) e = let y = found t v x n e in rw (ne-eqb (suc n) 0 (λ z. omega arith)) (held {j = n} (y .0) (y .1))
+abbrev pub literalOctets : Layout → List ℕ → How → List ℕ
+literalOctets q x (spelled added) = withLength (lengths (q .lengthBit)) (q .spelledBits + q .addBit * bit added) x
+literalOctets q x (numbered k) = spell (q .numberForms) (q .numberedBits) (k - 1)
 
-  pub id-case : (t : StringTable) (v : Vocabulary Located) (x : Located) → IdCase t v x (writeId text t v x)
-  unfolding writeId
-  id-case t v x = id-from t v x (numberIn (map (octetsOf text) (strings v t)) (octetsOf text x)) refl
+abbrev pub valueOctets : List ℕ → How → List ℕ
+valueOctets x (spelled added) = literalOctets c14 x (spelled added)
+valueOctets x (numbered zero) = 0xFF ∷ []
+valueOctets x (numbered (suc k)) = literalOctets c14 x (numbered (suc k))
 
-  pub id-grows : {t : StringTable} {v : Vocabulary Located} {x : Located} {w : Wrote How} → IdCase t v x w → Grows v (w .words)
-  id-grows {v = v} (held en h) = same-size v
-  id-grows {t} {v} {x} (new h) = adding-grows v t x
+abbrev pub nameOctets : NameLayout → ℕ → Name (List ℕ) → NameHow → List ℕ
+nameOctets q lead x (inParts hp hn hl) =
+    (lead + q .inPartsBits + 2 * has (x .prefix) + has (x .namespace)) ∷ (optionalOctets (x .prefix) hp ++ (optionalOctets (x .namespace) hn ++ idOctets (x .local) hl))
+nameOctets q lead x (byNumber k) = spell (q .numberForms) lead (k - 1)
 
-  module _ (L : Limits) (small : L .entries ≤ top) where
-    pub id-rule : {t : StringTable} {v : Vocabulary Located} {x : Located} {w : Wrote How} → Spelling (lengths 2) (octetsOf text x) → Fits L (w .words) → IdCase t v x w
-        → Identifying L t (plainWords text v) (octetsOf text x) (w .how) (w .number) (w .octets) (plainWords text (w .words))
-    id-rule {t} {v} sp f (held {j = j} en h) = let z : suc j - 1 ≡ j = omega arith in let a = f .few t in rw z (id-numbered {k = j} (omega arith) en)
-    id-rule {t} {v} {x} sp f (new h) =
-        let l = length-strings (octetsOf text) v t in
-        let o = one-longer v t x in
-        let a = f .few t in
-        rw (adding-map (octetsOf text) v t x, ← l) (id-spelled sp h (omega arith))
+-- ---- an identifying string is held, or new: 01's choice is a permitted one
+abbrev IdCase : StringTable → Vocabulary (List ℕ) → List ℕ → Chose How → Type 0
+IdCase t v x c = PermitsId t v x (c .how) (c .number) (c .words)
 
-  -- one that may be absent
-  pub data OptionalCase (t : StringTable) (v : Vocabulary Located) : Option Located → Wrote (Option How) → Type 0 where
-    is-absent : OptionalCase t v none (record { octets = []; how = none; number = 0; words = v })
-    is-present : {x : Located} {w : Wrote How} → IdCase t v x w → OptionalCase t v (some x) (record { octets = w .octets; how = some (w .how); number = w .number; words = w .words })
+-- what a number other than 0 says
+found : (t : StringTable) (v : Vocabulary (List ℕ)) (x : List ℕ) (n : ℕ) → numberIn (strings v t) x ≡ suc n → Entry (strings v t) n [] x
+found t v x n e =
+    let en = rw e at (number-entry (strings v t) [] x (λ z. absurd (omega arith))) in
+    let y : suc n - 1 ≡ n = omega arith in
+    rw y at en
 
-  pub optional-case : (t : StringTable) (v : Vocabulary Located) (x : Option Located) → OptionalCase t v x (writeOptional text t v x)
-  unfolding writeOptional
-  optional-case t v none = is-absent
-  optional-case t v (some x) = is-present (id-case t v x)
+module _ (t : StringTable) (v : Vocabulary (List ℕ)) (x : List ℕ) where
+  id-from : (k : ℕ) → numberIn (strings v t) x ≡ k
+      → IdCase t v x (pick (eqb k 0) (record { how = spelled true; number = suc (length (strings v t)); words = adding v t x }) (record { how = numbered k; number = k; words = v }))
+  id-from zero e = id-new (holds-number (strings v t) x ∙ ap (λ (k : ℕ). not (eqb k 0)) e)
+  id-from (suc n) e = rw (ne-eqb (suc n) 0 (λ z. omega arith)) (id-entry {k = n} (found t v x n e))
 
-  pub optional-grows : {t : StringTable} {v : Vocabulary Located} {x : Option Located} {w : Wrote (Option How)} → OptionalCase t v x w → Grows v (w .words)
-  optional-grows {v = v} is-absent = same-size v
-  optional-grows (is-present c) = id-grows c
+  pub id-case : IdCase t v x (chooseId t v x)
+  unfolding chooseId
+  id-case = id-from (numberIn (strings v t) x) refl
 
-  -- what can be spelled, if it is there
-  abbrev pub SpellingIfAny : Option Located → Type 0
-  SpellingIfAny none = Unit {0}
-  SpellingIfAny (some x) = Spelling (lengths 2) (octetsOf text x)
+pub id-grows : {t : StringTable} {v w : Vocabulary (List ℕ)} {x : List ℕ} {h : How} {n : ℕ} → PermitsId t v x h n w → Grows v w
+id-grows {v = v} (id-entry en) = same-size v
+id-grows {t} {v} {x = x} (id-new h) = adding-grows v t x
 
-  module _ (L : Limits) (small : L .entries ≤ top) where
-    pub optional-rule : {t : StringTable} {v : Vocabulary Located} {x : Option Located} {w : Wrote (Option How)} → SpellingIfAny x → Fits L (w .words) → OptionalCase t v x w
-        → Optional L t (plainWords text v) (Option·map (octetsOf text) x) (w .how) (w .number) (w .octets) (plainWords text (w .words))
-    optional-rule sp f is-absent = absent
-    optional-rule sp f (is-present c) = present (id-rule L small sp f c)
+module _ (L : Limits) (small : L .entries ≤ top) where
+  pub id-rule : {t : StringTable} {v w : Vocabulary (List ℕ)} {x : List ℕ} {h : How} {n : ℕ} → Spelling x → InLimits L w → PermitsId t v x h n w → Identifying L t v x h n (idOctets x h) w
+  id-rule {t} {v} sp f (id-entry {k = j} en) = let z : suc j - 1 ≡ j = omega arith in let a = f .few t in let h = en .made in rw z (id-numbered {k = j} (omega arith) en)
+  id-rule {t} {v} {x = x} sp f (id-new h) = let o = one-longer v t x in let a = f .few t in id-spelled sp h (omega arith)
 
-  -- ---- C.14, C.15
-  pub data LiteralCase (L : Limits) (q : Layout) (t : StringTable) (v : Vocabulary Located) (x : Located) : Wrote How → Type 0 where
-    lit-held : {j : ℕ} → Entry (strings (plainWords text v) t) j [] (octetsOf text x) → j < length (strings v t)
-        → LiteralCase L q t v x (record { octets = spell (q .numberForms) (q .numberedBits) (suc j - 1); how = numbered (suc j); number = suc j; words = v })
-    lit-new : {added : Bool} → (added ≡ true → length (strings v t) < L .entries)
-        → LiteralCase L q t v x (record { octets = withLength (lengths (q .lengthBit)) (q .spelledBits + q .addBit * bit added) (octetsOf text x); how = spelled added; number = 0; words = keeping added v t x })
+-- one that may be absent
+abbrev OptionalCase : StringTable → Vocabulary (List ℕ) → Option (List ℕ) → Chose (Option How) → Type 0
+OptionalCase t v x c = PermitsIfAny t v x (c .how) (c .number) (c .words)
 
-  module _ (L : Limits) (q : Layout) (t : StringTable) (v : Vocabulary Located) (x : Located) where
-    literal-from : (k : ℕ) (added : Bool) → numberIn (map (octetsOf text) (strings v t)) (octetsOf text x) ≡ k → (added ≡ true → length (strings v t) < L .entries)
-        → LiteralCase L q t v x (pick (eqb k 0)
-        (record { octets = withLength (lengths (q .lengthBit)) (q .spelledBits + q .addBit * bit added) (octetsOf text x); how = spelled added; number = 0; words = keeping added v t x })
-        (record { octets = spell (q .numberForms) (q .numberedBits) (k - 1); how = numbered k; number = k; words = v }))
-    literal-from zero added e r = lit-new r
-    literal-from (suc n) added e r = let y = found t v x n e in rw (ne-eqb (suc n) 0 (λ z. omega arith)) (lit-held {j = n} (y .0) (y .1))
+pub optional-case : (t : StringTable) (v : Vocabulary (List ℕ)) (x : Option (List ℕ)) → OptionalCase t v x (chooseOptional t v x)
+unfolding chooseOptional
+optional-case t v none = not-there
+optional-case t v (some x) = there (id-case t v x)
 
-    worth-room : worthAdding L (strings v t) (octetsOf text x) ≡ true → length (strings v t) < L .entries
-    unfolding worthAdding
-    worth-room e = ltb-true (length (strings v t)) (L .entries) (both-true (leb (length (octetsOf text x)) 5) (ltb (length (strings v t)) (L .entries)) e .1)
+pub optional-grows : {t : StringTable} {v w : Vocabulary (List ℕ)} {x : Option (List ℕ)} {h : Option How} {n : ℕ} → PermitsIfAny t v x h n w → Grows v w
+optional-grows {v = v} not-there = same-size v
+optional-grows (there c) = id-grows c
 
-    pub literal-case : LiteralCase L q t v x (writeLiteral L q text t v x)
-    unfolding writeLiteral
-    literal-case = literal-from (numberIn (map (octetsOf text) (strings v t)) (octetsOf text x)) (worthAdding L (strings v t) (octetsOf text x)) refl worth-room
+-- what can be spelled, if it is there
+abbrev pub SpellingIfAny : Option (List ℕ) → Type 0
+SpellingIfAny none = Unit {0}
+SpellingIfAny (some x) = Spelling x
 
-  pub literal-grows : {L : Limits} {q : Layout} {t : StringTable} {v : Vocabulary Located} {x : Located} {w : Wrote How} → LiteralCase L q t v x w → Grows v (w .words)
-  literal-grows {v = v} (lit-held en h) = same-size v
-  literal-grows {t = t} {v = v} {x = x} (lit-new {added = a} r) = keeping-grows a v t x
+module _ (L : Limits) (small : L .entries ≤ top) where
+  pub optional-rule : {t : StringTable} {v w : Vocabulary (List ℕ)} {x : Option (List ℕ)} {h : Option How} {n : ℕ} → SpellingIfAny x → InLimits L w → PermitsIfAny t v x h n w
+      → Optional L t v x h n (optionalOctets x h) w
+  optional-rule sp f not-there = absent
+  optional-rule sp f (there c) = present (id-rule L small sp f c)
 
-  module _ (L : Limits) (small : L .entries ≤ top) where
-    pub literal-rule : {q : Layout} {t : StringTable} {v : Vocabulary Located} {x : Located} {w : Wrote How} → top ≤ sizes (q .numberForms) → Spelling (lengths (q .lengthBit)) (octetsOf text x) → Fits L v
-        → LiteralCase L q t v x w → Literal L q t (plainWords text v) (octetsOf text x) (w .how) (w .octets) (plainWords text (w .words))
-    literal-rule {t = t} big sp f (lit-held {j = j} en h) = let z : suc j - 1 ≡ j = omega arith in let a = f .few t in rw z (literal-numbered {k = j} (omega arith) (omega arith) en)
-    literal-rule {q} {t} {v} {x} big sp f (lit-new {added = a} r) =
-        let l = length-strings (octetsOf text) v t in
-        rw (keeping-map (octetsOf text) a v t x) (literal-spelled sp (λ e. let y = r e in omega arith))
+-- ---- C.14, C.15
+pub data LiteralCase (L : Limits) (t : StringTable) (v : Vocabulary (List ℕ)) (x : List ℕ) : Chose How → Type 0 where
+  lit-held : {j : ℕ} → Entry (strings v t) j [] x → LiteralCase L t v x (record { how = numbered (suc j); number = suc j; words = v })
+  lit-new : {added : Bool} → (added ≡ true → length (strings v t) < L .entries) → LiteralCase L t v x (record { how = spelled added; number = 0; words = keeping added v t x })
 
-  -- ---- values
-  pub data ValueCase (L : Limits) (t : StringTable) (v : Vocabulary Located) (x : Located) : Wrote How → Type 0 where
-    is-empty : octetsOf text x ≡ [] → ValueCase L t v x (record { octets = 0xFF ∷ []; how = numbered 0; number = 0; words = v })
-    is-literal : {w : Wrote How} → 0 < length (octetsOf text x) → LiteralCase L c14 t v x w → ValueCase L t v x w
+module _ (L : Limits) (t : StringTable) (v : Vocabulary (List ℕ)) (x : List ℕ) where
+  literal-from : (k : ℕ) (added : Bool) → numberIn (strings v t) x ≡ k → (added ≡ true → length (strings v t) < L .entries)
+      → LiteralCase L t v x (pick (eqb k 0) (record { how = spelled added; number = 0; words = keeping added v t x }) (record { how = numbered k; number = k; words = v }))
+  literal-from zero added e r = lit-new r
+  literal-from (suc n) added e r = rw (ne-eqb (suc n) 0 (λ z. omega arith)) (lit-held {j = n} (found t v x n e))
 
-  value-from : (L : Limits) (t : StringTable) (v : Vocabulary Located) (x : Located) (o : List ℕ) → octetsOf text x ≡ o
-      → ValueCase L t v x (pick (eqb (length o) 0) (record { octets = 0xFF ∷ []; how = numbered 0; number = 0; words = v }) (writeLiteral L c14 text t v x))
-  value-from L t v x [] e = is-empty e
-  value-from L t v x (b ∷ o) e = let l = ap length e in rw (ne-eqb (length (b ∷ o)) 0 (λ z. omega arith)) (is-literal (omega arith) (literal-case L c14 t v x))
+  worth-room : worthAdding L (strings v t) x ≡ true → length (strings v t) < L .entries
+  unfolding worthAdding
+  worth-room e = ltb-true (length (strings v t)) (L .entries) (both-true (leb (length x) 5) (ltb (length (strings v t)) (L .entries)) e .1)
 
-  pub value-case : (L : Limits) (t : StringTable) (v : Vocabulary Located) (x : Located) → ValueCase L t v x (writeValue L text t v x)
-  unfolding writeValue
-  value-case L t v x = value-from L t v x (octetsOf text x) refl
+  pub literal-case : LiteralCase L t v x (chooseLiteral L t v x)
+  unfolding chooseLiteral
+  literal-case = literal-from (numberIn (strings v t) x) (worthAdding L (strings v t) x) refl worth-room
 
-  pub value-grows : {L : Limits} {t : StringTable} {v : Vocabulary Located} {x : Located} {w : Wrote How} → ValueCase L t v x w → Grows v (w .words)
-  value-grows {v = v} (is-empty e) = same-size v
-  value-grows (is-literal h c) = literal-grows c
+pub literal-permits : {L : Limits} {t : StringTable} {v : Vocabulary (List ℕ)} {x : List ℕ} {c : Chose How} → LiteralCase L t v x c → PermitsString t v x (c .how) (c .words)
+literal-permits (lit-held en) = string-entry en
+literal-permits (lit-new {added = a} r) = string-spelled a
 
-  module _ (L : Limits) (small : L .entries ≤ top) where
-    -- a text that is not too long for any of its lengths
-    pub value-rule : {t : StringTable} {v : Vocabulary Located} {x : Located} {w : Wrote How} → isText (octetsOf text x) ≡ true → length (octetsOf text x) ≤ 16384 → Fits L v → ValueCase L t v x w
-        → Value L t (plainWords text v) (octetsOf text x) (w .how) (w .octets) (plainWords text (w .words))
-    unfolding c14 sizes coded lengths c25
-    value-rule ok short f (is-empty e) = rw e value-empty
-    value-rule ok short f (is-literal h c) = value (literal-rule L small (omega arith) (record { some = h; fits = omega arith; formed = ok }) f c)
+pub literal-grows : {t : StringTable} {v w : Vocabulary (List ℕ)} {x : List ℕ} {h : How} → PermitsString t v x h w → Grows v w
+literal-grows {v = v} (string-entry en) = same-size v
+literal-grows {t} {v} {x = x} (string-spelled a) = keeping-grows a v t x
+
+module _ (L : Limits) (small : L .entries ≤ top) where
+  -- one that is added had room
+  had-room : (added : Bool) (v : Vocabulary (List ℕ)) (t : StringTable) (x : List ℕ) → InLimits L (keeping added v t x) → added ≡ true → length (strings v t) < L .entries
+  had-room true v t x f e = let o = one-longer v t x in let a = f .few t in omega arith
+  had-room false v t x f e = clash e
+
+  pub literal-rule : {q : Layout} {t : StringTable} {v w : Vocabulary (List ℕ)} {x : List ℕ} {h : How} → top ≤ sizes (q .numberForms) → Spelling x → InLimits L w
+      → PermitsString t v x h w → Literal L q t v x h (literalOctets q x h) w
+  literal-rule {t = t} big sp f (string-entry {k = j} en) =
+      let z : suc j - 1 ≡ j = omega arith in
+      let a = f .few t in
+      let h = en .made in
+      rw z (literal-numbered {k = j} (omega arith) (omega arith) en)
+  literal-rule {t = t} {v = v} {x = x} big sp f (string-spelled added) = literal-spelled sp (had-room added v t x f)
+
+-- ---- values
+pub data ValueCase (L : Limits) (t : StringTable) (v : Vocabulary (List ℕ)) (x : List ℕ) : Chose How → Type 0 where
+  is-empty : x ≡ [] → ValueCase L t v x (record { how = numbered 0; number = 0; words = v })
+  is-literal : {c : Chose How} → 0 < length x → LiteralCase L t v x c → ValueCase L t v x c
+
+pub value-case : (L : Limits) (t : StringTable) (v : Vocabulary (List ℕ)) (x : List ℕ) → ValueCase L t v x (chooseValue L t v x)
+unfolding chooseValue
+value-case L t v [] = is-empty refl
+value-case L t v (b ∷ x) = rw (ne-eqb (length (b ∷ x)) 0 (λ z. omega arith)) (is-literal (omega arith) (literal-case L t v (b ∷ x)))
+
+pub value-permits : {L : Limits} {t : StringTable} {v : Vocabulary (List ℕ)} {x : List ℕ} {c : Chose How} → ValueCase L t v x c → PermitsValue t v x (c .how) (c .words)
+value-permits (is-empty e) = rw e value-none
+value-permits (is-literal h (lit-held en)) = value-entry en
+value-permits (is-literal h (lit-new {added = a} r)) = value-spelled a h
+
+pub value-grows : {t : StringTable} {v w : Vocabulary (List ℕ)} {x : List ℕ} {h : How} → PermitsValue t v x h w → Grows v w
+value-grows {v = v} value-none = same-size v
+value-grows {t} {v} {x = x} (value-spelled a long) = keeping-grows a v t x
+value-grows {v = v} (value-entry en) = same-size v
+
+-- A text that may be spelled, or be empty.
+abbrev pub SpellingIfSome : List ℕ → Type 0
+SpellingIfSome x = 0 < length x → Spelling x
+
+pub literal-value : {L : Limits} {t : StringTable} {v : Vocabulary (List ℕ)} {x : List ℕ} {c : Chose How} → LiteralCase L t v x c → valueOctets x (c .how) ≡ literalOctets c14 x (c .how)
+literal-value (lit-held en) = refl
+literal-value (lit-new r) = refl
+
+module _ (L : Limits) (small : L .entries ≤ top) where
+  pub value-rule : {t : StringTable} {v w : Vocabulary (List ℕ)} {x : List ℕ} {h : How} → SpellingIfSome x → InLimits L w → PermitsValue t v x h w → Value L t v x h (valueOctets x h) w
+  unfolding c14 sizes coded c25
+  value-rule sp f value-none = value-empty
+  value-rule {t} {v} {x = x} sp f (value-spelled added long) = value (literal-spelled (sp long) (had-room L small added v t x f))
+  value-rule {t} sp f (value-entry {k = j} en) =
+      let z : suc j - 1 ≡ j = omega arith in
+      let a = f .few t in
+      let h = en .made in
+      rw z (value (literal-numbered {k = j} (omega arith) (omega arith) en))
 
 -- ---- names: the numbers of a triple are of entries that are there
 pub record InRange {S : Type 0} (v : Vocabulary S) (x : Triple) : Type 0 where
@@ -255,141 +279,150 @@ unfolding sameNames
 same-names-longer ELEMENT-NAME l x = let y = length-append l (x ∷ []) in omega arith
 same-names-longer ATTRIBUTE-NAME l x = let y = length-append l (x ∷ []) in omega arith
 
-module _ (text : List ℕ) where
-  pub id-names : {t : StringTable} {v : Vocabulary Located} {x : Located} {w : Wrote How} → IdCase text t v x w → (u : NameTable) → names (w .words) u ≡ names v u
-  id-names (held en h) u = refl
-  id-names {t} {v} {x} (new h) u = names-adding v t x u
+pub id-names : {t : StringTable} {v w : Vocabulary (List ℕ)} {x : List ℕ} {h : How} {n : ℕ} → PermitsId t v x h n w → (u : NameTable) → names w u ≡ names v u
+id-names (id-entry en) u = refl
+id-names {t} {v} {x = x} (id-new h) u = names-adding v t x u
 
-  pub optional-names : {t : StringTable} {v : Vocabulary Located} {x : Option Located} {w : Wrote (Option How)} → OptionalCase text t v x w → (u : NameTable) → names (w .words) u ≡ names v u
-  optional-names is-absent u = refl
-  optional-names (is-present c) u = id-names c u
+pub optional-names : {t : StringTable} {v w : Vocabulary (List ℕ)} {x : Option (List ℕ)} {h : Option How} {n : ℕ} → PermitsIfAny t v x h n w → (u : NameTable) → names w u ≡ names v u
+optional-names not-there u = refl
+optional-names (there c) u = id-names c u
 
-  -- the number is in range of the table then
-  pub id-number : {t : StringTable} {v : Vocabulary Located} {x : Located} {w : Wrote How} → IdCase text t v x w → w .number ≤ length (strings (w .words) t)
-  id-number (held en h) = omega arith
-  id-number {t} {v} {x} (new h) = let o = one-longer v t x in omega arith
+keeping-names : (b : Bool) (v : Vocabulary (List ℕ)) (t : StringTable) (x : List ℕ) (u : NameTable) → names (keeping b v t x) u ≡ names v u
+keeping-names true v t x u = names-adding v t x u
+keeping-names false v t x u = refl
 
-  pub optional-number : {t : StringTable} {v : Vocabulary Located} {x : Option Located} {w : Wrote (Option How)} → OptionalCase text t v x w → w .number ≤ length (strings (w .words) t)
-  optional-number is-absent = omega arith
-  optional-number (is-present c) = id-number c
+pub literal-names : {t : StringTable} {v w : Vocabulary (List ℕ)} {x : List ℕ} {h : How} → PermitsString t v x h w → (u : NameTable) → names w u ≡ names v u
+literal-names (string-entry en) u = refl
+literal-names {t} {v} {x = x} (string-spelled a) u = keeping-names a v t x u
 
-  -- a number of the table before is that of a string which was held
-  id-was : {t : StringTable} {v : Vocabulary Located} {x : Located} {w : Wrote How} → IdCase text t v x w → w .number ≤ length (strings v t)
-      → (w .words ≡ v) × (getD (strings (plainWords text v) t) (w .number - 1) [] ≡ octetsOf text x)
-  id-was (held {j = j} en h) r = let z : suc j - 1 ≡ j = omega arith in (refl, rw z (en .is))
-  id-was (new h) r = absurd (omega arith)
+pub value-names : {t : StringTable} {v w : Vocabulary (List ℕ)} {x : List ℕ} {h : How} → PermitsValue t v x h w → (u : NameTable) → names w u ≡ names v u
+value-names value-none u = refl
+value-names {t} {v} {x = x} (value-spelled a long) u = keeping-names a v t x u
+value-names (value-entry en) u = refl
 
-  optional-was : {t : StringTable} {v : Vocabulary Located} {x : Option Located} {w : Wrote (Option How)} → OptionalCase text t v x w → w .number ≤ length (strings v t)
-      → (w .words ≡ v) × (partOf (strings (plainWords text v) t) [] (w .number) ≡ Option·map (octetsOf text) x)
-  optional-was is-absent r = (refl, refl)
-  optional-was (is-present (held en h)) r = (refl, ap (λ (y : List ℕ). some y) (en .is))
-  optional-was (is-present (new h)) r = absurd (omega arith)
+-- the number is in range of the table then
+id-number : {t : StringTable} {v w : Vocabulary (List ℕ)} {x : List ℕ} {h : How} {n : ℕ} → PermitsId t v x h n w → n ≤ length (strings w t)
+id-number (id-entry en) = en .made
+id-number {t} {v} {x = x} (id-new h) = let o = one-longer v t x in omega arith
 
-  -- ---- a name is held, or comes in parts
-  module _ (q : NameLayout) (lead : ℕ) (v : Vocabulary Located) (x : Name Located) (p n : Wrote (Option How)) (l : Wrote How)
-      (cp : OptionalCase text PREFIX v (x .prefix) p) (cn : OptionalCase text NAMESPACE-NAME (p .words) (x .namespace) n) (cl : IdCase text LOCAL-NAME (n .words) (x .local) l) where
-    abbrev pub tripleOf : Triple
-    tripleOf = record { prefix = p .number; namespace = n .number; local = l .number }
+optional-number : {t : StringTable} {v w : Vocabulary (List ℕ)} {x : Option (List ℕ)} {h : Option How} {n : ℕ} → PermitsIfAny t v x h n w → n ≤ length (strings w t)
+optional-number not-there = omega arith
+optional-number (there c) = id-number c
 
-    pub data NameCase : Wrote NameHow → Type 0 where
-      name-held : {j : ℕ} → Entry (names (plainWords text v) (q .table)) j noTriple tripleOf → nameOf (plainWords text v) [] tripleOf ≡ nameMap (octetsOf text) x → j < length (names v (q .table))
-          → NameCase (record { octets = spell (q .numberForms) lead (suc j - 1); how = byNumber (suc j); number = suc j; words = v })
-      name-new : holdsName (names (l .words) (q .table)) tripleOf ≡ false
-          → NameCase (record {
-            octets = (lead + q .inPartsBits + 2 * has (x .prefix) + has (x .namespace)) ∷ (p .octets ++ (n .octets ++ l .octets));
-            how = inParts (p .how) (n .how) (l .how);
-            number = suc (length (names (l .words) (q .table)));
-            words = addingName (l .words) (q .table) tripleOf;
-          })
+-- a number of the table before is that of a string which was held
+id-was : {t : StringTable} {v w : Vocabulary (List ℕ)} {x : List ℕ} {h : How} {n : ℕ} → PermitsId t v x h n w → n ≤ length (strings v t)
+    → (w ≡ v) × (getD (strings v t) (n - 1) [] ≡ x)
+id-was (id-entry {k = j} en) r = let z : suc j - 1 ≡ j = omega arith in (refl, rw z (en .is))
+id-was (id-new h) r = absurd (omega arith)
 
-    no-names : (u : NameTable) → names (l .words) u ≡ names v u
-    no-names u = id-names cl u ∙ optional-names cn u ∙ optional-names cp u
+optional-was : {t : StringTable} {v w : Vocabulary (List ℕ)} {x : Option (List ℕ)} {h : Option How} {n : ℕ} → PermitsIfAny t v x h n w → n ≤ length (strings v t)
+    → (w ≡ v) × (partOf (strings v t) [] n ≡ x)
+optional-was not-there r = (refl, refl)
+optional-was (there (id-entry en)) r = (refl, ap (λ (y : List ℕ). some y) (en .is))
+optional-was (there (id-new h)) r = absurd (omega arith)
 
-    -- parts with numbers of the tables before: the name behind the triple is the name
-    name-was : InRange v tripleOf → nameOf (plainWords text v) [] tripleOf ≡ nameMap (octetsOf text) x
-    unfolding nameOf strings vocabularyMap
-    name-was r =
-        let a = optional-was cp (r .prefix) in
-        let n1 : n .number ≤ length (strings (p .words) NAMESPACE-NAME) = rw (a .0) (r .namespace) in
-        let b = optional-was cn n1 in
-        let e : n .words ≡ v = b .0 ∙ a .0 in
-        let l1 : l .number ≤ length (strings (n .words) LOCAL-NAME) = rw e (r .local) in
-        let c = id-was cl l1 in
-        λ i. record { prefix = a .1 i; namespace = (rw (a .0) at (b .1)) i; local = (rw e at (c .1)) i }
+-- ---- a name is held, or comes in parts
+module _ (t : NameTable) (v : Vocabulary (List ℕ)) (x : Name (List ℕ)) where
+  abbrev p : Chose (Option How)
+  p = chooseOptional PREFIX v (x .prefix)
 
-    pub name-from : Ranged v → (k : ℕ) → numberOfTriple (names (l .words) (q .table)) tripleOf ≡ k
-        → NameCase (pick (eqb k 0)
-        (record {
-          octets = (lead + q .inPartsBits + 2 * has (x .prefix) + has (x .namespace)) ∷ (p .octets ++ (n .octets ++ l .octets));
-          how = inParts (p .how) (n .how) (l .how);
-          number = suc (length (names (l .words) (q .table)));
-          words = addingName (l .words) (q .table) tripleOf;
-        })
-        (record { octets = spell (q .numberForms) lead (k - 1); how = byNumber k; number = k; words = v }))
-    name-from r zero e = name-new (holds-name-number (names (l .words) (q .table)) tripleOf ∙ ap (λ (k : ℕ). not (eqb k 0)) e)
-    name-from r (suc m) e =
-        let en = rw e at (name-number-entry (names (l .words) (q .table)) noTriple tripleOf (λ z. absurd (omega arith))) in
-        let y : suc m - 1 ≡ m = omega arith in
-        let no = no-names (q .table) in
-        let here : Entry (names v (q .table)) m noTriple tripleOf = rw (y, no) at en in
-        let h = here .made in
-        rw (ne-eqb (suc m) 0 (λ u. omega arith))
-        (name-held {j = m} (rw (names-map (octetsOf text) v (q .table)) here) (name-was (rw (here .is) at (r (q .table) m h))) h)
+  abbrev n : Chose (Option How)
+  n = chooseOptional NAMESPACE-NAME (p .words) (x .namespace)
 
-    to-n : Grows (p .words) (n .words)
-    to-n = optional-grows text cn
+  abbrev l : Chose How
+  l = chooseId LOCAL-NAME (n .words) (x .local)
 
-    to-l : Grows (n .words) (l .words)
-    to-l = id-grows text cl
+  abbrev cp : OptionalCase PREFIX v (x .prefix) p
+  cp = optional-case PREFIX v (x .prefix)
 
-    before-l : Grows v (l .words)
-    before-l = grows-on (optional-grows text cp) (grows-on to-n to-l)
+  abbrev cn : OptionalCase NAMESPACE-NAME (p .words) (x .namespace) n
+  cn = optional-case NAMESPACE-NAME (p .words) (x .namespace)
 
-    triple-in-range : InRange (l .words) tripleOf
-    triple-in-range =
-        let a = optional-number cp in
-        let b = optional-number cn in
-        let c = id-number cl in
-        let d = grows-on to-n to-l .strings-grow PREFIX in
-        let e = to-l .strings-grow NAMESPACE-NAME in
-        record { prefix = omega arith; namespace = omega arith; local = c }
+  abbrev cl : IdCase LOCAL-NAME (n .words) (x .local) l
+  cl = id-case LOCAL-NAME (n .words) (x .local)
 
-    pub name-ranged : {w : Wrote NameHow} → NameCase w → Ranged v → Ranged (w .words)
-    name-ranged (name-held en e h) r = r
-    name-ranged (name-new h) r = ranged-name (q .table) tripleOf triple-in-range (ranged-on before-l no-names r)
+  abbrev triple : Triple
+  triple = record { prefix = p .number; namespace = n .number; local = l .number }
 
-    has-map : {S T : Type 0} (f : S → T) (y : Option S) → has (Option·map f y) ≡ has y
-    has-map f none = refl
-    has-map f (some y) = refl
+  pub data NameCase : Chose NameHow → Type 0 where
+    name-held : {j : ℕ} → Entry (names v t) j noTriple triple → nameOf v [] triple ≡ x → NameCase (record { how = byNumber (suc j); number = suc j; words = v })
+    name-new : holdsName (names (l .words) t) triple ≡ false
+        → NameCase (record { how = inParts (p .how) (n .how) (l .how); number = suc (length (names (l .words) t)); words = addingName (l .words) t triple })
 
-    module _ (L : Limits) (small : L .entries ≤ top) (big : top ≤ sizes (q .numberForms)) where
-      pub name-rule : {w : Wrote NameHow} → SpellingIfAny text (x .prefix) → SpellingIfAny text (x .namespace) → Spelling (lengths 2) (octetsOf text (x .local)) → has (x .prefix) ≤ has (x .namespace)
-          → Fits L (w .words) → NameCase w → Named L q lead (plainWords text v) (nameMap (octetsOf text) x) (w .how) (w .octets) (plainWords text (w .words))
-      name-rule sp sn sl pair f (name-held {j = j} en e h) =
-          let z : suc j - 1 ≡ j = omega arith in
-          let a = f .few-names (q .table) in
-          let b = small in
-          let d = big in
-          rw z (subst (λ (y : Name (List ℕ)). Named L q lead (plainWords text v) y (byNumber (suc j)) (spell (q .numberForms) lead j) (plainWords text v)) e (by-number {k = j} (omega arith) (omega arith) en))
-      name-rule sp sn sl pair f (name-new h) =
-          let fl = fits-before (adding-name-grows (l .words) (q .table) tripleOf) f in
-          let fn = fits-before to-l fl in
-          let fp = fits-before to-n fn in
-          let hp = has-map (octetsOf text) (x .prefix) in
-          let hn = has-map (octetsOf text) (x .namespace) in
-          let pair′ : has (Option·map (octetsOf text) (x .prefix)) ≤ has (Option·map (octetsOf text) (x .namespace)) = omega arith in
-          let e = names-map (octetsOf text) (l .words) (q .table) in
-          let longer = ap length (names-adding-name (l .words) (q .table) tripleOf (q .table)) in
-          let one = same-names-longer (q .table) (names (l .words) (q .table)) tripleOf in
-          let room = f .few-names (q .table) in
-          let r : length (names (l .words) (q .table)) < L .entries = omega arith in
-          rw (adding-name-map (octetsOf text) (l .words) (q .table) tripleOf, ← hp, ← hn)
-          (in-parts pair′ (optional-rule text L small sp fp cp) (optional-rule text L small sn fn cn) (id-rule text L small sl fl cl) (rw e h) (rw e r))
+  no-names : (u : NameTable) → names (l .words) u ≡ names v u
+  no-names u = id-names cl u ∙ optional-names cn u ∙ optional-names cp u
 
-  pub name-case : (q : NameLayout) (lead : ℕ) (v : Vocabulary Located) (x : Name Located) → Ranged v
-      → NameCase q lead v x (writeOptional text PREFIX v (x .prefix)) (writeOptional text NAMESPACE-NAME (writeOptional text PREFIX v (x .prefix) .words) (x .namespace))
-      (writeId text LOCAL-NAME (writeOptional text NAMESPACE-NAME (writeOptional text PREFIX v (x .prefix) .words) (x .namespace) .words) (x .local))
-      (optional-case text PREFIX v (x .prefix)) (optional-case text NAMESPACE-NAME _ (x .namespace)) (id-case text LOCAL-NAME _ (x .local)) (writeName q lead text v x)
-  unfolding writeName
-  name-case q lead v x r =
-      name-from q lead v x _ _ _ (optional-case text PREFIX v (x .prefix)) (optional-case text NAMESPACE-NAME _ (x .namespace)) (id-case text LOCAL-NAME _ (x .local)) r _ refl
+  -- parts with numbers of the tables before: the name behind the triple is the name
+  name-was : InRange v triple → nameOf v [] triple ≡ x
+  unfolding nameOf strings
+  name-was r =
+      let a = optional-was cp (r .prefix) in
+      let n1 = subst (λ (w : Vocabulary (List ℕ)). n .number ≤ length (strings w NAMESPACE-NAME)) (sym (a .0)) (r .namespace) in
+      let b = optional-was cn n1 in
+      let e : n .words ≡ v = b .0 ∙ a .0 in
+      let l1 = subst (λ (w : Vocabulary (List ℕ)). l .number ≤ length (strings w LOCAL-NAME)) (sym e) (r .local) in
+      let c = id-was cl l1 in
+      let b1 = subst (λ (w : Vocabulary (List ℕ)). partOf (strings w NAMESPACE-NAME) [] (n .number) ≡ x .namespace) (a .0) (b .1) in
+      let c1 = subst (λ (w : Vocabulary (List ℕ)). getD (strings w LOCAL-NAME) (l .number - 1) [] ≡ x .local) e (c .1) in
+      λ i. record { prefix = a .1 i; namespace = b1 i; local = c1 i }
+
+  name-from : Ranged v → (k : ℕ) → numberOfTriple (names (l .words) t) triple ≡ k
+      → NameCase (pick (eqb k 0)
+      (record { how = inParts (p .how) (n .how) (l .how); number = suc (length (names (l .words) t)); words = addingName (l .words) t triple })
+      (record { how = byNumber k; number = k; words = v }))
+  name-from r zero e = name-new (holds-name-number (names (l .words) t) triple ∙ ap (λ (k : ℕ). not (eqb k 0)) e)
+  name-from r (suc m) e =
+      let en = rw e at (name-number-entry (names (l .words) t) noTriple triple (λ z. absurd (omega arith))) in
+      let y : suc m - 1 ≡ m = omega arith in
+      let no = no-names t in
+      let here : Entry (names v t) m noTriple triple = rw (y, no) at en in
+      let h = here .made in
+      rw (ne-eqb (suc m) 0 (λ u. omega arith)) (name-held {j = m} here (name-was (rw (here .is) at (r t m h))))
+
+  pub name-case : Ranged v → NameCase (chooseName t v x)
+  unfolding chooseName
+  name-case r = name-from r (numberOfTriple (names (l .words) t) triple) refl
+
+  pub name-permits : {c : Chose NameHow} → NameCase c → PermitsName t v x (c .how) (c .words)
+  name-permits (name-held {j = j} en e) = subst (λ (y : Name (List ℕ)). PermitsName t v y (byNumber (suc j)) v) e (name-entry en)
+  name-permits (name-new h) = name-parts cp cn cl h
+
+-- ---- a permitted name
+pub name-grows : {t : NameTable} {v w : Vocabulary (List ℕ)} {x : Name (List ℕ)} {h : NameHow} → PermitsName t v x h w → Grows v w
+name-grows {t} (name-parts {v₃ = v₃} up un ul new) = grows-on (optional-grows up) (grows-on (optional-grows un) (grows-on (id-grows ul) (adding-name-grows v₃ t _)))
+name-grows {v = v} (name-entry en) = same-size v
+
+pub name-ranged : {t : NameTable} {v w : Vocabulary (List ℕ)} {x : Name (List ℕ)} {h : NameHow} → PermitsName t v x h w → Ranged v → Ranged w
+name-ranged {t} (name-parts up un ul new) r =
+    let a = optional-number up in
+    let b = optional-number un in
+    let c = id-number ul in
+    let d = grows-on (optional-grows un) (id-grows ul) .strings-grow PREFIX in
+    let e = id-grows ul .strings-grow NAMESPACE-NAME in
+    ranged-name t _ (record { prefix = omega arith; namespace = omega arith; local = c })
+    (ranged-on (grows-on (optional-grows up) (grows-on (optional-grows un) (id-grows ul))) (λ u. id-names ul u ∙ optional-names un u ∙ optional-names up u) r)
+name-ranged (name-entry en) r = r
+
+-- what can be said of a name's strings
+pub record NameSaid (x : Name (List ℕ)) : Type 0 where
+  pub prefix : SpellingIfAny (x .prefix)
+  pub namespace : SpellingIfAny (x .namespace)
+  pub local : Spelling (x .local)
+  pub pair : has (x .prefix) ≤ has (x .namespace)
+
+module _ (L : Limits) (small : L .entries ≤ top) (q : NameLayout) (big : top ≤ sizes (q .numberForms)) (lead : ℕ) where
+  pub name-rule : {v w : Vocabulary (List ℕ)} {x : Name (List ℕ)} {h : NameHow} → NameSaid x → InLimits L w → PermitsName (q .table) v x h w → Named L q lead v x h (nameOctets q lead x h) w
+  name-rule s f (name-entry {k = j} en) =
+      let z : suc j - 1 ≡ j = omega arith in
+      let a = f .few-names (q .table) in
+      let h = en .made in
+      rw z (by-number {k = j} (omega arith) (omega arith) en)
+  name-rule s f (name-parts {kp = kp} {kn = kn} {kl = kl} {v₃ = w} up un ul new) =
+      let y : Triple = record { prefix = kp; namespace = kn; local = kl } in
+      let fl = fits-before (adding-name-grows w (q .table) y) f in
+      let fn = fits-before (id-grows ul) fl in
+      let fp = fits-before (optional-grows un) fn in
+      let longer = ap length (names-adding-name w (q .table) y (q .table)) in
+      let one = same-names-longer (q .table) (names w (q .table)) y in
+      let room = f .few-names (q .table) in
+      in-parts (s .pair) (optional-rule L small (s .prefix) fp up) (optional-rule L small (s .namespace) fn un) (id-rule L small (s .local) fl ul) new (omega arith)

@@ -1,20 +1,22 @@
 -- A whole document: an accepted one is what the rules write, and what they write is accepted; and what room does to it.
-use Prim.Native.Nat.{ℕ, _+_, _-_, _≤_, _<_}
+use Prim.Native.Nat.{ℕ, _+_, _-_, _%_, _≤_, _<_}
 use mathlib.Core.Path.{_≡_, refl, sym, ap, _∙_, subst}
 use mathlib.Core.Bool.{false}
 use mathlib.Core.List.{List, _++_, map}
 use native.Mathlib.Omega.{arith}
 use lib.ListN.{length, getD, drop, length-drop}
-use Rattle.format.specs.Numbers.{AreOctets}
+use Rattle.format.specs.Numbers.{AreOctets, longest}
 use Rattle.format.specs.Events.{Item}
 use Rattle.format.specs.Tables.{starting, xmlPrefix, xmlNamespace, link}
 use Rattle.format.specs.Items.{content, State}
 use Rattle.format.specs.Document.{halves, Written, knownAfter, beginning, header, Writes}
-use Rattle.tables.specs.Located.{builtInPrefix, builtInNamespace, octetsOf, plain, plainState, start}
-use Rattle.reader.specs.Reading.{Result, accepted, refusal, Mark, run, Opening, onward, halt, opening, origin, fuelOf, resultFrom, reading, marksFrom, marks, Accepts}
-use Rattle.demands.proofs.Lists.{Fault, halves-append, halves-length, halves-drop, halves-complete, drop-past}
+use Rattle.tables.specs.Located.{Located, builtInPrefix, builtInNamespace, octetsOf, plain, plainState, start}
+use Rattle.steps.specs.Items.{Stand}
+use Rattle.reader.specs.Reading.{Result, accepted, refusal, Mark, run, Opening, onward, halt, opening, origin, fuelOf, resultFrom, reading, marksFrom, marks, numberOf, Accepts}
+use Rattle.demands.specs.Places.{allSpelled, spelledIn}
+use Rattle.demands.proofs.Lists.{Refusal, halves-append, halves-length, halves-drop, halves-complete, drop-past}
 use Rattle.demands.proofs.Words.{starting-map}
-use Rattle.demands.proofs.Run.{Right, run-right, fuel-free, trace-few, placesOf, room-short, room-enough, Reads, run-complete}
+use Rattle.demands.proofs.Run.{Right, run-right, fuel-free, NotShort, run-not-short, trace-few, placesOf, room-short, room-enough, Reads, run-complete}
 use Rattle.demands.proofs.Opening.{Opened, opening-sound, opening-complete}
 
 pub plain-start : (s : List ℕ) → plainState s (beginning start) ≡ beginning (starting xmlPrefix xmlNamespace)
@@ -29,13 +31,17 @@ fifth : getD header 4 0 ≡ 0
 unfolding header
 fifth = refl
 
+-- a document of the link is no longer than a string may be
+brief : {n : ℕ} → n ≤ 16384 → n ≤ longest
+brief h = omega arith
+
 module _ (s : List ℕ) (bytes : AreOctets s) where
   -- what a result means
   abbrev pub Means : Result → Type 0
   Means (accepted is m) = Writes (map (plain s) is) (plainState s (m .state)) s
-  Means (refusal n p) = Fault s n p
+  Means (refusal n p) = Refusal s n p
 
-  from-run : s ≡ header ++ drop 5 s → length s ≤ 16384 → (a : Result) → Right link s bytes (origin start) a → Means a
+  from-run : s ≡ header ++ drop 5 s → (h : length s ≤ 16384) (a : Result) → Right link s bytes (brief h) (origin start) a → Means a
   unfolding header link
   from-run d h (accepted is m) r =
       record {
@@ -49,16 +55,33 @@ module _ (s : List ℕ) (bytes : AreOctets s) where
   module _ (room : ℕ) where
     means-from : (o : Opening) → Opened link header five fifth s o → Means (resultFrom s room o)
     unfolding link
-    means-from onward k = let l = k .2 in from-run (k .0) (k .1) (run link s (fuelOf s) room (origin start)) (run-right link s bytes (fuelOf s) room (origin start) (omega arith))
-    means-from (halt n p) k = k
+    means-from onward k = let l = k .2 in from-run (k .0) (k .1) (run link s (fuelOf s) room (origin start)) (run-right link s bytes (brief (k .1)) (fuelOf s) room (origin start) (omega arith))
+    means-from (halt n p) k = k .0
 
     pub means : Means (reading s room)
     unfolding reading
     means = means-from (opening link header s) (opening-sound link header five fifth s)
 
+    not-short-from : (o : Opening) → Opened link header five fifth s o → length (marksFrom s o) ≤ room → NotShort (resultFrom s room o)
+    unfolding link beginning
+    not-short-from onward k h = let l = k .2 in run-not-short link s bytes (brief (k .1)) (fuelOf s) room (origin start) (omega arith) h
+    not-short-from (halt n p) k h = k .1
+
+    not-short : length (marks s) ≤ room → NotShort (reading s room)
+    unfolding reading marks
+    not-short h = not-short-from (opening link header s) (opening-sound link header five fifth s) h
+
+    -- the number that comes back then
+    never-14 : (a : Result) → Means a → NotShort a → numberOf a % 32 ≡ 14 → ⊥
+    never-14 (accepted is m) g h e = omega arith
+    never-14 (refusal n p) g h e = h (let k = g .1 in omega arith)
+
+    pub number-never-14 : length (marks s) ≤ room → numberOf (reading s room) % 32 ≡ 14 → ⊥
+    number-never-14 h = never-14 (reading s room) means (not-short h)
+
   few-from : (o : Opening) → Opened link header five fifth s o → length (marksFrom s o) ≤ 21838
   unfolding link beginning
-  few-from onward k = let a = k .1 in let l = k .2 in let t = trace-few link s bytes (fuelOf s) (origin start) (omega arith) in omega arith
+  few-from onward k = let a = k .1 in let l = k .2 in let t = trace-few link s bytes (brief (k .1)) (fuelOf s) (origin start) (omega arith) in omega arith
   few-from (halt n p) k = omega arith
 
   pub marks-few : length (marks s) ≤ 21838
@@ -66,8 +89,8 @@ module _ (s : List ℕ) (bytes : AreOctets s) where
   marks-few = few-from (opening link header s) (opening-sound link header five fifth s)
 
   free-from : (more room : ℕ) (o : Opening) → Opened link header five fifth s o → o ≡ onward → run link s (more + fuelOf s) room (origin start) ≡ run link s (fuelOf s) room (origin start)
-  unfolding beginning
-  free-from more room onward k e = let l = k .2 in fuel-free link s bytes (fuelOf s) more room (origin start) (omega arith) (omega arith)
+  unfolding beginning link
+  free-from more room onward k e = let l = k .2 in fuel-free link s bytes (brief (k .1)) (fuelOf s) more room (origin start) (omega arith) (omega arith)
   free-from more room (halt n p) k e = absurd (let y : _≡_ {A = ℕ} 0 1 = cc in omega arith)
 
   pub more-fuel : (more room : ℕ) → opening link header s ≡ onward → run link s (more + fuelOf s) room (origin start) ≡ run link s (fuelOf s) room (origin start)
@@ -84,7 +107,7 @@ module _ (s : List ℕ) where
     unfolding link header
     opens = opening-complete link header five fifth s whole (w .short)
 
-    reads-all : (room : ℕ) → length items ≤ room → Reads link s (fuelOf s) room (origin start) items z (knownAfter link (w .rule))
+    reads-all : (room : ℕ) → length items ≤ room → Reads link s (fuelOf s) room (origin start) items z (knownAfter link (w .rule)) (spelledIn (w .rule))
     unfolding header halves
     reads-all room h =
         let e : drop 10 (halves s) ≡ w .body = drop-past (halves s) 0 (halves header) (w .body) (w .here) in
@@ -98,6 +121,15 @@ module _ (s : List ℕ) where
     accepts room h =
         let r = reads-all room h in
         record { events = r .events; last = r .last; reads = rw (opens) (r .runs); are = r .are; end-is = r .end-is }
+
+    -- the strings that are handed out as spelled have the places where the rules spell them
+    pub spelled-is : (room : ℕ) → length items ≤ room → (events : List (Item Located)) (last : Stand) → reading s room ≡ accepted events last → allSpelled events ≡ spelledIn (w .rule)
+    unfolding accepts
+    spelled-is room h events last e =
+        let a = accepts room h in
+        let both : accepted (a .events) (a .last) ≡ accepted events last = sym (a .reads) ∙ e in
+        let same : events ≡ a .events = cc in
+        ap allSpelled same ∙ reads-all room h .spells
 
     pub known-is : map (λ (k : Mark). plainState s (k .stand .state)) (marks s) ≡ knownAfter link (w .rule)
     unfolding marks

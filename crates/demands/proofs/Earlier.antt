@@ -1,146 +1,203 @@
 -- Numbers name what was made earlier: every number in the choices of a written document, save the 0 of the empty string, is that of an entry which the starting
--- tables have or which was made before it, and what that entry holds is what the event says.
+-- tables have or which was made before it, and what that entry holds is what the event says; and the tables at the end hold what was made, and nothing else.
 use Prim.Native.Nat.{ℕ, zero, suc, _-_}
-use mathlib.Core.Path.{_≡_, sym, ap, _∙_, subst, fun-ext}
+use mathlib.Core.Path.{_≡_, refl, sym, ap, ap₂, _∙_, subst, fun-ext}
 use mathlib.Core.Bool.{Bool, true, false}
 use mathlib.Core.Option.{Option}
-use mathlib.Core.List.{List, [], _∷_, _++_, append-assoc}
+use mathlib.Core.List.{List, [], _∷_, _++_, append-assoc, append-nil, map}
 use native.Mathlib.Omega.{arith}
+use lib.Dec.{eqb}
 use Rattle.format.specs.Events.{Name, How, NameHow, Item}
-use Rattle.format.specs.Tables.{StringTable, PREFIX, NAMESPACE-NAME, NameTable, ELEMENT-NAME, ATTRIBUTE-NAME, Triple, noTriple, Vocabulary, strings, names, extended}
-use Rattle.format.specs.Tables.{adding, addingName, starting, xmlPrefix, xmlNamespace, Entry, nameOf, Limits}
-use Rattle.format.specs.Strings.{Identifying, id-spelled, id-numbered, Optional, absent, present, Layout, Literal, literal-spelled, literal-numbered, Value, value-empty, value}
-use Rattle.format.specs.Names.{NameLayout, ofElement, ofAttribute, Named, in-parts, by-number, Declared, declared}
-use Rattle.format.specs.Items.{State, Octets, o-start, o-first-namespace, o-namespace, o-named-start, o-attribute, o-text, o-comment, o-instruction}
-use Rattle.format.specs.Document.{beginning, Written, document-end, attributes-end, element-end, item, Document, Writes}
-use Rattle.format.specs.Uses.{sameNames, Act, makes, uses, makesName, ofString, ofOption, ofName, noName, ofItem, acts, Known}
+use Rattle.format.specs.Tables.{StringTable, NameTable, ELEMENT-NAME, ATTRIBUTE-NAME, Triple, noTriple, Vocabulary, strings, names, place, extended}
+use Rattle.format.specs.Tables.{adding, addingName, starting, Entry, nameOf}
+use Rattle.format.specs.Uses.{sameNames, Act, makes, uses, makesName, usesName, ofString, madeIn, namesMadeIn, ofOption, ofName, noName, ofItem, acts, Known, MadeBy}
 use Rattle.tables.proofs.Laws.{strings-adding, names-adding}
+use Rattle.demands.proofs.Effects.{IdDone, id-made, id-used, PartDone, no-part, a-part, StringDone, string-made, string-used, ValueDone, empty-value, a-value, NameDone, name-made, name-used}
+use Rattle.demands.proofs.Effects.{ItemDone, done-namespace, done-start, done-attribute, done-text, done-comment, done-instruction, done-end, Done, no-item, an-item}
 use Rattle.demands.proofs.Growing.{names-adding-name, strings-adding-name, Means, means-is, means-kept, Keeps}
 use Rattle.demands.proofs.Growing.{keeps-adding-name, keeps-adding, parts-mean}
 
 -- ---- the triples of a table name these names
-pub data Mean (v : Vocabulary (List ℕ)) : List Triple → List (Name (List ℕ)) → Type 0 where
-  none-mean : Mean v [] []
-  all-mean : {x : Triple} {y : Name (List ℕ)} {l : List Triple} {n : List (Name (List ℕ))} → Means v x y → Mean v l n → Mean v (x ∷ l) (y ∷ n)
+data Mean {S : Type 0} (d : S) (v : Vocabulary S) : List Triple → List (Name S) → Type 0 where
+  none-mean : Mean d v [] []
+  all-mean : {x : Triple} {y : Name S} {l : List Triple} {n : List (Name S)} → Means d v x y → Mean d v l n → Mean d v (x ∷ l) (y ∷ n)
 
-mean-kept : {v w : Vocabulary (List ℕ)} {l : List Triple} {n : List (Name (List ℕ))} → Keeps v w → Mean v l n → Mean w l n
-mean-kept g none-mean = none-mean
-mean-kept g (all-mean m r) = all-mean (means-kept g m) (mean-kept g r)
+module _ {S : Type 0} {d : S} where
+  mean-kept : {v w : Vocabulary S} {l : List Triple} {n : List (Name S)} → Keeps d v w → Mean d v l n → Mean d w l n
+  mean-kept g none-mean = none-mean
+  mean-kept g (all-mean m r) = all-mean (means-kept g m) (mean-kept g r)
 
-mean-last : {v : Vocabulary (List ℕ)} {l : List Triple} {n : List (Name (List ℕ))} (x : Triple) (y : Name (List ℕ)) → Means v x y → Mean v l n → Mean v (l ++ (x ∷ [])) (n ++ (y ∷ []))
-mean-last x y m none-mean = all-mean m none-mean
-mean-last x y m (all-mean m′ r) = all-mean m′ (mean-last x y m r)
+  mean-last : {v : Vocabulary S} {l : List Triple} {n : List (Name S)} (x : Triple) (y : Name S) → Means d v x y → Mean d v l n → Mean d v (l ++ (x ∷ [])) (n ++ (y ∷ []))
+  mean-last x y m none-mean = all-mean m none-mean
+  mean-last x y m (all-mean m′ r) = all-mean m′ (mean-last x y m r)
 
-mean-extended : {v : Vocabulary (List ℕ)} {l : List Triple} {n : List (Name (List ℕ))} (b : Bool) (x : Triple) (y : Name (List ℕ)) → Means v x y → Mean v l n → Mean v (extended b l x) (extended b n y)
-mean-extended true x y m r = mean-last x y m r
-mean-extended false x y m r = r
+  mean-extended : {v : Vocabulary S} {l : List Triple} {n : List (Name S)} (b : Bool) (x : Triple) (y : Name S) → Means d v x y → Mean d v l n → Mean d v (extended b l x) (extended b n y)
+  mean-extended true x y m r = mean-last x y m r
+  mean-extended false x y m r = r
 
-mean-entry : {v : Vocabulary (List ℕ)} {l : List Triple} {n : List (Name (List ℕ))} (k : ℕ) (x : Triple) → Mean v l n → Entry l k noTriple x → Entry n k noName (nameOf v [] x)
-mean-entry k x none-mean e = absurd (let h = e .made in omega arith)
-mean-entry {v} zero x (all-mean m r) e = record { made = omega arith; is = sym (means-is m) ∙ ap (λ (y : Triple). nameOf v [] y) (e .is) }
-mean-entry (suc k) x (all-mean m r) e =
-    let h = e .made in
-    let i = mean-entry k x r (record { made = omega arith; is = e .is }) in
-    let j = i .made in
-    record { made = omega arith; is = i .is }
+  mean-is : {v : Vocabulary S} {l : List Triple} {n : List (Name S)} → Mean d v l n → map (nameOf v d) l ≡ n
+  mean-is none-mean = refl
+  mean-is (all-mean m r) = ap₂ (λ (x : Name S) (n : List (Name S)). x ∷ n) (means-is m) (mean-is r)
 
-abbrev Meant : Vocabulary (List ℕ) → (NameTable → List (Name (List ℕ))) → Type 0
-Meant v n = (t : NameTable) → Mean v (names v t) (n t)
+  mean-entry : {v : Vocabulary S} {l : List Triple} {n : List (Name S)} (k : ℕ) (x : Triple) → Mean d v l n → Entry l k noTriple x → Entry n k (noName d) (nameOf v d x)
+  mean-entry k x none-mean e = absurd (let h = e .made in omega arith)
+  mean-entry {v} zero x (all-mean m r) e = record { made = omega arith; is = sym (means-is m) ∙ ap (λ (y : Triple). nameOf v d y) (e .is) }
+  mean-entry (suc k) x (all-mean m r) e =
+      let h = e .made in
+      let i = mean-entry k x r (record { made = omega arith; is = e .is }) in
+      let j = i .made in
+      record { made = omega arith; is = i .is }
 
--- ---- these acts lead from v to w, and use what is there
-record Does (v : Vocabulary (List ℕ)) (l : List Act) (w : Vocabulary (List ℕ)) : Type 0 where
-  before : (n : NameTable → List (Name (List ℕ))) → Meant v n → (rest : List Act) → ((m : NameTable → List (Name (List ℕ))) → Meant w m → Known (strings w) m rest)
-      → Known (strings v) n (l ++ rest)
-
-both : {v w z : Vocabulary (List ℕ)} {l m : List Act} → Does v l w → Does w m z → Does v (l ++ m) z
-both {l = l} {m = m} f g = record { before = λ n a rest k. rw (append-assoc l m rest) (f .before n a (m ++ rest) λ n′ a′. g .before n′ a′ rest k) }
-
-none-done : {v : Vocabulary (List ℕ)} → Does v [] v
-none-done = record { before = λ n a rest k. k n a }
+abbrev Meant : {S : Type 0} → S → Vocabulary S → (NameTable → List (Name S)) → Type 0
+Meant d v n = (t : NameTable) → Mean d v (names v t) (n t)
 
 -- numbers are from 1
 from-one : {A : Type 0} {l : List A} {k : ℕ} {d x : A} → Entry l k d x → Entry l (suc k - 1) d x
 from-one {k = k} e = let y : suc k - 1 ≡ k = omega arith in rw y e
 
-uses-string : {v : Vocabulary (List ℕ)} {t : StringTable} {k : ℕ} {x : List ℕ} → Entry (strings v t) k [] x → Does v (uses t (suc k) x ∷ []) v
-uses-string e = record { before = λ n a rest k. (omega arith, from-one e, k n a) }
+-- ---- what two lists of acts make
+module _ {S : Type 0} where
+  made-both : (t : StringTable) (l m : List (Act S)) → madeIn t (l ++ m) ≡ madeIn t l ++ madeIn t m
+  unfolding madeIn
+  made-both t [] m = refl
+  made-both t (makes u x ∷ l) m = ap (λ (r : List S). extended (eqb (place u) (place t)) [] x ++ r) (made-both t l m) ∙ sym (append-assoc (extended (eqb (place u) (place t)) [] x) (madeIn t l) (madeIn t m))
+  made-both t (uses u k x ∷ l) m = made-both t l m
+  made-both t (makesName u x ∷ l) m = made-both t l m
+  made-both t (usesName u k x ∷ l) m = made-both t l m
 
-makes-string : (v : Vocabulary (List ℕ)) (t : StringTable) (x : List ℕ) → Does v (makes t x ∷ []) (adding v t x)
-makes-string v t x =
-    record {
-      before = λ n a rest k.
-          subst (λ (s : StringTable → List (List ℕ)). Known s n rest) (fun-ext (strings-adding v t x))
-          (k n λ u. rw (names-adding v t x u) (mean-kept (keeps-adding v t x) (a u)));
-    }
+  names-made-both : (t : NameTable) (l m : List (Act S)) → namesMadeIn t (l ++ m) ≡ namesMadeIn t l ++ namesMadeIn t m
+  unfolding namesMadeIn
+  names-made-both t [] m = refl
+  names-made-both t (makes u x ∷ l) m = names-made-both t l m
+  names-made-both t (uses u k x ∷ l) m = names-made-both t l m
+  names-made-both t (makesName u x ∷ l) m = ap (λ (r : List (Name S)). extended (sameNames u t) [] x ++ r) (names-made-both t l m) ∙ sym (append-assoc (extended (sameNames u t) [] x) (namesMadeIn t l) (namesMadeIn t m))
+  names-made-both t (usesName u k x ∷ l) m = names-made-both t l m
 
-makes-name : (v : Vocabulary (List ℕ)) (t : NameTable) (x : Triple) (y : Name (List ℕ)) → Means v x y → Does v (makesName t y ∷ []) (addingName v t x)
-makes-name v t x y m =
-    record {
-      before = λ n a rest k.
-          subst (λ (s : StringTable → List (List ℕ)). Known s (λ u. extended (sameNames t u) (n u) y) rest) (fun-ext (strings-adding-name v t x))
-          (k _ λ u. rw (names-adding-name v t x u) (mean-extended (sameNames t u) x y (means-kept g m) (mean-kept g (a u))));
-    }
-  where
-    g : Keeps v (addingName v t x)
-    g = keeps-adding-name v t x
+-- an entry more, or none, stands behind the others
+extended-is : {A : Type 0} (b : Bool) (l : List A) (x : A) → l ++ (extended b [] x ++ []) ≡ extended b l x
+extended-is true l x = refl
+extended-is false l x = append-nil l
 
-module _ {L : Limits} where
-  identifying-does : {t : StringTable} {v w : Vocabulary (List ℕ)} {x : List ℕ} {h : How} {n : ℕ} {o : List ℕ}
-      → Identifying L t v x h n o w → Does v (ofString t x h) w
-  identifying-does {t} {v} (id-spelled {x = x} sp new room) = makes-string v t x
-  identifying-does (id-numbered small en) = uses-string en
+-- ---- these acts lead from v to w: they use what is there, and what they make is what w has more
+record Does {S : Type 0} (d : S) (v : Vocabulary S) (l : List (Act S)) (w : Vocabulary S) : Type 0 where
+  before : (n : NameTable → List (Name S)) → Meant d v n → (rest : List (Act S)) → ((m : NameTable → List (Name S)) → Meant d w m → Known d (strings w) m rest)
+      → Known d (strings v) n (l ++ rest)
+  strings-then : (t : StringTable) → strings w t ≡ strings v t ++ madeIn t l
+  names-then : (n : NameTable → List (Name S)) → Meant d v n → Meant d w (λ t. n t ++ namesMadeIn t l)
 
-  optional-does : {t : StringTable} {v w : Vocabulary (List ℕ)} {x : Option (List ℕ)} {h : Option How} {n : ℕ} {o : List ℕ}
-      → Optional L t v x h n o w → Does v (ofOption t x h) w
-  optional-does absent = none-done
-  optional-does (present u) = identifying-does u
+module _ {S : Type 0} {d : S} where
+  both : {v w z : Vocabulary S} {l m : List (Act S)} → Does d v l w → Does d w m z → Does d v (l ++ m) z
+  both {v} {w} {z} {l} {m} f g =
+      record {
+        before = λ n a rest k. rw (append-assoc l m rest) (f .before n a (m ++ rest) λ n′ a′. g .before n′ a′ rest k);
+        strings-then = λ t. g .strings-then t ∙ ap (λ (r : List S). r ++ madeIn t m) (f .strings-then t) ∙ append-assoc (strings v t) (madeIn t l) (madeIn t m) ∙ ap (λ (r : List S). strings v t ++ r) (sym (made-both t l m));
+        names-then = λ n a t.
+            subst (Mean d z (names z t)) (append-assoc (n t) (namesMadeIn t l) (namesMadeIn t m) ∙ ap (λ (r : List (Name S)). n t ++ r) (sym (names-made-both t l m)))
+            (g .names-then _ (f .names-then n a) t);
+      }
 
-  literal-does : {q : Layout} {t : StringTable} {v w : Vocabulary (List ℕ)} {x : List ℕ} {h : How} {o : List ℕ}
-      → Literal L q t v x h o w → Does v (ofString t x h) w
-  literal-does {t = t} {v = v} (literal-spelled {x = x} {added = true} sp room) = makes-string v t x
-  literal-does (literal-spelled {added = false} sp room) = none-done
-  literal-does (literal-numbered small fits en) = uses-string en
+  none-done : {v : Vocabulary S} → Does d v [] v
+  unfolding madeIn namesMadeIn
+  none-done {v} = record { before = λ n a rest k. k n a; strings-then = λ t. sym (append-nil (strings v t)); names-then = λ n a t. subst (Mean d v (names v t)) (sym (append-nil (n t))) (a t) }
 
-  value-does : {t : StringTable} {v w : Vocabulary (List ℕ)} {x : List ℕ} {h : How} {o : List ℕ} → Value L t v x h o w → Does v (ofString t x h) w
-  value-does value-empty = none-done
-  value-does (value u) = literal-does u
+  uses-string : {v : Vocabulary S} {t : StringTable} {k : ℕ} {x : S} → Entry (strings v t) k d x → Does d v (uses t (suc k) x ∷ []) v
+  unfolding madeIn namesMadeIn
+  uses-string {v} e =
+      record {
+        before = λ n a rest k. (omega arith, from-one e, k n a);
+        strings-then = none-done {v = v} .strings-then;
+        names-then = none-done {v = v} .names-then;
+      }
 
-  named-does : {q : NameLayout} {lead : ℕ} {v w : Vocabulary (List ℕ)} {x : Name (List ℕ)} {h : NameHow} {o : List ℕ}
-      → Named L q lead v x h o w → Does v (ofName (q .table) x h) w
-  named-does {q} (in-parts {v₃ = v3} lone up un ul new room) =
-      both (optional-does up) (both (optional-does un) (both (identifying-does ul) (makes-name v3 (q .table) _ _ (parts-mean up un ul))))
-  named-does {q} (by-number {k = k} {x = x} small fits en) = record { before = λ n a rest f. (omega arith, from-one (mean-entry k x (a (q .table)) en), f n a) }
+  uses-name : {v : Vocabulary S} {t : NameTable} {k : ℕ} {x : Triple} → Entry (names v t) k noTriple x → Does d v (usesName t (suc k) (nameOf v d x) ∷ []) v
+  unfolding madeIn namesMadeIn
+  uses-name {v} {t} {k} {x} e =
+      record {
+        before = λ n a rest f. (omega arith, from-one (mean-entry k x (a t) e), f n a);
+        strings-then = none-done {v = v} .strings-then;
+        names-then = none-done {v = v} .names-then;
+      }
 
-  declared-does : {v w : Vocabulary (List ℕ)} {p n : Option (List ℕ)} {hp hn : Option How} {o : List ℕ}
-      → Declared L v p n hp hn o w → Does v (ofOption PREFIX p hp ++ ofOption NAMESPACE-NAME n hn) w
-  declared-does (declared up un) = both (optional-does up) (optional-does un)
+  makes-string : (v : Vocabulary S) (t : StringTable) (x : S) → Does d v (makes t x ∷ []) (adding v t x)
+  unfolding madeIn namesMadeIn
+  makes-string v t x =
+      record {
+        before = λ n a rest k.
+            subst (λ (s : StringTable → List S). Known d s n rest) (fun-ext (strings-adding v t x))
+            (k n (still n a));
+        strings-then = λ u. strings-adding v t x u ∙ sym (extended-is (eqb (place t) (place u)) (strings v u) x);
+        names-then = λ n a u. subst (Mean d (adding v t x) (names (adding v t x) u)) (sym (append-nil (n u))) (still n a u);
+      }
+    where
+      still : (n : NameTable → List (Name S)) → Meant d v n → Meant d (adding v t x) n
+      still n a u = rw (names-adding v t x u) (mean-kept (keeps-adding v t x) (a u))
 
-  octets-do : {v w : State (List ℕ)} {i : Item (List ℕ)} {o : List ℕ} → Octets L v i o w → Does (v .words) (ofItem i) (w .words)
-  unfolding ofElement ofAttribute
-  octets-do (o-start a md may deep u) = named-does u
-  octets-do (o-first-namespace md may deep u) = declared-does u
-  octets-do (o-namespace md u) = declared-does u
-  octets-do (o-named-start md u) = named-does u
-  octets-do (o-attribute md u1 u2) = both (named-does u1) (value-does u2)
-  octets-do (o-text md lv u) = literal-does u
-  octets-do (o-comment md u) = value-does u
-  octets-do (o-instruction md u1 u2) = both (identifying-does u1) (value-does u2)
+  makes-name : (v : Vocabulary S) (t : NameTable) (x : Triple) (y : Name S) → Means d v x y → Does d v (makesName t y ∷ []) (addingName v t x)
+  unfolding madeIn namesMadeIn
+  makes-name v t x y m =
+      record {
+        before = λ n a rest k.
+            subst (λ (s : StringTable → List S). Known d s (λ u. extended (sameNames t u) (n u) y) rest) (fun-ext (strings-adding-name v t x))
+            (k _ (one-more n a));
+        strings-then = λ u. strings-adding-name v t x u ∙ sym (append-nil (strings v u));
+        names-then = λ n a u. subst (Mean d (addingName v t x) (names (addingName v t x) u)) (sym (extended-is (sameNames t u) (n u) y)) (one-more n a u);
+      }
+    where
+      g : Keeps d v (addingName v t x)
+      g = keeps-adding-name v t x
 
-  written-does : {at : ℕ} {v z : State (List ℕ)} {items : List (Item (List ℕ))} {hs : List ℕ}
-      → Written L at v items hs z → (n : NameTable → List (Name (List ℕ))) → Meant (v .words) n → Known (strings (v .words)) n (acts items)
-  written-does (document-end md lv rt) n a = tt
-  written-does (attributes-end md w) n a = written-does w n a
-  written-does (element-end md lv w) n a = written-does w n a
-  written-does (item {items = items} u w) n a = octets-do u .before n a (acts items) (λ m b. written-does w m b)
+      one-more : (n : NameTable → List (Name S)) → Meant d v n → Meant d (addingName v t x) (λ u. extended (sameNames t u) (n u) y)
+      one-more n a u = rw (names-adding-name v t x u) (mean-extended (sameNames t u) x y (means-kept g m) (mean-kept g (a u)))
 
-  pub earlier : {h : List ℕ} {start : Vocabulary (List ℕ)} {items : List (Item (List ℕ))} {z : State (List ℕ)} {s : List ℕ}
-      → Document L h start items z s → (n : NameTable → List (Name (List ℕ)))
-      → ((t : NameTable) → Mean start (names start t) (n t)) → Known (strings start) n (acts items)
-  unfolding beginning
-  earlier d n a = written-does (d .rule) n a
+  -- at the start the tables hold two strings, and no name
+  no-names : (p u : S) → Meant d (starting p u) (λ t. [])
+  unfolding names starting
+  no-names p u ELEMENT-NAME = none-mean
+  no-names p u ATTRIBUTE-NAME = none-mean
 
--- On the link the tables start with two strings and no name.
-pub earlier-on-link : {items : List (Item (List ℕ))} {z : State (List ℕ)} {s : List ℕ}
-    → Writes items z s → Known (strings (starting xmlPrefix xmlNamespace)) (λ t. []) (acts items)
-unfolding names starting
-earlier-on-link d = earlier d (λ t. []) (λ t. elim t [ ELEMENT-NAME ↦ none-mean | ATTRIBUTE-NAME ↦ none-mean ])
+module _ {S : Type 0} {d : S} {Spelt : S → Type 0} where
+  id-does : {t : StringTable} {v w : Vocabulary S} {x : S} {h : How} {n : ℕ} → IdDone d Spelt t v x h n w → Does d v (ofString t x h) w
+  id-does {t} {v} (id-made {x = x} sp) = makes-string v t x
+  id-does (id-used en) = uses-string en
+
+  part-does : {t : StringTable} {v w : Vocabulary S} {x : Option S} {h : Option How} {n : ℕ} → PartDone d Spelt t v x h n w → Does d v (ofOption d t x h) w
+  part-does no-part = none-done
+  part-does (a-part u) = id-does u
+
+  string-does : {t : StringTable} {v w : Vocabulary S} {x : S} {h : How} → StringDone d Spelt t v x h w → Does d v (ofString t x h) w
+  string-does {t} {v} (string-made {x = x} true sp) = makes-string v t x
+  string-does (string-made false sp) = none-done
+  string-does (string-used en) = uses-string en
+
+  value-does : {t : StringTable} {v w : Vocabulary S} {x : S} {h : How} → ValueDone d Spelt t v x h w → Does d v (ofString t x h) w
+  value-does empty-value = none-done
+  value-does (a-value u) = string-does u
+
+  name-does : {t : NameTable} {v w : Vocabulary S} {x : Name S} {h : NameHow} → NameDone d Spelt t v x h w → Does d v (ofName d t x h) w
+  name-does {t} (name-made {v₃ = v3} lone up un ul) = both (part-does up) (both (part-does un) (both (id-does ul) (makes-name v3 t _ _ (parts-mean up un ul))))
+  name-does (name-used en) = uses-name en
+
+  item-does : {v w : Vocabulary S} {i : Item S} → ItemDone d Spelt v i w → Does d v (ofItem d i) w
+  item-does (done-namespace up un) = both (part-does up) (part-does un)
+  item-does (done-start u) = name-does u
+  item-does (done-attribute u1 u2) = both (name-does u1) (value-does u2)
+  item-does (done-text u) = string-does u
+  item-does (done-comment u) = value-does u
+  item-does (done-instruction u1 u2) = both (id-does u1) (value-does u2)
+  item-does done-end = none-done
+
+  all-does : {v z : Vocabulary S} {items : List (Item S)} → Done d Spelt v items z → Does d v (acts d items) z
+  all-does no-item = none-done
+  all-does (an-item u r) = both (item-does u) (all-does r)
+
+  pub earlier : (p u : S) {items : List (Item S)} {z : Vocabulary S} → Done d Spelt (starting p u) items z → Known d (strings (starting p u)) (λ t. []) (acts d items)
+  earlier p u {items} r = subst (Known d (strings (starting p u)) (λ t. [])) (append-nil (acts d items)) (all-does r .before (λ t. []) (no-names p u) [] (λ m b. tt))
+
+  -- and at the end what was made, behind that
+  pub made : (p u : S) {items : List (Item S)} {z : Vocabulary S} → Done d Spelt (starting p u) items z → MadeBy d (starting p u) (acts d items) z
+  unfolding names starting
+  made p u r =
+      record {
+        strings-made = all-does r .strings-then;
+        names-made = λ t. mean-is (all-does r .names-then (λ t. []) (no-names p u) t) ∙ elim t [ ELEMENT-NAME ↦ refl | ATTRIBUTE-NAME ↦ refl ];
+      }

@@ -5,15 +5,15 @@ use mathlib.Core.List.{List, _++_, append-assoc}
 use Prim.Native.Nat.{ℕ, suc, _+_, _-_, _*_, _^_, _≤_, _<_}
 use native.Mathlib.Omega.{arith}
 use borrow.Author.Tests.{le-leb}
-use lib.Dec.{T}
 use lib.ListN.{length, getD, take, drop, length-append}
-use Rattle.format.specs.Numbers.{Form, spell, sizes, rooms, sound}
+use Rattle.format.specs.Numbers.{Form, spell, sizes, longest}
 use Rattle.format.specs.Text.{isText}
 use Rattle.format.specs.Tables.{Vocabulary}
 use Rattle.format.specs.Strings.{withLength, Spelling}
 use Rattle.fields.specs.declared.Number.{Number}
 use Rattle.fields.specs.declared.Number.the-variants.{Got as Num, Refused as NoNum}
 use Rattle.fields.specs.Fields.{fieldAt, noTop}
+use Rattle.fields.proofs.Laws.{rooms, Roomy}
 use Rattle.tables.specs.Located.{Located, stretch, octetsOf, plainWords}
 use Rattle.names.specs.Strings.{Got, got, refused, then, number, spelling}
 use Rattle.steps.specs.Items.{Step, stop, into}
@@ -52,12 +52,12 @@ module _ (s : List ℕ) where
   in-step P nay R k v (refused c p) r f g = nay c p r
 
   -- a length and a string: the length's octets and then the string's
-  pub spelling-sound : {C : Type 0} (P : Got C → Type 0) → ((c p : ℕ) → Fault s c p → P (refused c p)) → (fs : List Form) (base k n next : ℕ) → k ≤ length s → NumRead s fs noTop base k n next → (a : Got C)
-      → (Spelling fs (octetsOf s (stretch next n)) → drop k s ≡ withLength fs base (octetsOf s (stretch next n)) ++ drop (next + n) s
+  pub spelling-sound : length s ≤ longest → {C : Type 0} (P : Got C → Type 0) → ((c p : ℕ) → Fault s c p → P (refused c p)) → (fs : List Form) (base k n next : ℕ) → k ≤ length s → NumRead s fs noTop base k n next → (a : Got C)
+      → (Spelling (octetsOf s (stretch next n)) → drop k s ≡ withLength fs base (octetsOf s (stretch next n)) ++ drop (next + n) s
       → next + n ≡ k + length (withLength fs base (octetsOf s (stretch next n))) → next + n ≤ length s → P a)
       → P (spelling s k next n a)
   unfolding spelling octetsOf
-  spelling-sound P nay fs base k n next kl r a f =
+  spelling-sound short P nay fs base k n next kl r a f =
       test-le P (refused 2 k) (nay 2 k (fault s 2 k refl kl)) (next + n) (length s) _
       λ t1. test P (refused 9 k) (nay 9 k (fault s 9 k refl kl)) (isText (take n (drop next s))) _
       λ t2.
@@ -98,13 +98,14 @@ module _ (s : List ℕ) where
     pub high : getD s k 0 < base + rooms fs
     pub here : k < length s
 
-  pub spelt : (fs : List Form) (bit lead base k : ℕ) (x rest : List ℕ) → T (sound fs) → rooms fs ≤ 2 ^ (9 - bit) → sizes fs < noTop → base ≡ lead * 2 ^ (9 - bit) → Spelling fs x
+  pub spelt : (fs : List Form) (bit lead base k : ℕ) (x rest : List ℕ) → Roomy fs → rooms fs ≤ 2 ^ (9 - bit) → longest ≤ sizes fs → base ≡ lead * 2 ^ (9 - bit) → Spelling x
       → drop k s ≡ withLength fs base x ++ rest → Spelt fs bit base k x
   spelt fs bit lead base k x rest ok r sz bl sp d =
       let w : List ℕ = spell fs base (length x - 1) in
       let d1 : drop k s ≡ w ++ (x ++ rest) = d ∙ append-assoc w x rest in
       let p = sp .some in
-      let q = sp .fits in
+      let f = sp .fits in
+      let q : length x - 1 < sizes fs = omega arith in
       let z : suc (length x - 1) ≡ length x = omega arith in
       let n = num-complete s fs noTop bit lead base (length x - 1) k (x ++ rest) ok r q (omega arith) bl d1 in
       let o = num-first s fs base (length x - 1) k (x ++ rest) ok q d1 in

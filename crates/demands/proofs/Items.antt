@@ -9,7 +9,7 @@ use borrow.Author.Tests.{lt-ltb, le-ltb, le-leb, eq-eqb, ne-eqb}
 use lib.Dec.{eqb, ltb, leb}
 use lib.ListN.{length, getD, drop, length-append}
 use lib.Seq.{drop-cons}
-use Rattle.format.specs.Numbers.{pick, coded, rooms, numbers, c25, top}
+use Rattle.format.specs.Numbers.{pick, coded, numbers, c25, top, longest}
 use Rattle.format.specs.Events.{Name, Namespace, Start, Attribute, Text, Comment, Instruction, How, NameHow, forNamespace, forStart, forAttribute, forText, forComment, forInstruction, Item, _by_, eventMap}
 use Rattle.format.specs.Tables.{OTHER-NCNAME, ATTRIBUTE-VALUE, CONTENT-CHARACTER-CHUNK, OTHER-STRING, Vocabulary, Limits}
 use Rattle.format.specs.Strings.{bit, c15, Value}
@@ -19,12 +19,13 @@ use Rattle.fields.specs.declared.Cursor.{Cursor}
 use Rattle.fields.specs.declared.Number.{Number}
 use Rattle.fields.specs.declared.Number.the-variants.{Got as Num, Refused as NoNum}
 use Rattle.fields.specs.Fields.{readIn, fieldAt}
-use Rattle.fields.proofs.Laws.{case}
+use Rattle.fields.proofs.Laws.{case, rooms}
 use Rattle.tables.specs.Located.{Located, plain, plainWords, plainState}
 use Rattle.names.specs.Strings.{Got, idAt, literalAt, valueAt}
 use Rattle.names.specs.Names.{NameRead, lonePrefix, partsAt, numberedAt, nameAt, declaredAt}
 use Rattle.steps.specs.Items.{Stand, Step, more, quiet, done, stop, octet, namePadding, startOf, namespaceAt, elementAt, namedAt, attributeAt, chunkAt, commentAt, instructionAt, otherAt, childAt, declaringAt, itemAt}
 use Rattle.steps.specs.Steps.{byHalves}
+use Rattle.demands.specs.Places.{itemSpelled, inItem}
 use Rattle.demands.proofs.Lists.{Fault, fault, test, test-lt, test-not, either-lt, either-eq, drop-head, drop-past, pick-yes, pick-no}
 use Rattle.demands.proofs.Fields.{FieldRead, Ok, in-step, Hit}
 use Rattle.demands.proofs.Strings.{shape15, inside, IdR, id-sound, LiteralR, literal-sound, ValueR, value-sound, id-complete, literal-complete, value-complete}
@@ -58,7 +59,16 @@ parts-unpadded b lo hi = rw (ne-eqb (b / 8) 6 (omega arith), ne-eqb (b / 4) 14 (
 padded-refused : (s : List ℕ) (k b : ℕ) → 48 < b → b < 56 → readIn (numbers 3) top 1 s k b ≡ NoNum 6 k
 unfolding readIn numbers coded
 padded-refused s k b lo hi =
-    rw (le-ltb b 32 (omega arith), le-ltb (b - 32) 8 (omega arith), le-ltb (b - 32 - 8) 8 (omega arith), le-ltb (b - 32 - 8 - 8) 1 (omega arith), lt-ltb (b - 32 - 8 - 8) 8 (omega arith))
+    rw (
+      le-ltb (b * 1) 32 (omega arith),
+      le-ltb b 32 (omega arith),
+      le-ltb ((b - 32) * 256) 2048 (omega arith),
+      le-ltb (b - 32) 8 (omega arith),
+      le-ltb ((b - 32 - 8) * 65536) 524288 (omega arith),
+      le-ltb (b - 32 - 8) 8 (omega arith),
+      le-ltb ((b - 32 - 8 - 8) * 16777216) 1048576 (omega arith),
+      lt-ltb (b - 32 - 8 - 8) 8 (omega arith),
+    )
 
 is-no-number : {X : Type 0} (t : Bool) (a b : Number) (n : ℕ) (c : Cursor) (m p j q : ℕ) → a ≡ NoNum m p → b ≡ NoNum j q → pick t a b ≡ Num n c → X
 is-no-number true a b n c m p j q e f g = absurd (let z : NoNum m p ≡ Num n c = sym e ∙ g in let y : _≡_ {A = ℕ} 0 1 = cc in omega arith)
@@ -73,7 +83,7 @@ number-unpadded s k b n c e z h =
     (λ w. let q : b ≡ 48 = omega arith in rw q))
 
 -- ---- what is read is what the rules write
-module _ (L : Limits) (s : List ℕ) (bytes : (i : ℕ) → getD s i 0 < 256) where
+module _ (L : Limits) (s : List ℕ) (bytes : (i : ℕ) → getD s i 0 < 256) (short : length s ≤ longest) where
   pub record ItemRead (k : ℕ) (v : State Located) (p : ℕ) (i : Item Located) (n : Stand) : Type 0 where
     pub octets : List ℕ
     pub rule : Octets L (plainState s v) (plain s i) octets (plainState s (n .state))
@@ -97,7 +107,7 @@ module _ (L : Limits) (s : List ℕ) (bytes : (i : ℕ) → getD s i 0 < 256) wh
   module _ (a : Bool) (lead k j : ℕ) (pre : List ℕ) (v : State Located) (d : drop j s ≡ pre ++ drop k s) (l : k ≡ j + length pre) (kl : k ≤ length s)
       (f : (x : Name (List ℕ)) (h : NameHow) (os : List ℕ) (w : Vocabulary (List ℕ)) → Named L ofElement lead (plainWords s (v .words)) x h os w
       → Octets L (plainState s v) (Start x by forStart h) (pre ++ os) (opened (plainState s v) w a)) where
-    start-read : (x : NameRead) (next : ℕ) (w : Vocabulary Located) → FieldRead s (NameR L s bytes ofElement lead) k (v .words) x next w
+    start-read : (x : NameRead) (next : ℕ) (w : Vocabulary Located) → FieldRead s (NameR L s bytes short ofElement lead) k (v .words) x next w
         → ItemRead j v k (Start (x .name) by forStart (x .how)) (octet next (opened v w a))
     unfolding eventMap
     start-read x next w r =
@@ -105,8 +115,8 @@ module _ (L : Limits) (s : List ℕ) (bytes : (i : ℕ) → getD s i 0 < 256) wh
         let la = length-append pre (r .octets) in
         took j v k (Start (x .name) by forStart (x .how)) next (opened v w a) (pre ++ r .octets) (d ∙ ap (λ (l : List ℕ). pre ++ l) (r .here) ∙ sym (append-assoc pre (r .octets) (drop next s))) (omega arith) (r .inside) kl (f _ _ _ _ (r .rule))
 
-    start-sound : (g : Got NameRead) → Ok s (NameR L s bytes ofElement lead) k (v .words) g → Took j v (startOf L k a v g)
-    start-sound g r = in-step s (Took j v) (λ c p f. f) (NameR L s bytes ofElement lead) k (v .words) g r _ λ x next w r. start-read x next w r
+    start-sound : (g : Got NameRead) → Ok s (NameR L s bytes short ofElement lead) k (v .words) g → Took j v (startOf L k a v g)
+    start-sound g r = in-step s (Took j v) (λ c p f. f) (NameR L s bytes short ofElement lead) k (v .words) g r _ λ x next w r. start-read x next w r
 
   namespace-sound : (k j : ℕ) (pre : List ℕ) (v : State Located) (a : Bool) → drop j s ≡ pre ++ drop k s → k ≡ j + length pre → k ≤ length s
       → ((p n : Option (List ℕ)) (hp hn : Option How) (os : List ℕ) (w : Vocabulary (List ℕ)) → Declared L (plainWords s (v .words)) p n hp hn os w
@@ -114,7 +124,7 @@ module _ (L : Limits) (s : List ℕ) (bytes : (i : ℕ) → getD s i 0 < 256) wh
       → Took j v (namespaceAt L s k v a)
   unfolding namespaceAt eventMap
   namespace-sound k j pre v a d l kl f =
-      in-step s (Took j v) (λ c p f. f) (DeclaredR L s bytes) k (v .words) (declaredAt L s k (v .words)) (declared-sound L s bytes k (v .words) kl) _
+      in-step s (Took j v) (λ c p f. f) (DeclaredR L s bytes short) k (v .words) (declaredAt L s k (v .words)) (declared-sound L s bytes short k (v .words) kl) _
       λ x next w r.
       let n1 = r .next-is in
       let la = length-append pre (r .octets) in
@@ -130,7 +140,7 @@ module _ (L : Limits) (s : List ℕ) (bytes : (i : ℕ) → getD s i 0 < 256) wh
       test-not P (stop 6 k) (fault s 6 k refl kl) (namePadding b) _
       λ t0. test P (stop 15 k) (fault s 15 k refl kl) (mayStart v) _
       λ t1. either-lt P b 0x38 _ _
-      (λ h1. in-step s P (λ c p f. f) (NameR L s bytes ofElement (64 * bit a)) k (v .words) (numberedAt L ofElement s k (v .words)) (numbered-sound L s bytes ofElement (64 * bit a) k (v .words) kl (omega arith)) _
+      (λ h1. in-step s P (λ c p f. f) (NameR L s bytes short ofElement (64 * bit a)) k (v .words) (numberedAt L ofElement s k (v .words)) (numbered-sound L s bytes short ofElement (64 * bit a) k (v .words) kl (omega arith)) _
       λ x next w r. test-lt P (stop 13 k) (fault s 13 k refl kl) (v .level) (L .depth) _
       λ t2. start-read a (64 * bit a) k k [] v refl (omega arith) kl (λ x hw os w u. o-start a md t1 t2 u) x next w r)
       λ h1. test-not P (stop 15 k) (fault s 15 k refl kl) (leb 0x3C b && lonePrefix b) _
@@ -140,7 +150,7 @@ module _ (L : Limits) (s : List ℕ) (bytes : (i : ℕ) → getD s i 0 < 256) wh
       (drop-cons s k 0 h ∙ ap (λ (x : ℕ). x ∷ drop (suc k) s) (let y : getD s k 0 ≡ 64 * bit a + 0x38 = omega arith in y)) (omega arith) h
       (λ p n hp hn os w u. o-first-namespace md t1 t2 u))
       (λ e. let lo = unpadded-parts b t0 (omega arith) hb in
-      start-sound a (64 * bit a) k k [] v refl (omega arith) kl (λ x hw os w u. o-start a md t1 t2 u) (partsAt L ofElement s b k (v .words)) (parts-sound L s bytes ofElement (64 * bit a) b k (v .words) (omega arith) h))
+      start-sound a (64 * bit a) k k [] v refl (omega arith) kl (λ x hw os w u. o-start a md t1 t2 u) (partsAt L ofElement s b k (v .words)) (parts-sound L s bytes short ofElement (64 * bit a) b k (v .words) (omega arith) h))
 
   -- behind F0
   named-sound : (a : Bool) (k : ℕ) (v : State Located) → v .mode ≡ declaring a → getD s k 0 ≡ 0xF0 → Took k v (namedAt L s (suc k) a v)
@@ -149,7 +159,7 @@ module _ (L : Limits) (s : List ℕ) (bytes : (i : ℕ) → getD s i 0 < 256) wh
       let P : Step → Type 0 = Took k v in
       let j : ℕ = suc k in
       let o : ℕ = getD s j 0 in
-      let h = inside L s bytes k 0xF0 e (omega arith) in
+      let h = inside L s bytes short k 0xF0 e (omega arith) in
       let jl : j ≤ length s = omega arith in
       let d : drop k s ≡ (0xF0 ∷ []) ++ drop j s = drop-cons s k 0 h ∙ ap (λ (x : ℕ). x ∷ drop j s) e in
       let rule : (x : Name (List ℕ)) (hw : NameHow) (os : List ℕ) (w : Vocabulary (List ℕ)) → Named L ofElement 0 (plainWords s (v .words)) x hw os w
@@ -159,7 +169,7 @@ module _ (L : Limits) (s : List ℕ) (bytes : (i : ℕ) → getD s i 0 < 256) wh
       λ h2. test-lt P (stop 6 j) (fault s 6 j refl jl) o 0x40 _
       λ h3. test-not P (stop 6 j) (fault s 6 j refl jl) (namePadding o) _
       λ h4. start-sound a 0 j k (0xF0 ∷ []) v d (omega arith) jl rule (nameAt L ofElement s o j (v .words))
-      (name-sound L s bytes ofElement 0 o j (v .words) (λ y. omega arith) (λ y. omega arith) h1)
+      (name-sound L s bytes short ofElement 0 o j (v .words) (λ y. omega arith) (λ y. omega arith) h1)
 
   attribute-sound : (any : Bool) (k : ℕ) (v : State Located) → k ≤ length s → v .mode ≡ listing any → Took k v (attributeAt L s k v)
   unfolding attributeAt eventMap ofAttribute
@@ -169,9 +179,9 @@ module _ (L : Limits) (s : List ℕ) (bytes : (i : ℕ) → getD s i 0 < 256) wh
       test-lt P (stop 2 k) (fault s 2 k refl kl) k (length s) _
       λ h. test-lt P (stop 5 k) (fault s 5 k refl kl) o 0x80 _
       λ h1. test-lt P (stop 6 k) (fault s 6 k refl kl) o 0x7C _
-      λ h2. in-step s P (λ c p f. f) (NameR L s bytes ofAttribute 0) k (v .words) (nameAt L ofAttribute s o k (v .words))
-      (name-sound L s bytes ofAttribute 0 o k (v .words) (λ y. omega arith) (λ y. omega arith) h) _
-      λ x k₁ w₁ r₁. in-step s P (λ c p f. f) (ValueR L s bytes ATTRIBUTE-VALUE) k₁ w₁ (valueAt L s ATTRIBUTE-VALUE k₁ w₁) (value-sound L s bytes ATTRIBUTE-VALUE k₁ w₁ (r₁ .inside)) _
+      λ h2. in-step s P (λ c p f. f) (NameR L s bytes short ofAttribute 0) k (v .words) (nameAt L ofAttribute s o k (v .words))
+      (name-sound L s bytes short ofAttribute 0 o k (v .words) (λ y. omega arith) (λ y. omega arith) h) _
+      λ x k₁ w₁ r₁. in-step s P (λ c p f. f) (ValueR L s bytes short ATTRIBUTE-VALUE) k₁ w₁ (valueAt L s ATTRIBUTE-VALUE k₁ w₁) (value-sound L s bytes short ATTRIBUTE-VALUE k₁ w₁ (r₁ .inside)) _
       λ y k₂ w₂ r₂.
       let n1 = r₁ .next-is in
       let n2 = r₂ .next-is in
@@ -183,15 +193,15 @@ module _ (L : Limits) (s : List ℕ) (bytes : (i : ℕ) → getD s i 0 < 256) wh
   chunk-sound : (k : ℕ) (v : State Located) → k ≤ length s → v .mode ≡ content → 0 < v .level → 0x80 ≤ getD s k 0 → getD s k 0 < 0xC0 → Took k v (chunkAt L s k v)
   unfolding chunkAt eventMap c15
   chunk-sound k v kl md lev lo hi =
-      in-step s (Took k v) (λ c p f. f) (LiteralR L s bytes c15 CONTENT-CHARACTER-CHUNK) k (v .words) (literalAt L c15 s CONTENT-CHARACTER-CHUNK k (v .words))
-      (literal-sound L s bytes c15 shape15 CONTENT-CHARACTER-CHUNK k (v .words) kl (omega arith) (omega arith)) _
+      in-step s (Took k v) (λ c p f. f) (LiteralR L s bytes short c15 CONTENT-CHARACTER-CHUNK) k (v .words) (literalAt L c15 s CONTENT-CHARACTER-CHUNK k (v .words))
+      (literal-sound L s bytes short c15 shape15 CONTENT-CHARACTER-CHUNK k (v .words) kl (omega arith) (omega arith)) _
       λ y next w r. took k v k (Text (y .string) by forText (y .how)) next (knowing v w) (r .octets) (r .here) (r .next-is) (r .inside) kl (o-text md lev (r .rule))
 
   comment-sound : (k : ℕ) (v : State Located) → v .mode ≡ content → getD s k 0 ≡ 0xE2 → k < length s → Took k v (commentAt L s k v)
   unfolding commentAt eventMap
   comment-sound k v md e h =
       let kl : k ≤ length s = omega arith in
-      in-step s (Took k v) (λ c p f. f) (ValueR L s bytes OTHER-STRING) (suc k) (v .words) (valueAt L s OTHER-STRING (suc k) (v .words)) (value-sound L s bytes OTHER-STRING (suc k) (v .words) h) _
+      in-step s (Took k v) (λ c p f. f) (ValueR L s bytes short OTHER-STRING) (suc k) (v .words) (valueAt L s OTHER-STRING (suc k) (v .words)) (value-sound L s bytes short OTHER-STRING (suc k) (v .words) h) _
       λ y next w r.
       let n1 = r .next-is in
       took k v k (Comment (y .string) by forComment (y .how)) next (knowing v w) (0xE2 ∷ r .octets)
@@ -202,8 +212,8 @@ module _ (L : Limits) (s : List ℕ) (bytes : (i : ℕ) → getD s i 0 < 256) wh
   instruction-sound k v md e h =
       let kl : k ≤ length s = omega arith in
       let P : Step → Type 0 = Took k v in
-      in-step s P (λ c p f. f) (IdR L s bytes OTHER-NCNAME) (suc k) (v .words) (idAt L s OTHER-NCNAME (suc k) (v .words)) (id-sound L s bytes OTHER-NCNAME (suc k) (v .words) h) _
-      λ x k₁ w₁ r₁. in-step s P (λ c p f. f) (ValueR L s bytes OTHER-STRING) k₁ w₁ (valueAt L s OTHER-STRING k₁ w₁) (value-sound L s bytes OTHER-STRING k₁ w₁ (r₁ .inside)) _
+      in-step s P (λ c p f. f) (IdR L s bytes short OTHER-NCNAME) (suc k) (v .words) (idAt L s OTHER-NCNAME (suc k) (v .words)) (id-sound L s bytes short OTHER-NCNAME (suc k) (v .words) h) _
+      λ x k₁ w₁ r₁. in-step s P (λ c p f. f) (ValueR L s bytes short OTHER-STRING) k₁ w₁ (valueAt L s OTHER-STRING k₁ w₁) (value-sound L s bytes short OTHER-STRING k₁ w₁ (r₁ .inside)) _
       λ y k₂ w₂ r₂.
       let n1 = r₁ .next-is in
       let n2 = r₂ .next-is in
@@ -240,12 +250,14 @@ module _ (L : Limits) (s : List ℕ) (bytes : (i : ℕ) → getD s i 0 < 256) wh
 
 -- ---- what the rules write is read
 module _ (L : Limits) (s : List ℕ) where
-  pub record ItemHit (k : ℕ) (v : State Located) (i : Item (List ℕ)) (o : List ℕ) (w : State (List ℕ)) : Type 0 where
+  -- p is where its strings are spelled
+  pub record ItemHit (k : ℕ) (v : State Located) (i : Item (List ℕ)) (o : List ℕ) (w : State (List ℕ)) (p : List Located) : Type 0 where
     pub place : ℕ
     pub found : Item Located
     pub n : State Located
     pub goes : itemAt L s k v (v .mode) ≡ more place found (octet (k + length o) n)
     pub what : plain s found ≡ i
+    pub spells : itemSpelled found ≡ p
     pub state : plainState s n ≡ w
     pub some : 0 < length o
     pub here : k < length s
@@ -296,18 +308,18 @@ module _ (L : Limits) (s : List ℕ) where
   not-halves m a q e = not-both (byHalves m) e (ap byHalves q)
 
   -- a Start, at its first octet
-  record StartHit (a : Bool) (k : ℕ) (v : State Located) (x : Name (List ℕ)) (h : NameHow) (os : List ℕ) (w : Vocabulary (List ℕ)) (t : Step) : Type 0 where
+  record StartHit (a : Bool) (k : ℕ) (v : State Located) (x : Name (List ℕ)) (h : NameHow) (os : List ℕ) (w : Vocabulary (List ℕ)) (p : List Located) (t : Step) : Type 0 where
     name : NameRead
     words : Vocabulary Located
     goes : t ≡ more k (Start (name .name) by forStart (name .how)) (octet (k + length os) (opened v words a))
-    what : NameQ L s x h name
+    what : NameQ L s x h p name
     state : plainWords s words ≡ w
 
-  start-of : (a : Bool) (k : ℕ) (v : State Located) {x : Name (List ℕ)} {h : NameHow} {os : List ℕ} {w : Vocabulary (List ℕ)} (g : Got NameRead) → Hit s (NameQ L s x h) (k + length os) w g → StartHit a k v x h os w (startOf L k a v g)
+  start-of : (a : Bool) (k : ℕ) (v : State Located) {x : Name (List ℕ)} {h : NameHow} {os : List ℕ} {w : Vocabulary (List ℕ)} {p : List Located} (g : Got NameRead) → Hit s (NameQ L s x h p) (k + length os) w g → StartHit a k v x h os w p (startOf L k a v g)
   start-of a k v g h = record { name = h .b; words = h .v; goes = rw (h .goes); what = h .what; state = h .state }
 
-  element-hit : (a : Bool) (k : ℕ) (v : State Located) {x : Name (List ℕ)} {h : NameHow} {os : List ℕ} {w : Vocabulary (List ℕ)} → mayStart v ≡ true → v .level < L .depth → k < length s
-      → NameHit L s ofElement (64 * bit a) k (v .words) x h os w → StartHit a k v x h os w (childAt L s k v)
+  element-hit : (a : Bool) (k : ℕ) (v : State Located) {x : Name (List ℕ)} {h : NameHow} {os : List ℕ} {w : Vocabulary (List ℕ)} {p : List Located} → mayStart v ≡ true → v .level < L .depth → k < length s
+      → NameHit L s ofElement (64 * bit a) k (v .words) x h os w p → StartHit a k v x h os w p (childAt L s k v)
   unfolding elementAt ofElement rooms coded numbers
   element-hit a k v {os = os} may deep l (hit-numbered o oc hi n c e hit) =
       let z : getD s k 0 % 64 ≡ o = let b1 = one-bit a in omega arith in
@@ -328,8 +340,8 @@ module _ (L : Limits) (s : List ℕ) where
         state = hit .state;
       }
 
-  named-hit : (a : Bool) (k : ℕ) (v : State Located) {x : Name (List ℕ)} {h : NameHow} {os : List ℕ} {w : Vocabulary (List ℕ)} → k < length s
-      → NameHit L s ofElement 0 k (v .words) x h os w → StartHit a k v x h os w (namedAt L s k a v)
+  named-hit : (a : Bool) (k : ℕ) (v : State Located) {x : Name (List ℕ)} {h : NameHow} {os : List ℕ} {w : Vocabulary (List ℕ)} {p : List Located} → k < length s
+      → NameHit L s ofElement 0 k (v .words) x h os w p → StartHit a k v x h os w p (namedAt L s k a v)
   unfolding namedAt nameAt ofElement rooms coded numbers
   named-hit a k v l (hit-numbered o oc hi n c e hit) =
       let q : getD s k 0 ≡ o = omega arith in
@@ -339,18 +351,18 @@ module _ (L : Limits) (s : List ℕ) where
       rw (lt-ltb k (length s) l, q, ne-eqb (o % 64 / 4) 14 (omega arith), lt-ltb o 0x40 hi, parts-unpadded o lo hi, le-ltb o 0x3C lo) (start-of a k v _ hit)
 
   -- an attribute's name
-  attribute-hit : (k : ℕ) (v : Vocabulary Located) {x : Name (List ℕ)} {h : NameHow} {os : List ℕ} {w : Vocabulary (List ℕ)} → NameHit L s ofAttribute 0 k v x h os w
-      → Hit s (NameQ L s x h) (k + length os) w (nameAt L ofAttribute s (getD s k 0) k v) × (getD s k 0 < 0x7C)
+  attribute-hit : (k : ℕ) (v : Vocabulary Located) {x : Name (List ℕ)} {h : NameHow} {os : List ℕ} {w : Vocabulary (List ℕ)} {p : List Located} → NameHit L s ofAttribute 0 k v x h os w p
+      → Hit s (NameQ L s x h p) (k + length os) w (nameAt L ofAttribute s (getD s k 0) k v) × (getD s k 0 < 0x7C)
   unfolding nameAt ofAttribute rooms coded c25
   attribute-hit k v (hit-numbered o oc hi n c e hit) = (rw (lt-ltb (getD s k 0) 0x78 (omega arith)) hit, omega arith)
   attribute-hit k v (hit-parts o oc lo hi lone hit) = let q : getD s k 0 ≡ o = omega arith in (rw (q, le-ltb o 0x78 lo) hit, omega arith)
 
-  name-first : (a : Bool) {k : ℕ} {v : Vocabulary Located} {x : Name (List ℕ)} {h : NameHow} {os : List ℕ} {w : Vocabulary (List ℕ)} → NameHit L s ofElement (64 * bit a) k v x h os w → getD s k 0 < 0x80
+  name-first : (a : Bool) {k : ℕ} {v : Vocabulary Located} {x : Name (List ℕ)} {h : NameHow} {os : List ℕ} {w : Vocabulary (List ℕ)} {p : List Located} → NameHit L s ofElement (64 * bit a) k v x h os w p → getD s k 0 < 0x80
   unfolding ofElement rooms coded numbers
   name-first a (hit-numbered o oc hi n c e hit) = let b1 = one-bit a in omega arith
   name-first a (hit-parts o oc lo hi lone hit) = let b1 = one-bit a in omega arith
 
-  pub item-complete : (k : ℕ) (v : State Located) {i : Item (List ℕ)} {o : List ℕ} {w : State (List ℕ)} (rest : List ℕ) → Octets L (plainState s v) i o w → drop k s ≡ o ++ rest → ItemHit k v i o w
+  pub item-complete : (k : ℕ) (v : State Located) {i : Item (List ℕ)} {o : List ℕ} {w : State (List ℕ)} (rest : List ℕ) (u : Octets L (plainState s v) i o w) → drop k s ≡ o ++ rest → ItemHit k v i o w (inItem k u)
   unfolding itemAt declaringAt namespaceAt elementAt attributeAt chunkAt commentAt instructionAt eventMap mayStart ofElement ofAttribute
   item-complete k v rest (o-start a {o = os} md may deep u) d =
       let c = name-complete L s ofElement element-shape (bit a) (64 * bit a) k (omega arith) (v .words) rest u d in
@@ -362,6 +374,7 @@ module _ (L : Limits) (s : List ℕ) where
         n = opened v (t .words) a;
         goes = ap (λ (y : Mode). itemAt L s k v y) md ∙ t .goes;
         what = λ j. Start (t .what .0 j) by forStart (t .what .1 j);
+        spells = t .what .2;
         state = ap (λ (y : Vocabulary (List ℕ)). opened (plainState s v) y a) (t .state);
         some = c .1;
         here = c .2;
@@ -381,6 +394,7 @@ module _ (L : Limits) (s : List ℕ) where
         n = moved v (h .v) (declaring a);
         goes = ap (λ (y : Mode). itemAt L s k v y) md ∙ element-goes a k 0x38 v oc (omega arith) (f .0) ∙ rw (pad, may, lt-ltb (v .level) (L .depth) deep, h .goes, z);
         what = λ j. Namespace (h .what .0 j) (h .what .1 j) by forNamespace (h .what .2 j) (h .what .3 j);
+        spells = h .what .4;
         state = ap (λ (y : Vocabulary (List ℕ)). moved (plainState s v) y (declaring a)) (h .state);
         some = omega arith;
         here = f .0;
@@ -397,6 +411,7 @@ module _ (L : Limits) (s : List ℕ) where
         n = moved v (h .v) (declaring a);
         goes = ap (λ (y : Mode). itemAt L s k v y) md ∙ rw (ne-eqb (getD s k 0) 0xF0 (omega arith), h .goes);
         what = λ j. Namespace (h .what .0 j) (h .what .1 j) by forNamespace (h .what .2 j) (h .what .3 j);
+        spells = h .what .4;
         state = ap (λ (y : Vocabulary (List ℕ)). moved (plainState s v) y (declaring a)) (h .state);
         some = c .4;
         here = c .3;
@@ -413,6 +428,7 @@ module _ (L : Limits) (s : List ℕ) where
         n = opened v (t .words) a;
         goes = ap (λ (y : Mode). itemAt L s k v y) md ∙ rw (eq-eqb (getD s k 0) 0xF0 (f .1), t .goes, z);
         what = λ j. Start (t .what .0 j) by forStart (t .what .1 j);
+        spells = t .what .2;
         state = ap (λ (y : Vocabulary (List ℕ)). opened (plainState s v) y a) (t .state);
         some = omega arith;
         here = f .0;
@@ -434,6 +450,7 @@ module _ (L : Limits) (s : List ℕ) where
         n = moved v (e .v) (listing true);
         goes = ap (λ (y : Mode). itemAt L s k v y) md ∙ rw (lt-ltb k (length s) (c .2), lt-ltb (getD s k 0) 0x80 (omega arith), lt-ltb (getD s k 0) 0x7C hi, h .goes, e .goes, z);
         what = λ j. Attribute (h .what .0 j) (e .what .0 j) by forAttribute (h .what .1 j) (e .what .1 j);
+        spells = λ j. h .what .2 j ++ e .what .2 j;
         state = ap (λ (y : Vocabulary (List ℕ)). moved (plainState s v) y (listing true)) (e .state);
         some = omega arith;
         here = c .2;
@@ -448,6 +465,7 @@ module _ (L : Limits) (s : List ℕ) where
         n = knowing v (h .v);
         goes = ap (λ (y : Mode). itemAt L s k v y) md ∙ chunk-goes k v lev (c .low) (c .last) (c .here) ∙ rw (h .goes);
         what = λ j. Text (h .what .0 j) by forText (h .what .1 j);
+        spells = h .what .2;
         state = ap (λ (y : Vocabulary (List ℕ)). knowing (plainState s v) y) (h .state);
         some = c .some;
         here = c .here;
@@ -464,6 +482,7 @@ module _ (L : Limits) (s : List ℕ) where
         n = knowing v (h .v);
         goes = ap (λ (y : Mode). itemAt L s k v y) md ∙ comment-goes k v oc (f .0) ∙ rw (h .goes, z);
         what = λ j. Comment (h .what .0 j) by forComment (h .what .1 j);
+        spells = h .what .2;
         state = ap (λ (y : Vocabulary (List ℕ)). knowing (plainState s v) y) (h .state);
         some = omega arith;
         here = f .0;
@@ -483,6 +502,7 @@ module _ (L : Limits) (s : List ℕ) where
         n = knowing v (e .v);
         goes = ap (λ (y : Mode). itemAt L s k v y) md ∙ instruction-goes k v oc (f .0) ∙ rw (h .goes, e .goes, z);
         what = λ j. Instruction (h .what .0 j) (e .what .0 j) by forInstruction (h .what .1 j) (e .what .1 j);
+        spells = λ j. h .what .3 j ++ e .what .2 j;
         state = ap (λ (y : Vocabulary (List ℕ)). knowing (plainState s v) y) (e .state);
         some = omega arith;
         here = f .0;

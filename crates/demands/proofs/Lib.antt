@@ -1,4 +1,5 @@
 mod Lists
+mod Splits
 mod Words
 mod Numbers
 mod Fields
@@ -10,17 +11,39 @@ mod Opening
 mod Document
 mod Fits
 mod OneWriting
+mod Effects
 mod Growing
 mod Earlier
 mod Wider
+mod Structure
 mod Documents
+mod Begun
 mod Plain
+mod ReadEffects
+mod ReadPlaces
+mod ReadRecords
 mod Chosen
-mod Sayable
 mod Produced
+mod WriterChoices
+mod Sayable
+mod Step
+mod PlainStep
+mod Append
+mod Joined
+mod Entries
+mod Permitted
+mod Every
+mod RuleTables
 mod WriterRun
 mod WriterDocument
+mod OneVerdict
+mod WriterAccepts
 mod Given
 pub mod Demands
 pub mod Calls
 pub mod WriterCalls
+mod InWords
+pub mod DemandOne
+pub mod DemandThree
+pub mod DemandTwo
+pub mod DemandWords

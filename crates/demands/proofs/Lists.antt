@@ -1,6 +1,6 @@
 -- What stands where in a list of octets or of halves, both ways: read as it is written, written as it is read.
 use mathlib.Core.Path.{_≡_, refl, sym, ap, ap₂, _∙_}
-use mathlib.Core.Bool.{Bool, true, false, _&&_}
+use mathlib.Core.Bool.{Bool, true, false, not, _&&_}
 use mathlib.Core.List.{List, [], _∷_, _++_}
 use Prim.Native.Nat.{ℕ, zero, suc, _+_, _-_, _*_, _/_, _%_, _≤_, _<_}
 use native.Mathlib.Omega.{arith}
@@ -12,15 +12,22 @@ use lib.Seq.{drop-drop, take-at, drop-at, length-take-le, drop-nil}
 use Rattle.format.specs.Numbers.{pick}
 use Rattle.format.specs.Document.{halves, pad, aligned}
 use Rattle.steps.specs.Steps.{halfAt, endsAt, padsAt}
-use Rattle.tables.proofs.Found.{both-true}
+use Rattle.tables.proofs.Found.{clash, both-true}
 
 -- ---- tests
 -- a refusal: one of 01's numbers for a reader, at a place in the document or at its length
-abbrev pub Fault : List ℕ → ℕ → ℕ → Type 0
-Fault s n p = (1 ≤ n) × (n ≤ 15) × (p ≤ length s)
+abbrev pub Refusal : List ℕ → ℕ → ℕ → Type 0
+Refusal s n p = (1 ≤ n) × (n ≤ 15) × (p ≤ length s)
 
-pub fault : (s : List ℕ) (n p : ℕ) → (leb 1 n && leb n 15) ≡ true → p ≤ length s → Fault s n p
-fault s n p t h = let a = both-true (leb 1 n) (leb n 15) t in (leb-true 1 n (a .0), leb-true n 15 (a .1), h)
+-- a fault of the document: such a refusal, and not for want of room (14)
+abbrev pub Fault : List ℕ → ℕ → ℕ → Type 0
+Fault s n p = Refusal s n p × (n ≡ 14 → ⊥)
+
+pub fault : (s : List ℕ) (n p : ℕ) → (leb 1 n && (leb n 15 && not (eqb n 14))) ≡ true → p ≤ length s → Fault s n p
+fault s n p t h =
+    let a = both-true (leb 1 n) (leb n 15 && not (eqb n 14)) t in
+    let b = both-true (leb n 15) (not (eqb n 14)) (a .1) in
+    ((leb-true 1 n (a .0), leb-true n 15 (b .0), h), λ e. clash (rw (eq-eqb n 14 e) at (b .1)))
 
 -- what holds of a refusal and, where a test is passed, of what follows, holds of the test
 module _ {X : Type 0} (P : X → Type 0) (r : X) (nay : P r) where

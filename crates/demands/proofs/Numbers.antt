@@ -3,14 +3,14 @@ use mathlib.Core.Path.{_≡_, refl, sym, ap, ap₂, _∙_, subst}
 use mathlib.Core.List.{List, [], _∷_, _++_}
 use Prim.Native.Nat.{ℕ, suc, _+_, _-_, _*_, _%_, _^_, _≤_, _<_}
 use native.Mathlib.Omega.{arith}
-use lib.Dec.{T, ltb, leb}
+use lib.Dec.{ltb, leb}
 use lib.ListN.{length, getD, take, drop, length-append, length-drop, take-append-drop}
 use lib.Seq.{drop-cons, length-take-le}
 use Rattle.fields.specs.declared.Number.{Number}
 use Rattle.fields.specs.declared.Number.the-variants.{Got as Num, Refused as NoNum}
-use Rattle.format.specs.Numbers.{Form, form, spell, sizes, rooms, sound}
+use Rattle.format.specs.Numbers.{Form, form, spell, sizes}
 use Rattle.fields.specs.Fields.{valueFrom, behind, readIn, fieldAt}
-use Rattle.fields.proofs.Laws.{accepted, first-ge}
+use Rattle.fields.proofs.Laws.{rooms, Roomy, accepted, first-ge}
 use Rattle.fields.proofs.RoundTrip.{first-lt, some-first, field-write}
 use Rattle.demands.proofs.Lists.{Fault, fault, test, test-lt, either, drop-add, drop-head}
 
@@ -42,8 +42,8 @@ behind-refusable s at x more low size top h =
 read-refusable : (fs : List Form) (s : List ℕ) (top low at b : ℕ) → at ≤ length s → Refusable s (readIn fs top low s at b)
 unfolding readIn
 read-refusable [] s top low at b h = fault s 5 at refl h
-read-refusable (form span room more size ∷ fs) s top low at b h =
-    either (Refusable s) (ltb b span) _ _ (λ t. behind-refusable s at b more low size top h)
+read-refusable (form room more size ∷ fs) s top low at b h =
+    either (Refusable s) (ltb (b * 256 ^ more) size) _ _ (λ t. behind-refusable s at b more low size top h)
     (λ t. either (Refusable s) (ltb b room) _ _ (λ u. fault s 6 at refl h) (λ u. read-refusable fs s top (low + size) at (b - room) h))
 
 module _ (s : List ℕ) (bytes : (i : ℕ) → getD s i 0 < 256) where
@@ -77,7 +77,7 @@ module _ (s : List ℕ) (bytes : (i : ℕ) → getD s i 0 < 256) where
       test-lt (NumOk s fs top base k) (NoNum 2 k) (fault s 2 k refl kl) k (length s) _
       λ h. read-sound fs top base k (getD s k 0 % 2 ^ (9 - bit)) h z (readIn fs top 1 s k (getD s k 0 % 2 ^ (9 - bit))) refl
 
-pub num-complete : (s : List ℕ) (fs : List Form) (top bit lead base v k : ℕ) (t : List ℕ) → T (sound fs) → rooms fs ≤ 2 ^ (9 - bit) → v < sizes fs → suc v ≤ top → base ≡ lead * 2 ^ (9 - bit)
+pub num-complete : (s : List ℕ) (fs : List Form) (top bit lead base v k : ℕ) (t : List ℕ) → Roomy fs → rooms fs ≤ 2 ^ (9 - bit) → v < sizes fs → suc v ≤ top → base ≡ lead * 2 ^ (9 - bit)
     → drop k s ≡ spell fs base v ++ t → fieldAt fs top bit s k ≡ Num (suc v) (record { at = k + length (spell fs base v) })
 num-complete s fs top bit lead base v k t ok r h u bl d =
     let w : List ℕ = spell fs base v in
@@ -93,7 +93,7 @@ num-complete s fs top bit lead base v k t ok r h u bl d =
     ap₂ (λ (l : List ℕ) (x : ℕ). fieldAt fs top bit l x) e (sym lt) ∙ q ∙ ap₂ (λ (x y : ℕ). Num x (record { at = y + length w })) one lt
 
 -- the first octet
-pub num-first : (s : List ℕ) (fs : List Form) (base v k : ℕ) (t : List ℕ) → T (sound fs) → v < sizes fs → drop k s ≡ spell fs base v ++ t
+pub num-first : (s : List ℕ) (fs : List Form) (base v k : ℕ) (t : List ℕ) → Roomy fs → v < sizes fs → drop k s ≡ spell fs base v ++ t
     → (base ≤ getD s k 0) × (getD s k 0 < base + rooms fs) × (k < length s)
 num-first s fs base v k t ok h d = go (spell fs base v) refl
   where

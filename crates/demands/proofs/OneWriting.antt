@@ -14,7 +14,7 @@ use Rattle.format.specs.Document.{halves, pad, Written, document-end, attribute
 use Rattle.demands.proofs.Lists.{octet-is}
 
 -- Whether attributes follow is decided by the items: by the next, and behind declarations by the one behind the Start.
-abbrev isAttribute : Event (List ℕ) → Bool
+abbrev pub isAttribute : Event (List ℕ) → Bool
 isAttribute (Namespace p n) = false
 isAttribute (Start x) = false
 isAttribute (Attribute x y) = true
@@ -27,7 +27,7 @@ abbrev attributeNext : List (Item (List ℕ)) → Bool
 attributeNext [] = false
 attributeNext (i ∷ is) = isAttribute (i .event)
 
-abbrev later : Event (List ℕ) → Bool → Bool → Bool
+abbrev pub later : Event (List ℕ) → Bool → Bool → Bool
 later (Namespace p n) next behind = behind
 later (Start x) next behind = next
 later (Attribute x y) next behind = false
@@ -40,7 +40,7 @@ attributeLater : List (Item (List ℕ)) → Bool
 attributeLater [] = false
 attributeLater (i ∷ is) = later (i .event) (attributeNext is) (attributeLater is)
 
-abbrev inList : Mode → Bool
+abbrev pub inList : Mode → Bool
 inList content = false
 inList (declaring a) = false
 inList (listing any) = true
@@ -77,7 +77,7 @@ halves-one (x ∷ a) (y ∷ b) e = ap₂ (λ (z : ℕ) (l : List ℕ). z ∷ l) 
 
 module _ {L : Limits} where
   -- strings: the octets, the number and the tables
-  identifying-one : {t : StringTable} {v w w′ : Vocabulary (List ℕ)} {x : List ℕ} {h : How} {n n′ : ℕ} {o o′ : List ℕ}
+  pub identifying-one : {t : StringTable} {v w w′ : Vocabulary (List ℕ)} {x : List ℕ} {h : How} {n n′ : ℕ} {o o′ : List ℕ}
       → Identifying L t v x h n o w → Identifying L t v x h n′ o′ w′ → (o ≡ o′) × (n ≡ n′) × (w ≡ w′)
   identifying-one (id-spelled sp new room) (id-spelled sp′ new′ room′) = (refl, refl, refl)
   identifying-one (id-numbered small en) (id-numbered small′ en′) = (refl, refl, refl)
@@ -87,17 +87,17 @@ module _ {L : Limits} where
   optional-one absent absent = (refl, refl, refl)
   optional-one (present u) (present u′) = identifying-one u u′
 
-  literal-one : {q : Layout} {t : StringTable} {v w w′ : Vocabulary (List ℕ)} {x : List ℕ} {h : How} {o o′ : List ℕ}
+  pub literal-one : {q : Layout} {t : StringTable} {v w w′ : Vocabulary (List ℕ)} {x : List ℕ} {h : How} {o o′ : List ℕ}
       → Literal L q t v x h o w → Literal L q t v x h o′ w′ → (o ≡ o′) × (w ≡ w′)
   literal-one (literal-spelled sp room) (literal-spelled sp′ room′) = (refl, refl)
   literal-one (literal-numbered small fits en) (literal-numbered small′ fits′ en′) = (refl, refl)
 
-  literal-some : {q : Layout} {t : StringTable} {v w : Vocabulary (List ℕ)} {x : List ℕ} {h : How} {o : List ℕ} {X : Type 0}
+  pub literal-some : {q : Layout} {t : StringTable} {v w : Vocabulary (List ℕ)} {x : List ℕ} {h : How} {o : List ℕ} {X : Type 0}
       → Literal L q t v x h o w → h ≡ numbered 0 → X
   literal-some (literal-spelled sp room) e = clash (cc)
   literal-some (literal-numbered {k = k} small fits en) e = absurd (let y : suc k ≡ 0 = cc in omega arith)
 
-  value-one : {t : StringTable} {v w w′ : Vocabulary (List ℕ)} {x : List ℕ} {h : How} {o o′ : List ℕ}
+  pub value-one : {t : StringTable} {v w w′ : Vocabulary (List ℕ)} {x : List ℕ} {h : How} {o o′ : List ℕ}
       → Value L t v x h o w → Value L t v x h o′ w′ → (o ≡ o′) × (w ≡ w′)
   value-one value-empty value-empty = (refl, refl)
   value-one value-empty (value u) = literal-some u refl
@@ -105,7 +105,7 @@ module _ {L : Limits} where
   value-one (value u) (value u′) = literal-one u u′
 
   -- names
-  named-one : {q : NameLayout} {lead : ℕ} {v w w′ : Vocabulary (List ℕ)} {x x′ : Name (List ℕ)} {h : NameHow} {o o′ : List ℕ}
+  pub named-one : {q : NameLayout} {lead : ℕ} {v w w′ : Vocabulary (List ℕ)} {x x′ : Name (List ℕ)} {h : NameHow} {o o′ : List ℕ}
       → Named L q lead v x h o w → Named L q lead v x′ h o′ w′ → x ≡ x′ → (o ≡ o′) × (w ≡ w′)
   named-one (by-number small fits en) (by-number small′ fits′ en′) e = (refl, refl)
   named-one {q} {lead} (in-parts lone up un ul new room) (in-parts lone′ up′ un′ ul′ new′ room′) e =
@@ -119,7 +119,7 @@ module _ {L : Limits} where
         (λ j. addingName (c .2 j) (q .table) (record { prefix = a .1 j; namespace = b .1 j; local = c .1 j })),
       )
 
-  declared-one : {v w w′ : Vocabulary (List ℕ)} {p n : Option (List ℕ)} {hp hn : Option How} {o o′ : List ℕ}
+  pub declared-one : {v w w′ : Vocabulary (List ℕ)} {p n : Option (List ℕ)} {hp hn : Option How} {o o′ : List ℕ}
       → Declared L v p n hp hn o w → Declared L v p n hp hn o′ w′ → (o ≡ o′) × (w ≡ w′)
   declared-one {p = p} {n = n} (declared up un) (declared up′ un′) =
       let a = optional-one up up′ in
@@ -127,7 +127,7 @@ module _ {L : Limits} where
       ((λ j. (0xCC + 2 * has p + has n) ∷ (a .0 j ++ b .0 j)), b .2)
 
   -- attributes are written in attribute lists, and nothing else is; End is no item's event
-  where-attributes : {v w : State (List ℕ)} {i : Item (List ℕ)} {o : List ℕ} → Octets L v i o w → isAttribute (i .event) ≡ inList (v .mode)
+  pub where-attributes : {v w : State (List ℕ)} {i : Item (List ℕ)} {o : List ℕ} → Octets L v i o w → isAttribute (i .event) ≡ inList (v .mode)
   where-attributes (o-start a md may deep u) = cc
   where-attributes (o-first-namespace md may deep u) = cc
   where-attributes (o-namespace md u) = cc
@@ -137,7 +137,7 @@ module _ {L : Limits} where
   where-attributes (o-comment md u) = cc
   where-attributes (o-instruction md u1 u2) = cc
 
-  no-end : {v w : State (List ℕ)} {o : List ℕ} {X : Type 0} → Octets L v (End by forEnd) o w → X
+  pub no-end : {v w : State (List ℕ)} {o : List ℕ} {X : Type 0} → Octets L v (End by forEnd) o w → X
   no-end u = elim u [ ]
 
   next-is : {at : ℕ} {v z : State (List ℕ)} {items : List (Item (List ℕ))} {hs : List ℕ}

@@ -9,7 +9,7 @@ use borrow.Author.Tests.{lt-ltb, le-ltb, eq-eqb, eqb-true}
 use lib.Dec.{eqb}
 use lib.ListN.{length, getD, drop, length-append, length-drop, replicate}
 use lib.Seq.{drop-cons, drop-length}
-use Rattle.format.specs.Numbers.{spell, lengths}
+use Rattle.format.specs.Numbers.{spell, lengths, longest}
 use Rattle.format.specs.Events.{Name, How, NameHow, End, forEnd, Item, _by_, eventMap}
 use Rattle.format.specs.Tables.{StringTable, Vocabulary, Limits}
 use Rattle.format.specs.Strings.{bit, Layout, Literal, literal-spelled, literal-numbered}
@@ -22,10 +22,16 @@ use Rattle.steps.specs.Items.{Stand, Step, more, quiet, done, stop, octet, item
 use Rattle.steps.specs.Steps.{endsAt, padsAt, documentEnd, endAt, byHalves, step}
 use Rattle.reader.specs.Reading.{Result, accepted, refusal, plus, turn, Mark, marked, run, trace}
 use Rattle.tables.proofs.Found.{both-true}
-use Rattle.demands.proofs.Lists.{Fault, fault, test, either, either-lt, not-true, drop-head, drop-past, ends-sound, ends-complete, pads-sound, pads-complete, halves-drop, halves-length, halves-sound, halves-complete, align-is, aligned-ge, aligned-in, pad-length}
+use Rattle.demands.specs.Places.{itemSpelled, allSpelled, inItem, spelledIn}
+use Rattle.demands.proofs.Lists.{Refusal, Fault, fault, test, either, either-lt, not-true, drop-head, drop-past, ends-sound, ends-complete, pads-sound, pads-complete, halves-drop, halves-length, halves-sound, halves-complete, align-is, aligned-ge, aligned-in, pad-length}
 use Rattle.demands.proofs.Items.{Took, item-sound, item-complete}
 
 -- ---- an item has octets, and opens one element at most
+-- A result is not the refusal of an event without a record.
+abbrev pub NotShort : Result → Type 0
+NotShort (accepted is m) = Unit {0}
+NotShort (refusal c p) = c ≡ 14 → ⊥
+
 module _ {L : Limits} where
   named-some : {q : NameLayout} {lead : ℕ} {v w : Vocabulary (List ℕ)} {x : Name (List ℕ)} {h : NameHow} {o : List ℕ} → Named L q lead v x h o w → 0 < length o
   named-some (in-parts paired up un ul new room) = omega arith
@@ -50,7 +56,7 @@ module _ {L : Limits} where
   octets-some (o-instruction md u1 u2) = (omega arith, omega arith)
 
 -- ---- what is read is what the rules write
-module _ (L : Limits) (s : List ℕ) (bytes : (i : ℕ) → getD s i 0 < 256) where
+module _ (L : Limits) (s : List ℕ) (bytes : (i : ℕ) → getD s i 0 < 256) (short : length s ≤ longest) where
   -- from where the reader stands, the items and the document's end are written as the halves left
   abbrev pub Rest : Stand → List (Item (List ℕ)) → State (List ℕ) → Type 0
   Rest m items z = Written L (m .at) (plainState s (m .state)) items (drop (m .at) (halves s)) z
@@ -67,7 +73,7 @@ module _ (L : Limits) (s : List ℕ) (bytes : (i : ℕ) → getD s i 0 < 256) wh
   Fine m done = Rest m [] (plainState s (m .state))
   Fine m (stop c p) = Fault s c p
 
-  item-fine : (m : Stand) → m .at ≤ 2 * length s → padsAt s (m .at) ≡ true → (a : Step) → Took L s bytes (aligned (m .at) / 2) (m .state) a → Fine m a
+  item-fine : (m : Stand) → m .at ≤ 2 * length s → padsAt s (m .at) ≡ true → (a : Step) → Took L s bytes short (aligned (m .at) / 2) (m .state) a → Fine m a
   item-fine m ml t (more p i n) w =
       let k : ℕ = aligned (m .at) / 2 in
       let o = w .octets in
@@ -146,11 +152,11 @@ module _ (L : Limits) (s : List ℕ) (bytes : (i : ℕ) → getD s i 0 < 256) wh
       either (Fine m) (byHalves md && endsAt s (m .at)) _ _
       (λ t. end-fine m md ml refl (both-true (byHalves md) (endsAt s (m .at)) t .1))
       (λ t. test (Fine m) (stop 6 (m .at / 2)) (fault s 6 (m .at / 2) refl (omega arith)) (padsAt s (m .at)) _
-      λ t1. item-fine m ml t1 (itemAt L s k (m .state) md) (item-sound L s bytes k (m .state) md (aligned-in (m .at) (length s) ml) refl))
+      λ t1. item-fine m ml t1 (itemAt L s k (m .state) md) (item-sound L s bytes short k (m .state) md (aligned-in (m .at) (length s) ml) refl))
 
   abbrev pub Right : Stand → Result → Type 0
   Right m (accepted is n) = Rest m (map (plain s) is) (plainState s (n .state))
-  Right m (refusal c p) = Fault s c p
+  Right m (refusal c p) = Refusal s c p
 
   plus-right : (m n : Stand) (p : ℕ) (i : Item Located) → Fine m (more p i n) → (a : Result) → Right n a → Right m (plus i a)
   plus-right m n p i g (accepted is l) r = g .0 (map (plain s) is) (plainState s (l .state)) r
@@ -162,15 +168,15 @@ module _ (L : Limits) (s : List ℕ) (bytes : (i : ℕ) → getD s i 0 < 256) wh
 
   -- an accepted run is written by the rules; a refusal is one of 01's
   turn-right : (go : ℕ → Stand → Result) → ((r : ℕ) (n : Stand) → n .at ≤ 2 * length s → Right n (go r n)) → (room : ℕ) (m : Stand) (a : Step) → Fine m a → Right m (turn go room m a)
-  turn-right go rec zero m (more p i n) g = fault s 14 p refl (g .3)
+  turn-right go rec zero m (more p i n) g = (omega arith, omega arith, g .3)
   turn-right go rec (suc r) m (more p i n) g = plus-right m n p i g (go r n) (rec r n (g .1))
   turn-right go rec room m (quiet n) g = quiet-right m n g (go room n) (rec room n (g .1))
   turn-right go rec room m done w = w
-  turn-right go rec room m (stop c p) w = w
+  turn-right go rec room m (stop c p) w = w .0
 
   pub run-right : (fuel room : ℕ) (m : Stand) → m .at ≤ 2 * length s → Right m (run L s fuel room m)
   unfolding run
-  run-right zero room m ml = fault s 2 (m .at / 2) refl (omega arith)
+  run-right zero room m ml = fault s 2 (m .at / 2) refl (omega arith) .0
   run-right (suc fuel) room m ml = turn-right (λ r n. run L s fuel r n) (λ r n h. run-right fuel r n h) room m (step L s m) (step-fine m ml)
 
   -- each step takes a half at least, so that more fuel than halves left changes nothing
@@ -200,6 +206,25 @@ module _ (L : Limits) (s : List ℕ) (bytes : (i : ℕ) → getD s i 0 < 256) wh
   unfolding trace
   trace-few zero m ml = omega arith
   trace-few (suc fuel) m ml = marked-few (λ n. trace L s fuel n) (λ n h. trace-few fuel n h) m (step L s m) (step-fine m ml)
+
+  -- with a record for every event, nothing is refused for want of room
+  plus-not-short : (i : Item Located) (a : Result) → NotShort a → NotShort (plus i a)
+  plus-not-short i (accepted is m) h = tt
+  plus-not-short i (refusal c p) h = h
+
+  turn-not-short : (go : ℕ → Stand → Result) (marks : Stand → List Mark) → ((r : ℕ) (n : Stand) → n .at ≤ 2 * length s → length (marks n) ≤ r → NotShort (go r n))
+      → (room : ℕ) (m : Stand) (a : Step) → Fine m a → length (marked marks a) ≤ room → NotShort (turn go room m a)
+  turn-not-short go marks rec zero m (more p i n) g h = absurd (omega arith)
+  turn-not-short go marks rec (suc r) m (more p i n) g h = plus-not-short i (go r n) (rec r n (g .1) (omega arith))
+  turn-not-short go marks rec room m (quiet n) g h = rec room n (g .1) h
+  turn-not-short go marks rec room m done g h = tt
+  turn-not-short go marks rec room m (stop c p) g h = g .1
+
+  pub run-not-short : (fuel room : ℕ) (m : Stand) → m .at ≤ 2 * length s → length (trace L s fuel m) ≤ room → NotShort (run L s fuel room m)
+  unfolding run trace
+  run-not-short zero room m ml h = λ e. omega arith
+  run-not-short (suc fuel) room m ml h =
+      turn-not-short (λ r n. run L s fuel r n) (λ n. trace L s fuel n) (λ r n l k. run-not-short fuel r n l k) room m (step L s m) (step-fine m ml) h
 
 -- ---- room
 abbrev pub placesOf : List Mark → List ℕ
@@ -257,19 +282,25 @@ module _ (L : Limits) (s : List ℕ) where
       ∙ ap (λ (x : List ℕ). pad at ++ x) (halves-drop k s ∙ ap halves (drop-cons s k 0 h)) in
       no-end (at % 2) (getD s k 0 / 16) (getD s k 0 % 16 ∷ halves (drop (suc k) s)) (drop (suc at) (halves s)) (omega arith) (sym d ∙ ends-sound s at u)
 
-  record Next (m : Stand) (i : Item (List ℕ)) (at : ℕ) (w : State (List ℕ)) : Type 0 where
+  -- l is where the item's strings are spelled
+  record Next (m : Stand) (i : Item (List ℕ)) (at : ℕ) (w : State (List ℕ)) (l : List Located) : Type 0 where
     place : ℕ
     found : Item Located
     n : Stand
     goes : step L s m ≡ more place found n
     what : plain s found ≡ i
+    spells : itemSpelled found ≡ l
     stands : n .at ≡ at
     state : plainState s (n .state) ≡ w
 
-  item-next : (m : Stand) {i : Item (List ℕ)} {o : List ℕ} {w : State (List ℕ)} (hs : List ℕ) → Octets L (plainState s (m .state)) i o w → drop (m .at) (halves s) ≡ pad (m .at) ++ (halves o ++ hs)
-      → Next m i (aligned (m .at) + 2 * length o) w × (drop (aligned (m .at) + 2 * length o) (halves s) ≡ hs) × (0 < length o)
+  abbrev NextIf : Stand → Item (List ℕ) → List ℕ → State (List ℕ) → List ℕ → State (List ℕ) → Type 0
+  NextIf m i o w hs v =
+      (u : Octets L v i o w) → drop (m .at) (halves s) ≡ pad (m .at) ++ (halves o ++ hs)
+      → Next m i (aligned (m .at) + 2 * length o) w (inItem (aligned (m .at) / 2) u) × (drop (aligned (m .at) + 2 * length o) (halves s) ≡ hs) × (0 < length o)
+
+  item-next : (m : Stand) (i : Item (List ℕ)) (o : List ℕ) (w : State (List ℕ)) (hs : List ℕ) → NextIf m i o w hs (plainState s (m .state))
   unfolding step
-  item-next m {i} {o} {w} hs u d =
+  item-next m i o w hs u d =
       let at : ℕ = m .at in
       let k : ℕ = aligned at / 2 in
       let p = pads-complete s at (halves o ++ hs) d in
@@ -280,7 +311,7 @@ module _ (L : Limits) (s : List ℕ) where
       let l = halves-length o in
       let y : aligned at + 2 * length o ≡ 2 * k + length (halves o) = omega arith in
       let z : 2 * (k + length o) ≡ aligned at + 2 * length o = omega arith in (
-        record { place = c .place; found = c .found; n = octet (k + length o) (c .n); goes = rw (ends, p .0) (c .goes); what = c .what; stands = z; state = c .state },
+        record { place = c .place; found = c .found; n = octet (k + length o) (c .n); goes = rw (ends, p .0) (c .goes); what = c .what; spells = c .spells; stands = z; state = c .state },
         ap (λ (x : ℕ). drop x (halves s)) y ∙ drop-past (halves s) (2 * k) (halves o) hs d1,
         c .some,
       )
@@ -317,19 +348,20 @@ module _ (L : Limits) (s : List ℕ) where
       let over : aligned (suc at) ≡ 2 * length s = omega arith in
       rw (md, at-end m (pad (suc at)) d, le-ltb 0 (m .state .level) (omega arith), r, q .0, eq-eqb (aligned (suc at)) (2 * length s) over)
 
-  -- a run with room for every event; what is known after each
-  pub record Reads (fuel room : ℕ) (m : Stand) (items : List (Item (List ℕ))) (z : State (List ℕ)) (after : List (State (List ℕ))) : Type 0 where
+  -- a run with room for every event; what is known after each, and where the strings are spelled
+  pub record Reads (fuel room : ℕ) (m : Stand) (items : List (Item (List ℕ))) (z : State (List ℕ)) (after : List (State (List ℕ))) (l : List Located) : Type 0 where
     pub events : List (Item Located)
     pub last : Stand
     pub runs : run L s fuel room m ≡ accepted events last
     pub are : map (plain s) events ≡ items
     pub end-is : plainState s (last .state) ≡ z
     pub known : map (λ (k : Mark). plainState s (k .stand .state)) (trace L s fuel m) ≡ after
+    pub spells : allSpelled events ≡ l
 
-  go-on : (fuel room : ℕ) (m n : Stand) (p : ℕ) (f : Item Located) (i : Item (List ℕ)) (items : List (Item (List ℕ))) (z w : State (List ℕ)) (after : List (State (List ℕ))) → step L s m ≡ more p f n → plain s f ≡ i → plainState s (n .state) ≡ w
-      → Reads fuel room n items z after → Reads (suc fuel) (suc room) m (i ∷ items) z (w ∷ after)
-  unfolding run trace
-  go-on fuel room m n p f i items z w after e q st r =
+  go-on : (fuel room : ℕ) (m n : Stand) (p : ℕ) (f : Item Located) (i : Item (List ℕ)) (items : List (Item (List ℕ))) (z w : State (List ℕ)) (after : List (State (List ℕ))) (l r : List Located) → step L s m ≡ more p f n → plain s f ≡ i → itemSpelled f ≡ l → plainState s (n .state) ≡ w
+      → Reads fuel room n items z after r → Reads (suc fuel) (suc room) m (i ∷ items) z (w ∷ after) (l ++ r)
+  unfolding run trace allSpelled
+  go-on fuel room m n p f i items z w after l l′ e q sp st r =
       record {
         events = f ∷ r .events;
         last = r .last;
@@ -337,15 +369,16 @@ module _ (L : Limits) (s : List ℕ) where
         are = ap₂ (λ (a : Item (List ℕ)) (l : List (Item (List ℕ))). a ∷ l) q (r .are);
         end-is = r .end-is;
         known = rw e (ap₂ (λ (a : State (List ℕ)) (l : List (State (List ℕ))). a ∷ l) st (r .known));
+        spells = ap₂ (λ (a b : List Located). a ++ b) sp (r .spells);
       }
 
-  go-over : (fuel room : ℕ) (m n : Stand) (items : List (Item (List ℕ))) (z : State (List ℕ)) (after : List (State (List ℕ))) → step L s m ≡ quiet n → Reads fuel room n items z after → Reads (suc fuel) room m items z after
+  go-over : (fuel room : ℕ) (m n : Stand) (items : List (Item (List ℕ))) (z : State (List ℕ)) (after : List (State (List ℕ))) (l : List Located) → step L s m ≡ quiet n → Reads fuel room n items z after l → Reads (suc fuel) room m items z after l
   unfolding run trace
-  go-over fuel room m n items z after e r = record { events = r .events; last = r .last; runs = rw e (r .runs); are = r .are; end-is = r .end-is; known = rw e (r .known) }
+  go-over fuel room m n items z after l e r = record { events = r .events; last = r .last; runs = rw e (r .runs); are = r .are; end-is = r .end-is; known = rw e (r .known); spells = r .spells }
 
   pub run-complete : {at : ℕ} {v z : State (List ℕ)} {items : List (Item (List ℕ))} {hs : List ℕ} (written : Written L at v items hs z) (m : Stand) (fuel room : ℕ) → m .at ≡ at → plainState s (m .state) ≡ v
-      → drop at (halves s) ≡ hs → length hs ≤ fuel → length items ≤ room → Reads fuel room m items z (knownAfter L written)
-  unfolding run trace eventMap knownAfter
+      → drop at (halves s) ≡ hs → length hs ≤ fuel → length items ≤ room → Reads fuel room m items z (knownAfter L written) (spelledIn written)
+  unfolding run trace eventMap knownAfter spelledIn allSpelled
   run-complete (document-end md lv rt) m zero room a k d f g = absurd (omega arith)
   run-complete (document-end md lv rt) m (suc fuel) room a k d f g =
       record {
@@ -355,19 +388,20 @@ module _ (L : Limits) (s : List ℕ) where
         are = refl;
         end-is = k;
         known = rw (done-next m (ap (λ (x : State (List ℕ)). x .mode) k ∙ md) (ap (λ (x : State (List ℕ)). x .level) k ∙ lv) (ap (λ (x : State (List ℕ)). x .root) k ∙ rt) (rw a d));
+        spells = refl;
       }
   run-complete (attributes-end md w) m zero room a k d f g = absurd (omega arith)
   run-complete (attributes-end {z = y} {items = items} {hs = hs} md w) m (suc fuel) room a k d f g =
-      go-over fuel room m _ items y _ (quiet-next m hs (rw a d) (ap (λ (x : State (List ℕ)). x .mode) k ∙ md))
+      go-over fuel room m _ items y _ _ (quiet-next m hs (rw a d) (ap (λ (x : State (List ℕ)). x .mode) k ∙ md))
       (run-complete w (record { at = suc (m .at); state = moved (m .state) (m .state .words) content }) fuel room (ap suc a) (ap (λ (x : State (List ℕ)). moved x (x .words) content) k) (rw a at (past-end m hs (rw a d))) (omega arith) g)
   run-complete (element-end md lv w) m zero room a k d f g = absurd (omega arith)
   run-complete (element-end md lv w) m (suc fuel) zero a k d f g = absurd (omega arith)
   run-complete (element-end {z = y} {items = items} {hs = hs} md lv w) m (suc fuel) (suc room) a k d f g =
       let z = ap (λ (x : State (List ℕ)). x .level) k in
-      go-on fuel room m (ended m hs (rw a d)) (m .at / 2) (End by forEnd) (End by forEnd) items y _ _ (end-next m hs (rw a d) (ap (λ (x : State (List ℕ)). x .mode) k ∙ md) (omega arith)) refl (ap (λ (x : State (List ℕ)). closed x) k)
+      go-on fuel room m (ended m hs (rw a d)) (m .at / 2) (End by forEnd) (End by forEnd) items y _ _ [] _ (end-next m hs (rw a d) (ap (λ (x : State (List ℕ)). x .mode) k ∙ md) (omega arith)) refl refl (ap (λ (x : State (List ℕ)). closed x) k)
       (run-complete w (ended m hs (rw a d)) fuel room (ap suc a) (ap (λ (x : State (List ℕ)). closed x) k) (rw a at (past-end m hs (rw a d))) (omega arith) (omega arith))
   run-complete (item {at = at} {w = v} {i = i} {o = o} {hs = hs} u w) m zero room a k d f g =
-      let t = item-next m hs (subst (λ (x : State (List ℕ)). Octets L x i o v) (sym k) u) (rw a d) in
+      let t = subst (NextIf m i o v hs) k (item-next m i o v hs) u (rw a d) in
       let l1 = length-append (pad at) (halves o ++ hs) in
       let l2 = length-append (halves o) hs in
       let l3 = halves-length o in
@@ -375,10 +409,10 @@ module _ (L : Limits) (s : List ℕ) where
       absurd (omega arith)
   run-complete (item u w) m (suc fuel) zero a k d f g = absurd (omega arith)
   run-complete (item {at = at} {w = v} {z = y} {i = i} {o = o} {items = items} {hs = hs} u w) m (suc fuel) (suc room) a k d f g =
-      let t = item-next m hs (subst (λ (x : State (List ℕ)). Octets L x i o v) (sym k) u) (rw a d) in
+      let t = subst (NextIf m i o v hs) k (item-next m i o v hs) u (rw a d) in
       let l1 = length-append (pad at) (halves o ++ hs) in
       let l2 = length-append (halves o) hs in
       let l3 = halves-length o in
       let l4 = t .2 in
-      go-on fuel room m (t .0 .n) (t .0 .place) (t .0 .found) i items y _ _ (t .0 .goes) (t .0 .what) (t .0 .state)
+      go-on fuel room m (t .0 .n) (t .0 .place) (t .0 .found) i items y _ _ _ _ (t .0 .goes) (t .0 .what) (t .0 .spells ∙ ap (λ (x : ℕ). inItem (aligned x / 2) u) a) (t .0 .state)
       (run-complete w (t .0 .n) fuel room (t .0 .stands ∙ ap (λ (x : ℕ). aligned x + 2 * length o) a) (t .0 .state) (rw a at (t .1)) (omega arith) (omega arith))

@@ -6,23 +6,29 @@ use mathlib.Core.List.{List, [], _∷_, _++_, map}
 use Prim.Native.Nat.{ℕ, suc, _+_, _-_, _*_, _%_, _^_, _≤_, _<_}
 use native.Mathlib.Omega.{arith}
 use borrow.Author.Tests.{lt-ltb, le-ltb, le-leb, eq-eqb, ne-eqb, ltb-true}
-use lib.Dec.{T, ltb}
+use lib.Dec.{ltb}
 use lib.ListN.{length, getD, drop, length-append, List·getD-eq-default}
 use lib.Seq.{drop-cons}
-use Rattle.format.specs.Numbers.{coded, spell, sizes, rooms, sound, lengths, numbers, c25, top}
+use Rattle.format.specs.Numbers.{coded, spell, sizes, lengths, numbers, c25, top, longest}
 use Rattle.format.specs.Events.{How, spelled, numbered}
 use Rattle.format.specs.Tables.{StringTable, Vocabulary, strings, adding, holds, Entry, Limits}
 use Rattle.format.specs.Strings.{withLength, Spelling, bit, Layout, c14, c15, keeping, Identifying, id-spelled, id-numbered, Optional, absent, present, Literal, literal-spelled, literal-numbered, Value, value-empty, value}
 use Rattle.format.specs.Names.{has}
 use Rattle.fields.specs.Fields.{fieldAt, noTop}
-use Rattle.fields.proofs.Laws.{case}
+use Rattle.fields.proofs.Laws.{case, rooms, Roomy}
 use Rattle.fields.proofs.RoundTrip.{some-first}
 use Rattle.tables.specs.Located.{Located, empty, stretch, octetsOf, plainWords}
-use Rattle.names.specs.Strings.{Got, got, refused, IdRead, OptionalRead, StringRead, idAt, optionalAt, spelledAt, literalAt, valueAt}
+use Rattle.names.specs.Strings.{Got, got, refused, IdRead, OptionalRead, StringRead, idAt, optionalAt, numberBit, spelledAt, literalAt, valueAt}
+use Rattle.demands.specs.Places.{ifSpelled, optionSpelled, inField, inOption}
 use Rattle.demands.proofs.Lists.{fault, test, test-lt, test-le, test-not, test-ge, either-lt, either-eq, drop-head}
 use Rattle.demands.proofs.Words.{strings-map, length-strings, adding-map, keeping-map, entry-map}
 use Rattle.demands.proofs.Numbers.{num-sound, num-complete, num-first}
 use Rattle.demands.proofs.Fields.{Ok, on-number, on-field, spelling-sound, Hit, hit-at, Spelt, spelt, spelling-is}
+
+-- every length has its octets, wherever they start
+long-enough : (bit : ℕ) → longest ≤ sizes (lengths bit)
+unfolding sizes lengths coded
+long-enough bit = omega arith
 
 module _ (s : List ℕ) where
   -- entry n of a table, both ways
@@ -45,18 +51,17 @@ pub record Shape (q : Layout) : Type 0 where
   pub lead : Bool → ℕ
   pub lead-is : (a : Bool) → q .spelledBits + q .addBit * bit a ≡ lead a * 2 ^ (9 - q .lengthBit)
   pub numbered-lead : ℕ
-  pub numbered-is : q .numberedBits ≡ numbered-lead * 2 ^ (9 - q .numberBit)
-  pub lengths-ok : T (sound (lengths (q .lengthBit)))
+  pub numbered-is : q .numberedBits ≡ numbered-lead * 2 ^ (9 - numberBit q)
+  pub lengths-ok : Roomy (lengths (q .lengthBit))
   pub lengths-fit : rooms (lengths (q .lengthBit)) ≤ 2 ^ (9 - q .lengthBit)
-  pub lengths-few : sizes (lengths (q .lengthBit)) < noTop
-  pub numbers-ok : T (sound (q .numberForms))
-  pub numbers-fit : rooms (q .numberForms) ≤ 2 ^ (9 - q .numberBit)
+  pub numbers-ok : Roomy (q .numberForms)
+  pub numbers-fit : rooms (q .numberForms) ≤ 2 ^ (9 - numberBit q)
   pub apart : 2 ^ (9 - q .lengthBit) ≤ q .addBit
   pub above : q .spelledBits + q .addBit + 2 ^ (9 - q .lengthBit) ≤ q .numberedBits
   pub under : q .numberedBits + rooms (q .numberForms) ≤ 0xF0
   pub low : (o : ℕ) → q .spelledBits ≤ o → o < q .spelledBits + 2 ^ (9 - q .lengthBit) → o ≡ q .spelledBits + q .addBit * 0 + o % 2 ^ (9 - q .lengthBit)
   pub high : (o : ℕ) → q .spelledBits + q .addBit ≤ o → o < q .spelledBits + q .addBit + 2 ^ (9 - q .lengthBit) → o ≡ q .spelledBits + q .addBit * 1 + o % 2 ^ (9 - q .lengthBit)
-  pub num : (o : ℕ) → q .numberedBits ≤ o → o < q .numberedBits + 2 ^ (9 - q .numberBit) → o ≡ q .numberedBits + o % 2 ^ (9 - q .numberBit)
+  pub num : (o : ℕ) → q .numberedBits ≤ o → o < q .numberedBits + 2 ^ (9 - numberBit q) → o ≡ q .numberedBits + o % 2 ^ (9 - numberBit q)
 
 lead14 : Bool → ℕ
 lead14 true = 4
@@ -68,17 +73,16 @@ lead14-is true = refl
 lead14-is false = refl
 
 pub shape14 : Shape c14
-unfolding c14 sound rooms sizes coded lengths c25 lead14-is
+unfolding c14 rooms coded lengths c25 lead14-is
 shape14 =
     record {
       lead = lead14;
       lead-is = lead14-is;
       numbered-lead = 1;
       numbered-is = refl;
-      lengths-ok = tt;
+      lengths-ok = omega arith;
       lengths-fit = omega arith;
-      lengths-few = omega arith;
-      numbers-ok = tt;
+      numbers-ok = omega arith;
       numbers-fit = omega arith;
       apart = omega arith;
       above = omega arith;
@@ -98,17 +102,16 @@ lead15-is true = refl
 lead15-is false = refl
 
 pub shape15 : Shape c15
-unfolding c15 sound rooms sizes coded lengths numbers lead15-is
+unfolding c15 rooms coded lengths numbers lead15-is
 shape15 =
     record {
       lead = lead15;
       lead-is = lead15-is;
       numbered-lead = 5;
       numbered-is = refl;
-      lengths-ok = tt;
+      lengths-ok = omega arith;
       lengths-fit = omega arith;
-      lengths-few = omega arith;
-      numbers-ok = tt;
+      numbers-ok = omega arith;
       numbers-fit = omega arith;
       apart = omega arith;
       above = omega arith;
@@ -119,7 +122,7 @@ shape15 =
     }
 
 -- ---- what is read is what the rules write
-module _ (L : Limits) (s : List ℕ) (bytes : (i : ℕ) → getD s i 0 < 256) where
+module _ (L : Limits) (s : List ℕ) (bytes : (i : ℕ) → getD s i 0 < 256) (short : length s ≤ longest) where
   abbrev pub IdR : StringTable → Vocabulary (List ℕ) → IdRead → List ℕ → Vocabulary (List ℕ) → Type 0
   IdR t v b o w = Identifying L t v (octetsOf s (b .string)) (b .how) (b .number) o w
 
@@ -132,7 +135,7 @@ module _ (L : Limits) (s : List ℕ) (bytes : (i : ℕ) → getD s i 0 < 256) wh
       either-lt P (getD s k 0) 0x80 _ _
       (λ h1. on-number s P (λ c p f. f) (lengths 2) noTop 0 k (fieldAt (lengths 2) noTop 2 s k)
       (num-sound s bytes (lengths 2) noTop 2 0 k kl (omega arith)) _
-      λ n next r. spelling-sound s P (λ c p f. f) (lengths 2) 0 k n next kl r _
+      λ n next r. spelling-sound s short P (λ c p f. f) (lengths 2) 0 k n next kl r _
       λ sp d l ll. test-not P (refused 11 k) (fault s 11 k refl kl) (holds (map (octetsOf s) (strings v t)) (octetsOf s (stretch next n))) _
       λ t1. test-lt P (refused 12 k) (fault s 12 k refl kl) (length (strings v t)) (L .entries) _
       λ t2. record {
@@ -184,7 +187,7 @@ module _ (L : Limits) (s : List ℕ) (bytes : (i : ℕ) → getD s i 0 < 256) wh
       let len = length-strings (octetsOf s) v t in
       on-number s P (λ c p f. f) (lengths (q .lengthBit)) noTop base k (fieldAt (lengths (q .lengthBit)) noTop (q .lengthBit) s k)
       (num-sound s bytes (lengths (q .lengthBit)) noTop (q .lengthBit) base k kl z) _
-      λ n next r. spelling-sound s P (λ c p f. f) (lengths (q .lengthBit)) base k n next kl r _
+      λ n next r. spelling-sound s short P (λ c p f. f) (lengths (q .lengthBit)) base k n next kl r _
       λ sp d l ll. test P (refused 12 k) (fault s 12 k refl kl) (not added || ltb (length (strings v t)) (L .entries)) _
       λ t1. record {
         octets = withLength (lengths (q .lengthBit)) base (octetsOf s (stretch next n));
@@ -195,7 +198,7 @@ module _ (L : Limits) (s : List ℕ) (bytes : (i : ℕ) → getD s i 0 < 256) wh
         inside = ll;
       }
 
-  pub literal-sound : (q : Layout) → Shape q → (t : StringTable) (k : ℕ) (v : Vocabulary Located) → k ≤ length s → q .spelledBits ≤ getD s k 0 → getD s k 0 < q .numberedBits + 2 ^ (9 - q .numberBit)
+  pub literal-sound : (q : Layout) → Shape q → (t : StringTable) (k : ℕ) (v : Vocabulary Located) → k ≤ length s → q .spelledBits ≤ getD s k 0 → getD s k 0 < q .numberedBits + 2 ^ (9 - numberBit q)
       → Ok s (LiteralR q t) k v (literalAt L q s t k v)
   unfolding literalAt
   literal-sound q g t k v kl lo hi =
@@ -205,8 +208,8 @@ module _ (L : Limits) (s : List ℕ) (bytes : (i : ℕ) → getD s i 0 < 256) wh
       λ h1. test-ge P (refused 8 k) (fault s 8 k refl kl) o (q .spelledBits + q .addBit) _
       λ h2. either-lt P o (q .spelledBits + q .addBit + 2 ^ (9 - q .lengthBit)) _ _ (λ h. spelled-sound q t k true v kl (g .high o h2 h))
       λ h3. test-ge P (refused 8 k) (fault s 8 k refl kl) o (q .numberedBits) _
-      λ h4. on-number s P (λ c p f. f) (q .numberForms) top (q .numberedBits) k (fieldAt (q .numberForms) top (q .numberBit) s k)
-      (num-sound s bytes (q .numberForms) top (q .numberBit) (q .numberedBits) k kl (g .num o h4 hi)) _
+      λ h4. on-number s P (λ c p f. f) (q .numberForms) top (q .numberedBits) k (fieldAt (q .numberForms) top (numberBit q) s k)
+      (num-sound s bytes (q .numberForms) top (numberBit q) (q .numberedBits) k kl (g .num o h4 hi)) _
       λ n next r. test-le P (refused 10 k) (fault s 10 k refl kl) n (length (strings v t)) _
       λ t1.
       let i = r .is in
@@ -245,42 +248,44 @@ there none = false
 there (some x) = true
 
 module _ (L : Limits) (s : List ℕ) where
-  abbrev pub IdQ : List ℕ → How → ℕ → IdRead → Type 0
-  IdQ x h n b = (octetsOf s (b .string) ≡ x) × (b .how ≡ h) × (b .number ≡ n)
+  -- p is where it is spelled
+  abbrev pub IdQ : List ℕ → How → ℕ → List Located → IdRead → Type 0
+  IdQ x h n p b = (octetsOf s (b .string) ≡ x) × (b .how ≡ h) × (b .number ≡ n) × (ifSpelled (b .string) (b .how) ≡ p)
 
   pub id-complete : (t : StringTable) (k : ℕ) (v : Vocabulary Located) {x : List ℕ} {h : How} {n : ℕ} {o : List ℕ} {w : Vocabulary (List ℕ)} (rest : List ℕ)
-      → Identifying L t (plainWords s v) x h n o w → drop k s ≡ o ++ rest → Hit s (IdQ x h n) (k + length o) w (idAt L s t k v)
-  unfolding idAt octetsOf sound rooms sizes coded lengths c25
+      → Identifying L t (plainWords s v) x h n o w → drop k s ≡ o ++ rest → Hit s (IdQ x h n (inField k h x o)) (k + length o) w (idAt L s t k v)
+  unfolding idAt octetsOf rooms sizes coded lengths c25
   id-complete t k v rest (id-spelled {x = x} sp new room) d =
-      let e = spelt s (lengths 2) 2 0 0 k x rest tt (omega arith) (omega arith) refl sp d in
+      let e = spelt s (lengths 2) 2 0 0 k x rest (omega arith) (omega arith) (long-enough 2) refl sp d in
       let hi = e .high in
       let len = length-strings (octetsOf s) v t in
       let fresh : holds (map (octetsOf s) (strings v t)) x ≡ false = rw (strings-map (octetsOf s) v t) at new in
-      hit-at s (IdQ x (spelled true) (suc (length (strings (plainWords s v) t)))) (e .next + length x) _ _ _ (e .end-is)
+      let end = e .end-is in
+      hit-at s (IdQ x (spelled true) (suc (length (strings (plainWords s v) t))) _) (e .next + length x) _ _ _ (e .end-is)
       (rw (lt-ltb (getD s k 0) 0x80 (omega arith), e .num, spelling-is s (lengths 2) 2 0 k x e _ (sp .formed), e .text-is, fresh, lt-ltb (length (strings v t)) (L .entries) (omega arith))
       (record {
         b = record { string = stretch (e .next) (length x); how = spelled true; number = suc (length (strings v t)) };
         v = adding v t (stretch (e .next) (length x));
         goes = refl;
         state = adding-map (octetsOf s) v t (stretch (e .next) (length x)) ∙ ap (λ (y : List ℕ). adding (plainWords s v) t y) (e .text-is);
-        what = (e .text-is, refl, ap suc (sym len));
+        what = (e .text-is, refl, ap suc (sym len), ap (λ (p : ℕ). stretch p (length x) ∷ []) (omega arith));
       }))
   id-complete t k v rest (id-numbered {x = x} {k = j} small en) d =
-      let o = num-first s c25 0x80 j k rest tt (omega arith) d in
+      let o = num-first s c25 0x80 j k rest (omega arith) (omega arith) d in
       let lo = o .0 in
-      let n = num-complete s c25 top 2 1 0x80 j k rest tt (omega arith) (omega arith) (omega arith) refl d in
+      let n = num-complete s c25 top 2 1 0x80 j k rest (omega arith) (omega arith) (omega arith) (omega arith) refl d in
       let y = entry-complete s v t j x en in
       rw (le-ltb (getD s k 0) 0x80 lo, n, le-leb (suc j) (length (strings v t)) (y .0))
-      (record { b = record { string = getD (strings v t) (suc j - 1) empty; how = numbered (suc j); number = suc j }; v = v; goes = refl; state = refl; what = (y .1, refl, refl) })
+      (record { b = record { string = getD (strings v t) (suc j - 1) empty; how = numbered (suc j); number = suc j }; v = v; goes = refl; state = refl; what = (y .1, refl, refl, refl) })
 
-  abbrev pub OptionalQ : Option (List ℕ) → Option How → ℕ → OptionalRead → Type 0
-  OptionalQ x h n b = (Option·map (octetsOf s) (b .string) ≡ x) × (b .how ≡ h) × (b .number ≡ n)
+  abbrev pub OptionalQ : Option (List ℕ) → Option How → ℕ → List Located → OptionalRead → Type 0
+  OptionalQ x h n p b = (Option·map (octetsOf s) (b .string) ≡ x) × (b .how ≡ h) × (b .number ≡ n) × (optionSpelled (b .string) (b .how) ≡ p)
 
   pub optional-complete : (t : StringTable) (k : ℕ) (v : Vocabulary Located) {x : Option (List ℕ)} {h : Option How} {n : ℕ} {o : List ℕ} {w : Vocabulary (List ℕ)} (rest : List ℕ)
-      → Optional L t (plainWords s v) x h n o w → drop k s ≡ o ++ rest → Hit s (OptionalQ x h n) (k + length o) w (optionalAt L (there x) s t k v)
+      → Optional L t (plainWords s v) x h n o w → drop k s ≡ o ++ rest → Hit s (OptionalQ x h n (inOption k h x o)) (k + length o) w (optionalAt L (there x) s t k v)
   unfolding optionalAt
   optional-complete t k v rest absent d =
-      hit-at s (OptionalQ none none 0) k (k + 0) _ _ (omega arith) (record { b = record { string = none; how = none; number = 0 }; v = v; goes = refl; state = refl; what = (refl, refl, refl) })
+      hit-at s (OptionalQ none none 0 []) k (k + 0) _ _ (omega arith) (record { b = record { string = none; how = none; number = 0 }; v = v; goes = refl; state = refl; what = (refl, refl, refl, refl) })
   optional-complete t k v {o = o} rest (present {x = x} {h = hw} {n = n} u) d =
       let i = id-complete t k v rest u d in
       rw (i .goes)
@@ -289,43 +294,44 @@ module _ (L : Limits) (s : List ℕ) where
         v = i .v;
         goes = refl;
         state = i .state;
-        what = (ap (λ (y : List ℕ). some y) (i .what .0), ap (λ (y : How). some y) (i .what .1), i .what .2);
+        what = (ap (λ (y : List ℕ). some y) (i .what .0), ap (λ (y : How). some y) (i .what .1), i .what .2, i .what .3);
       })
 
-  abbrev pub StringQ : List ℕ → How → StringRead → Type 0
-  StringQ x h b = (octetsOf s (b .string) ≡ x) × (b .how ≡ h)
+  abbrev pub StringQ : List ℕ → How → List Located → StringRead → Type 0
+  StringQ x h p b = (octetsOf s (b .string) ≡ x) × (b .how ≡ h) × (ifSpelled (b .string) (b .how) ≡ p)
 
   or-room : (added : Bool) (a b : ℕ) → (added ≡ true → a < b) → (not added || ltb a b) ≡ true
   or-room true a b f = lt-ltb a b (f refl)
   or-room false a b f = refl
 
   pub record LiteralHit (q : Layout) (t : StringTable) (k : ℕ) (v : Vocabulary Located) (x : List ℕ) (h : How) (o : List ℕ) (w : Vocabulary (List ℕ)) : Type 0 where
-    pub hit : Hit s (StringQ x h) (k + length o) w (literalAt L q s t k v)
+    pub hit : Hit s (StringQ x h (inField k h x o)) (k + length o) w (literalAt L q s t k v)
     pub low : q .spelledBits ≤ getD s k 0
     pub high : getD s k 0 < 0xF0
     pub last : getD s k 0 < q .numberedBits + rooms (q .numberForms)
     pub some : 0 < length o
     pub here : k < length s
 
-  spelled-complete : (q : Layout) → Shape q → (t : StringTable) (k : ℕ) (v : Vocabulary Located) (added : Bool) (x rest : List ℕ) → Spelling (lengths (q .lengthBit)) x
+  spelled-complete : (q : Layout) → Shape q → (t : StringTable) (k : ℕ) (v : Vocabulary Located) (added : Bool) (x rest : List ℕ) → Spelling x
       → (added ≡ true → length (strings (plainWords s v) t) < L .entries)
       → drop k s ≡ withLength (lengths (q .lengthBit)) (q .spelledBits + q .addBit * bit added) x ++ rest
-      → Hit s (StringQ x (spelled added)) (k + length (withLength (lengths (q .lengthBit)) (q .spelledBits + q .addBit * bit added) x)) (keeping added (plainWords s v) t x) (spelledAt L q s t k added v)
+      → Hit s (StringQ x (spelled added) (inField k (spelled added) x (withLength (lengths (q .lengthBit)) (q .spelledBits + q .addBit * bit added) x))) (k + length (withLength (lengths (q .lengthBit)) (q .spelledBits + q .addBit * bit added) x)) (keeping added (plainWords s v) t x) (spelledAt L q s t k added v)
       × Spelt s (lengths (q .lengthBit)) (q .lengthBit) (q .spelledBits + q .addBit * bit added) k x
   unfolding spelledAt octetsOf
   spelled-complete q g t k v added x rest sp room d =
       let fs = lengths (q .lengthBit) in
       let base : ℕ = q .spelledBits + q .addBit * bit added in
-      let e : Spelt s fs (q .lengthBit) base k x = spelt s fs (q .lengthBit) (g .lead added) base k x rest (g .lengths-ok) (g .lengths-fit) (g .lengths-few) (g .lead-is added) sp d in
-      let len = length-strings (octetsOf s) v t in (
-        hit-at s (StringQ x (spelled added)) (e .next + length x) _ _ _ (e .end-is)
+      let e : Spelt s fs (q .lengthBit) base k x = spelt s fs (q .lengthBit) (g .lead added) base k x rest (g .lengths-ok) (g .lengths-fit) (long-enough (q .lengthBit)) (g .lead-is added) sp d in
+      let len = length-strings (octetsOf s) v t in
+      let end = e .end-is in (
+        hit-at s (StringQ x (spelled added) _) (e .next + length x) _ _ _ (e .end-is)
             (rw (e .num, spelling-is s fs (q .lengthBit) base k x e _ (sp .formed), or-room added (length (strings v t)) (L .entries) (λ y. let r = room y in omega arith))
             (record {
               b = record { string = stretch (e .next) (length x); how = spelled added };
               v = keeping added v t (stretch (e .next) (length x));
               goes = refl;
               state = keeping-map (octetsOf s) added v t (stretch (e .next) (length x)) ∙ ap (λ (y : List ℕ). keeping added (plainWords s v) t y) (e .text-is);
-              what = (e .text-is, refl);
+              what = (e .text-is, refl, ap (λ (p : ℕ). stretch p (length x) ∷ []) (omega arith));
             })),
         e,
       )
@@ -368,11 +374,11 @@ module _ (L : Limits) (s : List ℕ) where
       let ab = g .above in
       let ap2 = g .apart in
       let un = g .under in
-      let n = num-complete s (q .numberForms) top (q .numberBit) (g .numbered-lead) (q .numberedBits) j k rest (g .numbers-ok) (g .numbers-fit) fits (omega arith) (g .numbered-is) d in
+      let n = num-complete s (q .numberForms) top (numberBit q) (g .numbered-lead) (q .numberedBits) j k rest (g .numbers-ok) (g .numbers-fit) fits (omega arith) (g .numbered-is) d in
       let y = entry-complete s v t j x en in
       record {
         hit = rw (le-ltb (getD s k 0) (q .spelledBits + 2 ^ (9 - q .lengthBit)) (omega arith), le-ltb (getD s k 0) (q .spelledBits + q .addBit) (omega arith), le-ltb (getD s k 0) (q .spelledBits + q .addBit + 2 ^ (9 - q .lengthBit)) (omega arith), le-ltb (getD s k 0) (q .numberedBits) lo, n, le-leb (suc j) (length (strings v t)) (y .0))
-            (record { b = record { string = getD (strings v t) (suc j - 1) empty; how = numbered (suc j) }; v = v; goes = refl; state = refl; what = (y .1, refl) });
+            (record { b = record { string = getD (strings v t) (suc j - 1) empty; how = numbered (suc j) }; v = v; goes = refl; state = refl; what = (y .1, refl, refl) });
         low = omega arith;
         high = omega arith;
         last = omega arith;
@@ -381,12 +387,12 @@ module _ (L : Limits) (s : List ℕ) where
       }
 
   pub value-complete : (t : StringTable) (k : ℕ) (v : Vocabulary Located) {x : List ℕ} {h : How} {o : List ℕ} {w : Vocabulary (List ℕ)} (rest : List ℕ)
-      → Value L t (plainWords s v) x h o w → drop k s ≡ o ++ rest → Hit s (StringQ x h) (k + length o) w (valueAt L s t k v)
+      → Value L t (plainWords s v) x h o w → drop k s ≡ o ++ rest → Hit s (StringQ x h (inField k h x o)) (k + length o) w (valueAt L s t k v)
   unfolding valueAt octetsOf
   value-complete t k v rest value-empty d =
       let a = drop-head s k 0xFF rest d in
-      hit-at s (StringQ [] (numbered 0)) (suc k) (k + 1) _ _ (omega arith)
-      (rw (eq-eqb (getD s k 0) 0xFF (a .1)) (record { b = record { string = empty; how = numbered 0 }; v = v; goes = refl; state = refl; what = (refl, refl) }))
+      hit-at s (StringQ [] (numbered 0) []) (suc k) (k + 1) _ _ (omega arith)
+      (rw (eq-eqb (getD s k 0) 0xFF (a .1)) (record { b = record { string = empty; how = numbered 0 }; v = v; goes = refl; state = refl; what = (refl, refl, refl) }))
   value-complete t k v rest (value u) d =
       let c = literal-complete c14 shape14 t k v rest u d in
       let hi = c .high in

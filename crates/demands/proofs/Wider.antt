@@ -47,7 +47,7 @@ module _ {L M : Limits} (long : L .octets ≤ M .octets) (many : L .entries ≤ 
   octets (o-comment md u) = o-comment md (value-in u)
   octets (o-instruction md u1 u2) = o-instruction md (identifying u1) (value-in u2)
 
-  written : {at : ℕ} {v z : State (List ℕ)} {items : List (Item (List ℕ))} {hs : List ℕ} → Written L at v items hs z → Written M at v items hs z
+  pub written : {at : ℕ} {v z : State (List ℕ)} {items : List (Item (List ℕ))} {hs : List ℕ} → Written L at v items hs z → Written M at v items hs z
   written (document-end md lv rt) = document-end md lv rt
   written (attributes-end md w) = attributes-end md (written w)
   written (element-end md lv w) = element-end md lv (written w)

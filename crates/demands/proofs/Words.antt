@@ -10,8 +10,9 @@ use lib.ListN.{length, getD, length-map, List·getD-map}
 use Rattle.format.specs.Events.{nameMap}
 use Rattle.format.specs.Tables.{StringTable, PREFIX, NAMESPACE-NAME, LOCAL-NAME, OTHER-NCNAME, OTHER-URI, ATTRIBUTE-VALUE, CONTENT-CHARACTER-CHUNK, OTHER-STRING, NameTable, ELEMENT-NAME, ATTRIBUTE-NAME, Triple, Vocabulary, strings, names, place, extended, adding, addingName, vocabularyMap, starting, Entry, partOf, nameOf}
 use Rattle.format.specs.Strings.{keeping}
+use Rattle.tables.specs.Told.{entriesOf}
 
-map-append : {A B : Type 0} (f : A → B) (a b : List A) → map f (a ++ b) ≡ map f a ++ map f b
+pub map-append : {A B : Type 0} (f : A → B) (a b : List A) → map f (a ++ b) ≡ map f a ++ map f b
 map-append f [] b = refl
 map-append f (x ∷ a) b = ap (λ (l : List _). f x ∷ l) (map-append f a b)
 
@@ -81,3 +82,18 @@ module _ {S T : Type 0} (f : S → T) where
   unfolding nameOf vocabularyMap
   name-map v d x =
       λ i. record { prefix = part-map (v .prefixes) d (x .prefix) i; namespace = part-map (v .namespaces) d (x .namespace) i; local = sym (List·getD-map f (v .locals) (x .local - 1) d) i }
+
+  -- as many entries
+  pub entries-map : (v : Vocabulary S) → entriesOf (vocabularyMap f v) ≡ entriesOf v
+  unfolding entriesOf vocabularyMap
+  entries-map v =
+      rw (
+        length-map (v .prefixes) f,
+        length-map (v .namespaces) f,
+        length-map (v .locals) f,
+        length-map (v .ncnames) f,
+        length-map (v .uris) f,
+        length-map (v .values) f,
+        length-map (v .chunks) f,
+        length-map (v .others) f,
+      )

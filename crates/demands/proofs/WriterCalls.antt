@@ -55,7 +55,7 @@ module _ (text : List ℕ) (room : ℕ) (es : List Event) where
   by-room table n c true false short e = absurd (let z : _≡_ {A = ℕ} 0 1 = cc in omega arith)
   by-room table n c false d short e = absurd (let z : _≡_ {A = ℕ} 0 1 = cc in omega arith)
 
-  -- 16. WRITE ACCEPTS only what the rules write, from the records given.
+  -- 17. WRITE ACCEPTS only what the rules write, from the records given.
   pub write-accepts : (table n : ℕ) (c : Counts) → writeOf es text room table .answer ≡ Accepted n c → Wrote text es room (writeOf es text room table)
   unfolding writeOf
   write-accepts table n c e = by-room table n c (leb (length text) 16384) (eqb table words) refl e
@@ -68,7 +68,7 @@ pub record ReadBack (s : List ℕ) (records : ℕ) (items : List (Item (List ℕ
   pub same : map (plain s) events ≡ items
   pub tables : plainState s last ≡ z
 
--- 17. READ BACK: what a call wrote is read, with a record for each event, and gives the same events and tables.
+-- 18. READ BACK: what a call wrote is read, with a record for each event, and gives the same events and tables.
 pub read-back : (text : List ℕ) (room : ℕ) (es : List Event) (o : Outcome) (w : Wrote text es room o) (records : ℕ) → length es ≤ records
     → ReadBack (w .octets) records (map (plain text) (w .items)) (plainState text (w .last))
 unfolding readOf
@@ -80,7 +80,7 @@ read-back text room es o w records h =
     let y = accepted-sized (w .octets) records (a .events) (a .last) (a .reads) in
     record { events = a .events; last = a .last .state; is = rw (y, a .reads); same = a .are; tables = a .end-is }
 
--- 18. REFUSED: a refusal is one of 01's numbers for a writer, at an event of the list or its end.
+-- 19. REFUSED: a refusal is one of 01's numbers for a writer, at an event of the list or its end.
 abbrev pub Numbered : ℕ → Type 0
 Numbered n = (9 ≤ n) × (n ≤ 16) × (n ≡ 10 → ⊥) × (n ≡ 11 → ⊥) × (n ≡ 15 → ⊥)
 
@@ -138,7 +138,7 @@ write-refused text room es n p e =
     let h = g .2 in
     (g .0, omega arith)
 
--- 19. WRITE FROM WORDS: what is accepted is left as the words of what `write` leaves, from the records of the words (16).
+-- 20. WRITE FROM WORDS: what is accepted is left as the words of what `write` leaves, from the records of the words (17).
 refused-small : (records text : List ℕ) (r t : ℕ) (b d : Bool) (k p : ℕ)
     → pick b (pick d (outcome (writing text r (recordsOf records)) r) (refusing 14 0 r t)) (refusing 1 0 r t) .answer ≡ Refused k p → (1 ≤ k) × (k ≤ 16)
 refused-small records text r t true true k p e = from (writing text r (recordsOf records)) refl e
@@ -174,11 +174,11 @@ module _ (records text : List ℕ) (r t : ℕ) where
   unfolding writeWords
   words-written c n e = by-words c n (leb (length text) 16384) (eqb c 10) e
 
--- 20. DEMAND 1: what a call answers and leaves depends on the records and the text, and on how much room is lent, but not on what stood in it.
+-- 21. DEMAND 1: what a call answers and leaves depends on the records and the text, and on how much room is lent, but not on what stood in it.
 module _ (es : List Event) (text o p t u : List ℕ) (a b : Answer) (o′ p′ t′ u′ : List ℕ) where
   pub write-whatever-stood : length o ≡ length p → length t ≡ length u → Leaves a o′ t′ (writeOf es text (length o) (length t)) → Leaves b p′ u′ (writeOf es text (length p) (length u))
       → (a ≡ b) × (o′ ≡ p′) × (t′ ≡ u′)
-  write-whatever-stood l m x y = let y′ = rw (← l, ← m) at y in (x .0 ∙ sym (y′ .0), x .1 ∙ sym (y′ .1), x .2 ∙ sym (y′ .2))
+  write-whatever-stood l m x y = let y′ = rw (← l, ← m) at y in (x .0 ∙ sym (y′ .0), x .2 ∙ sym (y′ .2), x .3 ∙ sym (y′ .3))
 
 --     So it is with words.
 pub written-whatever-stood : (records text o p t u c d : List ℕ) (a b : ℕ) (o′ p′ t′ u′ c′ d′ : List ℕ) → length o ≡ length p → length t ≡ length u → length c ≡ length d

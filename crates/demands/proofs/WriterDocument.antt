@@ -1,65 +1,32 @@
--- A whole document that the writer wrote: it is what the rules write, within the limits and the room, and what was known after each event is what the rules know.
+-- A whole document that the writer wrote: it is what the rules write, within the limits and the room, and what was known after each event is what the rules know; a
+-- list that it refuses is refused by 01.
 use mathlib.Core.Path.{_≡_, refl, sym, ap, _∙_, subst}
 use mathlib.Core.Bool.{_&&_}
 use mathlib.Core.List.{List, [], _∷_, _++_, map}
-use Prim.Native.Nat.{ℕ, zero, suc, _+_, _-_, _*_, _/_, _%_, _≤_, _<_, min}
+use Prim.Native.Nat.{ℕ, zero, suc, _+_, _-_, _*_, _/_, _≤_, min}
 use native.Mathlib.Omega.{arith}
 use borrow.Author.Tests.{leb-true}
 use lib.Dec.{eqb, leb}
 use lib.ListN.{length, length-append, length-map}
-use Rattle.format.specs.Numbers.{top}
 use Rattle.format.specs.Events.{Item, _by_}
-use Rattle.format.specs.Tables.{StringTable, NameTable, ELEMENT-NAME, ATTRIBUTE-NAME, PREFIX, NAMESPACE-NAME, LOCAL-NAME, OTHER-NCNAME, OTHER-URI, ATTRIBUTE-VALUE, CONTENT-CHARACTER-CHUNK, OTHER-STRING, strings, names, starting, Limits, link}
+use Rattle.format.specs.Tables.{Limits, link}
 use Rattle.format.specs.Items.{State}
-use Rattle.format.specs.Document.{halves, pad, aligned, Written, document-end, attributes-end, element-end, item, knownAfter, beginning, header, Writes}
+use Rattle.format.specs.Document.{halves, pad, aligned, Written, document-end, attributes-end, element-end, item, knownAfter, begun, beginning, header, started, Writes}
 use Rattle.events.specs.declared.Event.{Event}
 use Rattle.tables.specs.Located.{Located, plain, plainState, start}
+use Rattle.choices.specs.Chosen.{chosen, tablesAfter}
 use Rattle.writer.specs.Events.{isContent, eventOf}
 use Rattle.writer.specs.Items.{writeItem}
 use Rattle.writer.specs.Writing.{announced, Result, written, refusal, plus, settled, fits, halvesOf, judge, finish, run, joined, writing, knownWriting}
-use Rattle.demands.proofs.Lists.{test, parity, align-is, halves-append, halves-length, pad-length}
+use Rattle.demands.specs.Verdicts.{plains, itemsOf, AllRight, Refused}
+use Rattle.demands.proofs.Lists.{test, align-is, halves-length, pad-length}
 use Rattle.demands.proofs.Document.{plain-start}
+use Rattle.demands.proofs.Structure.{all-left, sane-first}
 use Rattle.demands.proofs.Produced.{Order}
-use Rattle.demands.proofs.WriterRun.{Knows, Right, run-right}
-
--- ---- halves joined to octets are those halves, where the first starts an octet
--- from an odd half: whatever half stands before it
-abbrev Joins : ℕ → List ℕ → Type 0
-Joins zero hs = halves (joined hs) ≡ hs
-Joins (suc n) hs = (h : ℕ) → halves (joined (h ∷ hs)) ≡ h ∷ hs
-
-one-octet : (h l : ℕ) → l < 16 → ((16 * h + l) / 16 ≡ h) × ((16 * h + l) % 16 ≡ l)
-one-octet h l k = (omega arith, omega arith)
-
-join-two : (h l : ℕ) (hs : List ℕ) → l < 16 → halves (joined hs) ≡ hs → halves (joined (h ∷ l ∷ hs)) ≡ h ∷ l ∷ hs
-unfolding halves joined
-join-two h l hs k e = let o = one-octet h l k in rw (o .0, o .1, e)
-
-join-octets : (o hs : List ℕ) → halves (joined hs) ≡ hs → halves (joined (halves o ++ hs)) ≡ halves o ++ hs
-unfolding halves
-join-octets [] hs e = e
-join-octets (x ∷ o) hs e = join-two (x / 16) (x % 16) (halves o ++ hs) (omega arith) (join-octets o hs e)
-
--- one more end in front
-join-end : (at : ℕ) (hs : List ℕ) → Joins (suc at % 2) hs → Joins (at % 2) (15 ∷ hs)
-join-end at hs k =
-    parity at (λ z. let y : suc at % 2 ≡ 1 = omega arith in rw z (rw y at k 15))
-    (λ z. let y : suc at % 2 ≡ 0 = omega arith in rw z (λ h. join-two h 15 hs (omega arith) (rw y at k)))
-
--- octets in front, from the next whole octet on
-join-item : (at : ℕ) (o hs : List ℕ) → halves (joined hs) ≡ hs → Joins (at % 2) (pad at ++ (halves o ++ hs))
-unfolding pad
-join-item at o hs k = parity at (λ z. rw z (join-octets o hs k)) (λ z. rw z (λ h. join-two h 0 (halves o ++ hs) (omega arith) (join-octets o hs k)))
-
-joins : {L : Limits} {at : ℕ} {v z : State (List ℕ)} {items : List (Item (List ℕ))} {hs : List ℕ} → Written L at v items hs z → Joins (at % 2) hs
-unfolding pad aligned halves joined
-joins (document-end {at = at} md lv rt) =
-    parity at (λ z. let y : suc at % 2 ≡ 1 = omega arith in rw (z, y)) (λ z. let y : suc at % 2 ≡ 0 = omega arith in rw (z, y) (λ h. join-two h 15 [] (omega arith) refl))
-joins (attributes-end {at = at} {hs = hs} md w) = join-end at hs (joins w)
-joins (element-end {at = at} {hs = hs} md lv w) = join-end at hs (joins w)
-joins (item {at = at} {o = o} {hs = hs} u w) =
-    let y : (at + at % 2 + 2 * length o) % 2 ≡ 0 = omega arith in
-    join-item at o hs (rw y at (joins w))
+use Rattle.demands.proofs.Joined.{joins, document-of}
+use Rattle.demands.specs.Permitted.{no-item}
+use Rattle.demands.proofs.Entries.{ranged-started, few-after}
+use Rattle.demands.proofs.WriterRun.{Stands, Judged, run-judged}
 
 -- ---- after each item something is known
 as-many : {L : Limits} {at : ℕ} {v z : State (List ℕ)} {items : List (Item (List ℕ))} {hs : List ℕ} (w : Written L at v items hs z) → length (knownAfter L w) ≡ length items
@@ -105,61 +72,72 @@ module _ (L : Limits) (text : List ℕ) (room : ℕ) where
       turn-room at (λ k w. run L text room k w (suc i) es) (λ k w. run-room es k w (suc i)) i (judge L text room at v e w hs) (ev by w .choice) hs (w .state)
 
 -- ---- on the link
-start-order : Order link start
-unfolding start starting link strings names
-start-order = record { fit = record { few = some; few-names = none-yet }; ranged = λ t k h. absurd (let y = none-yet t in let z = no-names t in omega arith) }
-  where
-    some : (t : StringTable) → length (strings start t) ≤ 256
-    some PREFIX = omega arith
-    some NAMESPACE-NAME = omega arith
-    some LOCAL-NAME = omega arith
-    some OTHER-NCNAME = omega arith
-    some OTHER-URI = omega arith
-    some ATTRIBUTE-VALUE = omega arith
-    some CONTENT-CHARACTER-CHUNK = omega arith
-    some OTHER-STRING = omega arith
-
-    none-yet : (t : NameTable) → length (names start t) ≤ 256
-    none-yet ELEMENT-NAME = omega arith
-    none-yet ATTRIBUTE-NAME = omega arith
-
-    no-names : (t : NameTable) → length (names start t) ≡ 0
-    no-names ELEMENT-NAME = refl
-    no-names ATTRIBUTE-NAME = refl
+pub started-order : Order link started
+unfolding link
+started-order = record { fit = few-after link no-item (omega arith); ranged = ranged-started }
 
 module _ (text : List ℕ) (short : length text ≤ 16384) (room : ℕ) where
-  link-few : link .entries ≤ top
-  unfolding link
-  link-few = omega arith
+  first-stands : (es : List Event) → Stands text [] (2 * length header) (beginning start) es
+  unfolding beginning chosen tablesAfter
+  first-stands es =
+      let s = plain-start text in
+      let w = ap (λ (u : State (List ℕ)). u .words) s in
+      record {
+        halves = [];
+        begun = rw s begun;
+        at-is = omega arith;
+        words = w;
+        order = rw w started-order;
+        ahead = tt;
+        sane = sane-first started;
+        forth = λ tail f d. all-left started tail .0 d;
+        back = λ tail r. all-left started tail .1 r;
+      }
 
-  -- what a result means, where ks are known after the events: the octets are the rules', they fit the output, and the rules know as much after each item
-  abbrev pub Means : List (State Located) → Result → Type 0
-  Means ks (written items hs z) =
-      (w : Writes (map (plain text) items) (plainState text z) (header ++ joined hs)) × (length (header ++ joined hs) ≤ room) × (knownAfter link (w .rule) ≡ map (plainState text) ks)
-  Means ks (refusal n p) = Unit {0}
+  -- what a result means, where ks are known after the events: the octets are the rules', they fit the output, and the rules know as much after each item; each
+  -- event is right, and the items are 01's; or the list is refused
+  pub record Means (es : List Event) (ks : List (State Located)) (items : List (Item Located)) (hs : List ℕ) (z : State Located) : Type 0 where
+    pub writes : Writes (map (plain text) items) (plainState text z) (header ++ joined hs)
+    pub fits : length (header ++ joined hs) ≤ room
+    pub known : knownAfter link (writes .rule) ≡ map (plainState text) ks
+    pub chosen-by : map (plain text) items ≡ itemsOf (plains text es)
+    pub all-right : AllRight text room es
 
-  from-run : (ks : List (State Located)) (r : Result) → Right link link-few text short room (2 * length header) (beginning start) ks r → InRoom link text room (2 * length header) r → Means ks r
-  unfolding header link
-  from-run ks (written items hs z) u h =
-      let w = subst (λ (v : State (List ℕ)). Knows link 10 v (map (plain text) items) hs (plainState text z) (map (plainState text) ks)) (plain-start text) u in
-      let j : halves (joined hs) ≡ hs = joins (w .0) in
+  abbrev Meaning : List Event → List (State Located) → Result → Type 0
+  Meaning es ks (written items hs z) = Means es ks items hs z
+  Meaning es ks (refusal n p) = Refused text room es n p
+
+  from-run : (es : List Event) (ks : List (State Located)) (r : Result) → Judged text short room [] (2 * length header) (beginning start) es ks r → InRoom link text room (2 * length header) r → Meaning es ks r
+  unfolding header link beginning
+  from-run es ks (written items hs z) u h =
+      let w = rw (plain-start text) at (u .0) in
+      let j = joins (w .0) in
       let l = halves-length (joined hs) in
       let k = ap length j in
-      let la = length-append header (joined hs) in (
-        record { body = hs; here = halves-append header (joined hs) ∙ ap (λ (y : List ℕ). halves header ++ y) j; rule = w .0; short = omega arith },
-        omega arith,
-        w .1,
-      )
-  from-run ks (refusal n p) u h = tt
+      let la = length-append header (joined hs) in
+      record {
+        writes = document-of (w .0) (omega arith);
+        fits = omega arith;
+        known = w .1;
+        chosen-by = u .1 ∙ ap (λ (v : State (List ℕ)). chosen link (v .words) (plains text es)) (plain-start text);
+        all-right = u .2;
+      }
+  from-run es ks (refusal n p) u h = u
 
-  means : (es : List Event) → Means (knownWriting text room es) (writing text room es)
-  unfolding writing knownWriting beginning
-  means es = from-run (knownWriting text room es) (writing text room es) (run-right link link-few text short room es (2 * length header) (beginning start) 0 start-order tt) (run-room link text room es (2 * length header) (beginning start) 0)
+  means : (es : List Event) → Meaning es (knownWriting text room es) (writing text room es)
+  unfolding writing knownWriting
+  means es =
+      from-run es (knownWriting text room es) (writing text room es)
+      (run-judged text short room es [] (2 * length header) (beginning start) 0 refl (first-stands es) (λ b e after q. absurd (let l = ap length q in let k = length-append b (e ∷ after) in omega arith)))
+      (run-room link text room es (2 * length header) (beginning start) 0)
 
-  pub meant : (es : List Event) (items : List (Item Located)) (hs : List ℕ) (z : State Located) → writing text room es ≡ written items hs z → Means (knownWriting text room es) (written items hs z)
-  meant es items hs z e = subst (Means (knownWriting text room es)) e (means es)
+  pub meant : (es : List Event) (items : List (Item Located)) (hs : List ℕ) (z : State Located) → writing text room es ≡ written items hs z → Means es (knownWriting text room es) items hs z
+  meant es items hs z e = subst (Meaning es (knownWriting text room es)) e (means es)
+
+  pub refused-by : (es : List Event) (n p : ℕ) → writing text room es ≡ refusal n p → Refused text room es n p
+  refused-by es n p e = subst (Meaning es (knownWriting text room es)) e (means es)
 
   pub each-known : (es : List Event) (items : List (Item Located)) (hs : List ℕ) (z : State Located) → writing text room es ≡ written items hs z → length (knownWriting text room es) ≡ length items
   each-known es items hs z e =
       let m = meant es items hs z e in
-      sym (length-map (knownWriting text room es) (plainState text)) ∙ sym (ap length (m .2)) ∙ as-many (m .0 .rule) ∙ length-map items (plain text)
+      sym (length-map (knownWriting text room es) (plainState text)) ∙ sym (ap length (m .known)) ∙ as-many (m .writes .rule) ∙ length-map items (plain text)

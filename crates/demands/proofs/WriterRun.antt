@@ -1,303 +1,361 @@
--- A writer's run: what it writes from a list of events is what the rules write from their plain form and 01's choices; what it knows after each is what they know.
-use mathlib.Core.Path.{_≡_, refl, sym, ap, _∙_, subst}
+-- A writer's run: it judges each event as 01 does, in the words of the rules; what it accepts is what the rules write from the plain events with 01's choices, and
+-- what it knows after each is what they know.
+use mathlib.Core.Path.{_≡_, refl, sym, ap, ap₂, _∙_, subst}
 use mathlib.Core.Bool.{Bool, true, false, not, _&&_, _||_}
-use mathlib.Core.List.{List, [], _∷_, _++_, append-assoc, map}
-use Prim.Native.Nat.{ℕ, zero, suc, _+_, _-_, _*_, _≤_, _<_}
+use mathlib.Core.Option.{none}
+use mathlib.Core.List.{List, [], _∷_, _++_, append-assoc, append-nil, map}
+use Prim.Native.Nat.{ℕ, zero, suc, _+_, _-_, _*_, _/_, _≤_, min}
 use native.Mathlib.Omega.{arith}
-use borrow.Author.Tests.{ltb-true, leb-false, eqb-true}
-use lib.Dec.{eqb, ltb, leb}
+use borrow.Author.Tests.{leb-true, leb-false, le-leb, lt-leb, eqb-true}
+use lib.Dec.{eqb, leb}
 use lib.ListN.{length, length-append}
 use Rattle.format.specs.Numbers.{pick, top}
 use Rattle.format.specs.Events as E
-use Rattle.format.specs.Events.{Item, _by_, eventMap}
-use Rattle.format.specs.Tables.{Limits}
-use Rattle.format.specs.Items.{Mode, content, declaring, listing, State, mayStart, moved}
-use Rattle.format.specs.Document.{halves, pad, aligned, closed, Written, document-end, attributes-end, element-end, item, knownAfter}
-use Rattle.events.specs.declared.Kind.{Kind}
-use Rattle.events.specs.declared.Kind.the-variants.{Blank, Namespace, Start, Attribute, Chunk, Comment, Instruction, End}
+use Rattle.format.specs.Events.{Item, _by_, IsDocument, BeginsDocument, openAfter, declaresLast, isDeclaration, isStart, opensElement}
+use Rattle.format.specs.Tables.{Vocabulary, link, InLimits}
+use Rattle.format.specs.Items.{Mode, content, declaring, listing, State, knowing}
+use Rattle.format.specs.Document.{halves, pad, aligned, Written, document-end, knownAfter, beginning, Begun, header, started}
 use Rattle.events.specs.declared.Event.{Event}
-use Rattle.tables.specs.Located.{Located, plain, plainState}
-use Rattle.writer.specs.Events.{eventOf, amongChildren, isContent, isDeclaring, isListing, goesOn}
+use Rattle.events.specs.WellMade.{WellMade}
+use Rattle.tables.specs.Located.{Located, octetsOf, plain, plainWords, plainState}
 use Rattle.choices.specs.Choices.{within}
+use Rattle.choices.specs.Chosen.{chooseFor, chosen, tablesAfter}
+use Rattle.writer.specs.Events.{wellMade, eventOf, isContent, isDeclaring, goesOn, allText}
 use Rattle.writer.specs.Items.{WroteItem, writeItem}
-use Rattle.writer.specs.Writing.{announced, Result, written, refusal, plus, isAttribute, isEnd, opens, owed, settled, fits, halvesOf, judge, finish, run, trace}
+use Rattle.writer.specs.Writing.{attributeNext, announced, Result, written, refusal, plus, opens, settled, fits, halvesOf, judge, finish, run, trace}
 use Rattle.tables.proofs.Found.{clash, both-true}
-use Rattle.demands.proofs.Lists.{test, halves-length, pad-length}
-use Rattle.demands.proofs.Sayable.{Said, said, passed}
-use Rattle.demands.proofs.Produced.{Order, Made, Where, first-namespace, next-namespace, first-start, named-start, in-list, in-element, comment, instruction, made}
+use Rattle.demands.specs.Verdicts.{plainOf, plains, itemsOf, Overflows, WrittenIn, upTo, IsEvent, IsShallow, HasEntries, HasRoom, Right, Fault, not-an-event, not-text, too-deep, too-many, no-room, AllRight, Refused, at-event, too-soon, no-room-for-end}
+use Rattle.demands.proofs.Lists.{halves-length, pad-length, align-is}
+use Rattle.demands.proofs.Splits.{splits-last}
+use Rattle.demands.proofs.Words.{map-append}
+use Rattle.demands.proofs.OneWriting.{one-writing}
+use Rattle.demands.proofs.Structure as Tree
+use Rattle.demands.proofs.Structure.{Sane, attributeFirst, stepped}
+use Rattle.demands.proofs.Begun as Begun
+use Rattle.demands.proofs.Produced.{Order, Said, rest-for, ranged-for}
+use Rattle.demands.proofs.Sayable.{made-is, is-made, by-kind, in-order, Each, IsText, all-text, text-all, said, all-short, made-allowed}
+use Rattle.demands.proofs.Step.{Ahead, front-by, next-by, ahead-next}
+use Rattle.demands.proofs.PlainStep.{opens-map, opens-is, next-is, announced-start, announced-on, next-plain, choice-plain, halves-plain, next-words, within-plain, fits-of, of-fits}
+use Rattle.demands.proofs.Append.{chosen-append, tables-append}
+use Rattle.demands.proofs.Entries.{chosen-events}
 
--- ---- where an event may stand, once the end of an attribute list is behind it
-abbrev isNamespace : {S : Type 0} → E.Event S → Bool
-isNamespace (E.Namespace p n) = true
-isNamespace (E.Start x) = false
-isNamespace (E.Attribute x y) = false
-isNamespace (E.Text y) = false
-isNamespace (E.Comment y) = false
-isNamespace (E.Instruction x y) = false
-isNamespace E.End = false
+link-few : link .entries ≤ top
+unfolding link
+link-few = omega arith
 
--- among declarations the attribute bit is the one that the list ahead announces
-abbrev Ahead : Mode → Bool → Type 0
-Ahead content a = Unit {0}
-Ahead (declaring b) a = b ≡ a
-Ahead (listing any) a = Unit {0}
-
-module _ (L : Limits) (a : Bool) (v : State Located) where
-  shallow-is : (b : Bool) → b ≡ true → (b && leb (L .depth) (v .level)) ≡ false → v .level < L .depth
-  shallow-is b t e = leb-false (L .depth) (v .level) (sym (ap (λ (y : Bool). y && leb (L .depth) (v .level)) t) ∙ e)
-
-  -- behind the end of an attribute list, if this event is no attribute
-  abbrev Behind : Mode → E.Event Located → State Located
-  Behind m e = pick (isListing m && not (isAttribute e)) (moved v (v .words) content) v
-
-  -- the first event of an element, or the next of its declarations
-  starts : (e : E.Event Located) (m : Mode) → v .mode ≡ m → Ahead m a → (isDeclaring m || (amongChildren m && mayStart v)) ≡ true → (not (isDeclaring m) && leb (L .depth) (v .level)) ≡ false → isAttribute e ≡ false
-      → ((u : State Located) → u .mode ≡ content → mayStart u ≡ true → u .level < L .depth → Where L a u e) → ((u : State Located) → u .mode ≡ declaring a → Where L a u e) → Where L a (Behind m e) e
-  unfolding mayStart
-  starts e content md ah go deep nay f g = f v md go (shallow-is true refl deep)
-  starts e (declaring b) md ah go deep nay f g = g v (md ∙ ap (λ (y : Bool). declaring y) ah)
-  starts e (listing true) md ah go deep nay f g = rw nay (f (moved v (v .words) content) refl go (shallow-is true refl deep))
-  starts e (listing false) md ah go deep nay f g = clash go
-
-  -- a child that is no element
-  inside : (e : E.Event Located) (m : Mode) → v .mode ≡ m → amongChildren m ≡ true → isAttribute e ≡ false → ((u : State Located) → u .mode ≡ content → u .level ≡ v .level → Where L a u e) → Where L a (Behind m e) e
-  inside e content md go nay f = f v md refl
-  inside e (declaring b) md go nay f = clash go
-  inside e (listing true) md go nay f = rw nay (f (moved v (v .words) content) refl refl)
-  inside e (listing false) md go nay f = clash go
-
-  in-a-list : (x : E.Name Located) (y : Located) (m : Mode) → v .mode ≡ m → isListing m ≡ true → Where L a (Behind m (E.Attribute x y)) (E.Attribute x y)
-  in-a-list x y content md go = clash go
-  in-a-list x y (declaring b) md go = clash go
-  in-a-list x y (listing any) md go = in-list md
-
-  where-is : (e : E.Event Located) (m : Mode) → v .mode ≡ m → Ahead m a → goesOn v e ≡ true → (opens (v .mode) e && leb (L .depth) (v .level)) ≡ false → isEnd e ≡ false → Where L a (Behind m e) e
-  unfolding goesOn mayStart
-  where-is (E.Namespace p n) m md ah go deep nay = starts (E.Namespace p n) m md ah (rw md at go) (rw md at deep) refl (λ u k may d. first-namespace k may d) (λ u k. next-namespace k)
-  where-is (E.Start x) m md ah go deep nay = starts (E.Start x) m md ah (rw md at go) (rw md at deep) refl (λ u k may d. first-start k may d) (λ u k. named-start k)
-  where-is (E.Attribute x y) m md ah go deep nay = in-a-list x y m md (rw md at go)
-  where-is (E.Text y) m md ah go deep nay =
-      let b = both-true (amongChildren m) (ltb 0 (v .level)) (rw md at go) in
-      inside (E.Text y) m md (b .0) refl (λ u k l. in-element k (let z = ltb-true 0 (v .level) (b .1) in omega arith))
-  where-is (E.Comment y) m md ah go deep nay = inside (E.Comment y) m md (rw md at go) refl (λ u k l. comment k)
-  where-is (E.Instruction x y) m md ah go deep nay = inside (E.Instruction x y) m md (rw md at go) refl (λ u k l. instruction k)
-  where-is E.End m md ah go deep nay = clash (sym nay)
-
--- an attribute list that another event follows has a member
-module _ (v : State Located) where
-  among-listed : (e : E.Event Located) → goesOn v e ≡ true → v .mode ≡ listing false → isAttribute e ≡ false → ⊥
-  unfolding goesOn
-  among-listed (E.Namespace p n) go md nay = clash (rw md at go)
-  among-listed (E.Start x) go md nay = clash (rw md at go)
-  among-listed (E.Attribute x y) go md nay = clash (sym nay)
-  among-listed (E.Text y) go md nay = clash (rw md at go)
-  among-listed (E.Comment y) go md nay = clash (rw md at go)
-  among-listed (E.Instruction x y) go md nay = clash (rw md at go)
-  among-listed E.End go md nay = clash (rw md at go)
-
-  listed : (e : E.Event Located) (m : Mode) → v .mode ≡ m → goesOn v e ≡ true → (isListing m && not (isAttribute e)) ≡ true → m ≡ listing true
-  listed e content md go t = clash t
-  listed e (declaring b) md go t = clash t
-  listed e (listing true) md go t = refl
-  listed e (listing false) md go t = absurd (among-listed e go md (flip (isAttribute e) t))
-    where
-      flip : (b : Bool) → not b ≡ true → b ≡ false
-      flip true y = clash y
-      flip false y = refl
-
-  -- an End stands among children, in an element
-  end-here : (m : Mode) → v .mode ≡ m → amongChildren m ≡ true → (pick (isListing m && true) (moved v (v .words) content) v .mode ≡ content)
-  end-here content md t = md
-  end-here (declaring b) md t = clash t
-  end-here (listing true) md t = refl
-  end-here (listing false) md t = clash t
-
-  level-here : (t : Bool) → pick t (moved v (v .words) content) v .level ≡ v .level
-  level-here true = refl
-  level-here false = refl
-
-  words-here : (t : Bool) → pick t (moved v (v .words) content) v .words ≡ v .words
-  words-here true = refl
-  words-here false = refl
-
--- ---- one event and the rest
 -- what the rules write, and what they know after each item
-abbrev pub Knows : Limits → ℕ → State (List ℕ) → List (Item (List ℕ)) → List ℕ → State (List ℕ) → List (State (List ℕ)) → Type 0
-Knows L at v items hs z ks = (w : Written L at v items hs z) × (knownAfter L w ≡ ks)
+abbrev pub Knows : ℕ → State (List ℕ) → List (Item (List ℕ)) → List ℕ → State (List ℕ) → List (State (List ℕ)) → Type 0
+Knows at v items hs z ks = (w : Written link at v items hs z) × (knownAfter link w ≡ ks)
 
-module _ (L : Limits) (small : L .entries ≤ top) (text : List ℕ) (short : length text ≤ 16384) (room : ℕ) where
-  -- an item in front of what follows: its own halves, from the half `at`, and w known behind it
-  abbrev Front : ℕ → State Located → Item Located → List ℕ → State Located → Type 0
-  Front at v i own w = (items : List (Item (List ℕ))) (hs : List ℕ) (z : State (List ℕ)) (ks : List (State (List ℕ))) → Knows L (at + length own) (plainState text w) items hs z ks
-      → Knows L at (plainState text v) (plain text i ∷ items) (own ++ hs) z (plainState text w ∷ ks)
+module _ (text : List ℕ) where
+  -- Where the writer stands behind the plain events ps, with es ahead.
+  pub record Stands (ps : List (E.Event (List ℕ))) (at : ℕ) (v : State Located) (es : List Event) : Type 0 where
+    pub halves : List ℕ
+    pub begun : Begun link (2 * length header) (beginning started) (itemsOf ps) halves (plainState text v)
+    pub at-is : at ≡ 2 * length header + length halves
+    pub words : plainWords text (v .words) ≡ tablesAfter link started ps
+    pub order : Order link (plainWords text (v .words))
+    pub ahead : Ahead (v .mode) (announced es)
+    pub sane : Sane (plainState text v)
+    pub forth : (tail : List (E.Event (List ℕ))) → attributeFirst tail ≡ attributeNext es → IsDocument (ps ++ tail) → Tree.Rest (plainState text v) tail
+    pub back : (tail : List (E.Event (List ℕ))) → Tree.Rest (plainState text v) tail → IsDocument (ps ++ tail)
 
-  item-front : (at : ℕ) (v : State Located) (e : E.Event Located) (w : WroteItem) → Made L text v e w → Front at v (e by w .choice) (pad at ++ halves (w .octets)) (w .state)
-  unfolding knownAfter
-  item-front at v e w m items hs z ks u =
-      let l1 = length-append (pad at) (halves (w .octets)) in
-      let l2 = halves-length (w .octets) in
-      let l3 = pad-length at in
-      let p : at + length (pad at ++ halves (w .octets)) ≡ aligned at + 2 * length (w .octets) = omega arith in
-      let k = subst (λ (j : ℕ). Knows L j (plainState text (w .state)) items hs z ks) p u in
-      subst (λ (l : List ℕ). Knows L at (plainState text v) (plain text (e by w .choice) ∷ items) l z (plainState text (w .state) ∷ ks)) (sym (append-assoc (pad at) (halves (w .octets)) hs))
-      (item (m .rule) (k .0), ap (λ (l : List (State (List ℕ))). plainState text (w .state) ∷ l) (k .1))
+  module _ (short : length text ≤ 16384) (room : ℕ) (before : List Event) (e : Event) (es : List Event) (at : ℕ) (v : State Located) (st : Stands (plains text before) at v (e ∷ es)) where
+    abbrev ps : List (E.Event (List ℕ))
+    ps = plains text before
 
-  -- the end of an attribute list that is owed, in front
-  owed-front : (at : ℕ) (v : State Located) (m : Mode) (t : Bool) → v .mode ≡ m → (t ≡ true → m ≡ listing true) → (items : List (Item (List ℕ))) (hs : List ℕ) (z : State (List ℕ)) (ks : List (State (List ℕ)))
-      → Knows L (at + length {A = ℕ} (pick t (15 ∷ []) [])) (plainState text (pick t (moved v (v .words) content) v)) items hs z ks
-      → Knows L at (plainState text v) items (pick t (15 ∷ []) [] ++ hs) z ks
-  unfolding knownAfter
-  owed-front at v m true md f items hs z ks u =
-      let y : at + 1 ≡ suc at = omega arith in
-      let k = subst (λ (j : ℕ). Knows L j (plainState text (moved v (v .words) content)) items hs z ks) y u in
-      (attributes-end (md ∙ f refl) (k .0), k .1)
-  owed-front at v m false md f items hs z ks u = let y : at + 0 ≡ at = omega arith in subst (λ (j : ℕ). Knows L j (plainState text v) items hs z ks) y u
+    abbrev ev : E.Event Located
+    ev = eventOf (e .kind) e
 
-  -- the event's own halves behind what is owed
-  own-front : (at : ℕ) (a : Bool) (v : State Located) (e : E.Event Located) (t : Bool) → isEnd e ≡ t → Order L (v .words) → Said text short e → (t ≡ false → Where L a v e) → (t ≡ true → (v .mode ≡ content) × (0 < v .level))
-      → within L (writeItem L text a v e .state .words) ≡ true
-      → Order L (writeItem L text a v e .state .words) × Front at v (e by writeItem L text a v e .choice) (pick t (15 ∷ []) (pad at ++ halves (writeItem L text a v e .octets))) (writeItem L text a v e .state)
-  unfolding writeItem eventMap knownAfter
-  own-front at a v e false k o s f g i = let m = made L small text short a v o s (f refl) i in (m .order, item-front at v e (writeItem L text a v e) m)
-  own-front at a v E.End true k o s f g i =
-      let y = g refl in
-      let one : at + 1 ≡ suc at = omega arith in (
-        o,
-        λ items hs z ks u.
-            let d = subst (λ (j : ℕ). Knows L j (plainState text (closed v)) items hs z ks) one u in
-            (element-end (y .0) (y .1) (d .0), ap (λ (l : List (State (List ℕ))). plainState text (closed v) ∷ l) (d .1)),
-      )
-  own-front at a v (E.Namespace p n) true k o s f g i = clash k
-  own-front at a v (E.Start x) true k o s f g i = clash k
-  own-front at a v (E.Attribute x y) true k o s f g i = clash k
-  own-front at a v (E.Text y) true k o s f g i = clash k
-  own-front at a v (E.Comment y) true k o s f g i = clash k
-  own-front at a v (E.Instruction x y) true k o s f g i = clash k
+    abbrev pe : E.Event (List ℕ)
+    pe = plainOf text e
 
-  ends-where : (v : State Located) (e : E.Event Located) → goesOn v e ≡ true → isEnd e ≡ true → (settled v e .mode ≡ content) × (0 < settled v e .level)
-  unfolding goesOn settled
-  ends-where v (E.Namespace p n) go y = clash y
-  ends-where v (E.Start x) go y = clash y
-  ends-where v (E.Attribute x z) go y = clash y
-  ends-where v (E.Text z) go y = clash y
-  ends-where v (E.Comment z) go y = clash y
-  ends-where v (E.Instruction x z) go y = clash y
-  ends-where v E.End go y =
-      let b = both-true (amongChildren (v .mode)) (ltb 0 (v .level)) go in
-      let l = ltb-true 0 (v .level) (b .1) in
-      let k = level-here v (isListing (v .mode) && true) in
-      (end-here v (v .mode) refl (b .0), omega arith)
+    abbrev pv : State (List ℕ)
+    pv = plainState text v
 
-  front : (at : ℕ) (a : Bool) (v : State Located) (e : E.Event Located) → Ahead (v .mode) a → Order L (v .words) → Said text short e → goesOn v e ≡ true → (opens (v .mode) e && leb (L .depth) (v .level)) ≡ false
-      → within L (writeItem L text a (settled v e) e .state .words) ≡ true
-      → Order L (writeItem L text a (settled v e) e .state .words)
-      × Front at v (e by writeItem L text a (settled v e) e .choice) (halvesOf L text room at v e (writeItem L text a (settled v e) e)) (writeItem L text a (settled v e) e .state)
-  unfolding settled owed halvesOf
-  front at a v e ah o s go deep i =
-      let t : Bool = isListing (v .mode) && not (isAttribute e) in
-      let u : State Located = settled v e in
-      let ow : List ℕ = pick t (15 ∷ []) [] in
-      let at′ : ℕ = at + length ow in
-      let o′ : Order L (u .words) = subst (Order L) (sym (words-here v t)) o in
-      let own = own-front at′ a u e (isEnd e) refl o′ s (λ y. where-is L a v e (v .mode) refl ah go deep y) (λ y. ends-where v e go y) i in
-      let mine : List ℕ = pick (isEnd e) (15 ∷ []) (pad at′ ++ halves (writeItem L text a u e .octets)) in
-      let la : at + length (ow ++ mine) ≡ at′ + length mine = let l = length-append ow mine in omega arith in (
-        own .0,
-        λ items hs z ks k.
-            subst (λ (l : List ℕ). Knows L at (plainState text v) (plain text (e by writeItem L text a u e .choice) ∷ items) l z (plainState text (writeItem L text a u e .state) ∷ ks)) (sym (append-assoc ow mine hs))
-            (owed-front at v (v .mode) t refl (λ y. listed v e (v .mode) refl go y) _ _ z _ (own .1 items hs z ks (subst (λ (j : ℕ). Knows L j (plainState text (writeItem L text a u e .state)) items hs z ks) la k))),
-      )
+    abbrev a : Bool
+    a = announced (e ∷ es)
 
-  -- ---- what is announced
-  ahead-next : (a b : Bool) (u : State Located) (e : E.Event Located) → Where L a u e → (isNamespace e ≡ true → a ≡ b) → Ahead (writeItem L text a u e .state .mode) b
-  unfolding writeItem
-  ahead-next a b u e (first-namespace md may deep) f = f refl
-  ahead-next a b u e (next-namespace md) f = f refl
-  ahead-next true b u e (first-start md may deep) f = tt
-  ahead-next false b u e (first-start md may deep) f = tt
-  ahead-next true b u e (named-start md) f = tt
-  ahead-next false b u e (named-start md) f = tt
-  ahead-next a b u e (in-list md) f = tt
-  ahead-next a b u e (in-element md lev) f = subst (λ (m : Mode). Ahead m b) (sym md) tt
-  ahead-next a b u e (comment md) f = subst (λ (m : Mode). Ahead m b) (sym md) tt
-  ahead-next a b u e (instruction md) f = subst (λ (m : Mode). Ahead m b) (sym md) tt
+    abbrev wi : WroteItem
+    wi = writeItem link text a (settled v ev) ev
 
-  ahead-after : (a b : Bool) (u : State Located) (e : E.Event Located) (t : Bool) → isEnd e ≡ t → (t ≡ false → Where L a u e) → (isNamespace e ≡ true → a ≡ b) → Ahead (writeItem L text a u e .state .mode) b
-  unfolding writeItem
-  ahead-after a b u e false k f g = ahead-next a b u e (f refl) g
-  ahead-after a b u E.End true k f g = tt
-  ahead-after a b u (E.Namespace p n) true k f g = clash k
-  ahead-after a b u (E.Start x) true k f g = clash k
-  ahead-after a b u (E.Attribute x y) true k f g = clash k
-  ahead-after a b u (E.Text y) true k f g = clash k
-  ahead-after a b u (E.Comment y) true k f g = clash k
-  ahead-after a b u (E.Instruction x y) true k f g = clash k
+    abbrev hs : List ℕ
+    hs = halvesOf link text room at v ev wi
 
-  announced-on : (k : Kind) (e : Event) (es : List Event) → e .kind ≡ k → isNamespace (eventOf k e) ≡ true → announced (e ∷ es) ≡ announced es
-  unfolding announced eventOf
-  announced-on Blank e es q t = clash t
-  announced-on Namespace e es q t = rw (announced, q)
-  announced-on Start e es q t = clash t
-  announced-on Attribute e es q t = clash t
-  announced-on Chunk e es q t = clash t
-  announced-on Comment e es q t = clash t
-  announced-on Instruction e es q t = clash t
-  announced-on End e es q t = clash t
+    -- 16: the structure
+    goes-if : BeginsDocument (upTo text room before e) → goesOn v ev ≡ true
+    goes-if b =
+        let d : IsDocument (ps ++ (pe ∷ b .rest)) = rw append-assoc at (b .whole) in
+        sym (Tree.goes-map (octetsOf text) v ev) ∙ Tree.goes pv pe (b .rest) (st .sane) (st .forth (pe ∷ b .rest) (sym (next-is text e es)) d)
+
+    begins : goesOn v ev ≡ true → BeginsDocument (upTo text room before e)
+    begins go =
+        let c = Tree.completes (record { prefix = none; namespace = none; local = [] }) (stepped a pv pe) in
+        let d = st .back (pe ∷ c .0) (Tree.back a pv pe (c .0) (Tree.goes-map (octetsOf text) v ev ∙ go) (c .1)) in
+        record { rest = c .0; whole = rw append-assoc d }
+
+    is-event : wellMade text (e .kind) e ≡ true → goesOn v ev ≡ true → IsEvent text room before e
+    is-event m go = (made-is text e (e .kind) refl m, begins go)
+
+    event-is : IsEvent text room before e → (wellMade text (e .kind) e && goesOn v ev) ≡ true
+    event-is i = ap₂ (λ (x y : Bool). x && y) (is-made text (i .0)) (goes-if (i .1))
+
+    -- 13: the open elements
+    level-is : v .level ≡ openAfter 0 ps
+    unfolding beginning
+    level-is = Begun.level-is (st .begun) ∙ ap (openAfter 0) (chosen-events link started ps)
+
+    declaring-is : isDeclaring (v .mode) ≡ declaresLast false ps
+    unfolding beginning
+    declaring-is = Begun.declaring-is (st .begun) ∙ ap (declaresLast false) (chosen-events link started ps)
+
+    opens-element : opens (v .mode) ev ≡ opensElement ps pe
+    unfolding opensElement
+    opens-element = sym (opens-map (octetsOf text) (v .mode) ev) ∙ opens-is (v .mode) pe ∙ ap (λ (b : Bool). (isDeclaration pe || isStart pe) && not b) declaring-is
+
+    shallow-from : (b : Bool) → opens (v .mode) ev ≡ b → (b && leb (link .depth) (v .level)) ≡ false → IsShallow text room before e
+    shallow-from true q f o = let l = leb-false (link .depth) (v .level) f in let k = level-is in omega arith
+    shallow-from false q f o = clash (sym q ∙ opens-element ∙ o)
+
+    from-shallow : (b : Bool) → opens (v .mode) ev ≡ b → IsShallow text room before e → (b && leb (link .depth) (v .level)) ≡ false
+    from-shallow true q f = let l = f (sym opens-element ∙ q) in let k = level-is in lt-leb (link .depth) (v .level) (omega arith)
+    from-shallow false q f = refl
+
+    -- 12: the tables
+    tables-are : tablesAfter link started (upTo text room before e) ≡ chooseFor link (pv .words) pe .words
+    unfolding tablesAfter
+    tables-are = tables-append link started ps (pe ∷ []) ∙ ap (λ (w : Vocabulary (List ℕ)). chooseFor link w pe .words) (sym (st .words))
+
+    words-next : plainWords text (wi .state .words) ≡ chooseFor link (pv .words) pe .words
+    words-next = ap (λ (u : State (List ℕ)). u .words) (next-plain link text a v ev) ∙ next-words link a pv pe
+
+    within-is : within link (chooseFor link (pv .words) pe .words) ≡ within link (wi .state .words)
+    within-is = ap (within link) (sym words-next) ∙ within-plain link text (wi .state .words)
+
+    entries-if : within link (wi .state .words) ≡ true → InLimits link (chooseFor link (pv .words) pe .words)
+    entries-if i = fits-of link _ (within-is ∙ i) (rest-for link (pv .words) pe (st .order))
+
+    if-entries : HasEntries text room before e → within link (wi .state .words) ≡ true
+    if-entries i = sym within-is ∙ of-fits link _ (subst (InLimits link) tables-are i)
+
+    -- 14: the room
+    items-are : itemsOf (upTo text room before e) ≡ itemsOf ps ++ ((pe by chooseFor link (pv .words) pe .how) ∷ [])
+    unfolding chosen
+    items-are = chosen-append link started ps (pe ∷ []) ∙ ap (λ (w : Vocabulary (List ℕ)). itemsOf ps ++ ((pe by chooseFor link w pe .how) ∷ [])) (sym (st .words))
+
+    -- an event whose other tests are passed
+    module _ (go : goesOn v ev ≡ true) (sd : Said pe) (deep : (opens (v .mode) ev && leb (link .depth) (v .level)) ≡ false) (few : InLimits link (chooseFor link (pv .words) pe .words)) where
+      one : Begun link at pv ((pe by chooseFor link (pv .words) pe .how) ∷ []) hs (plainState text (wi .state))
+      one =
+          rw (halves-plain link text a v ev room at, next-plain link text a v ev)
+          (front-by link link-few link at a pv pe (st .ahead) (st .order .ranged) sd (Tree.goes-map (octetsOf text) v ev ∙ go) (rw (opens-map (octetsOf text) (v .mode) ev) deep) few)
+
+      so-far : Begun link (2 * length header) (beginning started) (itemsOf (upTo text room before e)) (st .halves ++ hs) (plainState text (wi .state))
+      so-far = rw items-are (Begun.begun-more (st .begun) (subst (λ (k : ℕ). Begun link k pv ((pe by chooseFor link (pv .words) pe .how) ∷ []) hs (plainState text (wi .state))) (st .at-is) one))
+
+      at-then : at + length hs ≡ 2 * length header + length (st .halves ++ hs)
+      at-then = let l = length-append (st .halves) hs in let k = st .at-is in omega arith
+
+      room-if : fits link text room (at + length hs) ≡ true → HasRoom text room before e
+      unfolding fits
+      room-if f = record { halves = st .halves ++ hs; last = plainState text (wi .state); are = so-far; fit = leb-true _ _ (rw at-then at f) }
+
+      over-if : fits link text room (at + length hs) ≡ false → Overflows room (itemsOf (upTo text room before e))
+      unfolding fits
+      over-if f = record { halves = st .halves ++ hs; last = plainState text (wi .state); are = so-far; over = leb-false _ _ (rw at-then at f) }
+
+      -- and so the writer stands behind it
+      goes-plain : goesOn pv pe ≡ true
+      goes-plain = Tree.goes-map (octetsOf text) v ev ∙ go
+
+      state-then : plainState text (wi .state) ≡ knowing (stepped a pv pe) (chooseFor link (pv .words) pe .words)
+      state-then = next-plain link text a v ev ∙ next-by a pv link pe goes-plain (st .order .ranged)
+
+      next-stands : Stands (plains text (before ++ (e ∷ []))) (at + length hs) (wi .state) es
+      next-stands =
+          rw (map-append (plainOf text) before (e ∷ []))
+          (record {
+            halves = st .halves ++ hs;
+            begun = so-far;
+            at-is = at-then;
+            words = words-next ∙ sym tables-are;
+            order = rw words-next (record { fit = few; ranged = ranged-for link (pv .words) pe (st .order .ranged) });
+            ahead = subst (λ (u : State (List ℕ)). Ahead (u .mode) (announced es)) (sym state-then) (ahead-next a (announced es) pv pe (announced-on text e es));
+            sane = subst Sane (sym state-then) (Tree.sane-on a pv pe (st .sane) goes-plain);
+            forth = λ tail f d.
+                subst (λ (u : State (List ℕ)). Tree.Rest u tail) (sym state-then)
+                (Tree.on a pv pe tail (st .sane) (st .forth (pe ∷ tail) (sym (next-is text e es)) (rw append-assoc at d)) (λ s. f ∙ sym (announced-start text e es s)));
+            back = λ tail r. rw append-assoc (st .back (pe ∷ tail) (Tree.back a pv pe tail goes-plain (subst (λ (u : State (List ℕ)). Tree.Rest u tail) state-then r)));
+          })
+
+    -- the verdict: the event is right, and the writer goes on behind it; or its first fault
+    abbrev Verdict : ℕ → Type 0
+    Verdict n = elim n [
+      | zero ↦ Right text room before e × Stands (plains text (before ++ (e ∷ []))) (at + length hs) (wi .state) es × Begun link at pv ((pe by chooseFor link (pv .words) pe .how) ∷ []) hs (plainState text (wi .state))
+      | suc k ↦ Fault text room before e (suc k)
+    ]
+
+    can-say : WellMade text e → Each IsText pe → Said pe
+    can-say m t = said pe (made-allowed text m t) (all-short text short ev)
+
+    verdict-from : (b1 b2 b3 b4 b5 : Bool) → (wellMade text (e .kind) e && goesOn v ev) ≡ b1 → allText text ev ≡ b2 → (opens (v .mode) ev && leb (link .depth) (v .level)) ≡ b3 → within link (wi .state .words) ≡ b4
+        → fits link text room (at + length hs) ≡ b5 → Verdict (pick b1 (pick b2 (pick b3 13 (pick b4 (pick b5 0 14) 12)) 9) 16)
+    verdict-from false b2 b3 b4 b5 e1 e2 e3 e4 e5 = not-an-event (λ i. clash (sym e1 ∙ event-is i))
+    verdict-from true b2 b3 b4 b5 e1 e2 e3 e4 e5 = said-from b2 b3 b4 b5 e2 e3 e4 e5
+      where
+        m : (wellMade text (e .kind) e ≡ true) × (goesOn v ev ≡ true)
+        m = both-true (wellMade text (e .kind) e) (goesOn v ev) e1
+
+        i : IsEvent text room before e
+        i = is-event (m .0) (m .1)
+
+        said-from : (b2 b3 b4 b5 : Bool) → allText text ev ≡ b2 → (opens (v .mode) ev && leb (link .depth) (v .level)) ≡ b3 → within link (wi .state .words) ≡ b4 → fits link text room (at + length hs) ≡ b5
+            → Verdict (pick b2 (pick b3 13 (pick b4 (pick b5 0 14) 12)) 9)
+        said-from false b3 b4 b5 e2 e3 e4 e5 = not-text i (λ t. clash (sym e2 ∙ text-all text ev (by-kind IsText pe t)))
+        said-from true true b4 b5 e2 e3 e4 e5 = too-deep i (in-order IsText pe (all-text text ev e2)) (λ s. clash (sym (from-shallow (opens (v .mode) ev) refl s) ∙ e3))
+        said-from true false false b5 e2 e3 e4 e5 =
+            too-many i (in-order IsText pe (all-text text ev e2)) (shallow-from (opens (v .mode) ev) refl e3) (λ f. clash (sym e4 ∙ if-entries f))
+        said-from true false true b5 e2 e3 e4 e5 = room-from b5 e5
+          where
+            t : Each IsText pe
+            t = all-text text ev e2
+
+            few : InLimits link (chooseFor link (pv .words) pe .words)
+            few = entries-if e4
+
+            room-from : (b5 : Bool) → fits link text room (at + length hs) ≡ b5 → Verdict (pick b5 0 14)
+            room-from false e5 =
+                no-room i (in-order IsText pe t) (shallow-from (opens (v .mode) ev) refl e3) (subst (InLimits link) (sym tables-are) few)
+                (over-if (m .1) (can-say (i .0) t) e3 few e5)
+            room-from true e5 = (
+              record {
+                is-event = i;
+                is-text = in-order IsText pe t;
+                is-shallow = shallow-from (opens (v .mode) ev) refl e3;
+                has-entries = subst (InLimits link) (sym tables-are) few;
+                has-room = room-if (m .1) (can-say (i .0) t) e3 few e5;
+              },
+              next-stands (m .1) (can-say (i .0) t) e3 few,
+              one (m .1) (can-say (i .0) t) e3 few,
+            )
+
+    pub verdict : Verdict (judge link text room at v e wi hs)
+    unfolding judge
+    verdict = verdict-from (wellMade text (e .kind) e && goesOn v ev) (allText text ev) (opens (v .mode) ev && leb (link .depth) (v .level)) (within link (wi .state .words)) (fits link text room (at + length hs)) refl refl refl refl refl
 
   -- ---- a run
-  abbrev pub Right : ℕ → State Located → List (State Located) → Result → Type 0
-  Right at v ks (written items hs z) = Knows L at (plainState text v) (map (plain text) items) hs (plainState text z) (map (plainState text) ks)
-  Right at v ks (refusal n p) = Unit {0}
+  module _ (short : length text ≤ 16384) (room : ℕ) where
+    -- What a result says of the records `before`, which were right, and the records es from here on, where ks is known after each of es.
+    abbrev pub Judged : (before : List Event) (at : ℕ) (v : State Located) (es : List Event) (ks : List (State Located)) → Result → Type 0
+    Judged before at v es ks (written items hs z) =
+        Knows at (plainState text v) (map (plain text) items) hs (plainState text z) (map (plainState text) ks)
+        × (map (plain text) items ≡ chosen link (plainWords text (v .words)) (plains text es))
+        × AllRight text room (before ++ es)
+    Judged before at v es ks (refusal n p) = Refused text room (before ++ es) n p
 
-  finish-right : (at : ℕ) (v : State Located) (i : ℕ) → Right at v [] (finish L text room at v i)
-  unfolding finish knownAfter
-  finish-right at v i =
-      test (Right at v []) (refusal 16 i) tt (isContent (v .mode) && (eqb (v .level) 0 && v .root)) _
-      λ t. test (Right at v []) (refusal 14 i) tt (fits L text room (suc at)) _
-      λ f.
-      let a = both-true (isContent (v .mode)) _ t in
-      let b = both-true (eqb (v .level) 0) (v .root) (a .1) in
-      (document-end (content-is (v .mode) (a .0)) (eqb-true (v .level) 0 (b .0)) (b .1), refl)
-    where
+    right-last : (before : List Event) (e : Event) → AllRight text room before → Right text room before e → AllRight text room (before ++ (e ∷ []))
+    right-last before e all r b y after q =
+        splits-last before e b y after q (λ same is. subst (λ (l : List Event). Right text room l y) same (subst (Right text room before) is r)) (λ mid p. all b y mid p)
+
+    module _ (before : List Event) (at : ℕ) (v : State Located) (i : ℕ) (is : i ≡ length before) (st : Stands (plains text before) at v []) (all : AllRight text room before) where
+      nothing-more : AllRight text room (before ++ [])
+      nothing-more = rw (append-nil before) all
+
+      refused-at : {n : ℕ} → Refused text room before n (length before) → Refused text room (before ++ []) n i
+      refused-at r = rw (append-nil before, is) r
+
+      at-end : IsDocument (plains text before) → (isContent (v .mode) && (eqb (v .level) 0 && v .root)) ≡ true
+      at-end d =
+          let r = Tree.ended (plainState text v) (st .sane) (st .forth [] refl (rw (append-nil (plains text before)) d)) in
+          rw (r .0, r .1, r .2)
+
       content-is : (m : Mode) → isContent m ≡ true → m ≡ content
       content-is content y = refl
       content-is (declaring b) y = clash y
       content-is (listing any) y = clash y
 
-  plus-right : (at : ℕ) (v w : State Located) (j : Item Located) (hs : List ℕ) → Front at v j hs w → (ks : List (State Located)) (r : Result) → Right (at + length hs) w ks r → Right at v (w ∷ ks) (plus j hs r)
-  plus-right at v w j hs f ks (written items rest z) u = f (map (plain text) items) rest (plainState text z) (map (plainState text) ks) u
-  plus-right at v w j hs f ks (refusal n p) u = tt
+      module _ (t : (isContent (v .mode) && (eqb (v .level) 0 && v .root)) ≡ true) where
+        ended : (v .mode ≡ content) × (v .level ≡ 0) × (v .root ≡ true)
+        ended =
+            let a = both-true (isContent (v .mode)) _ t in
+            let b = both-true (eqb (v .level) 0) (v .root) (a .1) in
+            (content-is (v .mode) (a .0), eqb-true (v .level) 0 (b .0), b .1)
 
-  module _ (e : Event) (es : List Event) (at : ℕ) (v : State Located) (i : ℕ) where
-    abbrev ev : E.Event Located
-    ev = eventOf (e .kind) e
+        a-document : IsDocument (plains text before)
+        a-document = rw (append-nil (plains text before)) at (st .back [] (Tree.ended-back (plainState text v) ended))
 
-    abbrev wi : WroteItem
-    wi = writeItem L text (announced (e ∷ es)) (settled v ev) ev
+        -- the whole, if the rules write it, is as long as what the writer counts
+        whole-fits : WrittenIn room (itemsOf (plains text before)) → fits link text room (suc at) ≡ true
+        unfolding fits
+        whole-fits w =
+            let ours = Begun.begun-written (st .begun) (document-end {at = 2 * length header + length (st .halves)} (ended .0) (ended .1) (ended .2)) in
+            let same = one-writing (w .writes .rule) (rw (append-nil (itemsOf (plains text before))) at ours) .0 in
+            let l1 = ap length (w .writes .here) in
+            let l2 = halves-length (w .octets) in
+            let l3 = length-append (halves header) (w .writes .body) in
+            let l4 = halves-length header in
+            let l5 = ap length same in
+            let l6 = length-append (st .halves) (15 ∷ pad (suc (2 * length header + length (st .halves)))) in
+            let l7 = pad-length (suc (2 * length header + length (st .halves))) in
+            let l8 = align-is (suc (2 * length header + length (st .halves))) in
+            let k = w .fit in
+            let m = w .writes .short in
+            rw (st .at-is) (le-leb (aligned (suc (2 * length header + length (st .halves))) / 2) (min room (link .octets)) (omega arith))
 
-    abbrev hs : List ℕ
-    hs = halvesOf L text room at v ev wi
+      finish-judged : Judged before at v [] [] (finish link text room at v i)
+      unfolding finish chosen knownAfter
+      finish-judged = from-end (isContent (v .mode) && (eqb (v .level) 0 && v .root)) refl
+        where
+          from-end : (b : Bool) → (isContent (v .mode) && (eqb (v .level) 0 && v .root)) ≡ b
+              → Judged before at v [] [] (pick b (pick (fits link text room (suc at)) (written [] (15 ∷ pad (suc at)) v) (refusal 14 i)) (refusal 16 i))
+          from-end false t = refused-at (too-soon all (λ d. clash (sym t ∙ at-end d)))
+          from-end true t = from-room (fits link text room (suc at)) refl
+            where
+              from-room : (f : Bool) → fits link text room (suc at) ≡ f → Judged before at v [] [] (pick f (written [] (15 ∷ pad (suc at)) v) (refusal 14 i))
+              from-room true f = ((document-end (ended t .0) (ended t .1) (ended t .2), refl), refl, nothing-more)
+              from-room false f = refused-at (no-room-for-end all (a-document t) (λ w. clash (sym f ∙ whole-fits t w)))
 
-    abbrev rest : Result
-    rest = run L text room (at + length hs) (wi .state) (suc i) es
+    -- an event in front of the rest
+    module _ (before : List Event) (e : Event) (es : List Event) (at : ℕ) (v : State Located) (st : Stands (plains text before) at v (e ∷ es)) (all : AllRight text room before) where
+      abbrev item : WroteItem
+      item = wi short room before e es at v st
 
-    abbrev later : List (State Located)
-    later = trace L text room (at + length hs) (wi .state) es
+      abbrev own : List ℕ
+      own = hs short room before e es at v st
 
-    turn-right : Order L (v .words) → Ahead (v .mode) (announced (e ∷ es)) → (Order L (wi .state .words) → Ahead (wi .state .mode) (announced es) → Right (at + length hs) (wi .state) later rest)
-        → (j : ℕ) → judge L text room at v e wi hs ≡ j
-        → Right at v (elim j [ zero ↦ wi .state ∷ later | suc n ↦ [] ]) (elim j [ zero ↦ plus (ev by wi .choice) hs rest | suc n ↦ refusal (suc n) i ])
-    unfolding settled
-    turn-right o ah rec zero q =
-        let p = passed L text room at v e wi hs q in
-        let s = said text short (e .kind) e (p .made) (p .is-text) in
-        let f = front at (announced (e ∷ es)) v ev ah o s (p .goes) (p .shallow) (p .in-limits) in
-        let ah′ = ahead-after (announced (e ∷ es)) (announced es) (settled v ev) ev (isEnd ev) refl (λ y. where-is L (announced (e ∷ es)) v ev (v .mode) refl ah (p .goes) (p .shallow) y) (announced-on (e .kind) e es refl) in
-        plus-right at v (wi .state) (ev by wi .choice) hs (f .1) later rest (rec (f .0) ah′)
-    turn-right o ah rec (suc n) q = tt
+      regrouped : (before ++ (e ∷ [])) ++ es ≡ before ++ (e ∷ es)
+      regrouped = append-assoc before (e ∷ []) es
 
-  pub run-right : (es : List Event) (at : ℕ) (v : State Located) (i : ℕ) → Order L (v .words) → Ahead (v .mode) (announced es) → Right at v (trace L text room at v es) (run L text room at v i es)
-  unfolding run trace
-  run-right [] at v i o ah = finish-right at v i
-  run-right (e ∷ es) at v i o ah =
-      turn-right e es at v i o ah (λ o′ ah′. run-right es _ _ (suc i) o′ ah′) (judge L text room at v e (wi e es at v i) (hs e es at v i)) refl
+      in-front : Begun link at (plainState text v) ((plainOf text e by chooseFor link (plainWords text (v .words)) (plainOf text e) .how) ∷ []) own (plainState text (item .state))
+          → (ks : List (State Located)) (r : Result) → Judged (before ++ (e ∷ [])) (at + length own) (item .state) es ks r
+          → Judged before at v (e ∷ es) (item .state ∷ ks) (plus (eventOf (e .kind) e by item .choice) own r)
+      unfolding chosen
+      in-front b ks (written items rest z) j =
+          let f = Begun.front b (j .0 .0) in
+          let c = choice-plain link text (announced (e ∷ es)) v (eventOf (e .kind) e) in
+          let same = ap₂ (λ (x : Item (List ℕ)) (l : List (Item (List ℕ))). x ∷ l) (ap (λ (h : E.Choice). plainOf text e by h) c)
+          (j .1 ∙ ap (λ (w : Vocabulary (List ℕ)). chosen link w (plains text es)) (words-next short room before e es at v st)) in (
+            subst (λ (l : List (Item (List ℕ))). Knows at (plainState text v) (l) (own ++ rest) (plainState text z) (map (plainState text) (item .state ∷ ks)))
+                (ap (λ (h : E.Choice). (plainOf text e by h) ∷ map (plain text) items) (sym c)) (f .0, f .1 ∙ ap (λ (l : List (State (List ℕ))). plainState text (item .state) ∷ l) (j .0 .1)),
+            same,
+            rw regrouped at (j .2),
+          )
+      in-front b ks (refusal n p) j = rw regrouped at j
+
+      turned : (i : ℕ) → i ≡ length before → (ks : List (State Located)) (r : Result)
+          → (Stands (plains text (before ++ (e ∷ []))) (at + length own) (item .state) es → AllRight text room (before ++ (e ∷ [])) → Judged (before ++ (e ∷ [])) (at + length own) (item .state) es ks r)
+          → (n : ℕ) → Verdict short room before e es at v st n
+          → Judged before at v (e ∷ es) (elim n [ zero ↦ item .state ∷ ks | suc k ↦ [] ]) (elim n [ zero ↦ plus (eventOf (e .kind) e by item .choice) own r | suc k ↦ refusal (suc k) i ])
+      turned i is ks r rec zero o = in-front (o .2) ks r (rec (o .1) (right-last before e all (o .0)))
+      turned i is ks r rec (suc k) f = rw is (at-event es refl all f)
+
+    pub run-judged : (es : List Event) (before : List Event) (at : ℕ) (v : State Located) (i : ℕ) → i ≡ length before → Stands (plains text before) at v es → AllRight text room before
+        → Judged before at v es (trace link text room at v es) (run link text room at v i es)
+    unfolding run trace
+    run-judged [] before at v i is st all = finish-judged before at v i is st all
+    run-judged (e ∷ es) before at v i is st all =
+        let l = length-append before (e ∷ []) in
+        let w = wi short room before e es at v st in
+        let k = hs short room before e es at v st in
+        turned before e es at v st all i is (trace link text room (at + length k) (w .state) es) (run link text room (at + length k) (w .state) (suc i) es)
+        (λ s r. run-judged es (before ++ (e ∷ [])) (at + length k) (w .state) (suc i) (omega arith) s r) (judge link text room at v e w k) (verdict short room before e es at v st)

@@ -1,1 +1,5 @@
 pub mod Bench
+pub mod Verdicts
+pub mod Permitted
+pub mod Places
+pub mod Demands

@@ -1,3 +1,4 @@
 pub mod FromWords
 pub mod Records
+pub mod WellMade
 pub mod Words

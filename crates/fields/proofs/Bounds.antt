@@ -2,7 +2,7 @@
 -- Assumes nothing.
 use mathlib.Core.Path.{_≡_, refl}
 use mathlib.Core.List.{List, [], _∷_}
-use Prim.Native.Nat.{ℕ, _+_, _-_, _%_, _^_, _≤_, _<_}
+use Prim.Native.Nat.{ℕ, _+_, _-_, _*_, _%_, _^_, _≤_, _<_}
 use native.Mathlib.Omega.{arith}
 use borrow.Author.Tests.{ltb-true, leb-true}
 use lib.Dec.{ltb, leb}
@@ -38,8 +38,8 @@ module _ (top : ℕ) (s : List ℕ) (at : ℕ) where
   read-kept : (fs : List Form) (low b : ℕ) → Kept low (readIn fs top low s at b)
   unfolding readIn
   read-kept [] low b = (omega arith, refl)
-  read-kept (form span room more size ∷ fs) low b =
-      picks (Kept low) (ltb b span) _ _ (λ t. behind-kept b more low size)
+  read-kept (form room more size ∷ fs) low b =
+      picks (Kept low) (ltb (b * 256 ^ more) size) _ _ (λ t. behind-kept b more low size)
       (λ t. picks (Kept low) (ltb b room) _ _ (λ u. (omega arith, refl)) (λ u. lower low size (readIn fs top (low + size) s at (b - room)) (read-kept fs (low + size) (b - room))))
 
   module _ (fs : List Form) (bit : ℕ) where

@@ -9,9 +9,10 @@ use native.Mathlib.Numerals.{add-one}
 use borrow.Author.Tests.{lt-ltb, le-ltb, le-leb, lt-leb}
 use lib.Dec.{lit<}
 use lib.ListN.{length, getD, take, drop}
-use Rattle.format.specs.Numbers.{Form, form, sizes, rooms}
+use Rattle.format.specs.Numbers.{Form, form, sizes}
 use Rattle.fields.specs.declared.Number.the-variants.{Got, Refused}
 use Rattle.fields.specs.Fields.{valueFrom, behind, readIn, fieldAt}
+use Rattle.fields.proofs.Laws.{rooms, Roomy, past-room}
 
 -- ---- the octets behind the first one
 
@@ -57,11 +58,6 @@ module _ (s : List ℕ) (at x more low size top : ℕ) where
 
 -- ---- the first octet
 
--- each form has room for the values that it uses
-abbrev pub Roomy : List Form → Type 0
-Roomy [] = Unit {0}
-Roomy (form span room more size ∷ fs) = (span ≤ room) × Roomy fs
-
 -- k forms are passed over
 passed : (k : ℕ) (fs : List Form) (top low : ℕ) (s : List ℕ) (at b x : ℕ) → Roomy (take k fs) → b ≡ rooms (take k fs) + x
     → readIn fs top low s at b ≡ readIn (drop k fs) top (low + sizes (take k fs)) s at x
@@ -71,9 +67,9 @@ passed zero fs top low s at b x ok e =
     let l : low ≡ low + 0 = omega arith in
     rw (k, ← l)
 passed (suc k) [] top low s at b x ok e = refl
-passed (suc k) (form span room more size ∷ fs) top low s at b x ok e =
+passed (suc k) (form room more size ∷ fs) top low s at b x ok e =
     let r1 : room ≤ b = omega arith in
-    let r2 : span ≤ b = omega arith in
+    let r2 = past-room _ _ _ _ (ok .0) r1 in
     let l : low + (size + sizes (take k fs)) ≡ low + size + sizes (take k fs) = omega arith in
     rw (le-ltb _ _ r2, le-ltb _ _ r1, l) (passed k fs top (low + size) s at (b - room) x (ok .1) (omega arith))
 
@@ -91,11 +87,11 @@ module _ (top bit : ℕ) (s : List ℕ) (at : ℕ) (fs : List Form) where
     unfolding readIn
     field-code d g = rw (from-form (getD s at 0 % 2 ^ (9 - bit) - rooms (take k fs)) (omega arith), d)
 
-    module _ (span room more size : ℕ) (gs : List Form) (d : drop k fs ≡ form span room more size ∷ gs) (x : ℕ) (e : getD s at 0 % 2 ^ (9 - bit) ≡ rooms (take k fs) + x) where
-      pub field-form : (low many : ℕ) → low ≡ 1 + sizes (take k fs) → many ≡ size → x < span → behind s at x more low many top ≡ fieldAt fs top bit s at
+    module _ (room more size : ℕ) (gs : List Form) (d : drop k fs ≡ form room more size ∷ gs) (x : ℕ) (e : getD s at 0 % 2 ^ (9 - bit) ≡ rooms (take k fs) + x) where
+      pub field-form : (low many : ℕ) → low ≡ 1 + sizes (take k fs) → many ≡ size → x * 256 ^ more < size → behind s at x more low many top ≡ fieldAt fs top bit s at
       unfolding readIn
       field-form low many l m g = rw (from-form x e, d, lt-ltb _ _ g, l, m)
 
-      pub field-padding : span ≤ x → x < room → Refused 6 at ≡ fieldAt fs top bit s at
+      pub field-padding : size ≤ x * 256 ^ more → x < room → Refused 6 at ≡ fieldAt fs top bit s at
       unfolding readIn
       field-padding g r = rw (from-form x e, d, le-ltb _ _ g, lt-ltb _ _ r)

@@ -7,10 +7,11 @@ use native.Mathlib.Nat.{pow-suc, mod-lt}
 use native.Mathlib.Omega.{arith}
 use lib.ListN.{length, getD, take, drop}
 use lib.Pow.{pow-pos, shr-shr, mod-pow-add, field}
-use Rattle.format.specs.Numbers.{Form, form, coded, sizes, rooms}
+use Rattle.format.specs.Numbers.{Form, form, coded, sizes}
 use Rattle.fields.specs.declared.Number.the-variants.{Refused}
 use Rattle.fields.specs.Fields.{bitsOf, behind, fieldAt}
-use Rattle.fields.proofs.Cases.{Roomy, field-form, field-padding}
+use Rattle.fields.proofs.Laws.{rooms, Roomy}
+use Rattle.fields.proofs.Cases.{field-form, field-padding}
 
 -- what an octet holds from `bit` on is what its bits to `last` hold, and the rest
 pub split : (o bit last : ℕ) → bit ≤ last + 1 → last ≤ 8 → o % 2 ^ (9 - bit) ≡ bitsOf o bit last * 2 ^ (8 - last) + bitsOf o (last + 1) 8
@@ -34,33 +35,33 @@ code-first o bit k h =
     let e : 8 - (bit + k) + k ≡ 8 - bit = omega arith in
     (rw (w, v, field n 1 k, shr-shr o (8 - (bit + k)) k, e), rw w (mod-lt n (pow-pos (1 + k))))
 
-pub coded-is : (bit code zeros bits a b m : ℕ) → 9 - bit - code - zeros ≡ a → 9 - bit - code ≡ b → (code + zeros + bits + bit - 9) / 8 ≡ m
-    → coded bit code zeros bits ≡ form (2 ^ a) (2 ^ b) m (2 ^ bits)
+pub coded-is : (bit code zeros bits b m : ℕ) → 9 - bit - code ≡ b → (code + zeros + bits + bit - 9) / 8 ≡ m
+    → coded bit code zeros bits ≡ form (2 ^ b) m (2 ^ bits)
 unfolding coded
-coded-is bit code zeros bits a b m d e f = rw (d, e, f)
+coded-is bit code zeros bits b m e f = rw (e, f)
 
 pub doubled : (n k : ℕ) → n ≡ suc k → 2 ^ n ≡ 2 * 2 ^ k
 doubled n k e = rw (e, pow-suc 2 k) (omega arith)
 
 module _ (top : ℕ) (s : List ℕ) (at : ℕ) (h : at < length s) where
   -- form k, whose code stands in the bits to `last`
-  module _ (bit last k : ℕ) (fs gs : List Form) {code span room more size : ℕ} (ok : (bit ≤ last + 1) × (last ≤ 8) × Roomy (take k fs))
-      (d : drop k fs ≡ form span room more size ∷ gs) (r : rooms (take k fs) ≡ code * 2 ^ (8 - last)) (c : bitsOf (getD s at 0) bit last ≡ code)
+  module _ (bit last k : ℕ) (fs gs : List Form) {code room more size : ℕ} (ok : (bit ≤ last + 1) × (last ≤ 8) × Roomy (take k fs))
+      (d : drop k fs ≡ form room more size ∷ gs) (r : rooms (take k fs) ≡ code * 2 ^ (8 - last)) (c : bitsOf (getD s at 0) bit last ≡ code)
       {next : ℕ} (f : next ≡ last + 1) where
     holds : getD s at 0 % 2 ^ (9 - bit) ≡ rooms (take k fs) + bitsOf (getD s at 0) next 8
     holds = rw (split (getD s at 0) bit last (ok .0) (ok .1), c, r, f)
 
-    pub at-form : {x low many : ℕ} → x ≡ bitsOf (getD s at 0) next 8 → low ≡ 1 + sizes (take k fs) → many ≡ size → x < span
+    pub at-form : {x low many : ℕ} → x ≡ bitsOf (getD s at 0) next 8 → low ≡ 1 + sizes (take k fs) → many ≡ size → x * 256 ^ more < size
         → behind s at x more low many top ≡ fieldAt fs top bit s at
-    at-form e n m g = field-form top bit s at fs h k (ok .2) _ _ _ _ gs d _ (rw e holds) _ _ n m g
+    at-form e n m g = field-form top bit s at fs h k (ok .2) _ _ _ gs d _ (rw e holds) _ _ n m g
 
-    pub at-padding : span ≤ bitsOf (getD s at 0) next 8 → bitsOf (getD s at 0) next 8 < room → Refused 6 at ≡ fieldAt fs top bit s at
-    at-padding g j = field-padding top bit s at fs h k (ok .2) _ _ _ _ gs d _ holds g j
+    pub at-padding : size ≤ bitsOf (getD s at 0) next 8 * 256 ^ more → bitsOf (getD s at 0) next 8 < room → Refused 6 at ≡ fieldAt fs top bit s at
+    at-padding g j = field-padding top bit s at fs h k (ok .2) _ _ _ gs d _ holds g j
 
   -- the first form: 0, and the octet's other bits
   pub at-least : (bit : ℕ) (fs : List Form) {x many : ℕ} → 1 ≤ bit → bit ≤ 8 → bitsOf (getD s at 0) bit bit ≡ 0 → x ≡ bitsOf (getD s at 0) (bit + 1) 8
       → many ≡ 2 ^ (8 - bit) → behind s at x 0 1 many top ≡ fieldAt (coded bit 1 0 (8 - bit) ∷ fs) top bit s at
   unfolding sizes rooms
   at-least bit fs l u z e m =
-      rw (coded-is bit 1 0 (8 - bit) (8 - bit) (8 - bit) 0 (omega arith) (omega arith) (omega arith))
-      (at-form bit bit 0 _ fs (omega arith, u, tt) refl (omega arith) z refl e refl m (rest-below (getD s at 0) bit _ _ refl e))
+      rw (coded-is bit 1 0 (8 - bit) (8 - bit) 0 (omega arith) (omega arith))
+      (at-form bit bit 0 _ fs (omega arith, u, tt) refl (omega arith) z refl e refl m (let g = rest-below (getD s at 0) bit _ _ refl e in omega arith))

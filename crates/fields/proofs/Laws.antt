@@ -1,18 +1,18 @@
 -- Reading what was spelled gives it back, and what reading accepts is what `spell` writes: once, over any list of forms.
 -- Assumes nothing.
 use mathlib.Core.Path.{_≡_, refl, sym, ap, ap₂, _∙_}
-use mathlib.Core.Bool.{Bool, true, false, _&&_}
+use mathlib.Core.Bool.{Bool, true, false}
 use mathlib.Core.List.{List, [], _∷_, _++_}
 use Prim.Native.Nat.{ℕ, zero, suc, _+_, _-_, _*_, _/_, _%_, _^_, _≤_, _<_}
-use native.Mathlib.Nat.{pow-suc, div-div-eq-div-mul, div-add-mod', div-lt-iff-lt-mul}
+use native.Mathlib.Nat.{le-trans, mul-le-mul-right, pow-suc, div-div-eq-div-mul, div-add-mod', div-lt-iff-lt-mul}
 use native.Mathlib.Omega.{arith}
 use native.Mathlib.Numerals.{add-one}
 use native.Mathlib.Decide.{decLt}
 use borrow.Author.Tests.{lt-ltb, le-ltb, le-leb, ltb-true, ltb-false, leb-true}
-use lib.Dec.{T, ltb, leb, leb→le, lit<}
+use lib.Dec.{ltb, leb, lit<}
 use lib.ListN.{length, getD, take, drop, length-append}
 use lib.Seq.{getD-append-seam, append-snoc, drop-cons}
-use Rattle.format.specs.Numbers.{pick, AreOctets, Form, form, octets, spell, sizes, sound}
+use Rattle.format.specs.Numbers.{pick, AreOctets, Form, form, octets, spell, sizes}
 use Rattle.fields.specs.declared.Cursor.{Cursor}
 use Rattle.fields.specs.declared.Number.{Number}
 use Rattle.fields.specs.declared.Number.the-variants.{Got, Refused}
@@ -21,26 +21,30 @@ use Rattle.fields.specs.Fields.{valueFrom, behind, readIn}
 pub case : {X : Type 0} (a b : ℕ) → (a < b → X) → (b ≤ a → X) → X
 case a b f g = elim (decLt a b) [ yes h ↦ f h | no h ↦ g (omega arith) ]
 
-pub both : (a b : Bool) → T (a && b) → T a × T b
-both true b t = (tt, t)
-both false b t = absurd t
+-- how many values of the first octet's bits the forms take
+unfoldable pub rooms : List Form → ℕ
+rooms [] = 0
+rooms (form room more size ∷ fs) = room + rooms fs
 
--- what soundness says of the first form
-pub parts : (span room more size : ℕ) (fs : List Form) → T (sound (form span room more size ∷ fs))
-    → (span ≤ room) × (size ≤ span * 256 ^ more) × T (sound fs)
-unfolding sound
-parts span room more size fs ok =
-    let p = both (leb span room) (leb size (span * 256 ^ more) && sound fs) ok in
-    let q = both (leb size (span * 256 ^ more)) (sound fs) (p .1) in
-    (leb→le _ _ (p .0), leb→le _ _ (q .0), q .1)
+-- each form has room for what it spells
+abbrev pub Roomy : List Form → Type 0
+Roomy [] = Unit {0}
+Roomy (form room more size ∷ fs) = (size ≤ room * 256 ^ more) × Roomy fs
 
 pos256 : (m : ℕ) → 0 < 256 ^ m
 pos256 zero = lit< tt
 pos256 (suc m) = let h = pos256 m in rw (pow-suc 256 m) (omega arith)
 
--- what the first octet holds of a value that a form spells is one of the values that it uses
-pub in-span : (v span more size : ℕ) → size ≤ span * 256 ^ more → v < size → v / 256 ^ more < span
-in-span v span more size h y = div-lt-iff-lt-mul (pos256 more) .1 (omega arith)
+-- what the first octet holds of a value that a form spells is one of the form's values; and the form spells a value with that
+pub in-room : (v room more size : ℕ) → size ≤ room * 256 ^ more → v < size → v / 256 ^ more < room
+in-room v room more size h y = div-lt-iff-lt-mul (pos256 more) .1 (omega arith)
+
+in-size : (v more size : ℕ) → v < size → v / 256 ^ more * 256 ^ more < size
+in-size v more size y = let e = div-add-mod' v (256 ^ more) in omega arith
+
+-- a value of a later form is none of this one
+pub past-room : (b room more size : ℕ) → size ≤ room * 256 ^ more → room ≤ b → size ≤ b * 256 ^ more
+past-room b room more size h r = le-trans h (mul-le-mul-right (256 ^ more) r)
 
 -- ---- written, then read
 
@@ -87,31 +91,30 @@ behind-octets more size v low top first pre rest h t =
 pub first-ge : (fs : List Form) (lead v : ℕ) → v < sizes fs → lead ≤ getD (spell fs lead v) 0 0
 unfolding spell sizes
 first-ge [] lead v h = omega arith
-first-ge (form span room more size ∷ fs) lead v h =
+first-ge (form room more size ∷ fs) lead v h =
     case v size (λ y. rw (lt-ltb v size y) (omega arith))
     (λ n. rw (le-ltb v size n) (let i = first-ge fs (lead + room) (v - size) (omega arith) in omega arith))
 
-pub read-spelled : (fs : List Form) (top low lead v : ℕ) (pre rest : List ℕ) → T (sound fs) → v < sizes fs → low + v ≤ top
+pub read-spelled : (fs : List Form) (top low lead v : ℕ) (pre rest : List ℕ) → Roomy fs → v < sizes fs → low + v ≤ top
     → readIn fs top low (pre ++ (spell fs lead v ++ rest)) (length pre) (getD (spell fs lead v) 0 0 - lead)
     ≡ Got (low + v) (record { at = length pre + length (spell fs lead v) })
 unfolding readIn spell sizes
 read-spelled [] top low lead v pre rest ok h t = absurd (omega arith)
-read-spelled (form span room more size ∷ fs) top low lead v pre rest ok h t =
-    let p = parts span room more size fs ok in
+read-spelled (form room more size ∷ fs) top low lead v pre rest ok h t =
     case v size
     (λ y.
     let b : lead + v / 256 ^ more - lead ≡ v / 256 ^ more = omega arith in
-    let sp = in-span v span more size (p .1) y in
+    let sp = in-size v more size y in
     let n : length pre + suc (length (octets more v)) ≡ length pre + suc more = ap (λ (k : ℕ). length pre + suc k) (octets-length more v) in
     rw (lt-ltb v size y, b, lt-ltb _ _ sp, n) (behind-octets more size v low top (lead + v / 256 ^ more) pre rest y t))
     (λ n.
     let i = first-ge fs (lead + room) (v - size) (omega arith) in
     let w : List ℕ = spell fs (lead + room) (v - size) in
     let r1 : room ≤ getD w 0 0 - lead = omega arith in
-    let r2 : span ≤ getD w 0 0 - lead = omega arith in
+    let r2 = past-room _ _ _ _ (ok .0) r1 in
     let e : getD w 0 0 - lead - room ≡ getD w 0 0 - (lead + room) = omega arith in
     let l : low + size + (v - size) ≡ low + v = omega arith in
-    let ih = read-spelled fs top (low + size) (lead + room) (v - size) pre rest (p .2) (omega arith) (omega arith) in
+    let ih = read-spelled fs top (low + size) (lead + room) (v - size) pre rest (ok .1) (omega arith) (omega arith) in
     rw (le-ltb v size n, le-ltb _ _ r2, le-ltb _ _ r1, e) (rw l at ih))
 
 -- ---- read, then written
@@ -177,8 +180,8 @@ pub accepted : (fs : List Form) (top low lead : ℕ) (s : List ℕ) (at b n : �
     → readIn fs top low s at b ≡ Got n c → Spelled fs top low lead s at b n c
 unfolding readIn spell sizes
 accepted [] top low lead s at b n c bytes e = never 5 at n c e
-accepted (form span room more size ∷ fs) top low lead s at b n c bytes e =
-    picked (ltb b span) _ _ _ e
+accepted (form room more size ∷ fs) top low lead s at b n c bytes e =
+    picked (ltb (b * 256 ^ more) size) _ _ _ e
     (λ t1 e1.
     let t = behind-back more size top low s at b n c bytes e1 in
     record { v = t .0; m = more; is = t .1; small = omega arith; under = t .3; room = t .4; next = t .5; written = rw (lt-ltb _ _ (t .2), t .6, t .7) })

@@ -6,26 +6,26 @@ use Prim.Native.Nat.{ℕ, _+_, _-_, _*_, _^_, _≤_, _<_}
 use native.Mathlib.Omega.{arith}
 use lib.ListN.{length, getD}
 use lib.Pow.{pow-pos}
-use Rattle.format.specs.Numbers.{Form, form, lengths, sizes, rooms}
+use Rattle.format.specs.Numbers.{Form, form, lengths, sizes}
 use Rattle.fields.specs.declared.Number.the-variants.{Refused}
 use Rattle.fields.specs.Fields.{bitsOf, behind, fieldAt}
-use Rattle.fields.proofs.Laws.{case}
+use Rattle.fields.proofs.Laws.{case, rooms}
 use Rattle.fields.proofs.FirstOctet.{rest-below, code-first, coded-is, doubled, at-form, at-padding}
 
 abbrev pub forms : ℕ → List Form
 forms bit =
-    form (2 ^ (8 - bit)) (2 ^ (8 - bit)) 0 (2 ^ (8 - bit))
-    ∷ form 1 (2 ^ (8 - (bit + 1))) 1 256
-    ∷ form 1 (2 ^ (8 - (bit + 1))) 4 4294967296
+    form (2 ^ (8 - bit)) 0 (2 ^ (8 - bit))
+    ∷ form (2 ^ (8 - (bit + 1))) 1 256
+    ∷ form (2 ^ (8 - (bit + 1))) 4 4294967296
     ∷ []
 
 pub forms-are : (bit : ℕ) → bit ≤ 7 → lengths bit ≡ forms bit
 unfolding lengths
 forms-are bit u =
     rw (
-      coded-is bit 1 0 (8 - bit) (8 - bit) (8 - bit) 0 (omega arith) (omega arith) (omega arith),
-      coded-is bit 2 (7 - bit) 8 0 (8 - (bit + 1)) 1 (omega arith) (omega arith) (omega arith),
-      coded-is bit 2 (7 - bit) 32 0 (8 - (bit + 1)) 4 (omega arith) (omega arith) (omega arith),
+      coded-is bit 1 0 (8 - bit) (8 - bit) 0 (omega arith) (omega arith),
+      coded-is bit 2 (7 - bit) 8 (8 - (bit + 1)) 1 (omega arith) (omega arith),
+      coded-is bit 2 (7 - bit) 32 (8 - (bit + 1)) 4 (omega arith) (omega arith),
     )
 
 pub half : (bit : ℕ) → bit ≤ 7 → (2 ^ (8 - bit) ≡ 2 * 2 ^ (8 - (bit + 1))) × (1 ≤ 2 ^ (8 - (bit + 1)))

@@ -13,7 +13,11 @@ use lib.ListN.{length, getD, take, drop, length-take, length-drop}
 use lib.Seq.{drop-cons, drop-drop, take-nil}
 use Rattle.format.specs.Text.{Within, rows, astray, between, first, next, after, isText}
 use Rattle.fields.specs.Text.{fromFirst, character, higher, highestOf}
-use Rattle.fields.proofs.Laws.{case, both}
+use Rattle.fields.proofs.Laws.{case}
+
+both : (a b : Bool) → T (a && b) → T a × T b
+both true b t = (tt, t)
+both false b t = absurd t
 
 -- ---- the table of first octets
 

@@ -27,12 +27,12 @@ behind s at x more low size top =
     (Refused 6 at))
     (Refused 2 at)
 
--- b is what the field's bits of the first octet hold: the form that has this value reads on; padding in the first octet (6); no form has it (5).
+-- b is what the field's bits of the first octet hold: the form that spells a value with b there reads on; padding in the first octet (6); no form has it (5).
 -- `low` is the lowest number that the forms left can spell.
 unfoldable pub readIn : List Form → ℕ → ℕ → List ℕ → ℕ → ℕ → Number
 readIn [] top low s at b = Refused 5 at
-readIn (form span room more size ∷ fs) top low s at b =
-    pick (ltb b span) (behind s at b more low size top)
+readIn (form room more size ∷ fs) top low s at b =
+    pick (ltb (b * 256 ^ more) size) (behind s at b more low size top)
     (pick (ltb b room) (Refused 6 at) (readIn fs top (low + size) s at (b - room)))
 
 -- The number or length that starts at bit `bit` of the octet at `at`: missing (2), then as its forms say.

@@ -41,7 +41,7 @@ use Rattle.names.specs.declared.Parts.{Parts}
 use Rattle.names.specs.declared.Named.{Named}
 use Rattle.names.specs.Strings as S
 use Rattle.names.specs.Strings.{IdRead, OptionalRead, idAt, optionalAt, spelling}
-use Rattle.names.specs.Names.{NameRead, prefixBit, namespaceBit, partsAt, numberedAt, nameAt, declaredAt}
+use Rattle.names.specs.Names.{NameRead, prefixBit, namespaceBit, nameBit, partsAt, numberedAt, nameAt, declaredAt}
 use Rattle.names.specs.Code.{Ranged, Tidy, Seen, idSeen, optionalSeen, seenName, NameTidy, nameSeen, declaredSeen}
 use Rattle.names.specs.NameStages.{stringFault, numberFault, textAt, textsAt, newName}
 use Rattle.names.proofs.StringLaws.{tests, ranged-kept}
@@ -52,7 +52,7 @@ module _ (t : ℕ) (e : t ≡ 8) where
   unfolding layoutOf ofElement
   element-parts = rw (eq-eqb t 8 e)
 
-  pub element-number : (s : List ℕ) (at : ℕ) → fieldAt (numbers 3) top 3 s at ≡ fieldAt (layoutOf t .numberForms) top (layoutOf t .numberBit) s at
+  pub element-number : (s : List ℕ) (at : ℕ) → fieldAt (numbers 3) top 3 s at ≡ fieldAt (layoutOf t .numberForms) top (nameBit (layoutOf t .table)) s at
   unfolding layoutOf ofElement
   element-number s at = rw (eq-eqb t 8 e)
 
@@ -61,7 +61,7 @@ module _ (t : ℕ) (e : t ≡ 8 → ⊥) where
   unfolding layoutOf ofAttribute
   attribute-parts = rw (ne-eqb t 8 e)
 
-  pub attribute-number : (s : List ℕ) (at : ℕ) → fieldAt c25 top 2 s at ≡ fieldAt (layoutOf t .numberForms) top (layoutOf t .numberBit) s at
+  pub attribute-number : (s : List ℕ) (at : ℕ) → fieldAt c25 top 2 s at ≡ fieldAt (layoutOf t .numberForms) top (nameBit (layoutOf t .table)) s at
   unfolding layoutOf ofAttribute
   attribute-number s at = rw (ne-eqb t 8 e)
 
@@ -114,7 +114,7 @@ name-is c w x r =
     some-text (suc k) h = let z : suc k - 1 ≡ k = omega arith in rw z
 
 -- r is what the number's field gave
-pub number-refused : (q : NameLayout) (s : List ℕ) (k : ℕ) (v : Vocabulary Located) (r : Number) (n p : ℕ) → r ≡ fieldAt (q .numberForms) top (q .numberBit) s k → r ≡ NoNum n p
+pub number-refused : (q : NameLayout) (s : List ℕ) (k : ℕ) (v : Vocabulary Located) (r : Number) (n p : ℕ) → r ≡ fieldAt (q .numberForms) top (nameBit (q .table)) s k → r ≡ NoNum n p
     → S.refused n p ≡ nameSeen (numberedAt link q s k v)
 unfolding numberedAt
 number-refused q s k v r n p e d = rw (← e, d)
@@ -123,7 +123,7 @@ pub number-fits : (fs : List Form) (bit : ℕ) (s : List ℕ) (k : ℕ) (r : Num
     → (1 ≤ n) × (n ≤ top) × (k < next .at) × (next .at ≤ length s)
 number-fits fs bit s k r n next e d = field-got top s k fs bit (sym e ∙ d)
 
-module _ (s w : List ℕ) (c : Counts) (k t : ℕ) (low : 8 ≤ t) (high : t < 10) (r : Number) (e : r ≡ fieldAt (layoutOf t .numberForms) top (layoutOf t .numberBit) s k)
+module _ (s w : List ℕ) (c : Counts) (k t : ℕ) (low : 8 ≤ t) (high : t < 10) (r : Number) (e : r ≡ fieldAt (layoutOf t .numberForms) top (nameBit (layoutOf t .table)) s k)
     (n : ℕ) (next : Cursor) (d : r ≡ Num n next) where
   pub number-beyond : countOf c t < n → S.refused 10 k ≡ nameSeen (numberedAt link (layoutOf t) s k (vocabulary c w))
   unfolding numberedAt
@@ -132,11 +132,11 @@ module _ (s w : List ℕ) (c : Counts) (k t : ℕ) (low : 8 ≤ t) (high : t < 1
   module _ (tidy : Tidy s c w) (h : n ≤ countOf c t) (x : Row) (ex : x ≡ rowAt w (768 * t + 3 * (n - 1))) where
     row-is : getD (names (vocabulary c w) (nameTableOf t)) (n - 1) noTriple ≡ tripleOf x
     unfolding rowAt tripleAt
-    row-is = let f = number-fits (layoutOf t .numberForms) (layoutOf t .numberBit) s k r n next e d in name-nth c w t (n - 1) noTriple low high (omega arith) ∙ sym (ap tripleOf ex)
+    row-is = let f = number-fits (layoutOf t .numberForms) (nameBit (layoutOf t .table)) s k r n next e d in name-nth c w t (n - 1) noTriple low high (omega arith) ∙ sym (ap tripleOf ex)
 
     row-ranged : InRange c (tripleOf x)
     row-ranged =
-        let f = number-fits (layoutOf t .numberForms) (layoutOf t .numberBit) s k r n next e d in
+        let f = number-fits (layoutOf t .numberForms) (nameBit (layoutOf t .table)) s k r n next e d in
         let l = length-names c w t low high in
         rw row-is at (ranged-at c (names (vocabulary c w) (nameTableOf t)) (n - 1) (tidy .ranged (nameTableOf t)) (omega arith))
 

@@ -18,8 +18,8 @@ use Rattle.fields.specs.declared.Number.the-variants.{Got as Num, Refused as No
 use Rattle.fields.specs.Fields.{fieldAt, noTop}
 use Rattle.fields.proofs.Bounds.{field-got, field-refused}
 use Rattle.tables.specs.Located.{Located, stretch, octetsOf}
-use Rattle.names.specs.Strings.{Got, got, refused, then, number, spelling, idAt, optionalAt, spelledAt, literalAt, valueAt}
-use Rattle.names.specs.Names.{prefixBit, namespaceBit, lonePrefix, partsAt, numberedAt, nameAt, declaredAt}
+use Rattle.names.specs.Strings.{Got, got, refused, then, number, spelling, idAt, optionalAt, numberBit, spelledAt, literalAt, valueAt}
+use Rattle.names.specs.Names.{prefixBit, namespaceBit, lonePrefix, nameBit, partsAt, numberedAt, nameAt, declaredAt}
 use Rattle.names.proofs.StringLaws.{tests, there-is}
 
 module _ (s : List ℕ) where
@@ -78,7 +78,7 @@ module _ (s : List ℕ) where
         λ _. tests Within (ltb (getD s k 0) (q .spelledBits + q .addBit)) _ _ (λ _. omega arith)
         λ _. tests Within (ltb (getD s k 0) (q .spelledBits + q .addBit + 2 ^ (9 - q .lengthBit))) _ _ (λ _. spelled-within q t k true v h)
         λ _. tests Within (ltb (getD s k 0) (q .numberedBits)) _ _ (λ _. omega arith)
-        λ _. number-within (q .numberForms) top (q .numberBit) k _ h λ n next l. tests Within (leb n (length (strings v t))) _ _ (λ _. l) (λ _. omega arith)
+        λ _. number-within (q .numberForms) top (numberBit q) k _ h λ n next l. tests Within (leb n (length (strings v t))) _ _ (λ _. l) (λ _. omega arith)
 
     pub value-within : (t : StringTable) (k : ℕ) (v : Vocabulary Located) → k ≤ length s → Within (valueAt L s t k v)
     unfolding valueAt
@@ -99,7 +99,7 @@ module _ (s : List ℕ) where
     pub numbered-within : (q : NameLayout) (k : ℕ) (v : Vocabulary Located) → k ≤ length s → Within (numberedAt L q s k v)
     unfolding numberedAt
     numbered-within q k v h =
-        number-within (q .numberForms) top (q .numberBit) k _ h λ n next l. tests Within (leb n (length (names v (q .table)))) _ _ (λ _. l) (λ _. omega arith)
+        number-within (q .numberForms) top (nameBit (q .table)) k _ h λ n next l. tests Within (leb n (length (names v (q .table)))) _ _ (λ _. l) (λ _. omega arith)
 
     pub name-within : (q : NameLayout) (b k : ℕ) (v : Vocabulary Located) → k < length s → Within (nameAt L q s b k v)
     unfolding nameAt

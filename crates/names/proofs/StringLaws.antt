@@ -36,7 +36,7 @@ use Rattle.names.specs.declared.Here.{Here}
 use Rattle.names.specs.declared.Field.{Field}
 use Rattle.names.specs.declared.Field.the-variants.{Got, Refused}
 use Rattle.names.specs.Strings as S
-use Rattle.names.specs.Strings.{got, refused, then, number, spelling, IdRead, StringRead, idAt, optionalAt, spelledAt, literalAt, valueAt}
+use Rattle.names.specs.Strings.{got, refused, then, number, spelling, IdRead, StringRead, idAt, optionalAt, numberBit, spelledAt, literalAt, valueAt}
 use Rattle.names.specs.Code.{Ranged, Tidy, Seen, seenField, FieldTidy, idSeen, optionalSeen, stringSeen}
 use Rattle.names.specs.Stages.{refusalOf, stretchOf, Positive, heldOf, addedOf, addedWords, unnumberedOf, lengthFrom}
 
@@ -377,13 +377,13 @@ module _ (s w : List ℕ) (h : Here) (t : ℕ) (tidy : Tidy s (h .counts) w) (sm
           unfolding literalAt
           literal-other-added l = rw (le-ltb _ _ a, le-ltb _ _ b, le-ltb _ _ c, lt-ltb _ _ l)
 
-          literal-held : q .numberedBits ≤ octet → (r : Number) → r ≡ fieldAt (q .numberForms) top (q .numberBit) s (h .at)
+          literal-held : q .numberedBits ≤ octet → (r : Number) → r ≡ fieldAt (q .numberForms) top (numberBit q) s (h .at)
               → (f x : Field) → f ≡ heldOf w h t r → x ≡ unnumberedOf f → Answers s x w (stringSeen literal)
           unfolding literalAt
           literal-held l r is f x ef ex =
               rw (ex, ef, le-ltb _ _ a, le-ltb _ _ b, le-ltb _ _ c, le-ltb _ _ l, ← is, by r)
               (unnumbered-answers s (heldOf w h t r) w (number r entryOf)
-              (held-answers r (λ n c e. let g = field-got top s (h .at) (q .numberForms) (q .numberBit) (sym is ∙ e) in (g .0, g .3))))
+              (held-answers r (λ n c e. let g = field-got top s (h .at) (q .numberForms) (numberBit q) (sym is ∙ e) in (g .0, g .3))))
             where
               by : (r : Number) → stringSeen (number r asNumbered) ≡ unnumberedSeen (number r entryOf)
               by (NoNum n p) = refl

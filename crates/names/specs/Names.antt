@@ -7,7 +7,7 @@ use lib.ListN.{length, getD}
 use lib.Dec.{eqb, ltb, leb}
 use Rattle.format.specs.Numbers.{pick, top}
 use Rattle.format.specs.Events.{Name, How, NameHow, inParts, byNumber}
-use Rattle.format.specs.Tables.{PREFIX, NAMESPACE-NAME, LOCAL-NAME, Triple, noTriple, Vocabulary, names, addingName, holdsName, nameOf, Limits}
+use Rattle.format.specs.Tables.{PREFIX, NAMESPACE-NAME, LOCAL-NAME, NameTable, ELEMENT-NAME, ATTRIBUTE-NAME, Triple, noTriple, Vocabulary, names, addingName, holdsName, nameOf, Limits}
 use Rattle.format.specs.Names.{NameLayout}
 use Rattle.fields.specs.Fields.{fieldAt}
 use Rattle.tables.specs.Located.{Located, empty}
@@ -33,6 +33,11 @@ namespaceBit b = eqb (b % 2) 1
 abbrev pub lonePrefix : ℕ → Bool
 lonePrefix b = eqb (b % 4) 2
 
+-- The bit where a name's number starts: C.18, C.17.
+abbrev pub nameBit : NameTable → ℕ
+nameBit ELEMENT-NAME = 3
+nameBit ATTRIBUTE-NAME = 2
+
 module _ (L : Limits) where
   -- A name in parts, its p and n in the octet b at k: p without n (15); the strings; then the triple is there already (11), no room in the table (12).
   unfoldable pub partsAt : NameLayout → List ℕ → ℕ → ℕ → Vocabulary Located → Got NameRead
@@ -51,7 +56,7 @@ module _ (L : Limits) where
   -- A name by number: 2, 5, 6, 2, 6, 7, then beyond the table (10).
   unfoldable pub numberedAt : NameLayout → List ℕ → ℕ → Vocabulary Located → Got NameRead
   numberedAt q s k v =
-      number (fieldAt (q .numberForms) top (q .numberBit) s k)
+      number (fieldAt (q .numberForms) top (nameBit (q .table)) s k)
       λ n next. pick (leb n (length (names v (q .table))))
       (got (record { name = nameOf v empty (getD (names v (q .table)) (n - 1) noTriple); how = byNumber n }) next v)
       (refused 10 k)

@@ -58,4 +58,4 @@ unnumberedOf (Refused n p) = Refused n p
 
 -- Where a spelled string's length starts is all that reading it takes from its layout.
 abbrev pub lengthFrom : ℕ → Layout
-lengthFrom bit = record { spelledBits = 0; addBit = 0; lengthBit = bit; numberedBits = 0; numberBit = 0; numberForms = [] }
+lengthFrom bit = record { spelledBits = 0; addBit = 0; lengthBit = bit; numberedBits = 0; numberForms = [] }

@@ -49,6 +49,10 @@ pub record StringRead : Type 0 where
   pub string : Located
   pub how : How
 
+-- The bit where a number of C.14 or C.15 starts, behind 1; a length starts three bits later, behind 0, the add bit and 00.
+abbrev pub numberBit : Layout → ℕ
+numberBit q = q .lengthBit - 3
+
 module _ (L : Limits) where
   -- C.13 at octet k. Spelled: 2, 6, 2, 9, then held already (11), no room in the table (12). Numbered: 2, 5, 2, 7, then beyond the table (10).
   unfoldable pub idAt : List ℕ → StringTable → ℕ → Vocabulary Located → Got IdRead
@@ -85,7 +89,7 @@ module _ (L : Limits) where
       (pick (ltb (getD s k 0) (q .spelledBits + q .addBit)) (refused 8 k)
       (pick (ltb (getD s k 0) (q .spelledBits + q .addBit + 2 ^ (9 - q .lengthBit))) (spelledAt q s t k true v)
       (pick (ltb (getD s k 0) (q .numberedBits)) (refused 8 k)
-      (number (fieldAt (q .numberForms) top (q .numberBit) s k)
+      (number (fieldAt (q .numberForms) top (numberBit q) s k)
       λ n next. pick (leb n (length (strings v t)))
       (got (record { string = getD (strings v t) (n - 1) empty; how = numbered n }) next v)
       (refused 10 k)))))

@@ -9,7 +9,7 @@ ghost use Rattle.fields.specs.Fields.{fieldAt};
 ghost use Rattle.tables.specs.Counts.{words};
 ghost use Rattle.tables.specs.Rows.{vocabulary};
 ghost use Rattle.tables.specs.Kept.{nameTableOf, Counted, layoutOf, tripleOf};
-ghost use Rattle.names.specs.Names.{partsAt, numberedAt, nameAt, declaredAt};
+ghost use Rattle.names.specs.Names.{nameBit, partsAt, numberedAt, nameAt, declaredAt};
 ghost use Rattle.names.specs.Code.{Ranged, Tidy, seenName, NameTidy, nameSeen, declaredSeen};
 ghost use Rattle.names.specs.NameStages.{stringFault, numberFault, textAt, textsAt, newName, KeepsTidy};
 use crate::FULL;
@@ -71,7 +71,7 @@ fn in_parts(table: usize) -> u8
 
 // The number of a name of table 8 or 9, C.27 or C.25.
 fn number(s: &[u8], at: usize, table: usize) -> Number
-    ensures { λ r. ⌜ r ≡ fieldAt (layoutOf table .numberForms) top (layoutOf table .numberBit) (now (s .entry)) at ⌝ }
+    ensures { λ r. ⌜ r ≡ fieldAt (layoutOf table .numberForms) top (nameBit (layoutOf table .table)) (now (s .entry)) at ⌝ }
 {
     let cursor = Cursor { at };
     if table == ELEMENT_NAME {

@@ -19,7 +19,7 @@ use Rattle.tables.specs.Located.{Located, start}
 use Rattle.tables.specs.Counts.{words, countsOf}
 use Rattle.tables.specs.Rows.{vocabulary}
 use Rattle.tables.specs.Kept.{Clean}
-use Rattle.tables.proofs.Laws.{counts-are}
+use Rattle.tables.proofs.Laws.{entries-are, counts-are}
 use Rattle.events.specs.declared.Event.{Event}
 use Rattle.events.specs.Records.{blank, recordOf}
 use Rattle.reader.specs.declared.Answer.the-variants.{Accepted}
@@ -32,7 +32,7 @@ use Rattle.reader.specs.declared.read.Next.the-variants.{Found, Finished
 use Rattle.steps.specs.Items as I
 use Rattle.steps.specs.Items.{Stand}
 use Rattle.steps.specs.Steps.{step}
-use Rattle.reader.specs.Reading.{Opening, onward, halt, sized, opening, Result, accepted, refusal, plus, turn, run, origin, fuelOf, Outcome, refusing, accepting, outcome, resultFrom, reading, readOf}
+use Rattle.reader.specs.Reading.{Opening, onward, halt, sized, opening, Result, accepted, refusal, plus, turn, run, origin, fuelOf, told, Outcome, refusing, accepting, outcome, resultFrom, reading, readOf}
 use Rattle.steps.specs.Code.{standOf, seenStep, stepSeen, Good, StepGood}
 use Rattle.reader.specs.ReadStages.{stateOf, placeOf, first, standAt, Reached, found, ended, fault, reach, nextOf, seenNext, Reaches, finished, Small, settled, admission}
 use Rattle.names.proofs.StringLaws.{tests}
@@ -171,8 +171,8 @@ module _ (s : List ℕ) (room : ℕ) where
     filled (Found place e b) it l = let z : room - n ≡ 0 = omega arith in rw z at (comes (Found place e b) (it .0))
     filled Finished it l = rw (u .row) (same ∙ comes Finished (it .0))
       where
-        same : _≡_ {A = Outcome} (record { answer = Accepted n d; row = u .events ++ replicate (room - n) blank; tables = ws }) (accepting (u .events) (vocabulary d ws) room)
-        same = rw (counts-are d ws, it .1 .clean, u .counted)
+        same : _≡_ {A = Outcome} (record { answer = Accepted n d; told = told (Accepted n d); row = u .events ++ replicate (room - n) blank; tables = ws }) (accepting (u .events) (vocabulary d ws) room)
+        same = rw (entries-are (vocabulary d ws), counts-are d ws, it .1 .clean, u .counted)
     filled (Refused k place) it l = comes (Refused k place) (it .0)
 
     pub small : (r : Next) → Reaches s p c us r d ws → Small r n

@@ -46,7 +46,7 @@ blank-words (suc n) =
     let z : 13 * suc n ≡ 13 + 13 * n = omega arith in
     rw (z, blank-words n) (replicate-append-replicate {A = ℕ} 13 (13 * n) 0)
 
-blank-all : (r : ℕ) → rowWords (replicate (r / 13) blank) ++ replicate (r % 13) 0 ≡ replicate r 0
+pub blank-all : (r : ℕ) → rowWords (replicate (r / 13) blank) ++ replicate (r % 13) 0 ≡ replicate r 0
 blank-all r =
     let z : 13 * (r / 13) + r % 13 ≡ r = omega arith in
     rw (blank-words (r / 13)) (replicate-append-replicate {A = ℕ} (13 * (r / 13)) (r % 13) 0 ∙ ap (λ (k : ℕ). replicate k 0) z)
@@ -72,13 +72,14 @@ refused-words r k place (accepted is m) e = let z : _≡_ {A = ℕ} 0 1 = cc in 
 refused-words r k place (refusal j p) e =
     let a : k ≡ j = cc in
     let b : place ≡ p = cc in
-    rw (a, b, blank-all r)
+    let z : 0 + (p * 32 + j) ≡ p * 32 + j = omega arith in
+    rw (a, b, blank-all r, z)
 
 accepted-words : (r n : ℕ) (d : Counts) (w v : List ℕ) (x : Result) → ended n (vocabulary d w) ≡ endingOf 0 x → n ≤ r / 13 → Clean d w → v ≡ keptFrom (replicate r 0) 0 x
     → leaving (n * 2 ^ 32) v w (listed d) ≡ inWords r (outcome x (r / 13))
 unfolding Clean inWords
 accepted-words r n d w v (refusal j p) e h g k = let z : _≡_ {A = ℕ} 0 1 = cc in absurd (omega arith)
-accepted-words r n d w v (accepted is m) e h g k = λ i. leaving (count i * 2 ^ 32) (record-words i) (table-words i) (listed (counts i))
+accepted-words r n d w v (accepted is m) e h g k = λ i. leaving (word i) (record-words i) (table-words i) (listed (counts i))
   where
     events-are : length (map (λ (i : Item Located). recordOf (i .event)) is) ≡ length is
     events-are = length-map is (λ (i : Item Located). recordOf (i .event))
@@ -88,6 +89,9 @@ accepted-words r n d w v (accepted is m) e h g k = λ i. leaving (count i * 2 ^ 
 
     count : n ≡ length (map (λ (i : Item Located). recordOf (i .event)) is)
     count = omega (arith, count₀, events-are)
+
+    word : n * 2 ^ 32 ≡ length (map (λ (i : Item Located). recordOf (i .event)) is) * 2 ^ 32 + 0
+    word = omega (arith, count)
 
     known : vocabulary d w ≡ m .state .words
     known = cc

@@ -23,7 +23,7 @@ use Rattle.names.specs.Code.{Tidy}
 use Rattle.steps.specs.Code.{SeenStep, more, quiet, done, stop, stepSeen, Good, standOf}
 use Rattle.reader.specs.RunStages.{fresh}
 use Rattle.steps.specs.Steps.{step}
-use Rattle.reader.specs.Reading.{Opening, halt, opening, sized, Outcome, refusing}
+use Rattle.reader.specs.Reading.{Opening, halt, opening, sized, told, Outcome, refusing}
 
 -- A place with counts, and without.
 abbrev pub stateOf : Place → Counts → State
@@ -85,7 +85,7 @@ Small (Faulty k p) n = p ≤ 16384
 
 -- ---- what is left in a row of n records and m words of table room: on a refusal, nothing
 abbrev pub settled : (n m : ℕ) → Answer → List Event → List ℕ → Outcome
-settled n m (Accepted k c) row tables = record { answer = Accepted k c; row = row; tables = tables }
+settled n m (Accepted k c) row tables = record { answer = Accepted k c; told = told (Accepted k c); row = row; tables = tables }
 settled n m (Refused k p) row tables = refusing k p n m
 
 -- SIZE, then the table room, then the opening.

@@ -11,6 +11,8 @@ use Rattle.format.specs.Tables.{Vocabulary, same, Limits, link}
 use Rattle.format.specs.Items.{State}
 use Rattle.format.specs.Document.{beginning, header}
 use Rattle.tables.specs.Counts.{countsOf, words, entryWords, wordsOf}
+use Rattle.tables.specs.Kept.{listed}
+use Rattle.tables.specs.Told.{Told, toldAccepted, toldRefused, entriesOf}
 use Rattle.events.specs.declared.Event.{Event}
 use Rattle.tables.specs.Located.{Located, plain, plainState, start}
 use Rattle.events.specs.Records.{blank, recordOf}
@@ -111,22 +113,34 @@ pub record Accepts (s : List ℕ) (room : ℕ) (items : List (Item (List ℕ))) 
   pub are : map (plain s) events ≡ items
   pub end-is : plainState s (last .state) ≡ z
 
--- What a call answers and leaves: the answer, every event record, every table word.
+-- What 01's table says of each answer.
+abbrev pub told : A.Answer → Told
+told (Accepted n c) = toldAccepted n (listed c)
+told (Refused k p) = toldRefused k p
+
+-- What a call answers and leaves: the answer, as an enum and in 01's numbers, every event record, every table word.
 pub record Outcome : Type 0 where
   pub answer : A.Answer
+  pub told : Told
   pub row : List Event
   pub tables : List ℕ
 
 -- A call answered and left this.
 abbrev pub Leaves : A.Answer → List Event → List ℕ → Outcome → Type 0
-Leaves r row tables o = (r ≡ o .answer) × (row ≡ o .row) × (tables ≡ o .tables)
+Leaves r row tables o = (r ≡ o .answer) × (told r ≡ o .told) × (row ≡ o .row) × (tables ≡ o .tables)
 
 -- A refusal blanks all the room that was lent.
 abbrev pub refusing : ℕ → ℕ → ℕ → ℕ → Outcome
-refusing n p room table = record { answer = Refused n p; row = replicate room blank; tables = replicate table 0 }
+refusing n p room table = record { answer = Refused n p; told = toldRefused n p; row = replicate room blank; tables = replicate table 0 }
 
 abbrev pub accepting : List Event → Vocabulary Located → ℕ → Outcome
-accepting es v room = record { answer = Accepted (length es) (countsOf v); row = es ++ replicate (room - length es) blank; tables = wordsOf entryWords v }
+accepting es v room =
+    record {
+      answer = Accepted (length es) (countsOf v);
+      told = toldAccepted (length es) (entriesOf v);
+      row = es ++ replicate (room - length es) blank;
+      tables = wordsOf entryWords v;
+    }
 
 abbrev pub outcome : Result → ℕ → Outcome
 outcome (accepted is m) room = accepting (map (λ (i : Item Located). recordOf (i .event)) is) (m .state .words) room

@@ -13,6 +13,7 @@ use Rattle.tables.specs.Located.{Located, start}
 use Rattle.tables.specs.Counts.{countsOf, words}
 use Rattle.tables.specs.Rows.{vocabulary}
 use Rattle.tables.specs.Kept.{Clean}
+use Rattle.tables.specs.Told.{lowWord}
 use Rattle.events.specs.declared.Event.{Event}
 use Rattle.events.specs.Records.{recordOf}
 use Rattle.events.specs.Words.{recordWords}
@@ -23,7 +24,7 @@ use Rattle.steps.specs.declared.State.{State}
 use Rattle.reader.specs.declared.run.Opening.{Opening}
 use Rattle.reader.specs.declared.run.Opening.the-variants.{Onward, Halt}
 use Rattle.reader.specs.Reading as R
-use Rattle.reader.specs.Reading.{Result, accepted, refusal}
+use Rattle.reader.specs.Reading.{Result, accepted, refusal, told}
 
 abbrev pub openingOf : Opening → R.Opening
 openingOf Onward = R.onward
@@ -72,8 +73,7 @@ Small (Accepted n c) = n ≤ 32769
 Small (Refused k p) = (k ≤ 15) × (p ≤ 16384)
 
 abbrev pub answerNumber : Answer → ℕ
-answerNumber (Accepted n c) = 0
-answerNumber (Refused k p) = p * 32 + k
+answerNumber a = lowWord (told a)
 
 -- An accepted document has no more events than records, and its table words say what its tables are and nothing else.
 abbrev pub Settled : ℕ → Answer → List ℕ → Type 0

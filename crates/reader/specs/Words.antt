@@ -1,24 +1,21 @@
 -- Reading into words, for callers that have no enums: what a reader leaves, as words.
-use Prim.Native.Nat.{ℕ, _+_, _*_, _/_, _%_, _^_}
+use Prim.Native.Nat.{ℕ, _/_, _%_}
 use mathlib.Core.List.{List, _++_}
 use lib.ListN.{replicate}
 use lib.Dec.{eqb}
 use Rattle.format.specs.Numbers.{pick}
 use Rattle.format.specs.Tables.{link}
-use Rattle.tables.specs.Kept.{listed}
+use Rattle.tables.specs.Told.{wholeWord}
 use Rattle.events.specs.Words.{rowWords}
 use Rattle.reader.specs.declared.Answer.{Answer}
-use Rattle.reader.specs.declared.Answer.the-variants.{Accepted, Refused}
-use Rattle.reader.specs.Reading.{Outcome, sized, readOf}
+use Rattle.reader.specs.Reading.{told, Outcome, sized, readOf}
 
 -- The event count above the low 32 bits; in them 0, or the place times 32 plus the refusal's number.
 abbrev pub answerWord : Answer → ℕ
-answerWord (Accepted n c) = n * 2 ^ 32
-answerWord (Refused k p) = p * 32 + k
+answerWord a = wholeWord (told a)
 
 abbrev pub countWords : Answer → List ℕ
-countWords (Accepted n c) = listed c
-countWords (Refused k p) = replicate 10 0
+countWords a = told a .counts
 
 -- What a call answers and leaves: the answer, every word for records, tables and counts.
 pub record Words : Type 0 where

@@ -1,7 +1,7 @@
 // Reading a document: octets in, events and tables out, or a refusal and its place.
 // May depend on format, fields, tables, walk, events, names and steps.
 pub mod read;
-pub mod run;
+mod run;
 
 pub use run::check;
 pub use run::read_words;

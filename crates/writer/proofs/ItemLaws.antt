@@ -154,7 +154,7 @@ meets-near text out at most Full out′ w′ d l s = tt
 spell-some : (fs : List Form) (lead v : ℕ) → v < sizes fs → 1 ≤ length (spell fs lead v)
 unfolding spell sizes
 spell-some [] lead v h = absurd (omega arith)
-spell-some (form span room more size ∷ fs) lead v h =
+spell-some (form room more size ∷ fs) lead v h =
     case v size (λ y. rw (lt-ltb v size y) (omega arith)) (λ n. rw (le-ltb v size n) (spell-some fs (lead + room) (v - size) (omega arith)))
 
 sizes-4 : 256 ≤ sizes (numbers 4)

@@ -82,12 +82,12 @@ module _ (room i : ℕ) (out : List ℕ) (r : Answer) (out′ : List ℕ) where
 
 module _ (room i : ℕ) (p : Phase) (out w : List ℕ) (r : Answer) (out₁ : List ℕ) (h : Ends room i p out r out₁) where
   pub settles-accepted : {n : ℕ} {c : _} → r ≡ Accepted n c → Settles room (length w) i p out w (Accepted n c) out₁ w
-  settles-accepted q es text g o = let e = rw q at (h es text w g o) in (ap (λ o. o .answer) e, ap (λ o. o .out) e, ap (λ o. o .tables) e)
+  settles-accepted q es text g o = let e = rw q at (h es text w g o) in (ap (λ o. o .answer) e, ap (λ o. o .told) e, ap (λ o. o .out) e, ap (λ o. o .tables) e)
 
   pub settles-refused : {k n : ℕ} → r ≡ Refused k n → {out′ w′ : List ℕ} → out′ ≡ replicate room 0 → w′ ≡ replicate (length w) 0 → Settles room (length w) i p out w r out′ w′
   settles-refused q a b es text g o =
       let e = rw q at (h es text w g o) in
-      rw (q, a, b) (ap (λ o. o .answer) e, ap (λ o. o .out) e, ap (λ o. o .tables) e)
+      rw (q, a, b) (ap (λ o. o .answer) e, ap (λ o. o .told) e, ap (λ o. o .out) e, ap (λ o. o .tables) e)
 
 -- ---- the loop
 module _ (es : List Event) (text : List ℕ) (room table i : ℕ) where

@@ -17,8 +17,10 @@ use Rattle.format.specs.Items as F
 use Rattle.format.specs.Document.{aligned, header, beginning}
 use Rattle.tables.specs.Located.{Located, start}
 use Rattle.tables.specs.Counts.{words}
-use Rattle.tables.specs.Kept.{Clean}
-use Rattle.tables.proofs.Laws.{vocabulary-start, counts-are}
+use Rattle.tables.specs.Rows.{vocabulary}
+use Rattle.tables.specs.Kept.{listed, Clean}
+use Rattle.tables.specs.Told.{toldAccepted}
+use Rattle.tables.proofs.Laws.{vocabulary-start, entries-are, counts-are}
 use Rattle.events.specs.declared.Kind.{Kind}
 use Rattle.events.specs.declared.Kind.the-variants.{Blank, Namespace, Start, Attribute, Chunk, Comment, Instruction, End}
 use Rattle.events.specs.declared.Event.{Event}
@@ -202,4 +204,5 @@ module _ (room : ℕ) (st : State) (out : List ℕ) (i : ℕ) where
         let k : aligned (aligned (suc (st .at))) / 2 ≤ room = rw (whole-octets (st .at)) (omega arith) in
         let o = held-whole held k in
         let c = counts-are (st .counts) w in
-        rw (← e, fits-so text room (st .at) l) (λ j. record { answer = Accepted (sym n j) (sym c j); out = o j; tables = sym (g .order .clean) j })
+        let t = sym (entries-are (vocabulary (st .counts) w) ∙ ap listed c) in
+        rw (← e, fits-so text room (st .at) l) (λ j. record { answer = Accepted (sym n j) (sym c j); told = toldAccepted (sym n j) (t j); out = o j; tables = sym (g .order .clean) j })

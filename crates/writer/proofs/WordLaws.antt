@@ -27,7 +27,7 @@ module _ (records text : List ℕ) (r t c : ℕ) where
     words-counts l = rw (le-leb _ _ l, ne-eqb _ _ n)
 
   module _ (b : c ≡ 10) where
-    size-first : (s : Bool) → leb (length text) 16384 ≡ s → inWords (writeOf (recordsOf records) text r t) ≡ writeWords records text r t c
+    pub size-first : (s : Bool) → leb (length text) 16384 ≡ s → inWords (writeOf (recordsOf records) text r t) ≡ writeWords records text r t c
     unfolding writeWords writeOf inWords
     size-first true e = rw (e, eq-eqb _ _ b)
     size-first false e = rw (e, b)
@@ -36,7 +36,7 @@ module _ (records text : List ℕ) (r t c : ℕ) where
     module _ (y : Answer) {out w : List ℕ} (p : Leaves y out w (writeOf (recordsOf records) text r t)) {n : ℕ} (f : n ≡ answerWord y) where
       words-are : leaving n out w (countWords y) ≡ writeWords records text r t c
       unfolding inWords
-      words-are = (λ i. leaving ((f ∙ ap answerWord (p .0)) i) (p .1 i) (p .2 i) (countWords (p .0 i))) ∙ size-first _ refl
+      words-are = (λ i. leaving ((f ∙ ap answerWord (p .0)) i) (p .2 i) (p .3 i) (countWords (p .0 i))) ∙ size-first _ refl
 
       pub words-refused : {k place : ℕ} → y ≡ Refused k place → {u : List ℕ} → u ≡ replicate c 0 → leaving n out w u ≡ writeWords records text r t c
       words-refused q e = ap (leaving n out w) (e ∙ ap (λ (k : ℕ). replicate k 0) b) ∙ (rw q at words-are)

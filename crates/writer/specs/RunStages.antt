@@ -18,7 +18,7 @@ use Rattle.writer.specs.declared.Mode.the-variants.{Content, Declaring, 
 use Rattle.writer.specs.declared.State.{State}
 use Rattle.writer.specs.declared.run.Phase.{Phase}
 use Rattle.writer.specs.declared.run.Phase.the-variants.{Onward, Halted}
-use Rattle.writer.specs.Writing.{announced, Result, written, refusal, finish, run, joined, Outcome, refusing, accepting, outcome, writing, Leaves, writeOf}
+use Rattle.writer.specs.Writing.{announced, Result, written, refusal, finish, run, joined, told, Outcome, refusing, accepting, outcome, writing, Leaves, writeOf}
 use Rattle.writer.specs.Output.{Holds}
 use Rattle.writer.specs.Code.{modeOf}
 use Rattle.writer.specs.Steps.{Ready, known}
@@ -40,7 +40,7 @@ behind hs (refusal n p) room = refusing n p room words
 
 -- What a run's answer leaves in `room` octets and `table` words: on a refusal, nothing.
 abbrev pub remains : (room table : ℕ) → Answer → (out tables : List ℕ) → Outcome
-remains room table (Accepted n c) out tables = record { answer = Accepted n c; out = out; tables = tables }
+remains room table (Accepted n c) out tables = record { answer = Accepted n c; told = told (Accepted n c); out = out; tables = tables }
 remains room table (Refused n p) out tables = refusing n p room table
 
 -- Behind i of the events es; out and w are the output and the table words. Each event took a half.

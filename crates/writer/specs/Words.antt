@@ -1,23 +1,20 @@
 -- Writing from words and into them, for callers that have no enums: what a writer leaves, as words.
-use Prim.Native.Nat.{ℕ, _+_, _*_, _^_}
+use Prim.Native.Nat.{ℕ}
 use mathlib.Core.List.{List}
 use lib.ListN.{length, replicate}
 use lib.Dec.{eqb, leb}
 use Rattle.format.specs.Numbers.{pick}
-use Rattle.tables.specs.Kept.{listed}
+use Rattle.tables.specs.Told.{wholeWord}
 use Rattle.events.specs.FromWords.{recordsOf}
 use Rattle.writer.specs.declared.Answer.{Answer}
-use Rattle.writer.specs.declared.Answer.the-variants.{Accepted, Refused}
-use Rattle.writer.specs.Writing.{Outcome, writeOf}
+use Rattle.writer.specs.Writing.{told, Outcome, writeOf}
 
 -- The octet count above the low 32 bits; in them 0, or the event's number times 32 plus the refusal's.
 abbrev pub answerWord : Answer → ℕ
-answerWord (Accepted n c) = n * 2 ^ 32
-answerWord (Refused k p) = p * 32 + k
+answerWord a = wholeWord (told a)
 
 abbrev pub countWords : Answer → List ℕ
-countWords (Accepted n c) = listed c
-countWords (Refused k p) = replicate 10 0
+countWords a = told a .counts
 
 -- What a call answers and leaves: the answer, every octet of the output, every word for tables and counts.
 pub record Words : Type 0 where

@@ -12,6 +12,8 @@ use Rattle.format.specs.Tables.{Vocabulary, Limits, link}
 use Rattle.format.specs.Items.{Mode, content, State, moved}
 use Rattle.format.specs.Document.{halves, pad, aligned, beginning, header}
 use Rattle.tables.specs.Counts.{countsOf, words, entryWords, wordsOf}
+use Rattle.tables.specs.Kept.{listed}
+use Rattle.tables.specs.Told.{Told, toldAccepted, toldRefused, entriesOf}
 use Rattle.events.specs.declared.Kind.the-variants.{Blank, Namespace, Start, Attribute, Chunk, Comment, Instruction, End}
 use Rattle.events.specs.declared.Event.{Event}
 use Rattle.tables.specs.Located.{Located, start}
@@ -69,10 +71,10 @@ opens m (E.Instruction x y) = false
 opens m E.End = false
 
 -- The end of an attribute list is owed before the next event that is no attribute; then the list is behind us.
-unfoldable pub owed : Mode → E.Event Located → List ℕ
+unfoldable pub owed : {S : Type 0} → Mode → E.Event S → List ℕ
 owed m e = pick (isListing m && not (isAttribute e)) (15 ∷ []) []
 
-unfoldable pub settled : State Located → E.Event Located → State Located
+unfoldable pub settled : {S : Type 0} → State S → E.Event S → State S
 settled v e = pick (isListing (v .mode) && not (isAttribute e)) (moved v (v .words) content) v
 
 module _ (L : Limits) (text : List ℕ) (room : ℕ) where
@@ -129,22 +131,34 @@ joined [] = []
 joined (h ∷ []) = (16 * h) ∷ []
 joined (h ∷ l ∷ hs) = (16 * h + l) ∷ joined hs
 
--- What a call answers and leaves: the answer, every octet of the output, every table word.
+-- What 01's table says of each answer.
+abbrev pub told : A.Answer → Told
+told (Accepted n c) = toldAccepted n (listed c)
+told (Refused k p) = toldRefused k p
+
+-- What a call answers and leaves: the answer, as an enum and in 01's numbers, every octet of the output, every table word.
 pub record Outcome : Type 0 where
   pub answer : A.Answer
+  pub told : Told
   pub out : List ℕ
   pub tables : List ℕ
 
 -- A call answered and left this.
 abbrev pub Leaves : A.Answer → (out tables : List ℕ) → Outcome → Type 0
-Leaves r out tables o = (r ≡ o .answer) × (out ≡ o .out) × (tables ≡ o .tables)
+Leaves r out tables o = (r ≡ o .answer) × (told r ≡ o .told) × (out ≡ o .out) × (tables ≡ o .tables)
 
 -- A refusal blanks all the room that was lent.
 abbrev pub refusing : ℕ → ℕ → ℕ → ℕ → Outcome
-refusing n p room table = record { answer = Refused n p; out = replicate room 0; tables = replicate table 0 }
+refusing n p room table = record { answer = Refused n p; told = toldRefused n p; out = replicate room 0; tables = replicate table 0 }
 
 abbrev pub accepting : List ℕ → Vocabulary Located → ℕ → Outcome
-accepting s v room = record { answer = Accepted (length s) (countsOf v); out = s ++ replicate (room - length s) 0; tables = wordsOf entryWords v }
+accepting s v room =
+    record {
+      answer = Accepted (length s) (countsOf v);
+      told = toldAccepted (length s) (entriesOf v);
+      out = s ++ replicate (room - length s) 0;
+      tables = wordsOf entryWords v;
+    }
 
 abbrev pub outcome : Result → ℕ → Outcome
 outcome (written is hs z) room = accepting (header ++ joined hs) (z .words) room

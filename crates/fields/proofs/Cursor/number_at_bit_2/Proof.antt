@@ -3,7 +3,8 @@
 use mathlib.Core.Path.{refl, _∙_}
 use native.Mathlib.Omega.{arith}
 use borrow.Author.Needs.{needs}
-use Rattle.format.specs.Numbers.{coded, c25, sizes, rooms}
+use Rattle.format.specs.Numbers.{coded, c25, sizes}
+use Rattle.fields.proofs.Laws.{rooms}
 use Rattle.fields.proofs.Cases.{field-missing, field-code}
 use Rattle.fields.proofs.FirstOctet.{at-least, at-form}
 use Rattle.fields.proofs.Cursor.number_at_bit_2.Statement.{statement}

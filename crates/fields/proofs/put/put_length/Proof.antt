@@ -3,7 +3,8 @@
 use mathlib.Core.Path.{refl}
 use native.Mathlib.Omega.{arith}
 use borrow.Author.Needs.{needs}
-use Rattle.format.specs.Numbers.{sizes, rooms}
+use Rattle.format.specs.Numbers.{sizes}
+use Rattle.fields.proofs.Laws.{rooms}
 use Rattle.fields.proofs.Lengths.{forms, forms-are}
 use Rattle.fields.proofs.Spelled.{puts-form, length-values}
 use Rattle.fields.proofs.put.put_length.Statement.{statement}

@@ -4,9 +4,10 @@ use mathlib.Core.Path.{refl}
 use Prim.Native.Nat.{ℕ, _+_, _/_, _<_}
 use native.Mathlib.Omega.{arith}
 use borrow.Author.Needs.{needs}
-use Rattle.format.specs.Numbers.{sizes, rooms}
-use Rattle.fields.proofs.Numbers.{forms, forms-are}
-use Rattle.fields.proofs.Spelled.{puts-form, number-values}
+use Rattle.format.specs.Numbers.{sizes}
+use Rattle.fields.proofs.Laws.{rooms}
+use Rattle.fields.proofs.Numbers.{forms, forms-are, number-values}
+use Rattle.fields.proofs.Spelled.{puts-form}
 use Rattle.fields.proofs.put.put_number.Statement.{statement}
 use Rattle.fields.proofs.put.put_number.Tie as tie
 

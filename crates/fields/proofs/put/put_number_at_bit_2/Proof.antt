@@ -3,7 +3,8 @@
 use mathlib.Core.Path.{refl}
 use native.Mathlib.Omega.{arith}
 use borrow.Author.Needs.{needs}
-use Rattle.format.specs.Numbers.{coded, c25, sizes, rooms}
+use Rattle.format.specs.Numbers.{coded, c25, sizes}
+use Rattle.fields.proofs.Laws.{rooms}
 use Rattle.fields.proofs.Spelled.{puts-form}
 use Rattle.fields.proofs.put.put_number_at_bit_2.Statement.{statement}
 use Rattle.fields.proofs.put.put_number_at_bit_2.Tie as tie

@@ -55,7 +55,7 @@ use Rattle.reader.specs.declared.Answer.the-variants.{Accepted, Refused}
 use Rattle.reader.specs.declared.run.Opening.{Opening}
 use Rattle.reader.specs.declared.run.Opening.the-variants.{Onward, Halt}
 use Rattle.reader.specs.Reading as Reading
-use Rattle.reader.specs.Reading.{Outcome, outcome, origin, fuelOf, onward, halt, readOf}
+use Rattle.reader.specs.Reading.{told, Outcome, outcome, origin, fuelOf, onward, halt, readOf}
 use Rattle.reader.specs.RunStages.{openingOf}
 use Rattle.reader.specs.ReadStages.{settled, admission}
 use Rattle.reader.proofs.ReadLaws.{admits, reads}
@@ -197,10 +197,10 @@ module _ {M : Type 1} (𝓤 : URA M) (H : Heap 𝓤) (A : Atoms 𝓤) (W : Given
   abbrev Left : List Event → List ℕ → List (Item 𝓤)
   Left zs us = ‵ (flft κ₀ q₀) ∷ Row zs ∷ Tab us ∷ []
 
-  exits : (zs : List Event) (us : List ℕ) (w : Answer) → length zs ≡ length ys → length us ≡ length ts → IsR w → record { answer = w; row = zs; tables = us } ≡ target → ent 𝓤 (⋆ 𝓤 H A (Left zs us)) (Post (valR w))
+  exits : (zs : List Event) (us : List ℕ) (w : Answer) → length zs ≡ length ys → length us ≡ length ts → IsR w → record { answer = w; told = told w; row = zs; tables = us } ≡ target → ent 𝓤 (⋆ 𝓤 H A (Left zs us)) (Post (valR w))
   exits zs us w long long′ is e =
       qed W (Left zs us) ∵ suffices ! _ (ends-at 𝓤 H A read′.ended stayed (read′.clauses 𝓤 H A at-mem run) W (((κ₀, (κ₁, (κ₂, tt))), (q₀, (q₁, (q₂, tt))), tt, a, at), tt) (valR w) w (tt, (zs, (us, tt))) (tt, (long, (long′, tt)))) $
-      says ! ((λ i. e i .answer), (λ i. e i .row), (λ i. e i .tables)) $ move ! (1 ∷ []) $ split ! $ move ! (3 ∷ []) $ split ! $
+      says ! ((λ i. e i .answer), (λ i. e i .told), (λ i. e i .row), (λ i. e i .tables)) $ move ! (1 ∷ []) $ split ! $ move ! (3 ∷ []) $ split ! $
       -- [the tables; their token; the row; its token; the document's token]
       nothing ! $ move ! (2 ∷ 0 ∷ []) $ join ! $ move ! (3 ∷ 0 ∷ []) $ join ! $ move ! (3 ∷ 0 ∷ []) $ join ! $ frame ! $
       nothing ! $ move ! (1 ∷ 0 ∷ []) $ fjoin ! $ move ! (1 ∷ 0 ∷ []) $ fjoin ! $ nothing ! $ fjoin ! $ owned ! R.the-row (Is R.the-row) (LE.makes R.the-type R′.the-plain 𝓤 H A) w _ is $ move ! (1 ∷ 0 ∷ []) $ done !
@@ -392,7 +392,7 @@ module _ {M : Type 1} (𝓤 : URA M) (H : Heap 𝓤) (A : Atoms 𝓤) (W : Given
       abbrev EndsIn : Out → SProp 𝓤
       EndsIn = afterSeq 𝓤 H (Wp 𝓤 H C Λ En (skipping 1 inner) Ends) Ends
 
-      leaves : (zs : List Event) (us : List ℕ) (v₁₂ : Val) (w : Answer) → length zs ≡ length ys → length us ≡ length ts → IsR w → record { answer = w; row = zs; tables = us } ≡ target
+      leaves : (zs : List Event) (us : List ℕ) (v₁₂ : Val) (w : Answer) → length zs ≡ length ys → length us ≡ length ts → IsR w → record { answer = w; told = told w; row = zs; tables = us } ≡ target
           → Sq W (Cx (‵ (flft κ₀ q₀)) zs us v₁₂ (full R′.mir l₁₄ (valR w)) (free R′.mir l₆)) (runs C Λ En mir.t-9 (atRet En Post))
       leaves zs us v₁₂ w long long′ is e =
           assigns ! (of-opd ! (load ! (from ! (stop !)) (look ! 21 refl))) (from ! (stop !)) (init ! 49 refl (typedR W w is)) $ returns ! (look ! 49 refl) $
@@ -401,7 +401,7 @@ module _ {M : Type 1} (𝓤 : URA M) (H : Heap 𝓤) (A : Atoms 𝓤) (W : Given
           free1 ! $ free1 ! $ free1 ! $ free1 ! $ free1 ! $ free1 ! $ free1 ! $ free1 ! $ free1 ! $ free0 ! $ by ! (exits zs us w long long′ is e)
 
       -- the end of the arm: the answer is handed on
-      hands-on : (zs : List Event) (us : List ℕ) (v₁₂ : Val) (w : Answer) → length zs ≡ length ys → length us ≡ length ts → IsR w → record { answer = w; row = zs; tables = us } ≡ target
+      hands-on : (zs : List Event) (us : List ℕ) (v₁₂ : Val) (w : Answer) → length zs ≡ length ys → length us ≡ length ts → IsR w → record { answer = w; told = told w; row = zs; tables = us } ≡ target
           → Sq W (Cx (‵ (flft κ₀ q₀)) zs us v₁₂ (free R′.mir l₁₄) (full R′.mir l₆ (valR w))) (runs C Λ En (skipping 1 inner) (anyQ Ends))
       hands-on zs us v₁₂ w long long′ is e =
           assigns-last ! (of-opd ! (load ! (from ! (stop !)) (look ! 37 refl))) (from ! (stop !)) (init ! 21 refl (typedR W w is)) $ exec ! C Λ En mir.t-9 (atRet En Post) $ forget ! 37 refl $ leaves zs us v₁₂ w long long′ is e
@@ -435,7 +435,7 @@ module _ {M : Type 1} (𝓤 : URA M) (H : Heap 𝓤) (A : Atoms 𝓤) (W : Given
           facts ! R.the-row (Is R.the-row) (shows 𝓤 H A R.the-row) w (v ∷ []) (λ isw.
           land-last ! (from ! (stop !)) (init ! 21 refl (LE.lawful R.the-type R′.the-laws 𝓤 H A W tt .typed w _ isw .0)) $ rewrite ! 21 (λ (u : Val). ‵ (fat fullShare R′.mir l₁₄ 0 u)) (ap only (LE.tells R.the-type R′.the-laws w _ isw)) refl $
           exec ! C Λ En mir.t-9 (atRet En Post) $ forget ! 39 refl $ forget ! 41 refl $ split ! $ drop ! $
-          leaves blanks zeros (valO (Halt k p)) w long-blanks long-zeros (subst (Is R.the-row w) (LE.tells R.the-type R′.the-laws w _ isw) isw) (ap (λ (u : Answer). record { answer = u; row = blanks; tables = zeros }) ew ∙ reads ss (length ys) (length ts) (halt k p) e)))))
+          leaves blanks zeros (valO (Halt k p)) w long-blanks long-zeros (subst (Is R.the-row w) (LE.tells R.the-type R′.the-laws w _ isw) isw) (ap (λ (u : Answer). record { answer = u; told = told u; row = blanks; tables = zeros }) ew ∙ reads ss (length ys) (length ts) (halt k p) e)))))
         where
           isk : Is u32 k (vint w32 k ∷ [])
           isk = LE.owed O.the-type O′.the-laws (Halt k p) _ is .0

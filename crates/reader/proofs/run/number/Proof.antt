@@ -21,7 +21,7 @@ add-result : tie.Need-add-result
 add-result c = let z = small-refused (c .before .a .given .1) (c .before .before .before .pre) in omega arith
 
 returns : tie.Need-returns
-returns c = search needs
+returns c = sym (ap answerNumber (c .enum-told .given .1))
 
 returns-2 : tie.Need-returns-2
 returns-2 c = sym (ap answerNumber (c .before .a .given .1))

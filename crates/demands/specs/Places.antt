@@ -1,0 +1,79 @@
+-- Where strings are spelled: which strings of an item its choice spells, and at which octets the rules write them.
+use Prim.Native.Nat.{ℕ, suc, _+_, _-_, _/_}
+use mathlib.Core.Option.{Option, none, some}
+use mathlib.Core.List.{List, [], _∷_, _++_}
+use lib.ListN.{length}
+use Rattle.format.specs.Events.{Name, How, spelled, numbered, NameHow, inParts, byNumber, Choice, forNamespace, forStart, forAttribute, forText, forComment, forInstruction, forEnd, Item}
+use Rattle.format.specs.Tables.{Vocabulary, Limits}
+use Rattle.format.specs.Names.{NameLayout, Named, in-parts, by-number, Declared, declared}
+use Rattle.format.specs.Items.{State, Octets, o-start, o-first-namespace, o-namespace, o-named-start, o-attribute, o-text, o-comment, o-instruction}
+use Rattle.format.specs.Document.{aligned, Written, document-end, attributes-end, element-end, item}
+use Rattle.format.specs.Uses.{nameIn, stringIn}
+use Rattle.tables.specs.Located.{Located, empty, stretch}
+
+-- ---- which strings are spelled, in order
+abbrev pub ifSpelled : Located → How → List Located
+ifSpelled x (spelled added) = x ∷ []
+ifSpelled x (numbered n) = []
+
+abbrev pub optionSpelled : Option Located → Option How → List Located
+optionSpelled none h = []
+optionSpelled (some x) none = []
+optionSpelled (some x) (some h) = ifSpelled x h
+
+abbrev pub nameSpelled : Name Located → NameHow → List Located
+nameSpelled x (inParts p n l) = optionSpelled (x .prefix) p ++ (optionSpelled (x .namespace) n ++ ifSpelled (x .local) l)
+nameSpelled x (byNumber k) = []
+
+abbrev pub choiceSpelled : Name Located → Located → Choice → List Located
+choiceSpelled x y (forNamespace p n) = optionSpelled (x .prefix) p ++ optionSpelled (x .namespace) n
+choiceSpelled x y (forStart h) = nameSpelled x h
+choiceSpelled x y (forAttribute h g) = nameSpelled x h ++ ifSpelled y g
+choiceSpelled x y (forText h) = ifSpelled y h
+choiceSpelled x y (forComment h) = ifSpelled y h
+choiceSpelled x y (forInstruction h g) = ifSpelled (x .local) h ++ ifSpelled y g
+choiceSpelled x y forEnd = []
+
+abbrev pub itemSpelled : Item Located → List Located
+itemSpelled i = choiceSpelled (nameIn empty (i .event)) (stringIn empty (i .event)) (i .choice)
+
+unfoldable pub allSpelled : List (Item Located) → List Located
+allSpelled [] = []
+allSpelled (i ∷ items) = itemSpelled i ++ allSpelled items
+
+-- ---- where the rules spell them: the string x is the end of its field o, which stands at octet k
+abbrev pub inField : (k : ℕ) → How → (x o : List ℕ) → List Located
+inField k (spelled added) x o = stretch (k + length o - length x) (length x) ∷ []
+inField k (numbered n) x o = []
+
+abbrev pub inOption : (k : ℕ) → Option How → Option (List ℕ) → (o : List ℕ) → List Located
+inOption k none x o = []
+inOption k (some h) none o = []
+inOption k (some h) (some x) o = inField k h x o
+
+module _ {L : Limits} where
+  -- the fields of a name, a declaration and an item that stand at octet k
+  abbrev pub inName : (k : ℕ) {q : NameLayout} {lead : ℕ} {v w : Vocabulary (List ℕ)} {x : Name (List ℕ)} {h : NameHow} {o : List ℕ} → Named L q lead v x h o w → List Located
+  inName k (in-parts {p = p} {n = n} {l = l} {hp = hp} {hn = hn} {hl = hl} {op = op} {on = on} {ol = ol} paired up un ul new room) =
+      inOption (suc k) hp p op ++ (inOption (suc k + length op) hn n on ++ inField (suc k + length op + length on) hl l ol)
+  inName k (by-number small fits en) = []
+
+  abbrev pub inDeclared : (k : ℕ) {v w : Vocabulary (List ℕ)} {p n : Option (List ℕ)} {hp hn : Option How} {o : List ℕ} → Declared L v p n hp hn o w → List Located
+  inDeclared k (declared {p = p} {n = n} {hp = hp} {hn = hn} {op = op} {on = on} up un) = inOption (suc k) hp p op ++ inOption (suc k + length op) hn n on
+
+  abbrev pub inItem : (k : ℕ) {v w : State (List ℕ)} {i : Item (List ℕ)} {o : List ℕ} → Octets L v i o w → List Located
+  inItem k (o-start a md may deep u) = inName k u
+  inItem k (o-first-namespace md may deep u) = inDeclared (suc k) u
+  inItem k (o-namespace md u) = inDeclared k u
+  inItem k (o-named-start md u) = inName (suc k) u
+  inItem k (o-attribute {y = y} {g = g} {o₁ = o₁} {o₂ = o₂} md u₁ u₂) = inName k u₁ ++ inField (k + length o₁) g y o₂
+  inItem k (o-text {y = y} {h = h} {o = o} md lv u) = inField k h y o
+  inItem k (o-comment {y = y} {h = h} {o = o} md u) = inField (suc k) h y o
+  inItem k (o-instruction {x = x} {y = y} {h = h} {g = g} {o₁ = o₁} {o₂ = o₂} md u₁ u₂) = inField (suc k) h x o₁ ++ inField (suc k + length o₁) g y o₂
+
+  -- and of a document; an item starts with the next whole octet
+  unfoldable pub spelledIn : {at : ℕ} {v z : State (List ℕ)} {items : List (Item (List ℕ))} {hs : List ℕ} → Written L at v items hs z → List Located
+  spelledIn (document-end md lv rt) = []
+  spelledIn (attributes-end md rest) = spelledIn rest
+  spelledIn (element-end md lv rest) = spelledIn rest
+  spelledIn (item {at = at} u rest) = inItem (aligned at / 2) u ++ spelledIn rest
