@@ -9,6 +9,7 @@
 #include <string.h>
 
 enum { ACCEPTED = 0, REFUSED = 1, NOT_CHECKED = 2 };
+static const char *self = "controller"; /* the name that it was called by */
 enum { AROUND = 8 }; /* octets shown on each side of the place, so that a line fits a narrow screen */
 
 /* What went wrong, in words that need no paper beside them. The check never answers ROOM or EVENT. */
@@ -59,14 +60,14 @@ static int check(const char *name, const uint8_t *octets, size_t n) {
     else printf("%s: ACCEPTED: %zu octets\n", name, n);
     /* A script that saw no line must not take the status for an answer. */
     if (fflush(stdout)) {
-        fprintf(stderr, "controller: the answer cannot be printed: %s\n", strerror(errno));
+        fprintf(stderr, "%s: the answer cannot be printed: %s\n", self, strerror(errno));
         return NOT_CHECKED;
     }
     return answer ? REFUSED : ACCEPTED;
 }
 
 static int cannot_be_read(const char *name) {
-    fprintf(stderr, "controller: %s cannot be read: %s; NOT CHECKED\n", name, strerror(errno));
+    fprintf(stderr, "%s: %s cannot be read: %s; NOT CHECKED\n", self, name, strerror(errno));
     return NOT_CHECKED;
 }
 
@@ -74,9 +75,10 @@ int main(int argc, char **argv) {
     /* One octet more than a document may have, so that a longer one is seen to be longer. */
     static uint8_t octets[LOMPHACHIT_OCTETS + 1];
     const char *file = argc > 1 ? argv[1] : "-";
+    if (argc > 0) self = strrchr(argv[0], '/') ? strrchr(argv[0], '/') + 1 : argv[0];
     int standard = !strcmp(file, "-");
     if (argc > 2 || !*file || (*file == '-' && !standard)) {
-        fprintf(stderr, "usage: controller [FILE]; without FILE, or for -, standard input\n");
+        fprintf(stderr, "usage: %s [FILE]; without FILE, or for -, standard input\n", self);
         return NOT_CHECKED;
     }
     const char *name = standard ? "standard input" : file;

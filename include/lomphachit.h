@@ -1,10 +1,36 @@
-/* Fast infoset documents (ITU-T X.891) for the link to the switches: the three functions of the archive liblomphachit.a, for C and C++.
+/* Lomphachit: a verified reader and writer of fast infoset documents. MIT licence, see LICENSE.
 
-   Every function takes all input: there is no document, list or length of lent room that it may not be given. What each answers, and every word and octet that
-   it leaves in lent room, is a function of what it was given to read and of the lengths lent. It is proved; docs/ARCHITECTURE.md lists the theorems.
+   Reading a document and printing its text, with -llomphachit:
 
-   A pointer points to as many items as its length says, and is not null even where that is 0. What is lent to be changed overlaps nothing else of the same call.
-   Places count octets from 0. The names SIZE, TRUNCATED and so on are those of the requirements; docs/DECISIONS.md says what each covers. */
+       static uint32_t records[LOMPHACHIT_EVENTS * LOMPHACHIT_RECORD];
+       static uint32_t tables[LOMPHACHIT_TABLES], counts[LOMPHACHIT_COUNTS];
+       uint64_t answer = lomphachit_read(octets, octets_len, records, sizeof records / 4,
+                                         tables, LOMPHACHIT_TABLES, counts, LOMPHACHIT_COUNTS);
+       if (lomphachit_refusal_of(answer) != LOMPHACHIT_ACCEPTED) return 1;
+       for (uint32_t i = 0; i < lomphachit_count_of(answer); i++) {
+           const uint32_t *record = records + i * LOMPHACHIT_RECORD;
+           const uint32_t *value = record + LOMPHACHIT_AT_VALUE;
+           if (record[0] == LOMPHACHIT_KIND_TEXT) fwrite(octets + value[1], 1, value[2], stdout);
+       }
+
+   These are the three functions of the archive liblomphachit.a, for C and C++. They read and write
+   the documents of ITU-T X.891 that the link to the switches carries.
+
+   Every function takes all input: there is no document, list or length of lent room that it may
+   not be given. What each answers, and every word and octet that it leaves in lent room, is a
+   function of what it was given to read and of the lengths lent. It is proved;
+   docs/ARCHITECTURE.md lists the theorems.
+
+   What a caller must keep to:
+   - A pointer points to as many items as the length behind it says. It is not null, even where
+     that length is 0.
+   - What is lent to be changed overlaps nothing else of the same call, and nobody else writes to
+     it meanwhile.
+
+   A length counts items of its pointer: octets_len, text_len and out_len count octets;
+   records_len, tables_len and counts_len count words of 32 bits. Places count octets from 0.
+   The names SIZE, TRUNCATED and so on are those of the requirements; docs/DECISIONS.md says what
+   each covers. */
 #ifndef LOMPHACHIT_H
 #define LOMPHACHIT_H
 
@@ -15,8 +41,14 @@
 extern "C" {
 #endif
 
-/* Sizes. LOMPHACHIT_TABLES and LOMPHACHIT_COUNTS are asked for exactly: other lengths are ROOM, at place 0. They are macros, since C++20 frowns on sums and products
-   of constants of two enums. */
+/* The version of this header and its archive, as text and as numbers. */
+#define LOMPHACHIT_VERSION "0.1.0"
+#define LOMPHACHIT_VERSION_MAJOR 0
+#define LOMPHACHIT_VERSION_MINOR 1
+#define LOMPHACHIT_VERSION_PATCH 0
+
+/* Sizes. LOMPHACHIT_TABLES and LOMPHACHIT_COUNTS are asked for exactly: other lengths are ROOM, at
+   place 0. They are macros, since C++20 frowns on sums and products of constants of two enums. */
 #define LOMPHACHIT_OCTETS 16384 /* the most octets of a document, and of a writer's text area */
 #define LOMPHACHIT_EVENTS 21838 /* no document has more events, so no reader needs more records */
 #define LOMPHACHIT_RECORD 13    /* words of an event record */
@@ -25,7 +57,8 @@ extern "C" {
 #define LOMPHACHIT_ROWS 256     /* rows of a table, which are the most entries it can have */
 #define LOMPHACHIT_ROW 3        /* words of a row */
 
-/* An event record: word 0 is its kind, then come four strings of three words each: a tag, a place and a length. The strings that a kind does not have are absent. */
+/* An event record: word 0 is its kind, then come four strings of three words each: a tag, a place
+   and a length. The strings that a kind does not have are absent. */
 enum lomphachit_kind {
     LOMPHACHIT_KIND_BLANK = 0,       /* no event; all 13 words are 0 */
     LOMPHACHIT_KIND_NAMESPACE = 1,   /* prefix, namespace */
@@ -47,13 +80,19 @@ enum lomphachit_kind {
 enum lomphachit_tag {
     LOMPHACHIT_TAG_ABSENT = 0,
     LOMPHACHIT_TAG_EMPTY = 1,
-    LOMPHACHIT_TAG_STRETCH = 2,      /* so many octets from that place on, never 0, in the document read or in the writer's text area */
-    LOMPHACHIT_TAG_XML_PREFIX = 3,   /* the built-in prefix, "xml" */
-    LOMPHACHIT_TAG_XML_NAMESPACE = 4 /* the built-in namespace, "http://www.w3.org/XML/1998/namespace" */
+    /* So many octets from that place on, never 0, in the document read or in the writer's text
+       area. */
+    LOMPHACHIT_TAG_STRETCH = 2,
+    /* The built-in prefix, "xml". */
+    LOMPHACHIT_TAG_XML_PREFIX = 3,
+    /* The built-in namespace, "http://www.w3.org/XML/1998/namespace". */
+    LOMPHACHIT_TAG_XML_NAMESPACE = 4
 };
 
-/* The ten tables in the order of their counts. Entry number n (from 1) of table t has the three words from lomphachit_row(t, n) on. In the first eight tables
-   they are place, length and 0, all 0 for a built-in entry; in the last two the numbers of a name's prefix, namespace and local name, 0 for none. */
+/* The ten tables in the order of their counts. Entry number n (from 1) of table t has the three
+   words from lomphachit_row(t, n) on. In the first eight tables they are place, length and 0, all 0
+   for a built-in entry; in the last two the numbers of a name's prefix, namespace and local name,
+   0 for none. */
 enum lomphachit_table {
     LOMPHACHIT_TABLE_PREFIX = 0,
     LOMPHACHIT_TABLE_NAMESPACE_NAME = 1,
@@ -70,53 +109,95 @@ enum lomphachit_table {
 /* The sixteen refusals. */
 enum lomphachit_refusal {
     LOMPHACHIT_ACCEPTED = 0,
-    LOMPHACHIT_REFUSED_SIZE = 1,          /* document empty or over 16,384 octets; writer's text over 16,384 */
-    LOMPHACHIT_REFUSED_TRUNCATED = 2,     /* octets end too early, or a length passes the end */
-    LOMPHACHIT_REFUSED_HEADER = 3,        /* the first four octets are not E0 00 00 01 */
-    LOMPHACHIT_REFUSED_OPTIONAL_PART = 4, /* a presence bit of the fifth octet is 1 */
-    LOMPHACHIT_REFUSED_CODE = 5,          /* bits not assigned at this place */
-    LOMPHACHIT_REFUSED_PADDING = 6,       /* padding not as ruled, an end not where it stands */
-    LOMPHACHIT_REFUSED_RANGE = 7,         /* number over 1,048,576 */
-    LOMPHACHIT_REFUSED_FORMAT = 8,        /* other string format than utf-8, entity reference, type declaration */
-    LOMPHACHIT_REFUSED_TEXT = 9,          /* not well-formed UTF-8 */
-    LOMPHACHIT_REFUSED_INDEX = 10,        /* number beyond its table */
-    LOMPHACHIT_REFUSED_REPEAT = 11,       /* spelled though the table holds it */
-    LOMPHACHIT_REFUSED_FULL = 12,         /* an entry too many */
-    LOMPHACHIT_REFUSED_DEPTH = 13,        /* elements over 32 deep */
-    LOMPHACHIT_REFUSED_ROOM = 14,         /* event room or output full; tables or counts of another length */
-    LOMPHACHIT_REFUSED_STRUCTURE = 15,    /* no root, second root, empty list, prefix without namespace in a name, octets after the end */
-    LOMPHACHIT_REFUSED_EVENT = 16         /* writer: an event that cannot come here, or a string that is not allowed */
+    /* Document empty or over 16,384 octets; writer's text over 16,384. */
+    LOMPHACHIT_REFUSED_SIZE = 1,
+    /* Octets end too early, or a length passes the end. */
+    LOMPHACHIT_REFUSED_TRUNCATED = 2,
+    /* The first four octets are not E0 00 00 01. */
+    LOMPHACHIT_REFUSED_HEADER = 3,
+    /* A presence bit of the fifth octet is 1. */
+    LOMPHACHIT_REFUSED_OPTIONAL_PART = 4,
+    /* Bits not assigned at this place. */
+    LOMPHACHIT_REFUSED_CODE = 5,
+    /* Padding not as ruled, an end not where it stands. */
+    LOMPHACHIT_REFUSED_PADDING = 6,
+    /* Number over 1,048,576. */
+    LOMPHACHIT_REFUSED_RANGE = 7,
+    /* Other string format than utf-8, entity reference, type declaration. */
+    LOMPHACHIT_REFUSED_FORMAT = 8,
+    /* Not well-formed UTF-8. */
+    LOMPHACHIT_REFUSED_TEXT = 9,
+    /* Number beyond its table. */
+    LOMPHACHIT_REFUSED_INDEX = 10,
+    /* Spelled though the table holds it. */
+    LOMPHACHIT_REFUSED_REPEAT = 11,
+    /* An entry too many. */
+    LOMPHACHIT_REFUSED_FULL = 12,
+    /* Elements over 32 deep. */
+    LOMPHACHIT_REFUSED_DEPTH = 13,
+    /* Event room or output full; tables or counts of another length. */
+    LOMPHACHIT_REFUSED_ROOM = 14,
+    /* No root, second root, empty list, prefix without namespace in a name, octets after the
+       end. */
+    LOMPHACHIT_REFUSED_STRUCTURE = 15,
+    /* Writer: an event that cannot come here, or a string that is not allowed. */
+    LOMPHACHIT_REFUSED_EVENT = 16
 };
 
-/* Whether these n octets are a document of the link: 0 if so, else place times 32 plus the refusal.
+/* Whether these octets are a document of the link: 0 if so, else place times 32 plus the refusal.
 
-   Promised: 0 exactly for the octets that the rules of writing of X.891 write from some events, within the limits of the link. Otherwise the first faulty field
-   in octet order decides, and the place is that of its first octet, or n where an octet is missing. It answers as lomphachit_read does with room enough, so never
-   ROOM, nor EVENT. Nothing is lent and nothing is left. */
-uint32_t lomphachit_check(const uint8_t *octets, size_t n);
+   Promised:
+   - It answers 0 exactly for the octets that the rules of writing of X.891 write from some events,
+     within the limits of the link.
+   - Otherwise the first faulty field in octet order decides. The place is that of its first octet,
+     or octets_len where that octet is missing. A name that is spelled again, or one too many, is
+     refused at the octet that says which of its strings are there.
+   - It answers as lomphachit_read does with room enough, so never ROOM, nor EVENT.
+   - Nothing is lent and nothing is left. */
+uint32_t lomphachit_check(const uint8_t *octets, size_t octets_len);
 
-/* Reads a document of n octets into r words of event records (r / 13 records), t words of tables and c words of counts. The answer is taken apart by the
-   functions below; its count is that of the events.
+/* Reads a document into event records, tables and counts. There is room for records_len / 13
+   records. The answer is taken apart by the functions below; its count is that of the events.
 
-   Promised: it accepts what the check accepts, where there is a record for each event, t is LOMPHACHIT_TABLES and c is LOMPHACHIT_COUNTS. Every word lent is
-   determined: on acceptance the events' records, the tables' rows and their counts, and 0 in every word beyond the part used; on a refusal 0 in all r, t and c words.
-   Nothing that stood there before is read, and nothing of it is left. Stretches are places in the document, which the caller keeps as long as the records.
+   Promised:
+   - It accepts what the check accepts, where there is a record for each event, tables_len is
+     LOMPHACHIT_TABLES and counts_len is LOMPHACHIT_COUNTS.
+   - Every word lent is determined. On acceptance: the events' records, the tables' rows and their
+     counts, and 0 in every word beyond the part used. On a refusal: 0 in all records_len,
+     tables_len and counts_len words.
+   - Nothing that stood there before is read, and nothing of it is left.
+   - Stretches are places in the document, which the caller keeps as long as the records.
 
    Refusals: 1 to 15. */
-uint64_t lomphachit_read(const uint8_t *octets, size_t n, uint32_t *records, size_t r, uint32_t *tables, size_t t, uint32_t *counts, size_t c);
+uint64_t lomphachit_read(const uint8_t *octets, size_t octets_len,
+                         uint32_t *records, size_t records_len,
+                         uint32_t *tables, size_t tables_len,
+                         uint32_t *counts, size_t counts_len);
 
-/* Writes the document of the events in r words of records (r / 13 records) over a text area of n octets, into o octets of output, of which at most 16,384 are
-   used, t words of tables and c words of counts. The answer is taken apart by the functions below; its count is that of the octets, and the place of a refusal is an
-   event's number from 0, or the number of events where the list stops too soon or the last end has no room.
+/* Writes the document of the events in the records, whose strings are stretches of the text area,
+   into the output, tables and counts. There are records_len / 13 records. At most 16,384 octets of
+   the output are used. The answer is taken apart by the functions below; its count is that of the
+   octets. The place of a refusal is an event's number from 0, or the number of events where the
+   list stops too soon or the last end has no room.
 
-   Promised: where it accepts, X.891's rules write these octets from these events, and lomphachit_read gives back the same events and tables. Every octet and word
-   lent is determined: on acceptance the document, the tables' rows (places in the text area) and their counts, and 0 beyond the part used; on a refusal 0 in all o
-   octets and all t and c words. Nothing that stood there before is read, and nothing of it is left. Records and text are only read. The records are the whole
-   list: a blank one behind the last event is EVENT, so r is 13 times the number of events.
+   Promised:
+   - Where it accepts, X.891's rules write these octets from these events, and lomphachit_read gives
+     back the same events and tables.
+   - Every octet and word lent is determined. On acceptance: the document, the tables' rows (places
+     in the text area) and their counts, and 0 beyond the part used. On a refusal: 0 in all out_len
+     octets and all tables_len and counts_len words.
+   - Nothing that stood there before is read, and nothing of it is left.
+   - Records and text are only read.
+
+   The records are the whole list: a blank one behind the last event is EVENT, so records_len is 13
+   times the number of events.
 
    Refusals: SIZE, TEXT, FULL, DEPTH, ROOM, EVENT. */
-uint64_t lomphachit_write(const uint32_t *records, size_t r, const uint8_t *text, size_t n, uint8_t *out, size_t o, uint32_t *tables, size_t t, uint32_t *counts,
-                          size_t c);
+uint64_t lomphachit_write(const uint32_t *records, size_t records_len,
+                          const uint8_t *text, size_t text_len,
+                          uint8_t *out, size_t out_len,
+                          uint32_t *tables, size_t tables_len,
+                          uint32_t *counts, size_t counts_len);
 
 /* The parts of an answer of any of the three; a check's answer has the count 0. */
 
@@ -130,9 +211,12 @@ static inline uint32_t lomphachit_place_of(uint64_t answer) { return (uint32_t)a
 static inline uint32_t lomphachit_count_of(uint64_t answer) { return (uint32_t)(answer >> 32); }
 
 /* The first word of entry `number`, from 1 to the table's count, of a table. */
-static inline size_t lomphachit_row(size_t table, size_t number) { return LOMPHACHIT_ROW * (LOMPHACHIT_ROWS * table + number - 1); }
+static inline size_t lomphachit_row(size_t table, size_t number) {
+    return LOMPHACHIT_ROW * (LOMPHACHIT_ROWS * table + number - 1);
+}
 
-/* The name of a refusal as people know it, "accepted" for 0; "unknown" for a number that no function answers. */
+/* The name of a refusal as people know it, "accepted" for 0; "unknown" for a number that no
+   function answers. */
 static inline const char *lomphachit_name_of(uint32_t refusal) {
     switch (refusal) {
     case LOMPHACHIT_ACCEPTED: return "accepted";
@@ -159,4 +243,5 @@ static inline const char *lomphachit_name_of(uint32_t refusal) {
 #ifdef __cplusplus
 }
 #endif
-#endif
+
+#endif /* LOMPHACHIT_H */
