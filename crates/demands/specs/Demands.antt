@@ -5,6 +5,7 @@ use mathlib.Core.Path.{_≡_}
 use mathlib.Core.Logic.{_↔_}
 use mathlib.Core.List.{List, [], _++_, map}
 use lib.ListN.{length, replicate}
+use Rattle.format.specs.Refusals.{SIZE, TEXT, FULL, DEPTH, ROOM, EVENT}
 use Rattle.format.specs.Events.{Item}
 use Rattle.format.specs.Tables.{Vocabulary, strings}
 use Rattle.format.specs.Items.{State}
@@ -31,16 +32,16 @@ abbrev pub ReaderNumber : ℕ → Type 0
 ReaderNumber n = (1 ≤ n) × (n ≤ 15)
 
 pub data WriterNumber : ℕ → Type 0 where
-  size : WriterNumber 1
-  text : WriterNumber 9
-  full : WriterNumber 12
-  depth : WriterNumber 13
-  room : WriterNumber 14
-  event : WriterNumber 16
+  size : WriterNumber SIZE
+  text : WriterNumber TEXT
+  full : WriterNumber FULL
+  depth : WriterNumber DEPTH
+  room : WriterNumber ROOM
+  event : WriterNumber EVENT
 
 pub data CheckAnswers (s : List ℕ) : ℕ → Type 0 where
   passes : CheckAnswers s 0
-  fails : {n p : ℕ} → ReaderNumber n → (n ≡ 14 → ⊥) → p ≤ length s → CheckAnswers s (p * 32 + n)
+  fails : {n p : ℕ} → ReaderNumber n → (n ≡ ROOM → ⊥) → p ≤ length s → CheckAnswers s (p * 32 + n)
 
 pub data ReadAnswers (s : List ℕ) (room table : ℕ) (o : Read.Outcome) : Type 0 where
   accepts : o .told .number ≡ 0 → o .told .place ≡ 0 → ReadAnswers s room table o
@@ -111,8 +112,8 @@ pub record LeavesWritten (text : List ℕ) (room : ℕ) (s : List ℕ) (z : Stat
 
 -- 01 refuses them so.
 pub data RefusedBy (es : List Event) (text : List ℕ) (room table : ℕ) : (number place : ℕ) → Type 0 where
-  text-too-long : 16384 < length text → RefusedBy es text room table 1 0
-  wrong-table-room : length text ≤ 16384 → (table ≡ words → ⊥) → RefusedBy es text room table 14 0
+  text-too-long : 16384 < length text → RefusedBy es text room table SIZE 0
+  wrong-table-room : length text ≤ 16384 → (table ≡ words → ⊥) → RefusedBy es text room table ROOM 0
   at-events : {n p : ℕ} → length text ≤ 16384 → table ≡ words → Refused text room es n p → RefusedBy es text room table n p
 
 pub record Demand2 (es : List Event) (text : List ℕ) (room table : ℕ) (o : Write.Outcome) : Type 0 where
@@ -149,8 +150,8 @@ pub record Demand3Words (s : List ℕ) (r t c : ℕ) (w : ReadWords.Words) : Typ
 
 -- 01 refuses so the records of words: SIZE, then the room of the counts, then as it refuses the records.
 pub data WordsRefusedBy (es : List Event) (text : List ℕ) (r t c : ℕ) : (number place : ℕ) → Type 0 where
-  text-too-long : 16384 < length text → WordsRefusedBy es text r t c 1 0
-  wrong-count-room : length text ≤ 16384 → (c ≡ 10 → ⊥) → WordsRefusedBy es text r t c 14 0
+  text-too-long : 16384 < length text → WordsRefusedBy es text r t c SIZE 0
+  wrong-count-room : length text ≤ 16384 → (c ≡ 10 → ⊥) → WordsRefusedBy es text r t c ROOM 0
   as-records : {n p : ℕ} → c ≡ 10 → RefusedBy es text r t n p → WordsRefusedBy es text r t c n p
 
 pub record Demand2Words (es : List Event) (text : List ℕ) (r t c : ℕ) (w : WriteWords.Words) : Type 0 where

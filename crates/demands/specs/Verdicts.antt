@@ -4,6 +4,7 @@ use mathlib.Core.Path.{_≡_}
 use mathlib.Core.Bool.{true}
 use mathlib.Core.List.{List, [], _∷_, _++_, map}
 use lib.ListN.{length}
+use Rattle.format.specs.Refusals.{TEXT, FULL, DEPTH, ROOM, EVENT}
 use Rattle.format.specs.Text.{isText}
 use Rattle.format.specs.Events as E
 use Rattle.format.specs.Events.{Item, eventMap, IsDocument, BeginsDocument, openAfter, deepest, opensElement, stringsOf}
@@ -77,23 +78,23 @@ module _ (text : List ℕ) (room : ℕ) where
     abbrev pub upTo : List (E.Event (List ℕ))
     upTo = plains text before ++ (plainOf text e ∷ [])
 
-    -- 16: a record as under "Events", with which some document's list goes on
+    -- EVENT: a record as under "Events", with which some document's list goes on
     abbrev pub IsEvent : Type 0
     IsEvent = WellMade text e × BeginsDocument upTo
 
-    -- 9: its strings are text
+    -- TEXT: its strings are text
     abbrev pub IsText : Type 0
     IsText = All (λ (x : List ℕ). isText x ≡ true) (stringsOf (plainOf text e))
 
-    -- 13: it opens no element where as many are open as may be
+    -- DEPTH: it opens no element where as many are open as may be
     abbrev pub IsShallow : Type 0
     IsShallow = opensElement (plains text before) (plainOf text e) ≡ true → openAfter 0 (plains text before) < link .depth
 
-    -- 12: no table has an entry too many
+    -- FULL: no table has an entry too many
     abbrev pub HasEntries : Type 0
     HasEntries = InLimits link (tablesAfter link started upTo)
 
-    -- 14: what is written so far fits
+    -- ROOM: what is written so far fits
     abbrev pub HasRoom : Type 0
     HasRoom = FitsIn room (itemsOf upTo)
 
@@ -106,19 +107,19 @@ module _ (text : List ℕ) (room : ℕ) where
 
     -- Its first fault.
     pub data Fault : ℕ → Type 0 where
-      not-an-event : (IsEvent → ⊥) → Fault 16
-      not-text : IsEvent → (IsText → ⊥) → Fault 9
-      too-deep : IsEvent → IsText → (IsShallow → ⊥) → Fault 13
-      too-many : IsEvent → IsText → IsShallow → (HasEntries → ⊥) → Fault 12
-      no-room : IsEvent → IsText → IsShallow → HasEntries → Overflows room (itemsOf upTo) → Fault 14
+      not-an-event : (IsEvent → ⊥) → Fault EVENT
+      not-text : IsEvent → (IsText → ⊥) → Fault TEXT
+      too-deep : IsEvent → IsText → (IsShallow → ⊥) → Fault DEPTH
+      too-many : IsEvent → IsText → IsShallow → (HasEntries → ⊥) → Fault FULL
+      no-room : IsEvent → IsText → IsShallow → HasEntries → Overflows room (itemsOf upTo) → Fault ROOM
 
   -- Each event of the list is right behind those before it.
   abbrev pub AllRight : List Event → Type 0
   AllRight es = (before : List Event) (e : Event) (after : List Event) → es ≡ before ++ (e ∷ after) → Right before e
 
-  -- The refusal of a list, its number and its place: the first event that is not right; behind the last event, a list that stops too soon (16), or an end of
-  -- the document that does not fit (14).
+  -- The refusal of a list, its number and its place: the first event that is not right; behind the last event, a list that stops too soon (EVENT), or an end of
+  -- the document that does not fit (ROOM).
   pub data Refused (es : List Event) : (number place : ℕ) → Type 0 where
     at-event : {before : List Event} {e : Event} {n : ℕ} (after : List Event) → es ≡ before ++ (e ∷ after) → AllRight before → Fault before e n → Refused es n (length before)
-    too-soon : AllRight es → (IsDocument (plains text es) → ⊥) → Refused es 16 (length es)
-    no-room-for-end : AllRight es → IsDocument (plains text es) → (WrittenIn room (itemsOf (plains text es)) → ⊥) → Refused es 14 (length es)
+    too-soon : AllRight es → (IsDocument (plains text es) → ⊥) → Refused es EVENT (length es)
+    no-room-for-end : AllRight es → IsDocument (plains text es) → (WrittenIn room (itemsOf (plains text es)) → ⊥) → Refused es ROOM (length es)

@@ -4,6 +4,7 @@ use mathlib.Core.List.{List, [], _∷_}
 use lib.ListN.{length, getD}
 use lib.Dec.{ltb, leb}
 use Rattle.format.specs.Numbers.{pick, Form, form}
+use Rattle.format.specs.Refusals.{TRUNCATED, CODE, PADDING, RANGE}
 use Rattle.fields.specs.declared.Number.{Number}
 use Rattle.fields.specs.declared.Number.the-variants.{Got, Refused}
 
@@ -23,21 +24,21 @@ behind s at x more low size top =
     (pick (ltb (valueFrom s (at + 1) x more) size)
     (pick (leb (low + valueFrom s (at + 1) x more) top)
     (Got (low + valueFrom s (at + 1) x more) (record { at = at + 1 + more }))
-    (Refused 7 at))
-    (Refused 6 at))
-    (Refused 2 at)
+    (Refused RANGE at))
+    (Refused PADDING at))
+    (Refused TRUNCATED at)
 
 -- b is what the field's bits of the first octet hold: the form that spells a value with b there reads on; padding in the first octet (6); no form has it (5).
 -- `low` is the lowest number that the forms left can spell.
 unfoldable pub readIn : List Form → ℕ → ℕ → List ℕ → ℕ → ℕ → Number
-readIn [] top low s at b = Refused 5 at
+readIn [] top low s at b = Refused CODE at
 readIn (form room more size ∷ fs) top low s at b =
     pick (ltb (b * 256 ^ more) size) (behind s at b more low size top)
-    (pick (ltb b room) (Refused 6 at) (readIn fs top (low + size) s at (b - room)))
+    (pick (ltb b room) (Refused PADDING at) (readIn fs top (low + size) s at (b - room)))
 
 -- The number or length that starts at bit `bit` of the octet at `at`: missing (2), then as its forms say.
 unfoldable pub fieldAt : List Form → ℕ → ℕ → List ℕ → ℕ → Number
-fieldAt fs top bit s at = pick (ltb at (length s)) (readIn fs top 1 s at (getD s at 0 % 2 ^ (9 - bit))) (Refused 2 at)
+fieldAt fs top bit s at = pick (ltb at (length s)) (readIn fs top 1 s at (getD s at 0 % 2 ^ (9 - bit))) (Refused TRUNCATED at)
 
 -- Above every length: a length has no top.
 abbrev pub noTop : ℕ

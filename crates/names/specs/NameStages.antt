@@ -5,6 +5,7 @@ use lib.ListN.{length}
 use lib.Dec.{ltb}
 use Rattle.format.specs.Numbers.{pick}
 use Rattle.format.specs.Tables.{NameTable, Triple, Vocabulary, names, addingName, holdsName, Limits}
+use Rattle.format.specs.Refusals.{REPEAT, FULL}
 use Rattle.fields.specs.declared.Number.{Number}
 use Rattle.fields.specs.declared.Number.the-variants.{Got as Num, Refused as NoNum}
 use Rattle.tables.specs.Located.{Located}
@@ -42,8 +43,8 @@ textsAt w x = record { prefix = textAt w 0 (x .prefix); namespace = textAt w 1 (
 -- A name in parts whose strings end before `next`: its triple is there already (11), no room in the table (12), both at k.
 unfoldable pub newName : Limits → NameTable → Triple → Parts → (k next : ℕ) → Vocabulary Located → S.Got Parts
 newName L t x y k next v =
-    pick (holdsName (names v t) x) (S.refused 11 k)
-    (pick (ltb (length (names v t)) (L .entries)) (S.got y next (addingName v t x)) (S.refused 12 k))
+    pick (holdsName (names v t) x) (S.refused REPEAT k)
+    (pick (ltb (length (names v t)) (L .entries)) (S.got y next (addingName v t x)) (S.refused FULL k))
 
 -- Tables that were in order of a document are so afterwards.
 abbrev pub KeepsTidy : Here → List ℕ → Named → List ℕ → Type 0

@@ -9,6 +9,7 @@ use Rattle.format.specs.Numbers.{pick, top}
 use Rattle.format.specs.Events.{Name, How, NameHow, inParts, byNumber}
 use Rattle.format.specs.Tables.{PREFIX, NAMESPACE-NAME, LOCAL-NAME, NameTable, ELEMENT-NAME, ATTRIBUTE-NAME, Triple, noTriple, Vocabulary, names, addingName, holdsName, nameOf, Limits}
 use Rattle.format.specs.Names.{NameLayout}
+use Rattle.format.specs.Refusals.{TRUNCATED, CODE, PADDING, INDEX, REPEAT, FULL, STRUCTURE}
 use Rattle.fields.specs.Fields.{fieldAt}
 use Rattle.tables.specs.Located.{Located, empty}
 use Rattle.names.specs.Strings.{Got, got, refused, then, number, idAt, optionalAt}
@@ -42,16 +43,16 @@ module _ (L : Limits) where
   -- A name in parts, its p and n in the octet b at k: p without n (15); the strings; then the triple is there already (11), no room in the table (12).
   unfoldable pub partsAt : NameLayout → List ℕ → ℕ → ℕ → Vocabulary Located → Got NameRead
   partsAt q s b k v =
-      pick (lonePrefix b) (refused 15 k)
+      pick (lonePrefix b) (refused STRUCTURE k)
       (then (optionalAt L (prefixBit b) s PREFIX (suc k) v)
       λ p k₁ v₁. then (optionalAt L (namespaceBit b) s NAMESPACE-NAME k₁ v₁)
       λ n k₂ v₂. then (idAt L s LOCAL-NAME k₂ v₂)
       λ l k₃ v₃.
       let x : Triple = record { prefix = p .number; namespace = n .number; local = l .number } in
-      pick (holdsName (names v₃ (q .table)) x) (refused 11 k)
+      pick (holdsName (names v₃ (q .table)) x) (refused REPEAT k)
       (pick (ltb (length (names v₃ (q .table))) (L .entries))
       (got (record { name = record { prefix = p .string; namespace = n .string; local = l .string }; how = inParts (p .how) (n .how) (l .how) }) k₃ (addingName v₃ (q .table) x))
-      (refused 12 k)))
+      (refused FULL k)))
 
   -- A name by number: 2, 5, 6, 2, 6, 7, then beyond the table (10).
   unfoldable pub numberedAt : NameLayout → List ℕ → ℕ → Vocabulary Located → Got NameRead
@@ -59,7 +60,7 @@ module _ (L : Limits) where
       number (fieldAt (q .numberForms) top (nameBit (q .table)) s k)
       λ n next. pick (leb n (length (names v (q .table))))
       (got (record { name = nameOf v empty (getD (names v (q .table)) (n - 1) noTriple); how = byNumber n }) next v)
-      (refused 10 k)
+      (refused INDEX k)
 
   -- A name whose part of its first octet is b: by number, or in parts.
   unfoldable pub nameAt : NameLayout → List ℕ → ℕ → ℕ → Vocabulary Located → Got NameRead
@@ -69,11 +70,11 @@ module _ (L : Limits) where
   unfoldable pub declaredAt : List ℕ → ℕ → Vocabulary Located → Got DeclaredRead
   declaredAt s k v =
       pick (ltb k (length s))
-      (pick (ltb (getD s k 0) 0xCC) (refused 5 k)
+      (pick (ltb (getD s k 0) 0xCC) (refused CODE k)
       (pick (ltb (getD s k 0) 0xD0)
       (then (optionalAt L (prefixBit (getD s k 0)) s PREFIX (suc k) v)
       λ p k₁ v₁. then (optionalAt L (namespaceBit (getD s k 0)) s NAMESPACE-NAME k₁ v₁)
       λ n k₂ v₂. got (record { prefix = p .string; namespace = n .string; prefixHow = p .how; namespaceHow = n .how }) k₂ v₂)
-      (pick (ltb (getD s k 0) 0xF0) (refused 5 k)
-      (pick (eqb (getD s k 0) 0xF0) (refused 15 k) (refused 6 k)))))
-      (refused 2 k)
+      (pick (ltb (getD s k 0) 0xF0) (refused CODE k)
+      (pick (eqb (getD s k 0) 0xF0) (refused STRUCTURE k) (refused PADDING k)))))
+      (refused TRUNCATED k)

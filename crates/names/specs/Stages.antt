@@ -6,6 +6,7 @@ use lib.Dec.{ltb, leb}
 use Rattle.format.specs.Numbers.{pick}
 use Rattle.format.specs.Text.{isText}
 use Rattle.format.specs.Strings.{Layout}
+use Rattle.format.specs.Refusals.{TRUNCATED, TEXT, INDEX, FULL}
 use Rattle.fields.specs.declared.Number.{Number}
 use Rattle.fields.specs.declared.Number.the-variants.{Got as Num, Refused as NoNum}
 use Rattle.tables.specs.declared.Counts.{Counts}
@@ -25,7 +26,7 @@ refusalOf (NoNum n p) = Refused n p
 
 -- A string's length that was read at k, where its octets are there (2) and are text (9).
 unfoldable pub stretchOf : List ℕ → ℕ → Number → Number
-stretchOf s k (Num n c) = pick (leb (c .at + n) (length s)) (pick (isText (take n (drop (c .at) s))) (Num n c) (NoNum 9 k)) (NoNum 2 k)
+stretchOf s k (Num n c) = pick (leb (c .at + n) (length s)) (pick (isText (take n (drop (c .at) s))) (Num n c) (NoNum TEXT k)) (NoNum TRUNCATED k)
 stretchOf s k (NoNum n p) = NoNum n p
 
 -- Numbers start from 1.
@@ -38,7 +39,7 @@ unfoldable pub heldOf : List ℕ → Here → ℕ → Number → Field
 heldOf w h table (Num n c) =
     pick (leb n (countOf (h .counts) table))
     (Got (textOf (stringAt (tableOf table) w (768 * table + 3 * (n - 1)))) n (record { at = c .at; counts = h .counts }))
-    (Refused 10 (h .at))
+    (Refused INDEX (h .at))
 heldOf w h table (NoNum n p) = Refused n p
 
 -- One entry more: the octets at a place; or no room in the table (12). And the words then.
@@ -46,7 +47,7 @@ unfoldable pub addedOf : Here → (table place size : ℕ) → Field
 addedOf h table place size =
     pick (ltb (countOf (h .counts) table) perTable)
     (Got (Stretch place size) (countOf (h .counts) table + 1) (record { at = place + size; counts = oneMore (h .counts) table }))
-    (Refused 12 (h .at))
+    (Refused FULL (h .at))
 
 unfoldable pub addedWords : Counts → List ℕ → (table place size : ℕ) → List ℕ
 addedWords c w table place size = pick (ltb (countOf c table) perTable) (stored w table (countOf c table) place size 0) w

@@ -10,6 +10,7 @@ use Rattle.format.specs.Text.{isText}
 use Rattle.format.specs.Events.{How, spelled, numbered}
 use Rattle.format.specs.Tables.{StringTable, Vocabulary, strings, adding, holds, Limits}
 use Rattle.format.specs.Strings.{Layout, c14, keeping}
+use Rattle.format.specs.Refusals.{TRUNCATED, FORMAT, TEXT, INDEX, REPEAT, FULL}
 use Rattle.fields.specs.declared.Number.{Number}
 use Rattle.fields.specs.declared.Number.the-variants.{Got as Num, Refused as NoNum}
 use Rattle.fields.specs.Fields.{fieldAt, noTop}
@@ -31,7 +32,7 @@ number (NoNum n p) f = refused n p
 
 -- n octets from `next` on: they pass the end (2), are no text (9).
 unfoldable pub spelling : {C : Type 0} → List ℕ → ℕ → ℕ → ℕ → Got C → Got C
-spelling s k next n a = pick (leb (next + n) (length s)) (pick (isText (take n (drop next s))) a (refused 9 k)) (refused 2 k)
+spelling s k next n a = pick (leb (next + n) (length s)) (pick (isText (take n (drop next s))) a (refused TEXT k)) (refused TRUNCATED k)
 
 -- An identifying string: what it is, how it was written, and its number in the table.
 pub record IdRead : Type 0 where
@@ -60,14 +61,14 @@ module _ (L : Limits) where
       pick (ltb (getD s k 0) 0x80)
       (number (fieldAt (lengths 2) noTop 2 s k)
       λ n next. spelling s k next n
-      (pick (holds (map (octetsOf s) (strings v t)) (octetsOf s (stretch next n))) (refused 11 k)
+      (pick (holds (map (octetsOf s) (strings v t)) (octetsOf s (stretch next n))) (refused REPEAT k)
       (pick (ltb (length (strings v t)) (L .entries))
       (got (record { string = stretch next n; how = spelled true; number = suc (length (strings v t)) }) (next + n) (adding v t (stretch next n)))
-      (refused 12 k))))
+      (refused FULL k))))
       (number (fieldAt c25 top 2 s k)
       λ n next. pick (leb n (length (strings v t)))
       (got (record { string = getD (strings v t) (n - 1) empty; how = numbered n; number = n }) next v)
-      (refused 10 k))
+      (refused INDEX k))
 
   unfoldable pub optionalAt : Bool → List ℕ → StringTable → ℕ → Vocabulary Located → Got OptionalRead
   optionalAt true s t k v = then (idAt s t k v) λ i next w. got (record { string = some (i .string); how = some (i .how); number = i .number }) next w
@@ -80,19 +81,19 @@ module _ (L : Limits) where
       λ n next. spelling s k next n
       (pick (not added || ltb (length (strings v t)) (L .entries))
       (got (record { string = stretch next n; how = spelled added }) (next + n) (keeping added v t (stretch next n)))
-      (refused 12 k))
+      (refused FULL k))
 
   -- C.14 or C.15 by the first octet: spelled and not added, another format (8), spelled and added, another format (8), numbered.
   unfoldable pub literalAt : Layout → List ℕ → StringTable → ℕ → Vocabulary Located → Got StringRead
   literalAt q s t k v =
       pick (ltb (getD s k 0) (q .spelledBits + 2 ^ (9 - q .lengthBit))) (spelledAt q s t k false v)
-      (pick (ltb (getD s k 0) (q .spelledBits + q .addBit)) (refused 8 k)
+      (pick (ltb (getD s k 0) (q .spelledBits + q .addBit)) (refused FORMAT k)
       (pick (ltb (getD s k 0) (q .spelledBits + q .addBit + 2 ^ (9 - q .lengthBit))) (spelledAt q s t k true v)
-      (pick (ltb (getD s k 0) (q .numberedBits)) (refused 8 k)
+      (pick (ltb (getD s k 0) (q .numberedBits)) (refused FORMAT k)
       (number (fieldAt (q .numberForms) top (numberBit q) s k)
       λ n next. pick (leb n (length (strings v t)))
       (got (record { string = getD (strings v t) (n - 1) empty; how = numbered n }) next v)
-      (refused 10 k)))))
+      (refused INDEX k)))))
 
   -- A value, comment or content: FF is the empty string (C.26).
   unfoldable pub valueAt : List ℕ → StringTable → ℕ → Vocabulary Located → Got StringRead

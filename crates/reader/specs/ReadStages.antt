@@ -7,6 +7,7 @@ use lib.Dec.{eqb}
 use Rattle.format.specs.Numbers.{pick}
 use Rattle.format.specs.Tables.{Vocabulary, link}
 use Rattle.format.specs.Document.{header}
+use Rattle.format.specs.Refusals.{SIZE, ROOM}
 use Rattle.tables.specs.declared.Counts.{Counts}
 use Rattle.tables.specs.Located.{Located}
 use Rattle.tables.specs.Counts.{words}
@@ -73,7 +74,7 @@ Reaches s p c v r d w = (seenNext r d w ≡ nextOf s (p .left) (standAt p c v)) 
 
 -- ---- the answer behind n events. An event is one that has no record
 abbrev pub finished : Next → ℕ → Counts → Answer
-finished (Found p e next) n c = Refused 14 p
+finished (Found p e next) n c = Refused ROOM p
 finished Finished n c = Accepted n c
 finished (Faulty k p) n c = Refused k p
 
@@ -90,4 +91,4 @@ settled n m (Refused k p) row tables = refusing k p n m
 
 -- SIZE, then the table room, then the opening.
 unfoldable pub admission : List ℕ → (room : ℕ) → Opening
-admission s room = pick (sized link s) (pick (eqb room words) (opening link header s) (halt 14 0)) (halt 1 0)
+admission s room = pick (sized link s) (pick (eqb room words) (opening link header s) (halt ROOM 0)) (halt SIZE 0)

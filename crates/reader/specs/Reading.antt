@@ -10,6 +10,7 @@ use Rattle.format.specs.Events.{Item}
 use Rattle.format.specs.Tables.{Vocabulary, same, Limits, link}
 use Rattle.format.specs.Items.{State}
 use Rattle.format.specs.Document.{beginning, header}
+use Rattle.format.specs.Refusals.{SIZE, TRUNCATED, HEADER, OPTIONAL-PART, PADDING, ROOM}
 use Rattle.tables.specs.Counts.{countsOf, words, entryWords, wordsOf}
 use Rattle.tables.specs.Kept.{listed}
 use Rattle.tables.specs.Told.{Told, toldAccepted, toldRefused, entriesOf}
@@ -32,7 +33,7 @@ plus i (refusal n p) = refusal n p
 
 -- A step's answer, and how to go on: the first event without a record is refused (14) at its place.
 abbrev pub turn : (ℕ → Stand → Result) → ℕ → Stand → Step → Result
-turn go zero m (more p i n) = refusal 14 p
+turn go zero m (more p i n) = refusal ROOM p
 turn go (suc left) m (more p i n) = plus i (go left n)
 turn go room m (quiet n) = go room n
 turn go room m done = accepted [] m
@@ -52,7 +53,7 @@ marked go (stop n p) = []
 module _ (L : Limits) where
   -- Steps until the document's end, with records for `room` events. `fuel` bounds the steps.
   unfoldable pub run : List ℕ → (fuel room : ℕ) → Stand → Result
-  run s zero room m = refusal 2 (m .at / 2)
+  run s zero room m = refusal TRUNCATED (m .at / 2)
   run s (suc fuel) room m = turn (λ left n. run s fuel left n) room m (step L s m)
 
   -- The marks of the events, up to the document's end or the first fault.
@@ -76,11 +77,11 @@ opening L head s =
     (pick (leb 4 (length s))
     (pick (same (take 4 s) (take 4 head))
     (pick (leb 5 (length s))
-    (pick (ltb (getD s 4 0) 0x80) (pick (eqb (getD s 4 0) 0) onward (halt 4 4)) (halt 6 4))
-    (halt 2 4))
-    (halt 3 0))
-    (halt 2 0))
-    (halt 1 0)
+    (pick (ltb (getD s 4 0) 0x80) (pick (eqb (getD s 4 0) 0) onward (halt OPTIONAL-PART 4)) (halt PADDING 4))
+    (halt TRUNCATED 4))
+    (halt HEADER 0))
+    (halt TRUNCATED 0))
+    (halt SIZE 0)
 
 -- Before the first item; each step takes a half, so the fuel suffices.
 abbrev pub origin : Vocabulary Located → Stand
@@ -150,8 +151,8 @@ outcome (refusal n p) room = refusing n p room words
 unfoldable pub readOf : List ℕ → (room table : ℕ) → Outcome
 readOf s room table =
     pick (sized link s)
-    (pick (eqb table words) (outcome (reading s room) room) (refusing 14 0 room table))
-    (refusing 1 0 room table)
+    (pick (eqb table words) (outcome (reading s room) room) (refusing ROOM 0 room table))
+    (refusing SIZE 0 room table)
 
 -- The number that comes back to C: 0, or the place times 32 plus the refusal's number.
 abbrev pub numberOf : Result → ℕ

@@ -9,6 +9,7 @@ use Rattle.format.specs.Events.{Start, forStart, _by_}
 use Rattle.format.specs.Tables.{link}
 use Rattle.format.specs.Names.{ofElement}
 use Rattle.format.specs.Items as F
+use Rattle.format.specs.Refusals.{DEPTH}
 use Rattle.tables.specs.Located.{Located}
 use Rattle.events.specs.Records.{startRecord}
 use Rattle.names.specs.declared.Here.{Here}
@@ -77,4 +78,4 @@ startBy k a st (Faulty n p) = Stop n p
 unfoldable pub numberedStart : List ℕ → ℕ → Bool → F.State Located → I.Step
 numberedStart s k a v =
     I.into (numberedAt link ofElement s k (v .words))
-    λ x next w. pick (ltb (v .level) (link .depth)) (I.more k (Start (x .name) by forStart (x .how)) (I.octet next (F.opened v w a))) (I.stop 13 k)
+    λ x next w. pick (ltb (v .level) (link .depth)) (I.more k (Start (x .name) by forStart (x .how)) (I.octet next (F.opened v w a))) (I.stop DEPTH k)

@@ -10,6 +10,7 @@ use Rattle.format.specs.Tables.{OTHER-NCNAME, ATTRIBUTE-VALUE, CONTENT-CHARACTE
 use Rattle.format.specs.Strings.{c15}
 use Rattle.format.specs.Names.{ofElement, ofAttribute}
 use Rattle.format.specs.Items.{Mode, content, declaring, listing, State, mayStart, knowing, moved, opened}
+use Rattle.format.specs.Refusals.{TRUNCATED, CODE, PADDING, FORMAT, DEPTH, STRUCTURE}
 use Rattle.tables.specs.Located.{Located}
 use Rattle.names.specs.Strings.{Got, got, refused, idAt, literalAt, valueAt}
 use Rattle.names.specs.Names.{NameRead, lonePrefix, partsAt, numberedAt, nameAt, declaredAt}
@@ -53,26 +54,26 @@ module _ (L : Limits) where
   -- Declarations (1110 00) and a name in parts: p without n (15), depth (13), then the strings.
   unfoldable pub elementAt : List ℕ → ℕ → ℕ → Bool → State Located → Step
   elementAt s k b a v =
-      pick (namePadding b) (stop 6 k)
+      pick (namePadding b) (stop PADDING k)
       (pick (mayStart v)
       (pick (ltb b 0x38)
-      (into (numberedAt L ofElement s k (v .words)) λ x next w. pick (ltb (v .level) (L .depth)) (more k (Start (x .name) by forStart (x .how)) (octet next (opened v w a))) (stop 13 k))
-      (pick (leb 0x3C b && lonePrefix b) (stop 15 k)
+      (into (numberedAt L ofElement s k (v .words)) λ x next w. pick (ltb (v .level) (L .depth)) (more k (Start (x .name) by forStart (x .how)) (octet next (opened v w a))) (stop DEPTH k))
+      (pick (leb 0x3C b && lonePrefix b) (stop STRUCTURE k)
       (pick (ltb (v .level) (L .depth))
       (pick (eqb b 0x38) (namespaceAt s (suc k) v a) (startOf k a v (partsAt L ofElement s b k (v .words))))
-      (stop 13 k))))
-      (stop 15 k))
+      (stop DEPTH k))))
+      (stop STRUCTURE k))
 
   -- The name behind F0: missing (2); 1110 (5); bits 1 and 2, or padding (6); then a number, or parts.
   unfoldable pub namedAt : List ℕ → ℕ → Bool → State Located → Step
   namedAt s k a v =
       pick (ltb k (length s))
-      (pick (eqb (getD s k 0 % 64 / 4) 14) (stop 5 k)
+      (pick (eqb (getD s k 0 % 64 / 4) 14) (stop CODE k)
       (pick (ltb (getD s k 0) 0x40)
-      (pick (namePadding (getD s k 0)) (stop 6 k)
+      (pick (namePadding (getD s k 0)) (stop PADDING k)
       (startOf k a v (nameAt L ofElement s (getD s k 0) k (v .words))))
-      (stop 6 k)))
-      (stop 2 k)
+      (stop PADDING k)))
+      (stop TRUNCATED k)
 
   -- An attribute: missing (2); bit 1 is 1, or 1110 (5); 1111 and then 1 (6); then a number, or parts; then the value.
   unfoldable pub attributeAt : List ℕ → ℕ → State Located → Step
@@ -83,9 +84,9 @@ module _ (L : Limits) where
       (into (nameAt L ofAttribute s (getD s k 0) k (v .words))
       λ x k₁ w₁. into (valueAt L s ATTRIBUTE-VALUE k₁ w₁)
       λ y k₂ w₂. more k (Attribute (x .name) (y .string) by forAttribute (x .how) (y .how)) (octet k₂ (moved v w₂ (listing true))))
-      (stop 6 k))
-      (stop 5 k))
-      (stop 2 k)
+      (stop PADDING k))
+      (stop CODE k))
+      (stop TRUNCATED k)
 
   unfoldable pub chunkAt : List ℕ → ℕ → State Located → Step
   chunkAt s k v =
@@ -106,8 +107,8 @@ module _ (L : Limits) where
   unfoldable pub otherAt : List ℕ → ℕ → State Located → Step
   otherAt s k v =
       pick (ltb (getD s k 0) 0xF0)
-      (pick (eqb (getD s k 0 / 4) (pick (ltb 0 (v .level)) 0x32 0x31)) (stop 8 k) (stop 5 k))
-      (stop 6 k)
+      (pick (eqb (getD s k 0 / 4) (pick (ltb 0 (v .level)) 0x32 0x31)) (stop FORMAT k) (stop CODE k))
+      (stop PADDING k)
 
   -- A child by its first octet (C.2.11, C.3.7): missing (2); 0 element; 10 chunk, inside elements only; E1 instruction; E2 comment.
   unfoldable pub childAt : List ℕ → ℕ → State Located → Step
@@ -115,10 +116,10 @@ module _ (L : Limits) where
       pick (ltb k (length s))
       (pick (ltb (getD s k 0) 0x40) (elementAt s k (getD s k 0) false v)
       (pick (ltb (getD s k 0) 0x80) (elementAt s k (getD s k 0 - 0x40) true v)
-      (pick (ltb (getD s k 0) 0xC0) (pick (ltb 0 (v .level)) (chunkAt s k v) (stop 5 k))
+      (pick (ltb (getD s k 0) 0xC0) (pick (ltb 0 (v .level)) (chunkAt s k v) (stop CODE k))
       (pick (eqb (getD s k 0) 0xE1) (instructionAt s k v)
       (pick (eqb (getD s k 0) 0xE2) (commentAt s k v) (otherAt s k v))))))
-      (stop 2 k)
+      (stop TRUNCATED k)
 
   -- Behind a declaration: missing (2); F0 and the name; else another declaration. 1111 with other bits behind it is padding (6).
   unfoldable pub declaringAt : List ℕ → ℕ → Bool → State Located → Step

@@ -9,6 +9,7 @@ use Rattle.format.specs.Events.{End, forEnd, _by_}
 use Rattle.format.specs.Tables.{Limits}
 use Rattle.format.specs.Items.{Mode, content, declaring, listing, moved}
 use Rattle.format.specs.Document.{halves, aligned, closed}
+use Rattle.format.specs.Refusals.{CODE, PADDING, STRUCTURE}
 use Rattle.steps.specs.Items.{Stand, Step, more, quiet, done, stop, itemAt}
 
 -- The half at a place counted in halves; 16 where there is none.
@@ -27,15 +28,15 @@ unfoldable pub documentEnd : List ℕ → Stand → Step
 documentEnd s m =
     pick (m .state .root)
     (pick (padsAt s (suc (m .at)))
-    (pick (eqb (aligned (suc (m .at))) (2 * length s)) done (stop 15 (aligned (suc (m .at)) / 2)))
-    (stop 6 (m .at / 2)))
-    (stop 15 (m .at / 2))
+    (pick (eqb (aligned (suc (m .at))) (2 * length s)) done (stop STRUCTURE (aligned (suc (m .at)) / 2)))
+    (stop PADDING (m .at / 2)))
+    (stop STRUCTURE (m .at / 2))
 
 -- 1111 ends an attribute list, which has a member (15), an element, or the document.
 unfoldable pub endAt : List ℕ → Stand → Mode → Step
 endAt s m (listing true) = quiet (record { at = suc (m .at); state = moved (m .state) (m .state .words) content })
-endAt s m (listing false) = stop 15 (m .at / 2)
-endAt s m (declaring a) = stop 5 (m .at / 2)
+endAt s m (listing false) = stop STRUCTURE (m .at / 2)
+endAt s m (declaring a) = stop CODE (m .at / 2)
 endAt s m content = pick (ltb 0 (m .state .level)) (more (m .at / 2) (End by forEnd) (record { at = suc (m .at); state = closed (m .state) })) (documentEnd s m)
 
 -- Declarations are ended by an octet, F0, and not by a half.
@@ -49,4 +50,4 @@ module _ (L : Limits) where
   unfoldable pub step : List ℕ → Stand → Step
   step s m =
       pick (byHalves (m .state .mode) && endsAt s (m .at)) (endAt s m (m .state .mode))
-      (pick (padsAt s (m .at)) (itemAt L s (aligned (m .at) / 2) (m .state) (m .state .mode)) (stop 6 (m .at / 2)))
+      (pick (padsAt s (m .at)) (itemAt L s (aligned (m .at) / 2) (m .state) (m .state .mode)) (stop PADDING (m .at / 2)))

@@ -7,6 +7,7 @@ use lib.Dec.{leb}
 use Rattle.format.specs.Numbers.{pick}
 use Rattle.format.specs.Tables.{Vocabulary, link}
 use Rattle.format.specs.Items as F
+use Rattle.format.specs.Refusals.{TEXT, DEPTH, EVENT}
 use Rattle.tables.specs.Located.{Located}
 use Rattle.events.specs.declared.Text.{Text}
 use Rattle.events.specs.declared.Text.the-variants.{Absent, Empty, Stretch, XmlPrefix, XmlNamespace}
@@ -46,6 +47,6 @@ unfoldable pub faultOf : List ℕ → F.State Located → Event → ℕ
 faultOf text v e =
     pick (wellMade text (e .kind) e && goesOn v (eventOf (e .kind) e))
     (pick (allText text (eventOf (e .kind) e))
-    (pick (opens (v .mode) (eventOf (e .kind) e) && leb (link .depth) (v .level)) 13 0)
-    9)
-    16
+    (pick (opens (v .mode) (eventOf (e .kind) e) && leb (link .depth) (v .level)) DEPTH 0)
+    TEXT)
+    EVENT

@@ -9,6 +9,7 @@ use Rattle.format.specs.Numbers.{pick}
 use Rattle.format.specs.Events as E
 use Rattle.format.specs.Tables.{link}
 use Rattle.format.specs.Document.{aligned}
+use Rattle.format.specs.Refusals.{FULL, ROOM}
 use Rattle.fields.specs.Put.{Puts}
 use Rattle.tables.specs.Located.{Located}
 use Rattle.events.specs.declared.Kind.{Kind}
@@ -67,7 +68,7 @@ closedTo st = record { at = st .at + 1; level = st .level - 1; root = st .root; 
 -- The state behind octets that were put; a table that is full is the refusal 12.
 abbrev pub landing : State → Wrote → Step
 landing st (Put h) = On (record { at = 2 * h .at; level = st .level; root = st .root; mode = st .mode; counts = h .counts })
-landing st Full = Stop 12
+landing st Full = Stop FULL
 
 -- The place behind what was put is no large number.
 abbrev pub Near : Wrote → Type 0
@@ -90,8 +91,8 @@ pub record Landed (text : List ℕ) (a : Bool) (st : State) (out w : List ℕ) (
 -- Or a table is full, and the definition's has an entry too many.
 abbrev pub Lands : List ℕ → Bool → State → List ℕ → List ℕ → E.Event Located → Step → List ℕ → List ℕ → Type 0
 Lands text a st out w e (On next) out′ w′ = Landed text a st out w e next out′ w′
-Lands text a st out w e (Stop n) out′ w′ = (n ≡ 12) × (within link (writeItem link text a (known st w) e .state .words) ≡ false)
+Lands text a st out w e (Stop n) out′ w′ = (n ≡ FULL) × (within link (writeItem link text a (known st w) e .state .words) ≡ false)
 
 -- The state, if what is written up to it fits; else the refusal 14.
 unfoldable pub holding : List ℕ → (room : ℕ) → State → Step
-holding text room st = pick (fits link text room (st .at)) (On st) (Stop 14)
+holding text room st = pick (fits link text room (st .at)) (On st) (Stop ROOM)

@@ -4,6 +4,7 @@ use mathlib.Core.List.{List}
 use lib.ListN.{length, replicate}
 use lib.Dec.{eqb, leb}
 use Rattle.format.specs.Numbers.{pick}
+use Rattle.format.specs.Refusals.{SIZE, ROOM}
 use Rattle.tables.specs.Told.{wholeWord}
 use Rattle.events.specs.FromWords.{recordsOf}
 use Rattle.writer.specs.declared.Answer.{Answer}
@@ -36,4 +37,4 @@ inWords o = leaving (answerWord (o .answer)) (o .out) (o .tables) (countWords (o
 -- counts, which are the tables' (14), both at place 0; then what writing with r octets and t table words leaves.
 unfoldable pub writeWords : List ℕ → List ℕ → (r t c : ℕ) → Words
 writeWords records text r t c =
-    pick (leb (length text) 16384) (pick (eqb c 10) (inWords (writeOf (recordsOf records) text r t)) (nothing 14 r t c)) (nothing 1 r t c)
+    pick (leb (length text) 16384) (pick (eqb c 10) (inWords (writeOf (recordsOf records) text r t)) (nothing ROOM r t c)) (nothing SIZE r t c)

@@ -11,6 +11,7 @@ use Rattle.format.specs.Events.{Item, _by_}
 use Rattle.format.specs.Tables.{Vocabulary, Limits, link}
 use Rattle.format.specs.Items.{Mode, content, State, moved}
 use Rattle.format.specs.Document.{halves, pad, aligned, beginning, header}
+use Rattle.format.specs.Refusals.{SIZE, TEXT, FULL, DEPTH, ROOM, EVENT}
 use Rattle.tables.specs.Counts.{countsOf, words, entryWords, wordsOf}
 use Rattle.tables.specs.Kept.{listed}
 use Rattle.tables.specs.Told.{Told, toldAccepted, toldRefused, entriesOf}
@@ -91,17 +92,17 @@ module _ (L : Limits) (text : List ℕ) (room : ℕ) where
   judge at v e w hs =
       pick (wellMade text (e .kind) e && goesOn v (eventOf (e .kind) e))
       (pick (allText text (eventOf (e .kind) e))
-      (pick (opens (v .mode) (eventOf (e .kind) e) && leb (L .depth) (v .level)) 13
-      (pick (within L (w .state .words)) (pick (fits (at + length hs)) 0 14) 12))
-      9)
-      16
+      (pick (opens (v .mode) (eventOf (e .kind) e) && leb (L .depth) (v .level)) DEPTH
+      (pick (within L (w .state .words)) (pick (fits (at + length hs)) 0 ROOM) FULL))
+      TEXT)
+      EVENT
 
   -- The document's end behind the last event, number i: owed too soon (16), no room (14).
   unfoldable pub finish : ℕ → State Located → ℕ → Result
   finish at v i =
       pick (isContent (v .mode) && (eqb (v .level) 0 && v .root))
-      (pick (fits (suc at)) (written [] (15 ∷ pad (suc at)) v) (refusal 14 i))
-      (refusal 16 i)
+      (pick (fits (suc at)) (written [] (15 ∷ pad (suc at)) v) (refusal ROOM i))
+      (refusal EVENT i)
 
   -- The events from number i on, from the half `at`.
   unfoldable pub run : ℕ → State Located → ℕ → List Event → Result
@@ -176,5 +177,5 @@ knownWriting text room es = trace link text room (2 * length header) (beginning 
 unfoldable pub writeOf : List Event → List ℕ → (room table : ℕ) → Outcome
 writeOf es text room table =
     pick (leb (length text) 16384)
-    (pick (eqb table words) (outcome (writing text room es) room) (refusing 14 0 room table))
-    (refusing 1 0 room table)
+    (pick (eqb table words) (outcome (writing text room es) room) (refusing ROOM 0 room table))
+    (refusing SIZE 0 room table)

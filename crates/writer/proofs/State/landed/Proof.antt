@@ -12,7 +12,7 @@ enum-told : tie.Need-enum-told
 enum-told c = search needs
 
 returns : tie.Need-returns
-returns c = search needs
+returns c = rw (c .enum-told .given .1)
 
 mul-t6 : tie.Need-mul-t6
 mul-t6 c = let near = rw (c .before .before .before .w .given .1) at (c .before .before .before .before .before .pre) in omega arith
