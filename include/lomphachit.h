@@ -119,7 +119,7 @@ enum lomphachit_refusal {
     LOMPHACHIT_REFUSED_OPTIONAL_PART = 4,
     /* Bits not assigned at this place. */
     LOMPHACHIT_REFUSED_CODE = 5,
-    /* Padding not as ruled, an end not where it stands. */
+    /* A padding bit that is not 0, or an end that does not stand where it is due. */
     LOMPHACHIT_REFUSED_PADDING = 6,
     /* Number over 1,048,576. */
     LOMPHACHIT_REFUSED_RANGE = 7,

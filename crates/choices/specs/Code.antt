@@ -52,7 +52,7 @@ Suits text table (Stretch p n) = (0 < n) × (p + n ≤ length text)
 Suits text table XmlPrefix = table ≡ 0
 Suits text table XmlNamespace = table ≡ 1
 
--- So it is with a value, comment, content or chunk.
+-- The string may be a value, a comment or a content: empty, or a stretch as above.
 abbrev pub Fills : List ℕ → Text → Type 0
 Fills text Absent = ⊥
 Fills text Empty = Unit {0}
@@ -60,7 +60,7 @@ Fills text (Stretch p n) = (0 < n) × (p + n ≤ length text)
 Fills text XmlPrefix = ⊥
 Fills text XmlNamespace = ⊥
 
--- So it is with one that is not empty.
+-- The same for a string that may not be empty.
 abbrev pub Spells : List ℕ → Text → Type 0
 Spells text Absent = ⊥
 Spells text Empty = ⊥

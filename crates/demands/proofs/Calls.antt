@@ -156,7 +156,7 @@ pub read-twice : (s : List ℕ) (e e′ e″ : List Event) (t t′ t″ : List �
     → Leaves a e′ t′ (readOf s (length e) (length t)) → Leaves b e″ t″ (readOf s (length e′) (length t′)) → (b ≡ a) × (e″ ≡ e′) × (t″ ≡ t′)
 read-twice s e e′ e″ t t′ t″ a b l m x y = whatever-stood s e′ e t′ t b a e″ e′ t″ t′ l m y x
 
---     So it is with words.
+--     The same of reading into words.
 pub words-whatever-stood : (s r q t u c d : List ℕ) (a b : ℕ) (r′ q′ t′ u′ c′ d′ : List ℕ) → length r ≡ length q → length t ≡ length u → length c ≡ length d
     → leaving a r′ t′ c′ ≡ readWords s (length r) (length t) (length c) → leaving b q′ u′ d′ ≡ readWords s (length q) (length u) (length d)
     → leaving a r′ t′ c′ ≡ leaving b q′ u′ d′

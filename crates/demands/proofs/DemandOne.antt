@@ -17,7 +17,7 @@ use Rattle.events.specs.FromWords.{recordsOf}
 use Rattle.reader.specs.declared.Answer as ReadAnswer
 use Rattle.reader.specs.Reading as Read
 use Rattle.reader.specs.Words as ReadWords
-use Rattle.reader.proofs.WordLaws.{blank-all}
+use Rattle.events.proofs.BlankWords.{blank-all}
 use Rattle.writer.specs.declared.Answer as WriteAnswer
 use Rattle.writer.specs.Writing as Write
 use Rattle.writer.specs.Words as WriteWords

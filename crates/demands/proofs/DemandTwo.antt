@@ -24,9 +24,11 @@ use Rattle.demands.specs.Verdicts.{plainOf, plains, itemsOf, Fault, not-
 use Rattle.demands.specs.Demands.{Acceptable, Wrote, LeavesWritten, RefusedBy, text-too-long, wrong-table-room, at-events, Demand2}
 use Rattle.tables.proofs.Found.{clash}
 use Rattle.demands.proofs.Words.{entries-map}
+use Rattle.demands.proofs.Demands.{the-events-given}
 use Rattle.demands.proofs.DemandThree as Three
 use Rattle.demands.proofs.Entries.{chosen-events}
 use Rattle.demands.proofs.WriterDocument.{meant, refused-by}
+use Rattle.demands.proofs.WriterTables.{strings-written}
 use Rattle.demands.proofs.WriterAccepts.{writes-it, refuses-it}
 
 all-from : {A : Type 0} (P : A → Type 0) (l : List A) → ((b : List A) (x : A) (after : List A) → l ≡ b ++ (x ∷ after) → P x) → All P l
@@ -73,17 +75,21 @@ module _ (es : List Event) (text : List ℕ) (room : ℕ) where
     abbrev Asked : Bool → Bool → Outcome
     Asked b d = pick b (pick d (outcome (writing text room es) room) (refusing 14 0 room table)) (refusing 1 0 room table)
 
-    accepts : (s : List ℕ) (z : State (List ℕ)) → Acceptable es text room table s z → LeavesWritten text room s z (writeOf es text room table)
+    accepts : (s : List ℕ) (z : State (List ℕ)) → Acceptable es text room table s z → LeavesWritten es text room s z (writeOf es text room table)
     unfolding writeOf
     accepts s z a =
         let w = writes-it text room es (a .well-made) z s (a .writes) (a .fits) (a .text-size) in
         rw (le-leb (length text) 16384 (a .text-size), eq-eqb table words (a .table-room), w .is)
         (record {
+          items = w .items;
           tables = w .last .words;
           answer = λ i. toldAccepted (length (w .octets i)) ((sym (entries-map _ (w .last .words)) ∙ ap (λ (u : State (List ℕ)). entriesOf (u .words)) (w .known)) i);
           octets = ap (λ (o : List ℕ). o ++ replicate (room - length o) 0) (w .octets);
           words = refl;
           tables-are = ap (λ (u : State (List ℕ)). u .words) (w .known);
+          given = the-events-given text room es (w .items) (w .halves) (w .last) (w .is);
+          chosen = meant text (a .text-size) room es (w .items) (w .halves) (w .last) (w .is) .chosen-by;
+          strings-made = strings-written text room es (w .items) (w .halves) (w .last) (w .is);
         })
 
     only-from : length text ≤ 16384 → table ≡ words → (r : Result) → writing text room es ≡ r → outcome r room .told .number ≡ 0 → (s : List ℕ) × (z : State (List ℕ)) × Acceptable es text room table s z

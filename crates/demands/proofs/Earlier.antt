@@ -78,11 +78,43 @@ extended-is : {A : Type 0} (b : Bool) (l : List A) (x : A) → l ++ (extended b 
 extended-is true l x = refl
 extended-is false l x = append-nil l
 
+-- ---- the strings that acts add: w has what v has and, behind it, what they make
+pub record Adds {S : Type 0} (v : Vocabulary S) (l : List (Act S)) (w : Vocabulary S) : Type 0 where
+  pub then : (t : StringTable) → strings w t ≡ strings v t ++ madeIn t l
+
+module _ {S : Type 0} where
+  pub adds-none : {v : Vocabulary S} → Adds v [] v
+  unfolding madeIn
+  adds-none {v} = record { then = λ t. sym (append-nil (strings v t)) }
+
+  pub adds-both : {v w z : Vocabulary S} {l m : List (Act S)} → Adds v l w → Adds w m z → Adds v (l ++ m) z
+  adds-both {v} {l = l} {m = m} f g =
+      record {
+        then = λ t. g .then t ∙ ap (λ (r : List S). r ++ madeIn t m) (f .then t) ∙ append-assoc (strings v t) (madeIn t l) (madeIn t m) ∙ ap (λ (r : List S). strings v t ++ r) (sym (made-both t l m));
+      }
+
+  pub adds-string : (v : Vocabulary S) (t : StringTable) (x : S) → Adds v (makes t x ∷ []) (adding v t x)
+  unfolding madeIn
+  adds-string v t x = record { then = λ u. strings-adding v t x u ∙ sym (extended-is (eqb (place t) (place u)) (strings v u) x) }
+
+  pub adds-name : (v : Vocabulary S) (t : NameTable) (x : Triple) (y : Name S) → Adds v (makesName t y ∷ []) (addingName v t x)
+  unfolding madeIn
+  adds-name v t x y = record { then = λ u. strings-adding-name v t x u ∙ sym (append-nil (strings v u)) }
+
+  -- a number adds nothing
+  pub adds-number : {v : Vocabulary S} (t : StringTable) (k : ℕ) (x : S) → Adds v (uses t k x ∷ []) v
+  unfolding madeIn
+  adds-number {v} t k x = record { then = adds-none {v = v} .then }
+
+  pub adds-name-number : {v : Vocabulary S} (t : NameTable) (k : ℕ) (x : Name S) → Adds v (usesName t k x ∷ []) v
+  unfolding madeIn
+  adds-name-number {v} t k x = record { then = adds-none {v = v} .then }
+
 -- ---- these acts lead from v to w: they use what is there, and what they make is what w has more
 record Does {S : Type 0} (d : S) (v : Vocabulary S) (l : List (Act S)) (w : Vocabulary S) : Type 0 where
   before : (n : NameTable → List (Name S)) → Meant d v n → (rest : List (Act S)) → ((m : NameTable → List (Name S)) → Meant d w m → Known d (strings w) m rest)
       → Known d (strings v) n (l ++ rest)
-  strings-then : (t : StringTable) → strings w t ≡ strings v t ++ madeIn t l
+  strings-then : Adds v l w
   names-then : (n : NameTable → List (Name S)) → Meant d v n → Meant d w (λ t. n t ++ namesMadeIn t l)
 
 module _ {S : Type 0} {d : S} where
@@ -90,42 +122,42 @@ module _ {S : Type 0} {d : S} where
   both {v} {w} {z} {l} {m} f g =
       record {
         before = λ n a rest k. rw (append-assoc l m rest) (f .before n a (m ++ rest) λ n′ a′. g .before n′ a′ rest k);
-        strings-then = λ t. g .strings-then t ∙ ap (λ (r : List S). r ++ madeIn t m) (f .strings-then t) ∙ append-assoc (strings v t) (madeIn t l) (madeIn t m) ∙ ap (λ (r : List S). strings v t ++ r) (sym (made-both t l m));
+        strings-then = adds-both (f .strings-then) (g .strings-then);
         names-then = λ n a t.
             subst (Mean d z (names z t)) (append-assoc (n t) (namesMadeIn t l) (namesMadeIn t m) ∙ ap (λ (r : List (Name S)). n t ++ r) (sym (names-made-both t l m)))
             (g .names-then _ (f .names-then n a) t);
       }
 
   none-done : {v : Vocabulary S} → Does d v [] v
-  unfolding madeIn namesMadeIn
-  none-done {v} = record { before = λ n a rest k. k n a; strings-then = λ t. sym (append-nil (strings v t)); names-then = λ n a t. subst (Mean d v (names v t)) (sym (append-nil (n t))) (a t) }
+  unfolding namesMadeIn
+  none-done {v} = record { before = λ n a rest k. k n a; strings-then = adds-none; names-then = λ n a t. subst (Mean d v (names v t)) (sym (append-nil (n t))) (a t) }
 
   uses-string : {v : Vocabulary S} {t : StringTable} {k : ℕ} {x : S} → Entry (strings v t) k d x → Does d v (uses t (suc k) x ∷ []) v
-  unfolding madeIn namesMadeIn
+  unfolding namesMadeIn
   uses-string {v} e =
       record {
         before = λ n a rest k. (omega arith, from-one e, k n a);
-        strings-then = none-done {v = v} .strings-then;
+        strings-then = adds-number _ _ _;
         names-then = none-done {v = v} .names-then;
       }
 
   uses-name : {v : Vocabulary S} {t : NameTable} {k : ℕ} {x : Triple} → Entry (names v t) k noTriple x → Does d v (usesName t (suc k) (nameOf v d x) ∷ []) v
-  unfolding madeIn namesMadeIn
+  unfolding namesMadeIn
   uses-name {v} {t} {k} {x} e =
       record {
         before = λ n a rest f. (omega arith, from-one (mean-entry k x (a t) e), f n a);
-        strings-then = none-done {v = v} .strings-then;
+        strings-then = adds-name-number _ _ _;
         names-then = none-done {v = v} .names-then;
       }
 
   makes-string : (v : Vocabulary S) (t : StringTable) (x : S) → Does d v (makes t x ∷ []) (adding v t x)
-  unfolding madeIn namesMadeIn
+  unfolding namesMadeIn
   makes-string v t x =
       record {
         before = λ n a rest k.
             subst (λ (s : StringTable → List S). Known d s n rest) (fun-ext (strings-adding v t x))
             (k n (still n a));
-        strings-then = λ u. strings-adding v t x u ∙ sym (extended-is (eqb (place t) (place u)) (strings v u) x);
+        strings-then = adds-string v t x;
         names-then = λ n a u. subst (Mean d (adding v t x) (names (adding v t x) u)) (sym (append-nil (n u))) (still n a u);
       }
     where
@@ -133,13 +165,13 @@ module _ {S : Type 0} {d : S} where
       still n a u = rw (names-adding v t x u) (mean-kept (keeps-adding v t x) (a u))
 
   makes-name : (v : Vocabulary S) (t : NameTable) (x : Triple) (y : Name S) → Means d v x y → Does d v (makesName t y ∷ []) (addingName v t x)
-  unfolding madeIn namesMadeIn
+  unfolding namesMadeIn
   makes-name v t x y m =
       record {
         before = λ n a rest k.
             subst (λ (s : StringTable → List S). Known d s (λ u. extended (sameNames t u) (n u) y) rest) (fun-ext (strings-adding-name v t x))
             (k _ (one-more n a));
-        strings-then = λ u. strings-adding-name v t x u ∙ sym (append-nil (strings v u));
+        strings-then = adds-name v t x y;
         names-then = λ n a u. subst (Mean d (addingName v t x) (names (addingName v t x) u)) (sym (extended-is (sameNames t u) (n u) y)) (one-more n a u);
       }
     where
@@ -198,6 +230,6 @@ module _ {S : Type 0} {d : S} {Spelt : S → Type 0} where
   unfolding names starting
   made p u r =
       record {
-        strings-made = all-does r .strings-then;
+        strings-made = all-does r .strings-then .then;
         names-made = λ t. mean-is (all-does r .names-then (λ t. []) (no-names p u) t) ∙ elim t [ ELEMENT-NAME ↦ refl | ATTRIBUTE-NAME ↦ refl ];
       }

@@ -12,12 +12,11 @@ use Rattle.tables.specs.Counts.{words}
 use Rattle.tables.specs.Told.{Told, toldAccepted, wholeWord}
 use Rattle.tables.proofs.Laws.{entries-are}
 use Rattle.events.specs.FromWords.{recordsOf}
+use Rattle.events.proofs.BlankWords.{blank-all}
 use Rattle.reader.specs.Reading as Read
 use Rattle.reader.specs.Words as ReadWords
-use Rattle.reader.proofs.WordLaws as ReadLaws
 use Rattle.writer.specs.Writing as Write
 use Rattle.writer.specs.Words as WriteWords
-use Rattle.writer.proofs.WordLaws as WriteLaws
 use Rattle.demands.specs.Demands.{InReadWords, InWriteWords}
 use Rattle.demands.proofs.Lists.{either}
 
@@ -45,7 +44,7 @@ module _ (s : List ℕ) (r t : ℕ) where
     read-sized : c ≡ 10 → (b : Bool) → Read.sized link s ≡ b → ReadWords.inWords r rows-read ≡ ReadWords.readWords s r t c
     unfolding ReadWords.readWords Read.readOf ReadWords.inWords
     read-sized h true e = rw (e, eq-eqb _ _ h)
-    read-sized h false e = rw (e, h, ReadLaws.blank-all r)
+    read-sized h false e = rw (e, h, blank-all r)
 
     pub read-worded : c ≡ 10 → InReadWords r rows-read (ReadWords.readWords s r t c)
     read-worded h = subst (InReadWords r rows-read) (read-sized h (Read.sized link s) refl) in-read-words
@@ -74,8 +73,13 @@ module _ (records text : List ℕ) (r t : ℕ) where
   in-write-words = record { answer = ap wholeWord write-told; out = refl; tables = refl; counts = ap (λ (u : Told). u .counts) write-told }
 
   module _ (c : ℕ) where
+    write-sized : c ≡ 10 → (b : Bool) → leb (length text) 16384 ≡ b → WriteWords.inWords rows-written ≡ WriteWords.writeWords records text r t c
+    unfolding WriteWords.writeWords Write.writeOf WriteWords.inWords
+    write-sized h true e = rw (e, eq-eqb _ _ h)
+    write-sized h false e = rw (e, h)
+
     pub write-worded : c ≡ 10 → InWriteWords rows-written (WriteWords.writeWords records text r t c)
-    write-worded h = subst (InWriteWords rows-written) (WriteLaws.size-first records text r t c h (leb (length text) 16384) refl) in-write-words
+    write-worded h = subst (InWriteWords rows-written) (write-sized h (leb (length text) 16384) refl) in-write-words
 
     pub write-zeros : (c ≡ 10 → ⊥) → (P : WriteWords.Words → Type 0) → (16384 < length text → P (WriteWords.nothing 1 r t c)) → (length text ≤ 16384 → P (WriteWords.nothing 14 r t c))
         → P (WriteWords.writeWords records text r t c)

@@ -36,6 +36,7 @@ mod Every
 mod RuleTables
 mod WriterRun
 mod WriterDocument
+mod WriterTables
 mod OneVerdict
 mod WriterAccepts
 mod Given

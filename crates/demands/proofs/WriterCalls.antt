@@ -180,7 +180,7 @@ module _ (es : List Event) (text o p t u : List ℕ) (a b : Answer) (o′ p′ t
       → (a ≡ b) × (o′ ≡ p′) × (t′ ≡ u′)
   write-whatever-stood l m x y = let y′ = rw (← l, ← m) at y in (x .0 ∙ sym (y′ .0), x .2 ∙ sym (y′ .2), x .3 ∙ sym (y′ .3))
 
---     So it is with words.
+--     The same of writing from words.
 pub written-whatever-stood : (records text o p t u c d : List ℕ) (a b : ℕ) (o′ p′ t′ u′ c′ d′ : List ℕ) → length o ≡ length p → length t ≡ length u → length c ≡ length d
     → leaving a o′ t′ c′ ≡ writeWords records text (length o) (length t) (length c) → leaving b p′ u′ d′ ≡ writeWords records text (length p) (length u) (length d)
     → leaving a o′ t′ c′ ≡ leaving b p′ u′ d′

@@ -7,10 +7,10 @@ use mathlib.Core.List.{List, [], _++_, map}
 use lib.ListN.{length, replicate}
 use Rattle.format.specs.Refusals.{SIZE, TEXT, FULL, DEPTH, ROOM, EVENT}
 use Rattle.format.specs.Events.{Item}
-use Rattle.format.specs.Tables.{Vocabulary, strings}
+use Rattle.format.specs.Tables.{StringTable, Vocabulary, strings}
 use Rattle.format.specs.Items.{State}
 use Rattle.format.specs.Document.{header, Writes}
-use Rattle.format.specs.Uses.{acts, Known, MadeBy}
+use Rattle.format.specs.Uses.{madeIn, acts, Known, MadeBy}
 use Rattle.format.specs.Allowed.{All}
 use Rattle.tables.specs.Located.{Located, empty, plain, plainWords, plainState, start}
 use Rattle.tables.specs.Counts.{words, entryWords, wordsOf}
@@ -102,13 +102,18 @@ pub record Wrote (es : List Event) (text : List ℕ) (room : ℕ) (s : List ℕ)
   pub octets : header ++ Write.joined halves ≡ s
   pub known : plainState text last ≡ z
 
--- The call left these octets, 0 behind them, and tables that are these as octets; its answer has their counts.
-pub record LeavesWritten (text : List ℕ) (room : ℕ) (s : List ℕ) (z : State (List ℕ)) (o : Write.Outcome) : Type 0 where
+-- The call left these octets, 0 behind them, and tables that are these as octets; its answer has their counts. The items are the records given, with 01's choices;
+-- the tables of strings hold what is built in and what these items made, each entry at the very place that its record gave. (A name is numbers, so it has no place.)
+pub record LeavesWritten (es : List Event) (text : List ℕ) (room : ℕ) (s : List ℕ) (z : State (List ℕ)) (o : Write.Outcome) : Type 0 where
+  pub items : List (Item Located)
   pub tables : Vocabulary Located
   pub answer : o .told ≡ toldAccepted (length s) (entriesOf (z .words))
   pub octets : o .out ≡ s ++ replicate (room - length s) 0
   pub words : o .tables ≡ wordsOf entryWords tables
   pub tables-are : plainWords text tables ≡ z .words
+  pub given : map (λ (i : Item Located). recordOf (i .event)) items ≡ es
+  pub chosen : map (plain text) items ≡ itemsOf (plains text es)
+  pub strings-made : (t : StringTable) → strings tables t ≡ strings start t ++ madeIn t (acts empty items)
 
 -- 01 refuses them so.
 pub data RefusedBy (es : List Event) (text : List ℕ) (room table : ℕ) : (number place : ℕ) → Type 0 where
@@ -118,7 +123,7 @@ pub data RefusedBy (es : List Event) (text : List ℕ) (room table : ℕ) : (num
 
 pub record Demand2 (es : List Event) (text : List ℕ) (room table : ℕ) (o : Write.Outcome) : Type 0 where
   -- what 01 gives no number to refuse is accepted, as the rules write it
-  pub accepts : (s : List ℕ) (z : State (List ℕ)) → Acceptable es text room table s z → LeavesWritten text room s z o
+  pub accepts : (s : List ℕ) (z : State (List ℕ)) → Acceptable es text room table s z → LeavesWritten es text room s z o
   -- and nothing else is
   pub only : o .told .number ≡ 0 → (s : List ℕ) × (z : State (List ℕ)) × Acceptable es text room table s z
   -- reading it, with a record for each event, hands out the events that were given, and the same tables
@@ -155,6 +160,6 @@ pub data WordsRefusedBy (es : List Event) (text : List ℕ) (r t c : ℕ) : (num
   as-records : {n p : ℕ} → c ≡ 10 → RefusedBy es text r t n p → WordsRefusedBy es text r t c n p
 
 pub record Demand2Words (es : List Event) (text : List ℕ) (r t c : ℕ) (w : WriteWords.Words) : Type 0 where
-  pub accepts : (s : List ℕ) (z : State (List ℕ)) → Acceptable es text r t s z → c ≡ 10 → (o : Write.Outcome) × LeavesWritten text r s z o × InWriteWords o w
+  pub accepts : (s : List ℕ) (z : State (List ℕ)) → Acceptable es text r t s z → c ≡ 10 → (o : Write.Outcome) × LeavesWritten es text r s z o × InWriteWords o w
   pub only : w .answer % 2 ^ 32 ≡ 0 → (c ≡ 10) × ((s : List ℕ) × (z : State (List ℕ)) × Acceptable es text r t s z)
   pub refuses : (n p : ℕ) → 1 ≤ n → n < 32 → (w .answer ≡ p * 32 + n) ↔ WordsRefusedBy es text r t c n p

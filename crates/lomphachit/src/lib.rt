@@ -7,7 +7,7 @@ ghost use Rattle.reader.specs.Words.{leaving, readWords};
 ghost use Rattle.writer.specs.Words.{leaving as written, writeWords};
 
 // 0 for a document of the link, else the place times 32 plus the refusal's number.
-// Ruled out: 0 where there are no octets, which is 1; 2, a refusal with no place, for E0 00 00 01 00 and nothing behind it, which is 2 at 5, so 162.
+// No octets: 1, which is SIZE at place 0; 0 would be wrong. E0 00 00 01 00 and nothing behind it: 162, which is TRUNCATED at place 5; 2, without the place, would be wrong.
 #[no_mangle]
 pub extern "C" fn lomphachit_check(octets: &[u8]) -> u32
     ensures { λ r. ⌜ r ≡ checkOf (now (octets .entry)) ⌝ }
@@ -17,7 +17,7 @@ pub extern "C" fn lomphachit_check(octets: &[u8]) -> u32
 
 // The events, tables and counts of a document into lent words; the answer has the event count above its low 32 bits, and in them what the check says of so
 // much room.
-// Ruled out: a refusal that leaves a word of an event read before the fault; an acceptance that leaves what stood behind the last event before the call.
+// Wrong would be: on a refusal, a word that is left of an event before the fault; on acceptance, a word behind the last event that stood there before the call.
 #[no_mangle]
 pub extern "C" fn lomphachit_read(
     octets: &[u8],
@@ -32,7 +32,7 @@ pub extern "C" fn lomphachit_read(
 
 // A document from records in words over a text area, into lent octets, tables and counts; the answer has the octet count above its low 32 bits, and in them 0
 // or the event's number times 32 plus the refusal's.
-// Ruled out: an octet that stood behind the document before the call; 14 at the event behind the one that does not fit.
+// Wrong would be: on acceptance, an octet behind the document that stood there before the call; ROOM with the number of the event behind the one that does not fit.
 #[no_mangle]
 pub extern "C" fn lomphachit_write(
     records: &[u32],

@@ -3,7 +3,7 @@
 use mathlib.Core.Path.{_≡_, refl, sym, ap, _∙_}
 use mathlib.Core.Bool.{true, false}
 use mathlib.Core.List.{List, [], _∷_, _++_, map, append-assoc}
-use Prim.Native.Nat.{ℕ, zero, suc, _+_, _-_, _*_, _/_, _%_, _^_, _≤_}
+use Prim.Native.Nat.{ℕ, _+_, _-_, _*_, _/_, _%_, _^_, _≤_}
 use native.Mathlib.Omega.{arith}
 use native.Mathlib.Decide.{ℕ-discrete}
 use borrow.Author.Tests.{eq-eqb, ne-eqb}
@@ -20,6 +20,7 @@ use Rattle.tables.proofs.Laws.{counts-are}
 use Rattle.events.specs.declared.Event.{Event}
 use Rattle.events.specs.Records.{blank, recordOf}
 use Rattle.events.specs.Words.{recordWords, rowWords}
+use Rattle.events.proofs.BlankWords.{blank-words, blank-all}
 use Rattle.reader.specs.declared.Answer.{Answer}
 use Rattle.reader.specs.declared.Answer.the-variants.{Accepted, Refused}
 use Rattle.reader.specs.Reading.{Result, accepted, refusal, sized, reading, outcome, readOf}
@@ -37,19 +38,6 @@ item-length : (is : List (Item Located)) → length (itemWords is) ≡ 13 * leng
 unfolding itemWords
 item-length [] = refl
 item-length (i ∷ is) = let e = item-length is in length-append (recordWords (recordOf (i .event))) (itemWords is) ∙ omega arith
-
--- a blank record is 13 words of 0
-blank-words : (n : ℕ) → rowWords (replicate n blank) ≡ replicate (13 * n) 0
-unfolding rowWords
-blank-words zero = refl
-blank-words (suc n) =
-    let z : 13 * suc n ≡ 13 + 13 * n = omega arith in
-    rw (z, blank-words n) (replicate-append-replicate {A = ℕ} 13 (13 * n) 0)
-
-pub blank-all : (r : ℕ) → rowWords (replicate (r / 13) blank) ++ replicate (r % 13) 0 ≡ replicate r 0
-blank-all r =
-    let z : 13 * (r / 13) + r % 13 ≡ r = omega arith in
-    rw (blank-words (r / 13)) (replicate-append-replicate {A = ℕ} (13 * (r / 13)) (r % 13) 0 ∙ ap (λ (k : ℕ). replicate k 0) z)
 
 row-words : (is : List (Item Located)) (es : List Event) → rowWords (map (λ (i : Item Located). recordOf (i .event)) is ++ es) ≡ itemWords is ++ rowWords es
 unfolding rowWords itemWords

@@ -193,7 +193,7 @@ fn admitted(s: &[u8], room: usize) -> Opening
 }
 
 // Any octets, any room. Nothing of what was in the room before is left in it.
-// Ruled out: a refusal that leaves the records of events before the fault; an acceptance whose counts go on from those of an earlier document.
+// Wrong would be: on a refusal, records that are left of events before the fault; on acceptance, counts that go on from those of an earlier document.
 pub fn read(octets: &[u8], events: &mut [Event], tables: &mut [u32]) -> Answer
     ensures { λ r. ⌜ Leaves r (now (events .exit)) (now (tables .exit)) (readOf (now (octets .entry)) (length (now (events .entry))) (length (now (tables .entry)))) ⌝ }
 {

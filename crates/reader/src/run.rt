@@ -200,7 +200,7 @@ fn number(a: Answer) -> u32
 }
 
 // Any octets, as a reader with 32,768 event records, of which none is held.
-// Ruled out: 14, for want of room; 0 for a document that is right up to octets behind its end.
+// Wrong would be: ROOM, since it needs no records; 0 for a document with octets behind its end, which is STRUCTURE.
 pub fn check(octets: &[u8]) -> u32
     ensures { λ r. ⌜ r ≡ checkOf (now (octets .entry)) ⌝ }
 {
@@ -211,7 +211,7 @@ pub fn check(octets: &[u8]) -> u32
 
 // A document into words: a record for each event, the tables, the ten counts. The answer has the event count above its low 32 bits, and in them 0 or the
 // refusal's number, which leaves every word 0.
-// Ruled out: a refusal that leaves the tables read before the fault; an acceptance that leaves a word of what stood behind the last whole record.
+// Wrong would be: on a refusal, tables that are left from before the fault; on acceptance, a word behind the last whole record that stood there before the call.
 pub fn read_words(octets: &[u8], records: &mut [u32], tables: &mut [u32], counts: &mut [u32]) -> u64
     ensures { λ r. ⌜ leaving r (now (records .exit)) (now (tables .exit)) (now (counts .exit)) ≡ readWords (now (octets .entry)) (length (now (records .entry))) (length (now (tables .entry))) (length (now (counts .entry))) ⌝ }
 {

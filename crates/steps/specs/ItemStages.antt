@@ -32,7 +32,7 @@ pub record Meets (s v : List ℕ) (r : Step) (w : List ℕ) (d : I.Step) : Type 
   pub is : seenStep r w ≡ stepSeen d
   pub good : StepGood s v r w
 
--- So it is with any tables, for code that does not touch them.
+-- The same for any tables, for code that does not touch them.
 abbrev pub Keeps : List ℕ → State → Step → (Stand → I.Step) → Type 0
 Keeps s st r d = (w : List ℕ) → Good s st w → Meets s w r w (d (standOf st w))
 

@@ -27,7 +27,7 @@ module _ (records text : List ℕ) (r t c : ℕ) where
     words-counts l = rw (le-leb _ _ l, ne-eqb _ _ n)
 
   module _ (b : c ≡ 10) where
-    pub size-first : (s : Bool) → leb (length text) 16384 ≡ s → inWords (writeOf (recordsOf records) text r t) ≡ writeWords records text r t c
+    size-first : (s : Bool) → leb (length text) 16384 ≡ s → inWords (writeOf (recordsOf records) text r t) ≡ writeWords records text r t c
     unfolding writeWords writeOf inWords
     size-first true e = rw (e, eq-eqb _ _ b)
     size-first false e = rw (e, b)

@@ -35,7 +35,7 @@ Lies text (Stretch p n) = (0 < n) × (p + n ≤ length text)
 Lies text XmlPrefix = Unit {0}
 Lies text XmlNamespace = Unit {0}
 
--- So it is with each string of a record.
+-- Each string of a record is so.
 pub record Placed (text : List ℕ) (e : Event) : Type 0 where
   pub prefix : Lies text (e .prefix)
   pub namespace : Lies text (e .namespace)

@@ -97,7 +97,7 @@ abbrev pub Turns : List ℕ → (room table i : ℕ) → Phase → (out w : List
 Turns text room table i p out w e a p′ out′ w′ =
     (es : List Event) → Going es text room table i p out w → drop i es ≡ e ∷ drop (suc i) es → a ≡ announced (drop (lookFrom p i (length es)) es) → Going es text room table (i + 1) p′ out′ w′
 
--- No further record is to be written, and this came of it; what is left in the room is then seen to.
+-- What the records came to, once no further one is to be written; the lent room behind it is blanked after that.
 abbrev pub Ends : (room i : ℕ) → Phase → List ℕ → Answer → List ℕ → Type 0
 Ends room i p out r out′ =
     (es : List Event) (text w : List ℕ) → Going es text room (length w) i p out w → goesOn p i (length es) ≡ false → remains room (length w) r out′ w ≡ writeOf es text room (length w)

@@ -226,7 +226,7 @@ fn number(a: Answer) -> u64
 
 // Records in words, and a text area, into octets, the tables and the ten counts. The answer has the octet count above its low 32 bits, and in them 0 or the
 // refusal's number, which leaves every octet and word 0.
-// Ruled out: a refusal that leaves the octets of the events before the fault; an acceptance that leaves an octet of what stood behind the document.
+// Wrong would be: on a refusal, octets that are left of events before the fault; on acceptance, an octet behind the document that stood there before the call.
 pub fn write_words(
     records: &[u32],
     text: &[u8],

@@ -7,7 +7,7 @@ use crate::run;
 use events::Event;
 
 // Any row of records, any text area, any room. Nothing of what was in the room before is left in it.
-// Ruled out: a refusal that leaves the octets of the events before the fault; an acceptance whose tables go on from those of an earlier document.
+// Wrong would be: on a refusal, octets that are left of events before the fault; on acceptance, tables that go on from those of an earlier document.
 pub fn write(events: &[Event], text: &[u8], out: &mut [u8], tables: &mut [u32]) -> Answer
     ensures { λ r. ⌜ Leaves r (now (out .exit)) (now (tables .exit)) (writeOf (now (events .entry)) (now (text .entry)) (length (now (out .entry))) (length (now (tables .entry)))) ⌝ }
 {
