@@ -19,7 +19,8 @@ use Rattle.writer.specs.Events.{isDeclaring}
 use Rattle.tables.proofs.Found.{clash}
 use Rattle.tables.proofs.Laws.{strings-adding, names-adding}
 use Rattle.demands.proofs.Lists.{halves-length, pad-length}
-use Rattle.demands.proofs.OneWriting.{isAttribute, inList, identifying-one, literal-one, value-one, named-one, declared-one, where-attributes, no-end}
+use Rattle.writer.specs.Writing.{isAttribute}
+use Rattle.demands.proofs.OneWriting.{inList, identifying-one, literal-one, value-one, named-one, declared-one, where-attributes, no-end}
 use Rattle.demands.proofs.Growing.{names-adding-name, strings-adding-name, same-table, same-name-table, extended-few}
 use Rattle.demands.proofs.Documents.{events}
 

@@ -9,7 +9,7 @@ use borrow.Author.Tests.{lt-leb}
 use lib.Dec.{leb}
 use lib.ListN.{length, length-map}
 use Rattle.format.specs.Numbers.{top}
-use Rattle.format.specs.Events.{Event, Namespace, Start, Attribute, Text, Comment, Instruction, End, Item, IsDocument, openThen, deepest, isStart, stringsOf, isDeclaration}
+use Rattle.format.specs.Events.{Event, Namespace, Start, Attribute, Text, Comment, Instruction, End, Item, IsDocument, openThen, deepest, stringsOf}
 use Rattle.format.specs.Tables.{Vocabulary, Limits, link, standard, InLimits}
 use Rattle.format.specs.Items.{State, knowing}
 use Rattle.format.specs.Document.{Written, document-end, beginning, header, started}
@@ -17,10 +17,9 @@ use Rattle.format.specs.Allowed.{All, Allowed}
 use Rattle.choices.specs.Chosen.{chosen, tablesAfter}
 use Rattle.writer.specs.Writing.{opens, joined}
 use Rattle.fields.proofs.Laws.{case}
-use Rattle.tables.proofs.Found.{clash}
 use Rattle.demands.specs.Verdicts.{WrittenAs, WrittenWidely, OrPasses, on-the-link, over-depth, over-entries, over-octets}
 use Rattle.demands.specs.Permitted.{Permits, PermitsAll, no-item, an-item}
-use Rattle.demands.proofs.OneWriting.{later, one-writing}
+use Rattle.demands.proofs.OneWriting.{later, one-writing, later-start, later-declared}
 use Rattle.demands.proofs.Wider.{written}
 use Rattle.demands.proofs.Structure.{Rest, Sane, stepped, attributeFirst, goes, on, sane-on, ended, deep, sane-first, all-left}
 use Rattle.demands.proofs.Documents.{events}
@@ -36,28 +35,6 @@ use Rattle.demands.proofs.Entries.{all-grow, chosen-permitted, chosen-e
 unfoldable pub announcedBy : List (Event (List ℕ)) → Bool
 announcedBy [] = false
 announcedBy (e ∷ es) = later e (attributeFirst es) (announcedBy es)
-
--- the attribute bit is the one that the structure asks for, and the one that is ahead
-module _ (es : List (Event (List ℕ))) where
-  bit-is : (e : Event (List ℕ)) → isStart e ≡ true → attributeFirst es ≡ announcedBy (e ∷ es)
-  unfolding announcedBy
-  bit-is (Namespace p n) t = clash t
-  bit-is (Start x) t = refl
-  bit-is (Attribute x y) t = clash t
-  bit-is (Text y) t = clash t
-  bit-is (Comment y) t = clash t
-  bit-is (Instruction x y) t = clash t
-  bit-is End t = clash t
-
-  declared-on : (e : Event (List ℕ)) → isDeclaration e ≡ true → announcedBy (e ∷ es) ≡ announcedBy es
-  unfolding announcedBy
-  declared-on (Namespace p n) t = refl
-  declared-on (Start x) t = clash t
-  declared-on (Attribute x y) t = clash t
-  declared-on (Text y) t = clash t
-  declared-on (Comment y) t = clash t
-  declared-on (Instruction x y) t = clash t
-  declared-on End t = clash t
 
 -- ---- how deep
 level-is : (a : Bool) (v : State (List ℕ)) (e : Event (List ℕ)) → stepped a v e .level ≡ openThen (v .level) e
@@ -88,6 +65,7 @@ pub record CanWrite (L : Limits) (at : ℕ) (v : State (List ℕ)) (items : List
 module _ (L : Limits) (small : L .entries ≤ top) where
   can-write : {w : Vocabulary (List ℕ)} (items : List (Item (List ℕ))) (at : ℕ) (v : State (List ℕ)) → Rest v (events items) → Sane v → All Said (events items) → deepest (v .level) (events items) ≤ L .depth → InLimits L w
       → Ahead (v .mode) (announcedBy (events items)) → PermitsAll (v .words) items w → CanWrite L at v items w
+  unfolding announcedBy
   can-write [] at v k s sd dp i ah no-item = let e = ended v s k in record { halves = _; last = v; rule = document-end (e .0) (e .1) (e .2); known = refl }
   can-write (x ∷ items) at v k s sd dp i ah (an-item {u = u} p ps) =
       let e : Event (List ℕ) = x .event in
@@ -97,8 +75,8 @@ module _ (L : Limits) (small : L .entries ≤ top) where
       let d : (opens (v .mode) e ≡ true → v .level < L .depth) = λ t. let y = deep v e es s k t in omega arith in
       let b = front L small at a v e ah (sd .0) go (shallow (opens (v .mode) e) (L .depth) (v .level) d) (fits-before (all-grow ps) i)
       (subst (λ (y : Vocabulary (List ℕ)). Permits y e (x .choice) u) (sym (words-settled v e)) p) in
-      let next = can-write items _ (knowing (stepped a v e) u) (on a v e es s k (bit-is es e)) (sane-on a v e s go) (sd .1) (deep-on (L .depth) a v e es dp) i
-      (ahead-next a (announcedBy es) v e (declared-on es e)) ps in
+      let next = can-write items _ (knowing (stepped a v e) u) (on a v e es s k (λ t. sym (later-start e (attributeFirst es) (announcedBy es) t))) (sane-on a v e s go) (sd .1) (deep-on (L .depth) a v e es dp) i
+      (ahead-next a (announcedBy es) v e (later-declared e (attributeFirst es) (announcedBy es))) ps in
       record { halves = _; last = next .last; rule = B.front (rw (next-state a v e go p) at b) (next .rule) .0; known = next .known }
 
 -- ---- a whole document

@@ -5,24 +5,17 @@ use mathlib.Core.Option.{Option}
 use mathlib.Core.List.{List, [], _∷_, _++_}
 use Prim.Native.Nat.{ℕ, suc, _+_, _*_}
 use native.Mathlib.Omega.{arith}
-use Rattle.format.specs.Events.{Name, Event, Namespace, Start, Attribute, Text, Comment, Instruction, End, How, numbered, NameHow, Item, _by_, forEnd}
+use Rattle.format.specs.Events.{Name, Event, Namespace, Start, Attribute, Text, Comment, Instruction, End, How, numbered, NameHow, Item, _by_, forEnd, isDeclaration, isStart}
 use Rattle.format.specs.Tables.{StringTable, Vocabulary, addingName, Limits}
 use Rattle.format.specs.Strings.{bit, Identifying, id-spelled, id-numbered, Optional, absent, present, Layout, Literal, literal-spelled, literal-numbered, Value, value-empty, value}
 use Rattle.format.specs.Names.{has, NameLayout, Named, in-parts, by-number, Declared, declared}
 use Rattle.format.specs.Items.{Mode, content, declaring, listing, State, afterStart, knowing, moved, opened, Octets, o-start, o-first-namespace, o-namespace, o-named-start, o-attribute, o-text, o-comment, o-instruction}
+use Rattle.writer.specs.Writing.{isAttribute}
+use Rattle.tables.proofs.Found.{clash as false-true}
 use Rattle.format.specs.Document.{halves, pad, Written, document-end, attributes-end, element-end, item, Document}
 use Rattle.demands.proofs.Lists.{octet-is}
 
 -- Whether attributes follow is decided by the items: by the next, and behind declarations by the one behind the Start.
-abbrev pub isAttribute : Event (List ℕ) → Bool
-isAttribute (Namespace p n) = false
-isAttribute (Start x) = false
-isAttribute (Attribute x y) = true
-isAttribute (Text y) = false
-isAttribute (Comment y) = false
-isAttribute (Instruction x y) = false
-isAttribute End = false
-
 abbrev attributeNext : List (Item (List ℕ)) → Bool
 attributeNext [] = false
 attributeNext (i ∷ is) = isAttribute (i .event)
@@ -35,6 +28,25 @@ later (Text y) next behind = false
 later (Comment y) next behind = false
 later (Instruction x y) next behind = false
 later End next behind = false
+
+-- A Start has the bit of what is next, a declaration that of what is behind it.
+pub later-start : (e : Event (List ℕ)) (next behind : Bool) → isStart e ≡ true → later e next behind ≡ next
+later-start (Namespace p n) next behind t = false-true t
+later-start (Start x) next behind t = refl
+later-start (Attribute x y) next behind t = false-true t
+later-start (Text y) next behind t = false-true t
+later-start (Comment y) next behind t = false-true t
+later-start (Instruction x y) next behind t = false-true t
+later-start End next behind t = false-true t
+
+pub later-declared : (e : Event (List ℕ)) (next behind : Bool) → isDeclaration e ≡ true → later e next behind ≡ behind
+later-declared (Namespace p n) next behind t = refl
+later-declared (Start x) next behind t = false-true t
+later-declared (Attribute x y) next behind t = false-true t
+later-declared (Text y) next behind t = false-true t
+later-declared (Comment y) next behind t = false-true t
+later-declared (Instruction x y) next behind t = false-true t
+later-declared End next behind t = false-true t
 
 attributeLater : List (Item (List ℕ)) → Bool
 attributeLater [] = false

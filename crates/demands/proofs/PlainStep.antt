@@ -21,8 +21,9 @@ use Rattle.choices.specs.Chosen.{chooseFor}
 use Rattle.writer.specs.Events.{isDeclaring, isListing, eventOf}
 use Rattle.writer.specs.Items.{WroteItem, writeItem}
 use Rattle.writer.specs.Writing.{attributeNext, announced, isAttribute, isEnd, opens, owed, settled, halvesOf}
-use Rattle.tables.proofs.Found.{clash, both-true}
+use Rattle.tables.proofs.Found.{both-true}
 use Rattle.demands.specs.Verdicts.{plainOf}
+use Rattle.demands.proofs.OneWriting.{later, later-start, later-declared}
 use Rattle.demands.proofs.Produced.{Rest, octetsBy, knownBy}
 use Rattle.demands.proofs.WriterChoices.{SameItem, same-item}
 use Rattle.demands.proofs.Step.{halvesAs, halvesBy, nextBy, words-settled}
@@ -84,35 +85,26 @@ module _ (text : List ℕ) where
       go Instruction = refl
       go End = refl
 
-  pub announced-start : (e : Event) (es : List Event) → isStart (plainOf text e) ≡ true → announced (e ∷ es) ≡ attributeNext es
+  announced-is : (e : Event) (es : List Event) → announced (e ∷ es) ≡ later (plainOf text e) (attributeNext es) (announced es)
   unfolding announced eventOf eventMap
-  announced-start e es t = go (e .kind) t
+  announced-is e es = go (e .kind)
     where
-      go : (k : Kind) → isStart (eventMap (octetsOf text) (eventOf k e)) ≡ true
-          → elim k [ Blank ↦ false | Namespace ↦ announced es | Start ↦ attributeNext es | Attribute ↦ false | Chunk ↦ false | Comment ↦ false | Instruction ↦ false | End ↦ false ] ≡ attributeNext es
-      go Blank t = clash t
-      go Namespace t = clash t
-      go Start t = refl
-      go Attribute t = clash t
-      go Chunk t = clash t
-      go Comment t = clash t
-      go Instruction t = clash t
-      go End t = clash t
+      go : (k : Kind) → elim k [ Blank ↦ false | Namespace ↦ announced es | Start ↦ attributeNext es | Attribute ↦ false | Chunk ↦ false | Comment ↦ false | Instruction ↦ false | End ↦ false ]
+          ≡ later (eventMap (octetsOf text) (eventOf k e)) (attributeNext es) (announced es)
+      go Blank = refl
+      go Namespace = refl
+      go Start = refl
+      go Attribute = refl
+      go Chunk = refl
+      go Comment = refl
+      go Instruction = refl
+      go End = refl
+
+  pub announced-start : (e : Event) (es : List Event) → isStart (plainOf text e) ≡ true → announced (e ∷ es) ≡ attributeNext es
+  announced-start e es t = announced-is e es ∙ later-start (plainOf text e) (attributeNext es) (announced es) t
 
   pub announced-on : (e : Event) (es : List Event) → isDeclaration (plainOf text e) ≡ true → announced (e ∷ es) ≡ announced es
-  unfolding announced eventOf eventMap
-  announced-on e es t = go (e .kind) t
-    where
-      go : (k : Kind) → isDeclaration (eventMap (octetsOf text) (eventOf k e)) ≡ true
-          → elim k [ Blank ↦ false | Namespace ↦ announced es | Start ↦ attributeNext es | Attribute ↦ false | Chunk ↦ false | Comment ↦ false | Instruction ↦ false | End ↦ false ] ≡ announced es
-      go Blank t = clash t
-      go Namespace t = refl
-      go Start t = clash t
-      go Attribute t = clash t
-      go Chunk t = clash t
-      go Comment t = clash t
-      go Instruction t = clash t
-      go End t = clash t
+  announced-on e es t = announced-is e es ∙ later-declared (plainOf text e) (attributeNext es) (announced es) t
 
 -- ---- one event
 module _ (L : Limits) (text : List ℕ) (a : Bool) (v : State Located) (e : E.Event Located) where

@@ -58,7 +58,7 @@ pub record FitsIn (room : ℕ) (items : List (Item (List ℕ))) : Type 0 where
   pub are : Begun link (2 * length header) (beginning started) items halves last
   pub fit : aligned (2 * length header + length halves) / 2 ≤ min room (link .octets)
 
--- Or they are written so too, and do not fit.
+-- The rules write these items behind the header, but what they write does not fit.
 pub record Overflows (room : ℕ) (items : List (Item (List ℕ))) : Type 0 where
   pub halves : List ℕ
   pub last : State (List ℕ)
