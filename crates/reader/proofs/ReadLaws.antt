@@ -23,20 +23,20 @@ use Rattle.tables.proofs.Laws.{entries-are, counts-are}
 use Rattle.events.specs.declared.Event.{Event}
 use Rattle.events.specs.Records.{blank, recordOf}
 use Rattle.reader.specs.declared.Answer.the-variants.{Accepted}
-use Rattle.steps.specs.declared.State.{State}
-use Rattle.steps.specs.declared.Step.{Step}
-use Rattle.steps.specs.declared.Step.the-variants.{More, Quiet, Done, Stop}
+use Rattle.read_items.specs.declared.State.{State}
+use Rattle.read_items.specs.declared.Step.{Step}
+use Rattle.read_items.specs.declared.Step.the-variants.{More, Quiet, Done, Stop}
 use Rattle.reader.specs.declared.read.Place.{Place}
 use Rattle.reader.specs.declared.read.Next.{Next}
 use Rattle.reader.specs.declared.read.Next.the-variants.{Found, Finished, Refused}
-use Rattle.steps.specs.Items as I
-use Rattle.steps.specs.Items.{Stand}
-use Rattle.steps.specs.Steps.{step}
+use Rattle.read_items.specs.Items as I
+use Rattle.read_items.specs.Items.{Stand}
+use Rattle.read_items.specs.Steps.{step}
 use Rattle.reader.specs.Reading.{Opening, onward, halt, sized, opening, Result, accepted, refusal, plus, turn, run, origin, fuelOf, told, Outcome, refusing, accepting, outcome, resultFrom, reading, readOf}
-use Rattle.steps.specs.Code.{standOf, seenStep, stepSeen, Good, StepGood}
+use Rattle.read_items.specs.Code.{standOf, seenStep, stepSeen, Good, StepGood}
 use Rattle.reader.specs.ReadStages.{stateOf, placeOf, first, standAt, Reached, found, ended, fault, reach, nextOf, seenNext, Reaches, finished, Small, settled, admission}
-use Rattle.names.proofs.StringLaws.{tests}
-use Rattle.steps.proofs.Places.{step-placed}
+use Rattle.read_names.proofs.StringLaws.{tests}
+use Rattle.read_items.proofs.Places.{step-placed}
 use Rattle.reader.proofs.RunLaws.{PlacedSeen, placed-seen, opens, start-is, underway-start}
 
 -- ---- steps in a document s, from a state with so many steps left and tables v: what follows from here is what follows from there

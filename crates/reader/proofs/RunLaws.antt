@@ -23,18 +23,18 @@ use Rattle.events.specs.Words.{kindNumber, textWords, recordWords}
 use Rattle.tables.proofs.Found.{both-true}
 use Rattle.reader.specs.declared.Answer.{Answer}
 use Rattle.reader.specs.declared.Answer.the-variants.{Accepted, Refused}
-use Rattle.steps.specs.declared.State.{State}
-use Rattle.steps.specs.declared.Step.{Step}
-use Rattle.steps.specs.declared.Step.the-variants.{More, Quiet, Done, Stop}
-use Rattle.steps.specs.Items as I
-use Rattle.steps.specs.Items.{Stand}
-use Rattle.steps.specs.Steps.{step}
+use Rattle.read_items.specs.declared.State.{State}
+use Rattle.read_items.specs.declared.Step.{Step}
+use Rattle.read_items.specs.declared.Step.the-variants.{More, Quiet, Done, Stop}
+use Rattle.read_items.specs.Items as I
+use Rattle.read_items.specs.Items.{Stand}
+use Rattle.read_items.specs.Steps.{step}
 use Rattle.reader.specs.Reading.{Opening, onward, halt, sized, opening, Result, accepted, refusal, plus, turn, run, origin, fuelOf, reading, numberOf, checkOf}
-use Rattle.names.specs.Code.{Ranged}
-use Rattle.steps.specs.Code.{standOf, SeenStep, more, quiet, done, stop, seenStep, stepSeen, Good, StepGood}
+use Rattle.read_names.specs.Code.{Ranged}
+use Rattle.read_items.specs.Code.{standOf, SeenStep, more, quiet, done, stop, seenStep, stepSeen, Good, StepGood}
 use Rattle.reader.specs.RunStages.{fresh, Ending, ended, faulty, endingOf, seenEnding, itemWords, kept, keptFrom, Small, answerNumber, Ran}
-use Rattle.names.proofs.StringLaws.{tests}
-use Rattle.steps.proofs.Places.{Placed, step-placed}
+use Rattle.read_names.proofs.StringLaws.{tests}
+use Rattle.read_items.proofs.Places.{Placed, step-placed}
 
 -- ---- the first four octets
 abbrev four : List ℕ

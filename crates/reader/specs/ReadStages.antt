@@ -15,15 +15,15 @@ use Rattle.tables.specs.Rows.{vocabulary}
 use Rattle.events.specs.declared.Event.{Event}
 use Rattle.reader.specs.declared.Answer.{Answer}
 use Rattle.reader.specs.declared.Answer.the-variants.{Accepted, Refused}
-use Rattle.steps.specs.declared.State.{State}
+use Rattle.read_items.specs.declared.State.{State}
 use Rattle.reader.specs.declared.read.Place.{Place}
 use Rattle.reader.specs.declared.read.Next.{Next}
 use Rattle.reader.specs.declared.read.Next.the-variants.{Found, Finished, Refused as Faulty}
-use Rattle.steps.specs.Items.{Stand}
-use Rattle.names.specs.Code.{Tidy}
-use Rattle.steps.specs.Code.{SeenStep, more, quiet, done, stop, stepSeen, Good, standOf}
+use Rattle.read_items.specs.Items.{Stand}
+use Rattle.read_names.specs.Code.{Tidy}
+use Rattle.read_items.specs.Code.{SeenStep, more, quiet, done, stop, stepSeen, Good, standOf}
 use Rattle.reader.specs.RunStages.{fresh}
-use Rattle.steps.specs.Steps.{step}
+use Rattle.read_items.specs.Steps.{step}
 use Rattle.reader.specs.Reading.{Opening, halt, opening, sized, told, Outcome, refusing}
 
 -- A place with counts, and without.

@@ -19,8 +19,8 @@ use Rattle.tables.specs.Located.{Located, plain, plainState, start}
 use Rattle.events.specs.Records.{blank, recordOf}
 use Rattle.reader.specs.declared.Answer as A
 use Rattle.reader.specs.declared.Answer.the-variants.{Accepted, Refused}
-use Rattle.steps.specs.Steps.{step}
-use Rattle.steps.specs.Items.{Stand, Step, more, quiet, done, stop}
+use Rattle.read_items.specs.Steps.{step}
+use Rattle.read_items.specs.Items.{Stand, Step, more, quiet, done, stop}
 
 -- Items in order and where the reader stands at the end; or a refusal.
 pub data Result : Type 0 where

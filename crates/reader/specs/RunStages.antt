@@ -19,8 +19,8 @@ use Rattle.events.specs.Records.{recordOf}
 use Rattle.events.specs.Words.{recordWords}
 use Rattle.reader.specs.declared.Answer.{Answer}
 use Rattle.reader.specs.declared.Answer.the-variants.{Accepted, Refused}
-use Rattle.steps.specs.declared.Mode.the-variants.{Content}
-use Rattle.steps.specs.declared.State.{State}
+use Rattle.read_items.specs.declared.Mode.the-variants.{Content}
+use Rattle.read_items.specs.declared.State.{State}
 use Rattle.reader.specs.declared.run.Opening.{Opening}
 use Rattle.reader.specs.declared.run.Opening.the-variants.{Onward, Halt}
 use Rattle.reader.specs.Reading as R

@@ -7,7 +7,7 @@ ghost use Rattle.format.specs.Tables.{link};
 ghost use Rattle.tables.specs.Located.{start};
 ghost use Rattle.tables.specs.Counts.{words};
 ghost use Rattle.events.specs.Records.{blank};
-ghost use Rattle.steps.specs.Code.{Good};
+ghost use Rattle.read_items.specs.Code.{Good};
 ghost use Rattle.reader.specs.Reading.{run, origin, fuelOf, outcome, Leaves, readOf};
 ghost use Rattle.reader.specs.RunStages.{openingOf};
 ghost use Rattle.reader.specs.ReadStages.{first, stateOf, placeOf, Reaches, Small, finished, settled, admission};
@@ -15,9 +15,9 @@ use crate::Answer;
 use crate::run;
 use crate::run::Opening;
 use events::Event;
-use steps::Mode;
-use steps::State;
-use steps::Step;
+use read_items::Mode;
+use read_items::State;
+use read_items::Step;
 use tables::Counts;
 
 // Where the reader stands, but for the counts, which are lent; and how many steps it may still take.

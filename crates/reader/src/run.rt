@@ -14,9 +14,9 @@ ghost use Rattle.reader.specs.Words.{leaving, readWords};
 use crate::Answer;
 use events::Event;
 use events::Text;
-use steps::Mode;
-use steps::State;
-use steps::Step;
+use read_items::Mode;
+use read_items::State;
+use read_items::Step;
 use tables::Counts;
 
 // The refusals that a run has of its own.

@@ -14,7 +14,7 @@ use Rattle.format.specs.Items.{State}
 use Rattle.tables.specs.Located.{Located}
 use Rattle.events.specs.declared.Event.{Event}
 use Rattle.writer.specs.Events.{wellMade, eventOf, goesOn, allText}
-use Rattle.choices.specs.Choices.{within}
+use Rattle.write_names.specs.Choices.{within}
 use Rattle.writer.specs.Items.{WroteItem}
 use Rattle.writer.specs.Writing.{opens, fits, judge}
 use Rattle.writer.specs.Code.{faultOf}

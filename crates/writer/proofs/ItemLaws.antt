@@ -33,14 +33,14 @@ use Rattle.events.specs.declared.Kind.the-variants.{Namespace, Start, Attribute
 use Rattle.events.specs.declared.Event.{Event}
 use Rattle.events.specs.Records.{locatedOf, optionalOf}
 use Rattle.events.specs.Words.{textTag, textPlace, textSize}
-use Rattle.choices.specs.declared.Here.{Here}
-use Rattle.choices.specs.declared.Wrote as W
-use Rattle.choices.specs.declared.Wrote.the-variants.{Put, Full}
-use Rattle.choices.specs.declared.Parts.{Parts}
-use Rattle.choices.specs.Choices.{Wrote, writeId, writeOptional, writeName, writeLiteral, writeValue, worthAdding, within}
-use Rattle.choices.specs.Code.{InOrder, Suits, Fills, Spells, namedOf, tripleFor, pairBehind, declaredBy, Stands, Meets}
-use Rattle.choices.proofs.NameLaws.{names-kept}
-use Rattle.choices.proofs.StringLaws.{spells-suits, spells-stretch}
+use Rattle.write_names.specs.declared.Here.{Here}
+use Rattle.write_names.specs.declared.Wrote as W
+use Rattle.write_names.specs.declared.Wrote.the-variants.{Put, Full}
+use Rattle.write_names.specs.declared.Parts.{Parts}
+use Rattle.write_names.specs.Choices.{Wrote, writeId, writeOptional, writeName, writeLiteral, writeValue, worthAdding, within}
+use Rattle.write_names.specs.Code.{InOrder, Suits, Fills, Spells, namedOf, tripleFor, pairBehind, declaredBy, Stands, Meets}
+use Rattle.write_names.proofs.NameLaws.{names-kept}
+use Rattle.write_names.proofs.StringLaws.{spells-suits, spells-stretch}
 use Rattle.tables.proofs.Found.{clash}
 use Rattle.writer.specs.declared.Mode.{Mode}
 use Rattle.writer.specs.declared.Mode.the-variants.{Content, Declaring, Listing}

@@ -24,7 +24,7 @@ use Rattle.tables.proofs.Laws.{vocabulary-start, entries-are, counts-are}
 use Rattle.events.specs.declared.Kind.{Kind}
 use Rattle.events.specs.declared.Kind.the-variants.{Blank, Namespace, Start, Attribute, Chunk, Comment, Instruction, End}
 use Rattle.events.specs.declared.Event.{Event}
-use Rattle.choices.proofs.Order.{order-start}
+use Rattle.write_names.proofs.Order.{order-start}
 use Rattle.tables.proofs.Found.{both-true}
 use Rattle.writer.specs.declared.Answer.{Answer}
 use Rattle.writer.specs.declared.Answer.the-variants.{Accepted, Refused}

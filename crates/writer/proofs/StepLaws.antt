@@ -15,8 +15,8 @@ use Rattle.format.specs.Items as F
 use Rattle.format.specs.Document.{aligned}
 use Rattle.tables.specs.Located.{Located}
 use Rattle.events.specs.declared.Event.{Event}
-use Rattle.choices.specs.Choices.{within}
-use Rattle.choices.proofs.Order.{within-order}
+use Rattle.write_names.specs.Choices.{within}
+use Rattle.write_names.proofs.Order.{within-order}
 use Rattle.tables.proofs.Found.{clash, both-true}
 use Rattle.writer.specs.declared.State.{State}
 use Rattle.writer.specs.declared.Step.{Step}

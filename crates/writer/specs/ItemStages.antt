@@ -14,10 +14,10 @@ use Rattle.fields.specs.Put.{Puts}
 use Rattle.tables.specs.Located.{Located}
 use Rattle.events.specs.declared.Kind.{Kind}
 use Rattle.events.specs.declared.Event.{Event}
-use Rattle.choices.specs.declared.Wrote.{Wrote}
-use Rattle.choices.specs.declared.Wrote.the-variants.{Put, Full}
-use Rattle.choices.specs.Choices.{within}
-use Rattle.choices.specs.Code.{InOrder}
+use Rattle.write_names.specs.declared.Wrote.{Wrote}
+use Rattle.write_names.specs.declared.Wrote.the-variants.{Put, Full}
+use Rattle.write_names.specs.Choices.{within}
+use Rattle.write_names.specs.Code.{InOrder}
 use Rattle.writer.specs.declared.Mode.{Mode}
 use Rattle.writer.specs.declared.Mode.the-variants.{Content, Listing}
 use Rattle.writer.specs.declared.State.{State}

@@ -11,7 +11,7 @@ use Rattle.format.specs.Names.{has, ofElement, ofAttribute}
 use Rattle.format.specs.Items.{Mode, content, declaring, listing, State, knowing, moved, opened}
 use Rattle.format.specs.Document.{closed}
 use Rattle.tables.specs.Located.{Located}
-use Rattle.choices.specs.Choices.{Wrote, writeId, writeOptional, writeName, writeLiteral, writeValue}
+use Rattle.write_names.specs.Choices.{Wrote, writeId, writeOptional, writeName, writeLiteral, writeValue}
 
 pub record WroteItem : Type 0 where
   pub octets : List ℕ

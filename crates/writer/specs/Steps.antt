@@ -8,7 +8,7 @@ use Rattle.format.specs.Items as F
 use Rattle.tables.specs.Located.{Located}
 use Rattle.tables.specs.Rows.{vocabulary}
 use Rattle.events.specs.declared.Event.{Event}
-use Rattle.choices.specs.Code.{InOrder}
+use Rattle.write_names.specs.Code.{InOrder}
 use Rattle.writer.specs.declared.Mode.{Mode}
 use Rattle.writer.specs.declared.Mode.the-variants.{Content, Declaring, Listing}
 use Rattle.writer.specs.declared.State.{State}

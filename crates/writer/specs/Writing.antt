@@ -21,7 +21,7 @@ use Rattle.tables.specs.Located.{Located, start}
 use Rattle.writer.specs.declared.Answer as A
 use Rattle.writer.specs.declared.Answer.the-variants.{Accepted, Refused}
 use Rattle.writer.specs.Events.{wellMade, eventOf, isContent, isDeclaring, isListing, goesOn, allText}
-use Rattle.choices.specs.Choices.{within}
+use Rattle.write_names.specs.Choices.{within}
 use Rattle.writer.specs.Items.{WroteItem, writeItem}
 
 -- The next event is an attribute; the element's Start, behind its declarations, is followed by one.

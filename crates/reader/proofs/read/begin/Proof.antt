@@ -3,7 +3,7 @@
 use mathlib.Core.Path.{_∙_, ap}
 use Prim.Native.Nat.{_+_, _*_}
 use borrow.Author.Needs.{needs}
-use Rattle.steps.specs.declared.State.{State}
+use Rattle.read_items.specs.declared.State.{State}
 use Rattle.reader.specs.ReadStages.{placeOf}
 use Rattle.reader.proofs.read.begin.Statement.{statement}
 use Rattle.reader.proofs.read.begin.Tie as tie

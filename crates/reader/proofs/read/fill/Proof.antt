@@ -75,7 +75,7 @@ use Rattle.reader.specs.declared.Answer.{Answer}
 use Rattle.reader.specs.declared.read.Place.{Place}
 use Rattle.reader.specs.declared.read.Next.{Next}
 use Rattle.reader.specs.declared.read.Next.the-variants.{Found, Finished, Refused}
-use Rattle.steps.specs.Code.{Good}
+use Rattle.read_items.specs.Code.{Good}
 use Rattle.reader.specs.Reading as Reading
 use Rattle.reader.specs.Reading.{Outcome, outcome, origin, fuelOf}
 use Rattle.reader.specs.ReadStages.{first, stateOf, Reaches, finished, Small, settled}

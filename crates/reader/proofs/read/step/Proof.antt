@@ -48,7 +48,7 @@ use Rattle.tables.proofs.Counts.Laws as T′
 use Rattle.reader.specs.declared.read.Place.{Place}
 use Rattle.reader.specs.declared.read.Turn.{Turn}
 use Rattle.reader.specs.declared.read.Next.{Next}
-use Rattle.steps.specs.Code.{Good}
+use Rattle.read_items.specs.Code.{Good}
 use Rattle.reader.specs.ReadStages.{stateOf, Reaches}
 use Rattle.reader.proofs.ReadValues.{valC, IsC, typedC, valP, IsP, typedP, valN, IsN, typedN}
 use Rattle.reader.proofs.read.Place as P

@@ -4,7 +4,7 @@ use borrow.Author.Needs.{needs}
 use native.Mathlib.Omega.{arith}
 use mathlib.Core.Path.{refl}
 use Rattle.events.specs.declared.Kind.the-variants.{Instruction}
-use Rattle.choices.proofs.StringLaws.{spells-suits, spells-stretch}
+use Rattle.write_names.proofs.StringLaws.{spells-suits, spells-stretch}
 use Rattle.writer.proofs.WellMade.{by-kind}
 use Rattle.writer.proofs.ItemLaws.{stretch-spells, value-fills, instruction-full, instruction-lands}
 use Rattle.writer.proofs.State.instruction.Statement.{statement}

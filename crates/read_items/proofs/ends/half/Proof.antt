@@ -1,0 +1,41 @@
+-- `half` meets its contract: the four high bits, or the four low ones.
+-- Assumes nothing.
+use Prim.Native.Nat.{_/_}
+use native.Mathlib.Omega.{arith}
+use borrow.Author.Needs.{needs}
+use Rattle.read_items.proofs.ItemLaws.{half-none, half-high, half-low}
+use Rattle.read_items.proofs.ends.half.Statement.{statement}
+use Rattle.read_items.proofs.ends.half.Tie as tie
+
+returns : tie.Need-returns
+returns c = half-none _ _ (omega arith)
+
+shared-slice-read-bits : tie.Need-shared-slice-read-bits
+shared-slice-read-bits c = search needs
+
+bits-requires : tie.Need-bits-requires
+bits-requires c κs = search needs
+
+returns-2 : tie.Need-returns-2
+returns-2 c = half-high _ _ (omega arith) _ (omega (arith, c .before .shared-slice-known2 .given (c .before .before .before .before .before .args .at / 2))) (omega arith) (c .bits .ensures)
+
+shared-slice-read-bits-2 : tie.Need-shared-slice-read-bits-2
+shared-slice-read-bits-2 c = search needs
+
+bits-requires-2 : tie.Need-bits-requires-2
+bits-requires-2 c κs = search needs
+
+returns-3 : tie.Need-returns-3
+returns-3 c = half-low _ _ (omega arith) _ (omega (arith, c .before .shared-slice-known3 .given (c .before .before .before .before .before .args .at / 2))) (omega arith) (c .bits2 .ensures)
+
+pub half-spec : {M : Type 1} → statement M
+half-spec =
+    tie.close
+    (tie.spec
+    returns
+    shared-slice-read-bits
+    bits-requires
+    returns-2
+    shared-slice-read-bits-2
+    bits-requires-2
+    returns-3)

@@ -1,0 +1,22 @@
+-- `faulty` meets its contract, by the answer's variant.
+-- Assumes nothing.
+use mathlib.Core.Path.{sym, ap}
+use borrow.Author.Needs.{needs}
+use Rattle.read_items.specs.ItemStages.{faultyBy}
+use Rattle.read_items.proofs.items.faulty.Statement.{statement}
+use Rattle.read_items.proofs.items.faulty.Tie as tie
+
+enum-known-r : tie.Need-enum-known-r
+enum-known-r c = search needs
+
+enum-known-r-2 : tie.Need-enum-known-r-2
+enum-known-r-2 c = search needs
+
+returns : tie.Need-returns
+returns c = sym (ap faultyBy (c .before .r .given .1))
+
+returns-2 : tie.Need-returns-2
+returns-2 c = sym (ap faultyBy (c .before .r2 .given .1))
+
+pub faulty-spec : {M : Type 1} → statement M
+faulty-spec = tie.close (tie.spec enum-known-r enum-known-r-2 returns returns-2)

@@ -1,0 +1,117 @@
+-- Reading a string or a name stays within the octets: the place behind it, and a refusal's place. A refusal's number is at most 15.
+-- Assumes nothing.
+use mathlib.Core.Path.{_≡_, refl}
+use mathlib.Core.Bool.{Bool, true, false, not, _||_}
+use mathlib.Core.List.{List, map}
+use Prim.Native.Nat.{ℕ, suc, _+_, _-_, _^_, _≤_, _<_}
+use native.Mathlib.Omega.{arith}
+use borrow.Author.Tests.{ltb-true, leb-true, eqb-true}
+use lib.Dec.{eqb, ltb, leb}
+use lib.ListN.{length, getD, take, drop}
+use Rattle.format.specs.Numbers.{Form, lengths, c25, top}
+use Rattle.format.specs.Text.{isText}
+use Rattle.format.specs.Tables.{StringTable, PREFIX, NAMESPACE-NAME, LOCAL-NAME, Vocabulary, strings, holds, names, holdsName, Limits}
+use Rattle.format.specs.Strings.{Layout, c14}
+use Rattle.format.specs.Names.{NameLayout}
+use Rattle.fields.specs.declared.Number.{Number}
+use Rattle.fields.specs.declared.Number.the-variants.{Got as Num, Refused as NoNum}
+use Rattle.fields.specs.Fields.{fieldAt, noTop}
+use Rattle.fields.proofs.Bounds.{field-got, field-refused}
+use Rattle.tables.specs.Located.{Located, stretch, octetsOf}
+use Rattle.read_names.specs.Strings.{Got, got, refused, then, number, spelling, idAt, optionalAt, numberBit, spelledAt, literalAt, valueAt}
+use Rattle.read_names.specs.Names.{prefixBit, namespaceBit, lonePrefix, nameBit, partsAt, numberedAt, nameAt, declaredAt}
+use Rattle.read_names.proofs.StringLaws.{tests, there-is}
+
+module _ (s : List ℕ) where
+  abbrev pub Fault : ℕ → ℕ → Type 0
+  Fault n p = (n ≤ 15) × (p ≤ length s)
+
+  -- a field's answer
+  abbrev pub Within : {B : Type 0} → Got B → Type 0
+  Within (got b next v) = next ≤ length s
+  Within (refused n p) = Fault n p
+
+  then-within : {B C : Type 0} (g : Got B) (f : B → ℕ → Vocabulary Located → Got C) → Within g → ((b : B) (next : ℕ) (v : Vocabulary Located) → next ≤ length s → Within (f b next v))
+      → Within (then g f)
+  then-within (got b next v) f h k = k b next v h
+  then-within (refused n p) f h k = h
+
+  number-within : {C : Type 0} (fs : List Form) (max bit k : ℕ) (f : ℕ → ℕ → Got C) → k ≤ length s → ((n next : ℕ) → next ≤ length s → Within (f n next))
+      → Within (number (fieldAt fs max bit s k) f)
+  number-within fs max bit k f h g = go (fieldAt fs max bit s k) refl
+    where
+      go : (a : Number) → fieldAt fs max bit s k ≡ a → Within (number a f)
+      go (Num n c) e = let b = field-got max s k fs bit e in g n (c .at) (omega arith)
+      go (NoNum n p) e = let b = field-refused max s k fs bit e in omega arith
+
+  -- ---- strings
+  spelling-within : {C : Type 0} (k next n : ℕ) (a : Got C) → k ≤ length s → (next + n ≤ length s → Within a) → Within (spelling s k next n a)
+  unfolding spelling
+  spelling-within k next n a h f =
+      tests Within (leb (next + n) (length s)) _ _ (λ e. tests Within (isText (take n (drop next s))) _ _ (λ _. f (leb-true _ _ e)) (λ _. omega arith)) (λ _. omega arith)
+
+  module _ (L : Limits) where
+    pub id-within : (t : StringTable) (k : ℕ) (v : Vocabulary Located) → k ≤ length s → Within (idAt L s t k v)
+    unfolding idAt
+    id-within t k v h =
+        tests Within (ltb (getD s k 0) 0x80) _ _
+        (λ _. number-within (lengths 2) noTop 2 k _ h λ n next l. spelling-within k next n _ h λ e.
+        tests Within (holds (map (octetsOf s) (strings v t)) (octetsOf s (stretch next n))) _ _ (λ _. omega arith)
+        λ _. tests Within (ltb (length (strings v t)) (L .entries)) _ _ (λ _. e) (λ _. omega arith))
+        (λ _. number-within c25 top 2 k _ h λ n next l. tests Within (leb n (length (strings v t))) _ _ (λ _. l) (λ _. omega arith))
+
+    optional-within : (there : Bool) (t : StringTable) (k : ℕ) (v : Vocabulary Located) → k ≤ length s → Within (optionalAt L there s t k v)
+    unfolding optionalAt
+    optional-within true t k v h = then-within (idAt L s t k v) _ (id-within t k v h) λ i next w l. l
+    optional-within false t k v h = h
+
+    spelled-within : (q : Layout) (t : StringTable) (k : ℕ) (added : Bool) (v : Vocabulary Located) → k ≤ length s → Within (spelledAt L q s t k added v)
+    unfolding spelledAt
+    spelled-within q t k added v h =
+        number-within (lengths (q .lengthBit)) noTop (q .lengthBit) k _ h λ n next l. spelling-within k next n _ h λ e.
+        tests Within (not added || ltb (length (strings v t)) (L .entries)) _ _ (λ _. e) (λ _. omega arith)
+
+    pub literal-within : (q : Layout) (t : StringTable) (k : ℕ) (v : Vocabulary Located) → k ≤ length s → Within (literalAt L q s t k v)
+    unfolding literalAt
+    literal-within q t k v h =
+        tests Within (ltb (getD s k 0) (q .spelledBits + 2 ^ (9 - q .lengthBit))) _ _ (λ _. spelled-within q t k false v h)
+        λ _. tests Within (ltb (getD s k 0) (q .spelledBits + q .addBit)) _ _ (λ _. omega arith)
+        λ _. tests Within (ltb (getD s k 0) (q .spelledBits + q .addBit + 2 ^ (9 - q .lengthBit))) _ _ (λ _. spelled-within q t k true v h)
+        λ _. tests Within (ltb (getD s k 0) (q .numberedBits)) _ _ (λ _. omega arith)
+        λ _. number-within (q .numberForms) top (numberBit q) k _ h λ n next l. tests Within (leb n (length (strings v t))) _ _ (λ _. l) (λ _. omega arith)
+
+    pub value-within : (t : StringTable) (k : ℕ) (v : Vocabulary Located) → k ≤ length s → Within (valueAt L s t k v)
+    unfolding valueAt
+    value-within t k v h =
+        tests Within (eqb (getD s k 0) 0xFF) _ _ (λ e. there-is s k (let o = eqb-true (getD s k 0) 0xFF e in omega arith)) (λ _. literal-within c14 t k v h)
+
+    -- ---- names
+    pub parts-within : (q : NameLayout) (b k : ℕ) (v : Vocabulary Located) → k < length s → Within (partsAt L q s b k v)
+    unfolding partsAt
+    parts-within q b k v h =
+        tests Within (lonePrefix b) _ _ (λ _. omega arith)
+        λ _. then-within (optionalAt L (prefixBit b) s PREFIX (suc k) v) _ (optional-within (prefixBit b) PREFIX (suc k) v h)
+        λ p k₁ v₁ h₁. then-within (optionalAt L (namespaceBit b) s NAMESPACE-NAME k₁ v₁) _ (optional-within (namespaceBit b) NAMESPACE-NAME k₁ v₁ h₁)
+        λ n k₂ v₂ h₂. then-within (idAt L s LOCAL-NAME k₂ v₂) _ (id-within LOCAL-NAME k₂ v₂ h₂)
+        λ l k₃ v₃ h₃. tests Within (holdsName (names v₃ (q .table)) (record { prefix = p .number; namespace = n .number; local = l .number })) _ _ (λ _. omega arith)
+        λ _. tests Within (ltb (length (names v₃ (q .table))) (L .entries)) _ _ (λ _. h₃) (λ _. omega arith)
+
+    pub numbered-within : (q : NameLayout) (k : ℕ) (v : Vocabulary Located) → k ≤ length s → Within (numberedAt L q s k v)
+    unfolding numberedAt
+    numbered-within q k v h =
+        number-within (q .numberForms) top (nameBit (q .table)) k _ h λ n next l. tests Within (leb n (length (names v (q .table)))) _ _ (λ _. l) (λ _. omega arith)
+
+    pub name-within : (q : NameLayout) (b k : ℕ) (v : Vocabulary Located) → k < length s → Within (nameAt L q s b k v)
+    unfolding nameAt
+    name-within q b k v h = tests Within (ltb b (q .inPartsBits)) _ _ (λ _. numbered-within q k v (omega arith)) (λ _. parts-within q b k v h)
+
+    pub declared-within : (k : ℕ) (v : Vocabulary Located) → k ≤ length s → Within (declaredAt L s k v)
+    unfolding declaredAt
+    declared-within k v h =
+        tests Within (ltb k (length s)) _ _
+        (λ e. tests Within (ltb (getD s k 0) 0xCC) _ _ (λ _. omega arith)
+        λ _. tests Within (ltb (getD s k 0) 0xD0) _ _
+        (λ _. then-within (optionalAt L (prefixBit (getD s k 0)) s PREFIX (suc k) v) _ (optional-within (prefixBit (getD s k 0)) PREFIX (suc k) v (ltb-true _ _ e))
+        λ p k₁ v₁ h₁. then-within (optionalAt L (namespaceBit (getD s k 0)) s NAMESPACE-NAME k₁ v₁) _ (optional-within (namespaceBit (getD s k 0)) NAMESPACE-NAME k₁ v₁ h₁) λ n k₂ v₂ h₂. h₂)
+        λ _. tests Within (ltb (getD s k 0) 0xF0) _ _ (λ _. omega arith) λ _. tests Within (eqb (getD s k 0) 0xF0) _ _ (λ _. omega arith) (λ _. omega arith))
+        (λ _. omega arith)

@@ -1,0 +1,163 @@
+-- DEMANDS 1 AND 3 OF THE CODE. The contract of `reader::read::read` equates what a call answers and leaves with `readOf`, that of `lomphachit_read` with
+-- `readWords`, and that of the check its answer with `checkOf`: so a call accepts exactly what the rules write, and hands out those events, whatever stood in
+-- the room. That there is one such pair only is `one-pair`, beside this file.
+use Prim.Native.Nat.{ℕ, _+_, _*_, _/_, _^_, _≤_, _<_}
+use mathlib.Core.Path.{_≡_, refl, sym, ap, _∙_}
+use mathlib.Core.Bool.{Bool, true, false}
+use mathlib.Core.List.{List, map}
+use native.Mathlib.Omega.{arith}
+use lib.ListN.{length}
+use lib.Dec.{eqb, leb}
+use borrow.Author.Tests.{leb-true}
+use Rattle.format.specs.Numbers.{AreOctets, pick}
+use Rattle.format.specs.Events.{Item}
+use Rattle.format.specs.Tables.{link}
+use Rattle.format.specs.Items.{State}
+use Rattle.format.specs.Document.{Writes}
+use Rattle.tables.specs.declared.Counts.{Counts}
+use Rattle.tables.specs.Counts.{words}
+use Rattle.tables.specs.Located.{Located, plain, plainState}
+use Rattle.events.specs.declared.Event.{Event}
+use Rattle.events.specs.Records.{recordOf}
+use Rattle.reader.specs.declared.Answer.{Answer}
+use Rattle.reader.specs.declared.Answer.the-variants.{Accepted, Refused}
+use Rattle.reader.specs.Reading.{Result, accepted, refusal, sized, reading, Outcome, Leaves, refusing, accepting, outcome, readOf, numberOf, checkOf}
+use Rattle.reader.specs.Words.{answerWord, leaving, nothing, inWords, readWords}
+use Rattle.tables.proofs.Found.{both-true}
+use Rattle.theorems.proofs.Fits.{accepted-sized}
+use Rattle.theorems.proofs.Document as Whole
+use Rattle.theorems.proofs.Demands.{check-needs-none}
+
+-- The octets are what the rules write, from some items.
+pub record Written (s : List ℕ) : Type 0 where
+  pub items : List (Item (List ℕ))
+  pub last : State (List ℕ)
+  pub writes : Writes items last s
+
+-- A call with this room left the records of these events, blank records behind them, and these tables; and the rules write s from the events.
+pub record Handed (s : List ℕ) (room : ℕ) (o : Outcome) : Type 0 where
+  pub events : List (Item Located)
+  pub last : State Located
+  pub is : o ≡ accepting (map (λ (i : Item Located). recordOf (i .event)) events) (last .words) room
+  pub writes : Writes (map (plain s) events) (plainState s last) s
+
+module _ (s : List ℕ) (bytes : AreOctets s) where
+  module _ (room : ℕ) where
+    from-result : (a : Result) → Whole.Means s bytes a → (n : ℕ) (c : Counts) → outcome a room .answer ≡ Accepted n c → Handed s room (outcome a room)
+    from-result (accepted is m) w n c e = record { events = is; last = m .state; is = refl; writes = w }
+    from-result (refusal k p) w n c e = absurd (let z : _≡_ {A = ℕ} 0 1 = cc in omega arith)
+
+    by-room : (table n : ℕ) (c : Counts) (b d : Bool)
+        → pick b (pick d (outcome (reading s room) room) (refusing 14 0 room table)) (refusing 1 0 room table) .answer ≡ Accepted n c
+        → Handed s room (pick b (pick d (outcome (reading s room) room) (refusing 14 0 room table)) (refusing 1 0 room table))
+    by-room table n c true true e = from-result (reading s room) (Whole.means s bytes room) n c e
+    by-room table n c true false e = absurd (let z : _≡_ {A = ℕ} 0 1 = cc in omega arith)
+    by-room table n c false d e = absurd (let z : _≡_ {A = ℕ} 0 1 = cc in omega arith)
+
+    -- 13. READ ACCEPTS what the rules write, and the events in the row are those.
+    pub read-accepts : (table n : ℕ) (c : Counts) → readOf s room table .answer ≡ Accepted n c → Handed s room (readOf s room table)
+    unfolding readOf
+    read-accepts table n c e = by-room table n c (sized link s) (eqb table words) e
+
+    --     And all that the rules write, if there is a record for each event and the table room is right; the events in the row are those of the items, and the
+    --     tables in the words those that the rules know at the end.
+    pub written-is-read : (items : List (Item (List ℕ))) (z : State (List ℕ)) → Writes items z s → length items ≤ room
+        → (h : Handed s room (readOf s room words)) × (map (plain s) (h .events) ≡ items) × (plainState s (h .last) ≡ z)
+    unfolding readOf
+    written-is-read items z w h =
+        let a = Whole.accepts s items z w room h in
+        let y = accepted-sized s room (a .events) (a .last) (a .reads) in (
+          record {
+            events = a .events;
+            last = a .last .state;
+            is = rw (y, a .reads);
+            writes = rw (a .are, a .end-is) w;
+          },
+          a .are,
+          a .end-is,
+        )
+
+  from-number : (a : Result) → Whole.Means s bytes a → numberOf a ≡ 0 → Written s
+  from-number (accepted is m) w e = record { items = map (plain s) is; last = plainState s (m .state); writes = w }
+  from-number (refusal n p) w e = let h = w .0 in absurd (omega arith)
+
+  -- 14. THE CHECK answers 0 for what the rules write, and for nothing else.
+  pub check-accepts : checkOf s ≡ 0 → Written s
+  unfolding checkOf
+  check-accepts e = from-number (reading s 32768) (Whole.means s bytes 32768) e
+
+  pub written-is-checked : (items : List (Item (List ℕ))) (z : State (List ℕ)) → Writes items z s → checkOf s ≡ 0
+  written-is-checked items z w =
+      let a = Whole.accepts s items z w (32768 + length items) (omega arith) in
+      check-needs-none s bytes (32768 + length items) (omega arith) ∙ ap numberOf (a .reads)
+
+  -- 15. READ INTO WORDS: what is accepted is left as the words of what `read` leaves; so the rules write s from the events in these words (13).
+  module _ (r t : ℕ) where
+    abbrev left : Outcome
+    left = readOf s (r / 13) t
+
+    from-refusal : sized link s ≡ true → (a : Result) → Whole.Means s bytes a → (k p : ℕ) → outcome a (r / 13) .answer ≡ Refused k p → (1 ≤ k) × (p * 32 + k < 2 ^ 32)
+    unfolding sized link
+    from-refusal size (accepted is m) w k p e = absurd (let z : _≡_ {A = ℕ} 0 1 = cc in omega arith)
+    from-refusal size (refusal n place) w k p e =
+        let ek : n ≡ k = cc in
+        let ep : place ≡ p = cc in
+        let l : length s ≤ 16384 = leb-true (length s) 16384 (both-true (leb 1 (length s)) (leb (length s) 16384) size .1) in
+        let f = w .0 in
+        let g = w .1 in
+        let h = w .2 in
+        (omega arith, omega arith)
+
+    refused-small : (b d : Bool) → sized link s ≡ b → (k p : ℕ)
+        → pick b (pick d (outcome (reading s (r / 13)) (r / 13)) (refusing 14 0 (r / 13) t)) (refusing 1 0 (r / 13) t) .answer ≡ Refused k p → (1 ≤ k) × (p * 32 + k < 2 ^ 32)
+    refused-small true true size k p e = from-refusal size (reading s (r / 13)) (Whole.means s bytes (r / 13)) k p e
+    refused-small true false size k p e =
+        let ek : 14 ≡ k = cc in
+        let ep : 0 ≡ p = cc in
+        (omega arith, omega arith)
+    refused-small false d size k p e =
+        let ek : 1 ≡ k = cc in
+        let ep : 0 ≡ p = cc in
+        (omega arith, omega arith)
+
+    by-answer : (n : ℕ) (a : Answer) → left .answer ≡ a → answerWord a ≡ n * 2 ^ 32 → Handed s (r / 13) left
+    unfolding readOf
+    by-answer n (Accepted m c) e q = read-accepts (r / 13) t m c e
+    by-answer n (Refused k p) e q = let f = refused-small (sized link s) (eqb t words) refl k p e in absurd (omega arith)
+
+    by-words : (c n : ℕ) (b d : Bool) → pick b (pick d (inWords r left) (nothing 14 r t c)) (nothing 1 r t c) .answer ≡ n * 2 ^ 32
+        → Handed s (r / 13) left × (pick b (pick d (inWords r left) (nothing 14 r t c)) (nothing 1 r t c) ≡ inWords r left)
+    unfolding inWords
+    by-words c n true true e = (by-answer n (left .answer) refl e, refl)
+    by-words c n true false e = absurd (omega arith)
+    by-words c n false d e = absurd (omega arith)
+
+    pub words-accept : (c n : ℕ) → readWords s r t c .answer ≡ n * 2 ^ 32 → Handed s (r / 13) left × (readWords s r t c ≡ inWords r left)
+    unfolding readWords
+    words-accept c n e = by-words c n (sized link s) (eqb c 10) e
+
+  --     And all that the rules write is, if there are words for each event and the tables' room is right.
+  pub written-is-worded : (items : List (Item (List ℕ))) (z : State (List ℕ)) → Writes items z s → (r : ℕ) → length items ≤ r / 13
+      → Handed s (r / 13) (readOf s (r / 13) words) × (readWords s r words 10 ≡ inWords r (readOf s (r / 13) words))
+  unfolding readWords
+  written-is-worded items z w r h =
+      let a = Whole.accepts s items z w (r / 13) h in
+      (written-is-read (r / 13) items z w h .0, rw (accepted-sized s (r / 13) (a .events) (a .last) (a .reads)))
+
+-- 16. DEMAND 1: what a call answers and leaves depends on the octets, and on how much room is lent, but not on what stood in it: e and t before one call, f and u
+--     before another.
+module _ (s : List ℕ) (e f : List Event) (t u : List ℕ) (a b : Answer) (e′ f′ : List Event) (t′ u′ : List ℕ) where
+  pub whatever-stood : length e ≡ length f → length t ≡ length u → Leaves a e′ t′ (readOf s (length e) (length t)) → Leaves b f′ u′ (readOf s (length f) (length u))
+      → (a ≡ b) × (e′ ≡ f′) × (t′ ≡ u′)
+  whatever-stood l m x y = let y′ = rw (← l, ← m) at y in (x .0 ∙ sym (y′ .0), x .2 ∙ sym (y′ .2), x .3 ∙ sym (y′ .3))
+
+--     And a second call on what the first left, whose lengths are what they were, answers and leaves the same.
+pub read-twice : (s : List ℕ) (e e′ e″ : List Event) (t t′ t″ : List ℕ) (a b : Answer) → length e′ ≡ length e → length t′ ≡ length t
+    → Leaves a e′ t′ (readOf s (length e) (length t)) → Leaves b e″ t″ (readOf s (length e′) (length t′)) → (b ≡ a) × (e″ ≡ e′) × (t″ ≡ t′)
+read-twice s e e′ e″ t t′ t″ a b l m x y = whatever-stood s e′ e t′ t b a e″ e′ t″ t′ l m y x
+
+--     The same of reading into words.
+pub words-whatever-stood : (s r q t u c d : List ℕ) (a b : ℕ) (r′ q′ t′ u′ c′ d′ : List ℕ) → length r ≡ length q → length t ≡ length u → length c ≡ length d
+    → leaving a r′ t′ c′ ≡ readWords s (length r) (length t) (length c) → leaving b q′ u′ d′ ≡ readWords s (length q) (length u) (length d)
+    → leaving a r′ t′ c′ ≡ leaving b q′ u′ d′
+words-whatever-stood s r q t u c d a b r′ q′ t′ u′ c′ d′ l m n x y = x ∙ rw (l, m, n) (sym y)

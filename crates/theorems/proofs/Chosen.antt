@@ -1,0 +1,428 @@
+-- The choices that 01 fixes, for strings and names: the octets that go with each are what the rules write, and the tables are theirs.
+use mathlib.Core.Path.{_≡_, refl, sym, ap, _∙_, subst}
+use mathlib.Core.Bool.{Bool, true, false, not}
+use mathlib.Core.Option.{Option, none, some}
+use mathlib.Core.List.{List, [], _∷_, _++_}
+use Prim.Native.Nat.{ℕ, zero, suc, _+_, _-_, _*_, _≤_, _<_}
+use native.Mathlib.Omega.{arith}
+use borrow.Author.Tests.{ltb-true, eq-eqb, ne-eqb}
+use lib.Dec.{eqb, ltb, leb}
+use lib.ListN.{length, getD, length-append, List·getD-append}
+use lib.Seq.{getD-append-seam}
+use Rattle.format.specs.Numbers.{pick, coded, spell, sizes, lengths, c25, top}
+use Rattle.format.specs.Events.{Name, How, spelled, numbered, NameHow, inParts, byNumber}
+use Rattle.format.specs.Tables.{StringTable, PREFIX, NAMESPACE-NAME, LOCAL-NAME, NameTable, ELEMENT-NAME, ATTRIBUTE-NAME, Triple, noTriple, Vocabulary, strings, names, place, extended, adding, addingName, holdsName, Entry, partOf, nameOf, Limits, InLimits}
+use Rattle.format.specs.Strings.{withLength, Spelling, bit, Layout, c14, keeping, Identifying, id-spelled, id-numbered, Optional, absent, present, Literal, literal-spelled, literal-numbered, Value, value-empty, value}
+use Rattle.format.specs.Names.{has, NameLayout, Named, in-parts, by-number}
+use Rattle.format.specs.Uses.{sameNames}
+use Rattle.fields.proofs.Laws.{case}
+use Rattle.tables.specs.Search.{numberIn, numberOfTriple}
+use Rattle.tables.proofs.Laws.{strings-adding, names-adding, holds-number, number-entry, holds-name-number, name-number-entry}
+use Rattle.write_names.specs.Choices.{worthAdding}
+use Rattle.write_names.specs.Chosen.{Chose, chooseId, chooseOptional, chooseName, chooseLiteral, chooseValue}
+use Rattle.tables.proofs.Found.{clash, both-true}
+use Rattle.theorems.specs.Permitted.{PermitsId, id-new, id-entry, PermitsIfAny, not-there, there, PermitsString, string-spelled, string-entry, PermitsValue, value-none, value-spelled, value-entry, PermitsName, name-parts, name-entry}
+use Rattle.theorems.proofs.Growing.{names-adding-name, strings-adding-name}
+
+-- ---- tables grow, and stay within the limits
+pub record Grows {S T : Type 0} (v : Vocabulary S) (w : Vocabulary T) : Type 0 where
+  pub strings-grow : (t : StringTable) → length (strings v t) ≤ length (strings w t)
+  pub names-grow : (t : NameTable) → length (names v t) ≤ length (names w t)
+
+pub same-size : {S : Type 0} (v : Vocabulary S) → Grows v v
+same-size v = record { strings-grow = λ t. omega arith; names-grow = λ t. omega arith }
+
+pub grows-on : {S : Type 0} {v w z : Vocabulary S} → Grows v w → Grows w z → Grows v z
+grows-on a b =
+    record {
+      strings-grow = λ t. let x = a .strings-grow t in let y = b .strings-grow t in omega arith;
+      names-grow = λ t. let x = a .names-grow t in let y = b .names-grow t in omega arith;
+    }
+
+extended-grows : {A : Type 0} (t : Bool) (l : List A) (x : A) → length l ≤ length (extended t l x)
+extended-grows true l x = let y = length-append l (x ∷ []) in omega arith
+extended-grows false l x = omega arith
+
+pub adding-grows : {S : Type 0} (v : Vocabulary S) (t : StringTable) (x : S) → Grows v (adding v t x)
+adding-grows v t x =
+    record {
+      strings-grow = λ u. let e = ap length (strings-adding v t x u) in let g = extended-grows (eqb (place t) (place u)) (strings v u) x in omega arith;
+      names-grow = λ u. let e = ap length (names-adding v t x u) in omega arith;
+    }
+
+pub keeping-grows : {S : Type 0} (b : Bool) (v : Vocabulary S) (t : StringTable) (x : S) → Grows v (keeping b v t x)
+keeping-grows true v t x = adding-grows v t x
+keeping-grows false v t x = same-size v
+
+pub adding-name-grows : {S : Type 0} (v : Vocabulary S) (t : NameTable) (x : Triple) → Grows v (addingName v t x)
+adding-name-grows v t x =
+    record {
+      strings-grow = λ u. let e = ap length (strings-adding-name v t x u) in omega arith;
+      names-grow = λ u. let e = ap length (names-adding-name v t x u) in let g = extended-grows (sameNames t u) (names v u) x in omega arith;
+    }
+
+pub fits-before : {L : Limits} {S : Type 0} {v w : Vocabulary S} → Grows v w → InLimits L w → InLimits L v
+fits-before g f =
+    record {
+      few = λ t. let a = g .strings-grow t in let b = f .few t in omega arith;
+      few-names = λ t. let a = g .names-grow t in let b = f .few-names t in omega arith;
+    }
+
+one-longer : {S : Type 0} (v : Vocabulary S) (t : StringTable) (x : S) → length (strings (adding v t x) t) ≡ suc (length (strings v t))
+one-longer v t x =
+    let e = ap length (strings-adding v t x t ∙ ap (λ (b : Bool). extended b (strings v t) x) (eq-eqb (place t) (place t) refl)) in
+    let l = length-append (strings v t) (x ∷ []) in
+    omega arith
+
+-- ---- the octets of a string or a name, from how it is written
+abbrev pub idOctets : List ℕ → How → List ℕ
+idOctets x (spelled added) = withLength (lengths 2) 0 x
+idOctets x (numbered k) = spell c25 0x80 (k - 1)
+
+abbrev pub optionalOctets : Option (List ℕ) → Option How → List ℕ
+optionalOctets none h = []
+optionalOctets (some x) none = []
+optionalOctets (some x) (some h) = idOctets x h
+
+abbrev pub literalOctets : Layout → List ℕ → How → List ℕ
+literalOctets q x (spelled added) = withLength (lengths (q .lengthBit)) (q .spelledBits + q .addBit * bit added) x
+literalOctets q x (numbered k) = spell (q .numberForms) (q .numberedBits) (k - 1)
+
+abbrev pub valueOctets : List ℕ → How → List ℕ
+valueOctets x (spelled added) = literalOctets c14 x (spelled added)
+valueOctets x (numbered zero) = 0xFF ∷ []
+valueOctets x (numbered (suc k)) = literalOctets c14 x (numbered (suc k))
+
+abbrev pub nameOctets : NameLayout → ℕ → Name (List ℕ) → NameHow → List ℕ
+nameOctets q lead x (inParts hp hn hl) =
+    (lead + q .inPartsBits + 2 * has (x .prefix) + has (x .namespace)) ∷ (optionalOctets (x .prefix) hp ++ (optionalOctets (x .namespace) hn ++ idOctets (x .local) hl))
+nameOctets q lead x (byNumber k) = spell (q .numberForms) lead (k - 1)
+
+-- ---- an identifying string is held, or new: 01's choice is a permitted one
+abbrev IdCase : StringTable → Vocabulary (List ℕ) → List ℕ → Chose How → Type 0
+IdCase t v x c = PermitsId t v x (c .how) (c .number) (c .words)
+
+-- what a number other than 0 says
+found : (t : StringTable) (v : Vocabulary (List ℕ)) (x : List ℕ) (n : ℕ) → numberIn (strings v t) x ≡ suc n → Entry (strings v t) n [] x
+found t v x n e =
+    let en = rw e at (number-entry (strings v t) [] x (λ z. absurd (omega arith))) in
+    let y : suc n - 1 ≡ n = omega arith in
+    rw y at en
+
+module _ (t : StringTable) (v : Vocabulary (List ℕ)) (x : List ℕ) where
+  id-from : (k : ℕ) → numberIn (strings v t) x ≡ k
+      → IdCase t v x (pick (eqb k 0) (record { how = spelled true; number = suc (length (strings v t)); words = adding v t x }) (record { how = numbered k; number = k; words = v }))
+  id-from zero e = id-new (holds-number (strings v t) x ∙ ap (λ (k : ℕ). not (eqb k 0)) e)
+  id-from (suc n) e = rw (ne-eqb (suc n) 0 (λ z. omega arith)) (id-entry {k = n} (found t v x n e))
+
+  pub id-case : IdCase t v x (chooseId t v x)
+  unfolding chooseId
+  id-case = id-from (numberIn (strings v t) x) refl
+
+pub id-grows : {t : StringTable} {v w : Vocabulary (List ℕ)} {x : List ℕ} {h : How} {n : ℕ} → PermitsId t v x h n w → Grows v w
+id-grows {v = v} (id-entry en) = same-size v
+id-grows {t} {v} {x = x} (id-new h) = adding-grows v t x
+
+module _ (L : Limits) (small : L .entries ≤ top) where
+  pub id-rule : {t : StringTable} {v w : Vocabulary (List ℕ)} {x : List ℕ} {h : How} {n : ℕ} → Spelling x → InLimits L w → PermitsId t v x h n w → Identifying L t v x h n (idOctets x h) w
+  id-rule {t} {v} sp f (id-entry {k = j} en) = let z : suc j - 1 ≡ j = omega arith in let a = f .few t in let h = en .made in rw z (id-numbered {k = j} (omega arith) en)
+  id-rule {t} {v} {x = x} sp f (id-new h) = let o = one-longer v t x in let a = f .few t in id-spelled sp h (omega arith)
+
+-- one that may be absent
+abbrev OptionalCase : StringTable → Vocabulary (List ℕ) → Option (List ℕ) → Chose (Option How) → Type 0
+OptionalCase t v x c = PermitsIfAny t v x (c .how) (c .number) (c .words)
+
+pub optional-case : (t : StringTable) (v : Vocabulary (List ℕ)) (x : Option (List ℕ)) → OptionalCase t v x (chooseOptional t v x)
+unfolding chooseOptional
+optional-case t v none = not-there
+optional-case t v (some x) = there (id-case t v x)
+
+pub optional-grows : {t : StringTable} {v w : Vocabulary (List ℕ)} {x : Option (List ℕ)} {h : Option How} {n : ℕ} → PermitsIfAny t v x h n w → Grows v w
+optional-grows {v = v} not-there = same-size v
+optional-grows (there c) = id-grows c
+
+-- what can be spelled, if it is there
+abbrev pub SpellingIfAny : Option (List ℕ) → Type 0
+SpellingIfAny none = Unit {0}
+SpellingIfAny (some x) = Spelling x
+
+module _ (L : Limits) (small : L .entries ≤ top) where
+  pub optional-rule : {t : StringTable} {v w : Vocabulary (List ℕ)} {x : Option (List ℕ)} {h : Option How} {n : ℕ} → SpellingIfAny x → InLimits L w → PermitsIfAny t v x h n w
+      → Optional L t v x h n (optionalOctets x h) w
+  optional-rule sp f not-there = absent
+  optional-rule sp f (there c) = present (id-rule L small sp f c)
+
+-- ---- C.14, C.15
+pub data LiteralCase (L : Limits) (t : StringTable) (v : Vocabulary (List ℕ)) (x : List ℕ) : Chose How → Type 0 where
+  lit-held : {j : ℕ} → Entry (strings v t) j [] x → LiteralCase L t v x (record { how = numbered (suc j); number = suc j; words = v })
+  lit-new : {added : Bool} → (added ≡ true → length (strings v t) < L .entries) → LiteralCase L t v x (record { how = spelled added; number = 0; words = keeping added v t x })
+
+module _ (L : Limits) (t : StringTable) (v : Vocabulary (List ℕ)) (x : List ℕ) where
+  literal-from : (k : ℕ) (added : Bool) → numberIn (strings v t) x ≡ k → (added ≡ true → length (strings v t) < L .entries)
+      → LiteralCase L t v x (pick (eqb k 0) (record { how = spelled added; number = 0; words = keeping added v t x }) (record { how = numbered k; number = k; words = v }))
+  literal-from zero added e r = lit-new r
+  literal-from (suc n) added e r = rw (ne-eqb (suc n) 0 (λ z. omega arith)) (lit-held {j = n} (found t v x n e))
+
+  worth-room : worthAdding L (strings v t) x ≡ true → length (strings v t) < L .entries
+  unfolding worthAdding
+  worth-room e = ltb-true (length (strings v t)) (L .entries) (both-true (leb (length x) 5) (ltb (length (strings v t)) (L .entries)) e .1)
+
+  pub literal-case : LiteralCase L t v x (chooseLiteral L t v x)
+  unfolding chooseLiteral
+  literal-case = literal-from (numberIn (strings v t) x) (worthAdding L (strings v t) x) refl worth-room
+
+pub literal-permits : {L : Limits} {t : StringTable} {v : Vocabulary (List ℕ)} {x : List ℕ} {c : Chose How} → LiteralCase L t v x c → PermitsString t v x (c .how) (c .words)
+literal-permits (lit-held en) = string-entry en
+literal-permits (lit-new {added = a} r) = string-spelled a
+
+pub literal-grows : {t : StringTable} {v w : Vocabulary (List ℕ)} {x : List ℕ} {h : How} → PermitsString t v x h w → Grows v w
+literal-grows {v = v} (string-entry en) = same-size v
+literal-grows {t} {v} {x = x} (string-spelled a) = keeping-grows a v t x
+
+module _ (L : Limits) (small : L .entries ≤ top) where
+  -- one that is added had room
+  had-room : (added : Bool) (v : Vocabulary (List ℕ)) (t : StringTable) (x : List ℕ) → InLimits L (keeping added v t x) → added ≡ true → length (strings v t) < L .entries
+  had-room true v t x f e = let o = one-longer v t x in let a = f .few t in omega arith
+  had-room false v t x f e = clash e
+
+  pub literal-rule : {q : Layout} {t : StringTable} {v w : Vocabulary (List ℕ)} {x : List ℕ} {h : How} → top ≤ sizes (q .numberForms) → Spelling x → InLimits L w
+      → PermitsString t v x h w → Literal L q t v x h (literalOctets q x h) w
+  literal-rule {t = t} big sp f (string-entry {k = j} en) =
+      let z : suc j - 1 ≡ j = omega arith in
+      let a = f .few t in
+      let h = en .made in
+      rw z (literal-numbered {k = j} (omega arith) (omega arith) en)
+  literal-rule {t = t} {v = v} {x = x} big sp f (string-spelled added) = literal-spelled sp (had-room added v t x f)
+
+-- ---- values
+pub data ValueCase (L : Limits) (t : StringTable) (v : Vocabulary (List ℕ)) (x : List ℕ) : Chose How → Type 0 where
+  is-empty : x ≡ [] → ValueCase L t v x (record { how = numbered 0; number = 0; words = v })
+  is-literal : {c : Chose How} → 0 < length x → LiteralCase L t v x c → ValueCase L t v x c
+
+pub value-case : (L : Limits) (t : StringTable) (v : Vocabulary (List ℕ)) (x : List ℕ) → ValueCase L t v x (chooseValue L t v x)
+unfolding chooseValue
+value-case L t v [] = is-empty refl
+value-case L t v (b ∷ x) = rw (ne-eqb (length (b ∷ x)) 0 (λ z. omega arith)) (is-literal (omega arith) (literal-case L t v (b ∷ x)))
+
+pub value-permits : {L : Limits} {t : StringTable} {v : Vocabulary (List ℕ)} {x : List ℕ} {c : Chose How} → ValueCase L t v x c → PermitsValue t v x (c .how) (c .words)
+value-permits (is-empty e) = rw e value-none
+value-permits (is-literal h (lit-held en)) = value-entry en
+value-permits (is-literal h (lit-new {added = a} r)) = value-spelled a h
+
+pub value-grows : {t : StringTable} {v w : Vocabulary (List ℕ)} {x : List ℕ} {h : How} → PermitsValue t v x h w → Grows v w
+value-grows {v = v} value-none = same-size v
+value-grows {t} {v} {x = x} (value-spelled a long) = keeping-grows a v t x
+value-grows {v = v} (value-entry en) = same-size v
+
+-- A text that may be spelled, or be empty.
+abbrev pub SpellingIfSome : List ℕ → Type 0
+SpellingIfSome x = 0 < length x → Spelling x
+
+pub literal-value : {L : Limits} {t : StringTable} {v : Vocabulary (List ℕ)} {x : List ℕ} {c : Chose How} → LiteralCase L t v x c → valueOctets x (c .how) ≡ literalOctets c14 x (c .how)
+literal-value (lit-held en) = refl
+literal-value (lit-new r) = refl
+
+module _ (L : Limits) (small : L .entries ≤ top) where
+  pub value-rule : {t : StringTable} {v w : Vocabulary (List ℕ)} {x : List ℕ} {h : How} → SpellingIfSome x → InLimits L w → PermitsValue t v x h w → Value L t v x h (valueOctets x h) w
+  unfolding c14 sizes coded c25
+  value-rule sp f value-none = value-empty
+  value-rule {t} {v} {x = x} sp f (value-spelled added long) = value (literal-spelled (sp long) (had-room L small added v t x f))
+  value-rule {t} sp f (value-entry {k = j} en) =
+      let z : suc j - 1 ≡ j = omega arith in
+      let a = f .few t in
+      let h = en .made in
+      rw z (value (literal-numbered {k = j} (omega arith) (omega arith) en))
+
+-- ---- names: the numbers of a triple are of entries that are there
+pub record InRange {S : Type 0} (v : Vocabulary S) (x : Triple) : Type 0 where
+  pub prefix : x .prefix ≤ length (strings v PREFIX)
+  pub namespace : x .namespace ≤ length (strings v NAMESPACE-NAME)
+  pub local : x .local ≤ length (strings v LOCAL-NAME)
+
+abbrev pub Ranged : {S : Type 0} → Vocabulary S → Type 0
+Ranged v = (t : NameTable) (k : ℕ) → k < length (names v t) → InRange v (getD (names v t) k noTriple)
+
+pub in-range-on : {S : Type 0} {v w : Vocabulary S} {x : Triple} → Grows v w → InRange v x → InRange w x
+in-range-on g r =
+    let a = r .prefix in
+    let b = r .namespace in
+    let c = r .local in
+    let d = g .strings-grow PREFIX in
+    let e = g .strings-grow NAMESPACE-NAME in
+    let f = g .strings-grow LOCAL-NAME in
+    record { prefix = omega arith; namespace = omega arith; local = omega arith }
+
+-- more strings, the same names
+pub ranged-on : {S : Type 0} {v w : Vocabulary S} → Grows v w → ((t : NameTable) → names w t ≡ names v t) → Ranged v → Ranged w
+ranged-on {v = v} {w = w} g same-names r t k h =
+    let e = same-names t in
+    let l = ap length e in
+    rw e (in-range-on g (r t k (omega arith)))
+
+extended-last : (b : Bool) (l : List Triple) (x : Triple) (k : ℕ) → k < length (extended b l x) → (k < length l → getD (extended b l x) k noTriple ≡ getD l k noTriple) × (length l ≤ k → getD (extended b l x) k noTriple ≡ x)
+extended-last true l x k h =
+    let a = length-append l (x ∷ []) in
+    (λ y. List·getD-append l (x ∷ []) noTriple k y, λ y. let z : k ≡ length l = omega arith in rw z (getD-append-seam l x [] noTriple))
+extended-last false l x k h = (λ y. refl, λ y. absurd (omega arith))
+
+-- one name more
+pub ranged-name : {S : Type 0} {v : Vocabulary S} (t : NameTable) (x : Triple) → InRange v x → Ranged v → Ranged (addingName v t x)
+ranged-name {v = v} t x i r u k h =
+    let g = adding-name-grows v t x in
+    let e = names-adding-name v t x u in
+    let l = ap length e in
+    let c = extended-last (sameNames t u) (names v u) x k (omega arith) in
+    rw e (case k (length (names v u)) (λ y. rw (c .0 y) (in-range-on g (r u k y))) (λ y. rw (c .1 y) (in-range-on g i)))
+
+same-names-longer : (t : NameTable) (l : List Triple) (x : Triple) → length (extended (sameNames t t) l x) ≡ suc (length l)
+unfolding sameNames
+same-names-longer ELEMENT-NAME l x = let y = length-append l (x ∷ []) in omega arith
+same-names-longer ATTRIBUTE-NAME l x = let y = length-append l (x ∷ []) in omega arith
+
+pub id-names : {t : StringTable} {v w : Vocabulary (List ℕ)} {x : List ℕ} {h : How} {n : ℕ} → PermitsId t v x h n w → (u : NameTable) → names w u ≡ names v u
+id-names (id-entry en) u = refl
+id-names {t} {v} {x = x} (id-new h) u = names-adding v t x u
+
+pub optional-names : {t : StringTable} {v w : Vocabulary (List ℕ)} {x : Option (List ℕ)} {h : Option How} {n : ℕ} → PermitsIfAny t v x h n w → (u : NameTable) → names w u ≡ names v u
+optional-names not-there u = refl
+optional-names (there c) u = id-names c u
+
+keeping-names : (b : Bool) (v : Vocabulary (List ℕ)) (t : StringTable) (x : List ℕ) (u : NameTable) → names (keeping b v t x) u ≡ names v u
+keeping-names true v t x u = names-adding v t x u
+keeping-names false v t x u = refl
+
+pub literal-names : {t : StringTable} {v w : Vocabulary (List ℕ)} {x : List ℕ} {h : How} → PermitsString t v x h w → (u : NameTable) → names w u ≡ names v u
+literal-names (string-entry en) u = refl
+literal-names {t} {v} {x = x} (string-spelled a) u = keeping-names a v t x u
+
+pub value-names : {t : StringTable} {v w : Vocabulary (List ℕ)} {x : List ℕ} {h : How} → PermitsValue t v x h w → (u : NameTable) → names w u ≡ names v u
+value-names value-none u = refl
+value-names {t} {v} {x = x} (value-spelled a long) u = keeping-names a v t x u
+value-names (value-entry en) u = refl
+
+-- the number is in range of the table then
+id-number : {t : StringTable} {v w : Vocabulary (List ℕ)} {x : List ℕ} {h : How} {n : ℕ} → PermitsId t v x h n w → n ≤ length (strings w t)
+id-number (id-entry en) = en .made
+id-number {t} {v} {x = x} (id-new h) = let o = one-longer v t x in omega arith
+
+optional-number : {t : StringTable} {v w : Vocabulary (List ℕ)} {x : Option (List ℕ)} {h : Option How} {n : ℕ} → PermitsIfAny t v x h n w → n ≤ length (strings w t)
+optional-number not-there = omega arith
+optional-number (there c) = id-number c
+
+-- a number of the table before is that of a string which was held
+id-was : {t : StringTable} {v w : Vocabulary (List ℕ)} {x : List ℕ} {h : How} {n : ℕ} → PermitsId t v x h n w → n ≤ length (strings v t)
+    → (w ≡ v) × (getD (strings v t) (n - 1) [] ≡ x)
+id-was (id-entry {k = j} en) r = let z : suc j - 1 ≡ j = omega arith in (refl, rw z (en .is))
+id-was (id-new h) r = absurd (omega arith)
+
+optional-was : {t : StringTable} {v w : Vocabulary (List ℕ)} {x : Option (List ℕ)} {h : Option How} {n : ℕ} → PermitsIfAny t v x h n w → n ≤ length (strings v t)
+    → (w ≡ v) × (partOf (strings v t) [] n ≡ x)
+optional-was not-there r = (refl, refl)
+optional-was (there (id-entry en)) r = (refl, ap (λ (y : List ℕ). some y) (en .is))
+optional-was (there (id-new h)) r = absurd (omega arith)
+
+-- ---- a name is held, or comes in parts
+module _ (t : NameTable) (v : Vocabulary (List ℕ)) (x : Name (List ℕ)) where
+  abbrev p : Chose (Option How)
+  p = chooseOptional PREFIX v (x .prefix)
+
+  abbrev n : Chose (Option How)
+  n = chooseOptional NAMESPACE-NAME (p .words) (x .namespace)
+
+  abbrev l : Chose How
+  l = chooseId LOCAL-NAME (n .words) (x .local)
+
+  abbrev cp : OptionalCase PREFIX v (x .prefix) p
+  cp = optional-case PREFIX v (x .prefix)
+
+  abbrev cn : OptionalCase NAMESPACE-NAME (p .words) (x .namespace) n
+  cn = optional-case NAMESPACE-NAME (p .words) (x .namespace)
+
+  abbrev cl : IdCase LOCAL-NAME (n .words) (x .local) l
+  cl = id-case LOCAL-NAME (n .words) (x .local)
+
+  abbrev triple : Triple
+  triple = record { prefix = p .number; namespace = n .number; local = l .number }
+
+  pub data NameCase : Chose NameHow → Type 0 where
+    name-held : {j : ℕ} → Entry (names v t) j noTriple triple → nameOf v [] triple ≡ x → NameCase (record { how = byNumber (suc j); number = suc j; words = v })
+    name-new : holdsName (names (l .words) t) triple ≡ false
+        → NameCase (record { how = inParts (p .how) (n .how) (l .how); number = suc (length (names (l .words) t)); words = addingName (l .words) t triple })
+
+  no-names : (u : NameTable) → names (l .words) u ≡ names v u
+  no-names u = id-names cl u ∙ optional-names cn u ∙ optional-names cp u
+
+  -- parts with numbers of the tables before: the name behind the triple is the name
+  name-was : InRange v triple → nameOf v [] triple ≡ x
+  unfolding nameOf strings
+  name-was r =
+      let a = optional-was cp (r .prefix) in
+      let n1 = subst (λ (w : Vocabulary (List ℕ)). n .number ≤ length (strings w NAMESPACE-NAME)) (sym (a .0)) (r .namespace) in
+      let b = optional-was cn n1 in
+      let e : n .words ≡ v = b .0 ∙ a .0 in
+      let l1 = subst (λ (w : Vocabulary (List ℕ)). l .number ≤ length (strings w LOCAL-NAME)) (sym e) (r .local) in
+      let c = id-was cl l1 in
+      let b1 = subst (λ (w : Vocabulary (List ℕ)). partOf (strings w NAMESPACE-NAME) [] (n .number) ≡ x .namespace) (a .0) (b .1) in
+      let c1 = subst (λ (w : Vocabulary (List ℕ)). getD (strings w LOCAL-NAME) (l .number - 1) [] ≡ x .local) e (c .1) in
+      λ i. record { prefix = a .1 i; namespace = b1 i; local = c1 i }
+
+  name-from : Ranged v → (k : ℕ) → numberOfTriple (names (l .words) t) triple ≡ k
+      → NameCase (pick (eqb k 0)
+      (record { how = inParts (p .how) (n .how) (l .how); number = suc (length (names (l .words) t)); words = addingName (l .words) t triple })
+      (record { how = byNumber k; number = k; words = v }))
+  name-from r zero e = name-new (holds-name-number (names (l .words) t) triple ∙ ap (λ (k : ℕ). not (eqb k 0)) e)
+  name-from r (suc m) e =
+      let en = rw e at (name-number-entry (names (l .words) t) noTriple triple (λ z. absurd (omega arith))) in
+      let y : suc m - 1 ≡ m = omega arith in
+      let no = no-names t in
+      let here : Entry (names v t) m noTriple triple = rw (y, no) at en in
+      let h = here .made in
+      rw (ne-eqb (suc m) 0 (λ u. omega arith)) (name-held {j = m} here (name-was (rw (here .is) at (r t m h))))
+
+  pub name-case : Ranged v → NameCase (chooseName t v x)
+  unfolding chooseName
+  name-case r = name-from r (numberOfTriple (names (l .words) t) triple) refl
+
+  pub name-permits : {c : Chose NameHow} → NameCase c → PermitsName t v x (c .how) (c .words)
+  name-permits (name-held {j = j} en e) = subst (λ (y : Name (List ℕ)). PermitsName t v y (byNumber (suc j)) v) e (name-entry en)
+  name-permits (name-new h) = name-parts cp cn cl h
+
+-- ---- a permitted name
+pub name-grows : {t : NameTable} {v w : Vocabulary (List ℕ)} {x : Name (List ℕ)} {h : NameHow} → PermitsName t v x h w → Grows v w
+name-grows {t} (name-parts {v₃ = v₃} up un ul new) = grows-on (optional-grows up) (grows-on (optional-grows un) (grows-on (id-grows ul) (adding-name-grows v₃ t _)))
+name-grows {v = v} (name-entry en) = same-size v
+
+pub name-ranged : {t : NameTable} {v w : Vocabulary (List ℕ)} {x : Name (List ℕ)} {h : NameHow} → PermitsName t v x h w → Ranged v → Ranged w
+name-ranged {t} (name-parts up un ul new) r =
+    let a = optional-number up in
+    let b = optional-number un in
+    let c = id-number ul in
+    let d = grows-on (optional-grows un) (id-grows ul) .strings-grow PREFIX in
+    let e = id-grows ul .strings-grow NAMESPACE-NAME in
+    ranged-name t _ (record { prefix = omega arith; namespace = omega arith; local = c })
+    (ranged-on (grows-on (optional-grows up) (grows-on (optional-grows un) (id-grows ul))) (λ u. id-names ul u ∙ optional-names un u ∙ optional-names up u) r)
+name-ranged (name-entry en) r = r
+
+-- what can be said of a name's strings
+pub record NameSaid (x : Name (List ℕ)) : Type 0 where
+  pub prefix : SpellingIfAny (x .prefix)
+  pub namespace : SpellingIfAny (x .namespace)
+  pub local : Spelling (x .local)
+  pub pair : has (x .prefix) ≤ has (x .namespace)
+
+module _ (L : Limits) (small : L .entries ≤ top) (q : NameLayout) (big : top ≤ sizes (q .numberForms)) (lead : ℕ) where
+  pub name-rule : {v w : Vocabulary (List ℕ)} {x : Name (List ℕ)} {h : NameHow} → NameSaid x → InLimits L w → PermitsName (q .table) v x h w → Named L q lead v x h (nameOctets q lead x h) w
+  name-rule s f (name-entry {k = j} en) =
+      let z : suc j - 1 ≡ j = omega arith in
+      let a = f .few-names (q .table) in
+      let h = en .made in
+      rw z (by-number {k = j} (omega arith) (omega arith) en)
+  name-rule s f (name-parts {kp = kp} {kn = kn} {kl = kl} {v₃ = w} up un ul new) =
+      let y : Triple = record { prefix = kp; namespace = kn; local = kl } in
+      let fl = fits-before (adding-name-grows w (q .table) y) f in
+      let fn = fits-before (id-grows ul) fl in
+      let fp = fits-before (optional-grows un) fn in
+      let longer = ap length (names-adding-name w (q .table) y (q .table)) in
+      let one = same-names-longer (q .table) (names w (q .table)) y in
+      let room = f .few-names (q .table) in
+      in-parts (s .pair) (optional-rule L small (s .prefix) fp up) (optional-rule L small (s .namespace) fn un) (id-rule L small (s .local) fl ul) new (omega arith)

@@ -1,0 +1,188 @@
+-- How many entries the tables have behind permitted choices: they only grow, each by one at most with each event; and whether they pass a limit is decided.
+use Prim.Native.Nat.{ℕ, _+_, _≤_, _<_}
+use mathlib.Core.Path.{_≡_, refl, ap, _∙_}
+use mathlib.Core.Bool.{Bool, true, false}
+use mathlib.Core.Option.{Option}
+use mathlib.Core.List.{List, [], _∷_}
+use native.Mathlib.Omega.{arith}
+use lib.Dec.{eqb}
+use lib.ListN.{length, length-append}
+use Rattle.format.specs.Events.{Name, Event, How, NameHow, Choice, Item}
+use Rattle.format.specs.Tables.{StringTable, PREFIX, NAMESPACE-NAME, LOCAL-NAME, OTHER-NCNAME, OTHER-URI, ATTRIBUTE-VALUE, CONTENT-CHARACTER-CHUNK, OTHER-STRING, NameTable, ELEMENT-NAME, ATTRIBUTE-NAME, Vocabulary, strings, names, place, extended, adding, starting, Limits, InLimits}
+use Rattle.format.specs.Strings.{bit, keeping}
+use Rattle.format.specs.Document.{started}
+use Rattle.format.specs.Uses.{sameNames}
+use Rattle.fields.proofs.Laws.{case}
+use Rattle.tables.proofs.Laws.{strings-adding}
+use Rattle.write_names.specs.Chosen.{chooseFor, chosen, tablesAfter}
+use Rattle.theorems.specs.Permitted.{PermitsId, id-new, id-entry, PermitsIfAny, not-there, there, PermitsString, string-spelled, string-entry, PermitsValue, value-none, value-spelled, value-entry}
+use Rattle.theorems.specs.Permitted.{PermitsName, name-parts, name-entry, Permits, a-declaration, a-start, an-attribute, a-chunk, a-comment, an-instruction, an-end, PermitsAll, no-item, an-item}
+use Rattle.theorems.proofs.Growing.{strings-adding-name, names-adding-name, extended-few}
+use Rattle.theorems.proofs.Documents.{events}
+use Rattle.theorems.proofs.Chosen.{Grows, same-size, grows-on, Ranged, id-names, optional-names, literal-names, value-names}
+use Rattle.theorems.proofs.Produced.{permits-for, permits-grows, ranged-for}
+
+-- ---- one entry more, in one table
+extended-adds : {A : Type 0} (b : Bool) (l : List A) (x : A) → length (extended b l x) ≤ length l + bit b
+extended-adds true l x = let y = length-append l (x ∷ []) in omega arith
+extended-adds false l x = omega arith
+
+-- 1 for the table itself, 0 for another
+abbrev own : StringTable → StringTable → ℕ
+own t u = bit (eqb (place t) (place u))
+
+module _ (u : StringTable) where
+  adding-adds : (v : Vocabulary (List ℕ)) (t : StringTable) (x : List ℕ) → length (strings (adding v t x) u) ≤ length (strings v u) + own t u
+  adding-adds v t x = rw (strings-adding v t x u) (extended-adds (eqb (place t) (place u)) (strings v u) x)
+
+  id-adds : {t : StringTable} {v w : Vocabulary (List ℕ)} {x : List ℕ} {h : How} {n : ℕ} → PermitsId t v x h n w → length (strings w u) ≤ length (strings v u) + own t u
+  id-adds (id-entry en) = omega arith
+  id-adds {t} {v} {x = x} (id-new h) = adding-adds v t x
+
+  optional-adds : {t : StringTable} {v w : Vocabulary (List ℕ)} {x : Option (List ℕ)} {h : Option How} {n : ℕ} → PermitsIfAny t v x h n w → length (strings w u) ≤ length (strings v u) + own t u
+  optional-adds not-there = omega arith
+  optional-adds (there c) = id-adds c
+
+  keeping-adds : (b : Bool) (v : Vocabulary (List ℕ)) (t : StringTable) (x : List ℕ) → length (strings (keeping b v t x) u) ≤ length (strings v u) + own t u
+  keeping-adds true v t x = adding-adds v t x
+  keeping-adds false v t x = omega arith
+
+  literal-adds : {t : StringTable} {v w : Vocabulary (List ℕ)} {x : List ℕ} {h : How} → PermitsString t v x h w → length (strings w u) ≤ length (strings v u) + own t u
+  literal-adds (string-entry en) = omega arith
+  literal-adds {t} {v} {x = x} (string-spelled b) = keeping-adds b v t x
+
+  value-adds : {t : StringTable} {v w : Vocabulary (List ℕ)} {x : List ℕ} {h : How} → PermitsValue t v x h w → length (strings w u) ≤ length (strings v u) + own t u
+  value-adds value-none = omega arith
+  value-adds {t} {v} {x = x} (value-spelled b long) = keeping-adds b v t x
+  value-adds (value-entry en) = omega arith
+
+  name-adds : {t : NameTable} {v w : Vocabulary (List ℕ)} {x : Name (List ℕ)} {h : NameHow} → PermitsName t v x h w
+      → length (strings w u) ≤ length (strings v u) + own PREFIX u + own NAMESPACE-NAME u + own LOCAL-NAME u
+  name-adds (name-entry en) = omega arith
+  name-adds (name-parts up un ul new) = let a = optional-adds up in let b = optional-adds un in let c = id-adds ul in rw strings-adding-name (omega arith)
+
+-- no event adds to one table twice
+once : (u : StringTable) → own PREFIX u + own NAMESPACE-NAME u + own LOCAL-NAME u + own OTHER-NCNAME u + own ATTRIBUTE-VALUE u + own CONTENT-CHARACTER-CHUNK u + own OTHER-STRING u ≤ 1
+unfolding place
+once PREFIX = omega arith
+once NAMESPACE-NAME = omega arith
+once LOCAL-NAME = omega arith
+once OTHER-NCNAME = omega arith
+once OTHER-URI = omega arith
+once ATTRIBUTE-VALUE = omega arith
+once CONTENT-CHARACTER-CHUNK = omega arith
+once OTHER-STRING = omega arith
+
+-- ---- with each event, each table by one at most
+pub record Adds (n : ℕ) (v w : Vocabulary (List ℕ)) : Type 0 where
+  pub few : (t : StringTable) → length (strings w t) ≤ length (strings v t) + n
+  pub few-names : (t : NameTable) → length (names w t) ≤ length (names v t) + n
+
+strings-for : {v w : Vocabulary (List ℕ)} {e : Event (List ℕ)} {c : Choice} → Permits v e c w → (u : StringTable) → length (strings w u) ≤ length (strings v u) + 1
+strings-for (a-declaration up un) u = let a = optional-adds u up in let b = optional-adds u un in let o = once u in omega arith
+strings-for (a-start x) u = let a = name-adds u x in let o = once u in omega arith
+strings-for (an-attribute x y) u = let a = name-adds u x in let b = value-adds u y in let o = once u in omega arith
+strings-for (a-chunk y) u = let a = literal-adds u y in let o = once u in omega arith
+strings-for (a-comment y) u = let a = value-adds u y in let o = once u in omega arith
+strings-for (an-instruction x y) u = let a = id-adds u x in let b = value-adds u y in let o = once u in omega arith
+strings-for an-end u = omega arith
+
+name-more : {t : NameTable} {v w : Vocabulary (List ℕ)} {x : Name (List ℕ)} {h : NameHow} (u : NameTable) → PermitsName t v x h w → length (names w u) ≤ length (names v u) + 1
+name-more u (name-entry en) = omega arith
+name-more {t} {v} u (name-parts up un ul new) =
+    let a = ap length (id-names ul u ∙ optional-names un u ∙ optional-names up u) in
+    rw names-adding-name (extended-few (sameNames t u) (length (names v u) + 1) _ _ (omega arith) (λ e. omega arith))
+
+names-for : {v w : Vocabulary (List ℕ)} {e : Event (List ℕ)} {c : Choice} → Permits v e c w → (u : NameTable) → length (names w u) ≤ length (names v u) + 1
+names-for (a-declaration up un) u = let a = ap length (optional-names up u) in let b = ap length (optional-names un u) in omega arith
+names-for (a-start x) u = name-more u x
+names-for (an-attribute x y) u = let a = name-more u x in let b = ap length (value-names y u) in omega arith
+names-for (a-chunk y) u = let a = ap length (literal-names y u) in omega arith
+names-for (a-comment y) u = let a = ap length (value-names y u) in omega arith
+names-for (an-instruction x y) u = let a = ap length (id-names x u) in let b = ap length (value-names y u) in omega arith
+names-for an-end u = omega arith
+
+-- ---- along a list
+pub all-grow : {v w : Vocabulary (List ℕ)} {items : List (Item (List ℕ))} → PermitsAll v items w → Grows v w
+all-grow {v} no-item = same-size v
+all-grow (an-item p ps) = grows-on (permits-grows p) (all-grow ps)
+
+all-add : {v w : Vocabulary (List ℕ)} {items : List (Item (List ℕ))} → PermitsAll v items w → Adds (length items) v w
+all-add no-item = record { few = λ t. omega arith; few-names = λ t. omega arith }
+all-add (an-item p ps) =
+    let b = all-add ps in
+    record {
+      few = λ t. let x = strings-for p t in let y = b .few t in omega arith;
+      few-names = λ t. let x = names-for p t in let y = b .few-names t in omega arith;
+    }
+
+-- 01's choices, along a list
+pub chosen-permitted : (C : Limits) (v : Vocabulary (List ℕ)) (es : List (Event (List ℕ))) → Ranged v → PermitsAll v (chosen C v es) (tablesAfter C v es)
+unfolding chosen tablesAfter
+chosen-permitted C v [] r = no-item
+chosen-permitted C v (e ∷ es) r = an-item (permits-for C v e r) (chosen-permitted C (chooseFor C v e .words) es (ranged-for C v e r))
+
+pub chosen-events : (C : Limits) (v : Vocabulary (List ℕ)) (es : List (Event (List ℕ))) → events (chosen C v es) ≡ es
+unfolding chosen
+chosen-events C v [] = refl
+chosen-events C v (e ∷ es) = ap (λ (l : List (Event (List ℕ))). e ∷ l) (chosen-events C (chooseFor C v e .words) es)
+
+-- ---- from the tables with which every document starts
+few-started : (t : StringTable) → length (strings started t) ≤ 1
+unfolding strings starting
+few-started PREFIX = omega arith
+few-started NAMESPACE-NAME = omega arith
+few-started LOCAL-NAME = omega arith
+few-started OTHER-NCNAME = omega arith
+few-started OTHER-URI = omega arith
+few-started ATTRIBUTE-VALUE = omega arith
+few-started CONTENT-CHARACTER-CHUNK = omega arith
+few-started OTHER-STRING = omega arith
+
+none-started : (t : NameTable) → length (names started t) ≡ 0
+unfolding names starting
+none-started ELEMENT-NAME = refl
+none-started ATTRIBUTE-NAME = refl
+
+pub ranged-started : Ranged started
+ranged-started t k h = absurd (let z = none-started t in omega arith)
+
+-- a list that is short enough passes no limit
+pub few-after : (L : Limits) {items : List (Item (List ℕ))} {w : Vocabulary (List ℕ)} → PermitsAll started items w → length items < L .entries → InLimits L w
+few-after L ps h =
+    let a = all-add ps in
+    record {
+      few = λ t. let x = a .few t in let y = few-started t in omega arith;
+      few-names = λ t. let x = a .few-names t in let y = none-started t in omega arith;
+    }
+
+-- ---- a limit is kept by every table, or passed by one
+module _ {X : Type 0} (n : ℕ) where
+  of-strings : (f : StringTable → ℕ) → (((t : StringTable) → f t ≤ n) → X) → ((t : StringTable) → n < f t → X) → X
+  of-strings f kept passed =
+      check PREFIX λ a.
+      check NAMESPACE-NAME λ b.
+      check LOCAL-NAME λ c.
+      check OTHER-NCNAME λ d.
+      check OTHER-URI λ e.
+      check ATTRIBUTE-VALUE λ g.
+      check CONTENT-CHARACTER-CHUNK λ h.
+      check OTHER-STRING λ i.
+      kept (λ t. elim t [ PREFIX ↦ a | NAMESPACE-NAME ↦ b | LOCAL-NAME ↦ c | OTHER-NCNAME ↦ d | OTHER-URI ↦ e | ATTRIBUTE-VALUE ↦ g | CONTENT-CHARACTER-CHUNK ↦ h | OTHER-STRING ↦ i ])
+    where
+      check : (t : StringTable) → (f t ≤ n → X) → X
+      check t k = case n (f t) (passed t) k
+
+  of-names : (f : NameTable → ℕ) → (((t : NameTable) → f t ≤ n) → X) → ((t : NameTable) → n < f t → X) → X
+  of-names f kept passed =
+      case n (f ELEMENT-NAME) (passed ELEMENT-NAME) λ a.
+      case n (f ATTRIBUTE-NAME) (passed ATTRIBUTE-NAME) λ b.
+      kept (λ t. elim t [ ELEMENT-NAME ↦ a | ATTRIBUTE-NAME ↦ b ])
+
+pub in-limits : (L : Limits) (v : Vocabulary (List ℕ)) → Dec (InLimits L v)
+in-limits L v =
+    of-strings (L .entries) (λ t. length (strings v t))
+    (λ a.
+    of-names (L .entries) (λ t. length (names v t)) (λ b. yes (record { few = a; few-names = b }))
+    (λ t h. no (λ f. let x = f .few-names t in omega arith)))
+    (λ t h. no (λ f. let x = f .few t in omega arith))

@@ -1,0 +1,143 @@
+-- The rules can write every document with every permitted choice: nothing in them is narrower than 01. So with 01's choices every list of events that is a document is written, and on
+-- the link too, unless it is over a limit of the link.
+use Prim.Native.Nat.{ℕ, _*_, _≤_, _<_}
+use mathlib.Core.Path.{_≡_, refl, sym, ap, subst}
+use mathlib.Core.Bool.{Bool, true, false, _&&_}
+use mathlib.Core.List.{List, [], _∷_, _++_}
+use native.Mathlib.Omega.{arith}
+use borrow.Author.Tests.{lt-leb}
+use lib.Dec.{leb}
+use lib.ListN.{length, length-map}
+use Rattle.format.specs.Numbers.{top}
+use Rattle.format.specs.Events.{Event, Namespace, Start, Attribute, Text, Comment, Instruction, End, Item, IsDocument, openThen, deepest, stringsOf}
+use Rattle.format.specs.Tables.{Vocabulary, Limits, link, standard, InLimits}
+use Rattle.format.specs.Items.{State, knowing}
+use Rattle.format.specs.Document.{Written, document-end, beginning, header, started}
+use Rattle.format.specs.Allowed.{All, Allowed}
+use Rattle.write_names.specs.Chosen.{chosen, tablesAfter}
+use Rattle.writer.specs.Writing.{opens, joined}
+use Rattle.fields.proofs.Laws.{case}
+use Rattle.theorems.specs.Verdicts.{WrittenAs, WrittenWidely, OrPasses, on-the-link, over-depth, over-entries, over-octets}
+use Rattle.theorems.specs.Permitted.{Permits, PermitsAll, no-item, an-item}
+use Rattle.theorems.proofs.OneWriting.{later, one-writing, later-start, later-declared}
+use Rattle.theorems.proofs.Wider.{written}
+use Rattle.theorems.proofs.Structure.{Rest, Sane, stepped, attributeFirst, goes, on, sane-on, ended, deep, sane-first, all-left}
+use Rattle.theorems.proofs.Documents.{events}
+use Rattle.theorems.proofs.Begun as B
+use Rattle.theorems.proofs.Chosen.{fits-before}
+use Rattle.theorems.proofs.Produced.{Said}
+use Rattle.theorems.proofs.Sayable.{Short, by-kind, said}
+use Rattle.theorems.proofs.Step.{Ahead, words-settled, front, next-state, ahead-next}
+use Rattle.theorems.proofs.Joined.{document-of}
+use Rattle.theorems.proofs.Entries.{all-grow, chosen-permitted, chosen-events, ranged-started, few-after, in-limits}
+
+-- Whether an attribute follows the Start with which the events begin, or the Start behind the declarations with which they begin.
+unfoldable pub announcedBy : List (Event (List ℕ)) → Bool
+announcedBy [] = false
+announcedBy (e ∷ es) = later e (attributeFirst es) (announcedBy es)
+
+-- ---- how deep
+level-is : (a : Bool) (v : State (List ℕ)) (e : Event (List ℕ)) → stepped a v e .level ≡ openThen (v .level) e
+level-is a v (Namespace p n) = refl
+level-is a v (Start x) = refl
+level-is a v (Attribute x y) = refl
+level-is a v (Text y) = refl
+level-is a v (Comment y) = refl
+level-is a v (Instruction x y) = refl
+level-is a v End = refl
+
+shallow : (b : Bool) (depth level : ℕ) → (b ≡ true → level < depth) → (b && leb depth level) ≡ false
+shallow true depth level f = lt-leb depth level (f refl)
+shallow false depth level f = refl
+
+deep-on : (depth : ℕ) (a : Bool) (v : State (List ℕ)) (e : Event (List ℕ)) (es : List (Event (List ℕ))) → deepest (v .level) (e ∷ es) ≤ depth → deepest (stepped a v e .level) es ≤ depth
+unfolding deepest
+deep-on depth a v e es h = rw (level-is a v e) (omega arith)
+
+-- ---- what is left of a document can be written, from wherever a document comes
+-- The halves that the items are written as, and what is known then: these tables.
+pub record CanWrite (L : Limits) (at : ℕ) (v : State (List ℕ)) (items : List (Item (List ℕ))) (tables : Vocabulary (List ℕ)) : Type 0 where
+  pub halves : List ℕ
+  pub last : State (List ℕ)
+  pub rule : Written L at v items halves last
+  pub known : last .words ≡ tables
+
+module _ (L : Limits) (small : L .entries ≤ top) where
+  can-write : {w : Vocabulary (List ℕ)} (items : List (Item (List ℕ))) (at : ℕ) (v : State (List ℕ)) → Rest v (events items) → Sane v → All Said (events items) → deepest (v .level) (events items) ≤ L .depth → InLimits L w
+      → Ahead (v .mode) (announcedBy (events items)) → PermitsAll (v .words) items w → CanWrite L at v items w
+  unfolding announcedBy
+  can-write [] at v k s sd dp i ah no-item = let e = ended v s k in record { halves = _; last = v; rule = document-end (e .0) (e .1) (e .2); known = refl }
+  can-write (x ∷ items) at v k s sd dp i ah (an-item {u = u} p ps) =
+      let e : Event (List ℕ) = x .event in
+      let es = events items in
+      let a = announcedBy (e ∷ es) in
+      let go = goes v e es s k in
+      let d : (opens (v .mode) e ≡ true → v .level < L .depth) = λ t. let y = deep v e es s k t in omega arith in
+      let b = front L small at a v e ah (sd .0) go (shallow (opens (v .mode) e) (L .depth) (v .level) d) (fits-before (all-grow ps) i)
+      (subst (λ (y : Vocabulary (List ℕ)). Permits y e (x .choice) u) (sym (words-settled v e)) p) in
+      let next = can-write items _ (knowing (stepped a v e) u) (on a v e es s k (λ t. sym (later-start e (attributeFirst es) (announcedBy es) t))) (sane-on a v e s go) (sd .1) (deep-on (L .depth) a v e es dp) i
+      (ahead-next a (announcedBy es) v e (later-declared e (attributeFirst es) (announcedBy es))) ps in
+      record { halves = _; last = next .last; rule = B.front (rw (next-state a v e go p) at b) (next .rule) .0; known = next .known }
+
+-- ---- a whole document
+-- the strings are text and no longer than a length can say
+sayable : (es : List (Event (List ℕ))) → All Allowed es → All (λ e. All Short (stringsOf e)) es → All Said es
+sayable [] a b = tt
+sayable (e ∷ es) a b = (said e (a .0) (by-kind Short e (b .0)), sayable es (a .1) (b .1))
+
+module _ (items : List (Item (List ℕ))) {w : Vocabulary (List ℕ)} (doc : IsDocument (events items)) (allowed : All Allowed (events items)) (short : All (λ e. All Short (stringsOf e)) (events items)) (may : PermitsAll started items w) where
+  from-start : (L : Limits) → L .entries ≤ top → deepest 0 (events items) ≤ L .depth → InLimits L w → CanWrite L (2 * length header) (beginning started) items w
+  unfolding beginning
+  from-start L small shallow i =
+      can-write L small items (2 * length header) (beginning started) (all-left started (events items) .0 doc) (sane-first started) (sayable (events items) allowed short) shallow i tt may
+
+  -- Every list of items whose events are a document, its strings as 01 allows them, and whose choices are permitted, is written; it only has to be shorter than a table may be.
+  pub every-choice : length items < top → WrittenAs items w
+  unfolding standard
+  every-choice few =
+      let c = from-start (standard (deepest 0 (events items)) 0) (omega arith) (omega arith) (few-after (standard (deepest 0 (events items)) 0) may few) in
+      record {
+        octets = header ++ joined (c .halves);
+        last = c .last;
+        writes = λ depth size deep long. document-of (written (omega arith) (omega arith) deep (c .rule)) long;
+        known = c .known;
+      }
+
+-- So every document is, with 01's choices.
+module _ (es : List (Event (List ℕ))) (doc : IsDocument es) (allowed : All Allowed es) (short : All (λ e. All Short (stringsOf e)) es) where
+  abbrev same : events (chosen link started es) ≡ es
+  same = chosen-events link started es
+
+  abbrev may : PermitsAll started (chosen link started es) (tablesAfter link started es)
+  may = chosen-permitted link started es ranged-started
+
+  abbrev doc′ : IsDocument (events (chosen link started es))
+  doc′ = subst IsDocument (sym same) doc
+
+  abbrev allowed′ : All Allowed (events (chosen link started es))
+  allowed′ = subst (All Allowed) (sym same) allowed
+
+  abbrev short′ : All (λ e. All Short (stringsOf e)) (events (chosen link started es))
+  short′ = subst (All (λ e. All Short (stringsOf e))) (sym same) short
+
+  pub every-document : length es < top → WrittenWidely es
+  every-document few =
+      let l = length-map (chosen link started es) (λ (i : Item (List ℕ)). i .event) in
+      let k = ap length same in
+      let c = every-choice (chosen link started es) doc′ allowed′ short′ may (omega arith) in
+      record { octets = c .octets; last = c .last; writes = λ depth size deep long. c .writes depth size (rw same deep) long; tables = c .known }
+
+  -- On the link too, unless it is over a limit.
+  pub beyond-the-link : (w : WrittenWidely es) → OrPasses es (w .last) (w .octets)
+  unfolding standard link
+  beyond-the-link w =
+      case (link .depth) (deepest 0 es) over-depth λ shallow.
+      case (link .octets) (length (w .octets)) over-octets λ long.
+      elim (in-limits link (tablesAfter link started es)) [
+        | no f ↦ over-entries f
+        | yes i ↦
+            let d = w .writes (link .depth) (link .octets) shallow long in
+            let c = from-start (chosen link started es) doc′ allowed′ short′ may link (omega arith) (rw same shallow) i in
+            let o = one-writing (d .rule) (written (omega arith) (omega arith) (omega arith) (c .rule)) in
+            on-the-link (record { body = d .body; here = d .here; rule = rw (o .0, o .1) (c .rule); short = long })
+      ]

@@ -1,0 +1,56 @@
+-- An accepted document has a record for each event, and a document's size.
+use Prim.Native.Nat.{ℕ, zero, suc, _≤_}
+use mathlib.Core.Path.{_≡_, refl, ap, subst}
+use mathlib.Core.Bool.{Bool, true, false}
+use mathlib.Core.List.{List}
+use native.Mathlib.Omega.{arith}
+use lib.ListN.{length, length-map}
+use Rattle.format.specs.Events.{Item}
+use Rattle.format.specs.Tables.{Limits, link}
+use Rattle.format.specs.Items.{State}
+use Rattle.format.specs.Document.{header}
+use Rattle.tables.specs.Located.{Located, plain, start}
+use Rattle.read_items.specs.Items.{Stand, Step, more, quiet, done, stop}
+use Rattle.read_items.specs.Steps.{step}
+use Rattle.reader.specs.Reading.{Result, accepted, refusal, plus, turn, run, Opening, onward, halt, opening, origin, fuelOf, resultFrom, sized, reading, Accepts}
+
+abbrev Fits : ℕ → Result → Type 0
+Fits room (accepted is m) = length is ≤ room
+Fits room (refusal n p) = Unit {0}
+
+plus-fits : (room : ℕ) (i : Item Located) (a : Result) → Fits room a → Fits (suc room) (plus i a)
+plus-fits room i (accepted is m) h = omega arith
+plus-fits room i (refusal n p) h = tt
+
+turn-fits : (go : ℕ → Stand → Result) → ((r : ℕ) (n : Stand) → Fits r (go r n)) → (room : ℕ) (m : Stand) (a : Step) → Fits room (turn go room m a)
+turn-fits go rec zero m (more p i n) = tt
+turn-fits go rec (suc r) m (more p i n) = plus-fits r i (go r n) (rec r n)
+turn-fits go rec room m (quiet n) = rec room n
+turn-fits go rec room m done = omega arith
+turn-fits go rec room m (stop n p) = tt
+
+run-fits : (L : Limits) (s : List ℕ) (fuel room : ℕ) (m : Stand) → Fits room (run L s fuel room m)
+unfolding run
+run-fits L s zero room m = tt
+run-fits L s (suc fuel) room m = turn-fits (λ r n. run L s fuel r n) (λ r n. run-fits L s fuel r n) room m (step L s m)
+
+from-fits : (s : List ℕ) (room : ℕ) (o : Opening) → Fits room (resultFrom s room o)
+from-fits s room onward = run-fits link s (fuelOf s) room (origin start)
+from-fits s room (halt n p) = tt
+
+pub accepted-fits : (s : List ℕ) (room : ℕ) (items : List (Item (List ℕ))) (z : State (List ℕ)) → Accepts s room items z → length items ≤ room
+unfolding reading
+accepted-fits s room items z a =
+    let h : length (a .events) ≤ room = subst (Fits room) (a .reads) (from-fits s room (opening link header s)) in
+    let l = length-map (a .events) (plain s) in
+    let k = ap length (a .are) in
+    omega arith
+
+-- and it has a document's size
+sized-is : (s : List ℕ) (room : ℕ) (is : List (Item Located)) (m : Stand) → reading s room ≡ accepted is m → (b : Bool) → sized link s ≡ b → sized link s ≡ true
+unfolding reading opening
+sized-is s room is m r true e = e
+sized-is s room is m r false e = let q = rw e at r in absurd (let z : _≡_ {A = ℕ} 0 1 = cc in omega arith)
+
+pub accepted-sized : (s : List ℕ) (room : ℕ) (is : List (Item Located)) (m : Stand) → reading s room ≡ accepted is m → sized link s ≡ true
+accepted-sized s room is m r = sized-is s room is m r (sized link s) refl

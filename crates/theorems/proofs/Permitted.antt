@@ -1,0 +1,58 @@
+-- What the rules write is permitted: `Permits` is the rules without octets, limits and places. That the rules write all that is permitted is Every.
+use Prim.Native.Nat.{ℕ}
+use mathlib.Core.Option.{Option}
+use mathlib.Core.List.{List}
+use Rattle.format.specs.Events.{Name, How, NameHow, Item}
+use Rattle.format.specs.Tables.{StringTable, ELEMENT-NAME, ATTRIBUTE-NAME, Vocabulary, Limits}
+use Rattle.format.specs.Strings.{Identifying, id-spelled, id-numbered, Optional, absent, present, Layout, Literal, literal-spelled, literal-numbered, Value, value-empty, value}
+use Rattle.format.specs.Names.{NameLayout, ofElement, ofAttribute, Named, in-parts, by-number, declared}
+use Rattle.format.specs.Items.{State, Octets, o-start, o-first-namespace, o-namespace, o-named-start, o-attribute, o-text, o-comment, o-instruction}
+use Rattle.format.specs.Document.{Written, document-end, attributes-end, element-end, item}
+use Rattle.theorems.specs.Permitted.{PermitsId, id-new, id-entry, PermitsIfAny, not-there, there, PermitsString, string-spelled, string-entry, PermitsValue, value-none, value-spelled, value-entry}
+use Rattle.theorems.specs.Permitted.{PermitsName, name-parts, name-entry, Permits, a-declaration, a-start, an-attribute, a-chunk, a-comment, an-instruction, an-end, PermitsAll, no-item, an-item}
+
+module _ {L : Limits} where
+  id-may : {t : StringTable} {v w : Vocabulary (List ℕ)} {x : List ℕ} {h : How} {n : ℕ} {o : List ℕ} → Identifying L t v x h n o w → PermitsId t v x h n w
+  id-may (id-spelled sp new room) = id-new new
+  id-may (id-numbered small en) = id-entry en
+
+  optional-may : {t : StringTable} {v w : Vocabulary (List ℕ)} {x : Option (List ℕ)} {h : Option How} {n : ℕ} {o : List ℕ} → Optional L t v x h n o w → PermitsIfAny t v x h n w
+  optional-may absent = not-there
+  optional-may (present u) = there (id-may u)
+
+  literal-may : {q : Layout} {t : StringTable} {v w : Vocabulary (List ℕ)} {x : List ℕ} {h : How} {o : List ℕ} → Literal L q t v x h o w → PermitsString t v x h w
+  literal-may (literal-spelled {added = b} sp room) = string-spelled b
+  literal-may (literal-numbered small fits en) = string-entry en
+
+  value-may : {t : StringTable} {v w : Vocabulary (List ℕ)} {x : List ℕ} {h : How} {o : List ℕ} → Value L t v x h o w → PermitsValue t v x h w
+  value-may value-empty = value-none
+  value-may (value (literal-spelled {added = b} sp room)) = value-spelled b (sp .some)
+  value-may (value (literal-numbered small fits en)) = value-entry en
+
+  name-may : {q : NameLayout} {lead : ℕ} {v w : Vocabulary (List ℕ)} {x : Name (List ℕ)} {h : NameHow} {o : List ℕ} → Named L q lead v x h o w → PermitsName (q .table) v x h w
+  name-may (in-parts lone up un ul new room) = name-parts (optional-may up) (optional-may un) (id-may ul) new
+  name-may (by-number small fits en) = name-entry en
+
+  element-may : {lead : ℕ} {v w : Vocabulary (List ℕ)} {x : Name (List ℕ)} {h : NameHow} {o : List ℕ} → Named L ofElement lead v x h o w → PermitsName ELEMENT-NAME v x h w
+  unfolding ofElement
+  element-may u = name-may u
+
+  attribute-may : {lead : ℕ} {v w : Vocabulary (List ℕ)} {x : Name (List ℕ)} {h : NameHow} {o : List ℕ} → Named L ofAttribute lead v x h o w → PermitsName ATTRIBUTE-NAME v x h w
+  unfolding ofAttribute
+  attribute-may u = name-may u
+
+  octets-may : {v w : State (List ℕ)} {i : Item (List ℕ)} {o : List ℕ} → Octets L v i o w → Permits (v .words) (i .event) (i .choice) (w .words)
+  octets-may (o-start a md may deep u) = a-start (element-may u)
+  octets-may (o-first-namespace md may deep (declared up un)) = a-declaration (optional-may up) (optional-may un)
+  octets-may (o-namespace md (declared up un)) = a-declaration (optional-may up) (optional-may un)
+  octets-may (o-named-start md u) = a-start (element-may u)
+  octets-may (o-attribute md u y) = an-attribute (attribute-may u) (value-may y)
+  octets-may (o-text md lv y) = a-chunk (literal-may y)
+  octets-may (o-comment md y) = a-comment (value-may y)
+  octets-may (o-instruction md x y) = an-instruction (id-may x) (value-may y)
+
+  pub permitted : {at : ℕ} {v z : State (List ℕ)} {items : List (Item (List ℕ))} {hs : List ℕ} → Written L at v items hs z → PermitsAll (v .words) items (z .words)
+  permitted (document-end md lv rt) = no-item
+  permitted (attributes-end md w) = permitted w
+  permitted (element-end md lv w) = an-item an-end (permitted w)
+  permitted (item u w) = an-item (octets-may u) (permitted w)

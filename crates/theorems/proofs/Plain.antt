@@ -1,0 +1,189 @@
+-- The strings of written events are as 01 allows; and, for any kind of strings, what holds of all that is spelled holds of every string of an event.
+use Prim.Native.Nat.{ℕ, zero, suc, _≤_}
+use mathlib.Core.Path.{_≡_, refl, sym, subst}
+use mathlib.Core.Bool.{Bool, true, false}
+use mathlib.Core.Option.{Option, none, some}
+use mathlib.Core.List.{List, [], _∷_, _++_}
+use native.Mathlib.Omega.{arith}
+use lib.Dec.{eqb}
+use Rattle.format.specs.Text.{rows, between, first, next, after, isText}
+use Rattle.format.specs.Events.{Name, Event, Namespace, Start, Attribute, Text, Comment, Instruction, End, How, NameHow, Item}
+use Rattle.format.specs.Tables.{StringTable, PREFIX, NAMESPACE-NAME, LOCAL-NAME, OTHER-NCNAME, OTHER-URI, ATTRIBUTE-VALUE, CONTENT-CHARACTER-CHUNK, OTHER-STRING}
+use Rattle.format.specs.Tables.{NameTable, ELEMENT-NAME, ATTRIBUTE-NAME, Triple, noTriple, Vocabulary, strings, names, place, extended, adding, addingName, starting}
+use Rattle.format.specs.Tables.{xmlPrefix, xmlNamespace, Entry}
+use Rattle.format.specs.Names.{has}
+use Rattle.format.specs.Items.{State}
+use Rattle.format.specs.Uses.{sameNames}
+use Rattle.format.specs.Allowed.{Said, SaidIfAny, AllowedName, Allowed, All}
+use Rattle.format.specs.Document.{Writes}
+use Rattle.tables.proofs.Laws.{strings-adding, names-adding}
+use Rattle.theorems.proofs.Effects.{IdDone, id-made, id-used, PartDone, no-part, a-part, StringDone, string-made, string-used, ValueDone, empty-value, a-value, NameDone, name-made, name-used}
+use Rattle.theorems.proofs.Effects.{ItemDone, done-namespace, done-start, done-attribute, done-text, done-comment, done-instruction, done-end, Done, no-item, an-item, document-done}
+use Rattle.theorems.proofs.Growing.{same-table, names-adding-name, strings-adding-name, Means, means-is, means-kept, Keeps}
+use Rattle.theorems.proofs.Growing.{keeps-adding-name, keeps-adding, parts-mean}
+
+module _ {A : Type 0} (P : A → Type 0) where
+  all-last : (l : List A) (x : A) → All P l → P x → All P (l ++ (x ∷ []))
+  all-last [] x a p = (p, tt)
+  all-last (y ∷ l) x a p = (a .0, all-last l x (a .1) p)
+
+  all-extended : (b : Bool) (l : List A) (x : A) → All P l → (b ≡ true → P x) → All P (extended b l x)
+  all-extended true l x a p = all-last l x a (p refl)
+  all-extended false l x a p = a
+
+  all-entry : (l : List A) (k : ℕ) (d x : A) → All P l → Entry l k d x → P x
+  all-entry [] k d x a e = absurd (let h = e .made in omega arith)
+  all-entry (y ∷ l) zero d x a e = subst P (e .is) (a .0)
+  all-entry (y ∷ l) (suc k) d x a e = let h = e .made in all-entry l k d x (a .1) (record { made = omega arith; is = e .is })
+
+  pub all-so : {Q : A → Type 0} → ((x : A) → Q x → P x) → (l : List A) → All Q l → All P l
+  all-so f [] a = tt
+  all-so f (x ∷ l) a = (f x (a .0), all-so f l (a .1))
+
+-- ---- P is what holds of the strings of a table; d is the empty string
+module _ {S : Type 0} (P : StringTable → S → Type 0) (d : S) where
+  abbrev pub IfAny : StringTable → Option S → Type 0
+  IfAny t none = Unit {0}
+  IfAny t (some x) = P t x
+
+  pub record Parts (x : Name S) : Type 0 where
+    pub prefix : IfAny PREFIX (x .prefix)
+    pub namespace : IfAny NAMESPACE-NAME (x .namespace)
+    pub local : P LOCAL-NAME (x .local)
+    pub not-alone : has (x .prefix) ≤ has (x .namespace)
+
+  -- a value, comment or content can be empty
+  pub data OrEmpty (t : StringTable) : S → Type 0 where
+    is-empty : OrEmpty t d
+    not-empty : {x : S} → P t x → OrEmpty t x
+
+  abbrev pub Holds : Event S → Type 0
+  Holds (Namespace p n) = IfAny PREFIX p × IfAny NAMESPACE-NAME n
+  Holds (Start x) = Parts x
+  Holds (Attribute x y) = Parts x × OrEmpty ATTRIBUTE-VALUE y
+  Holds (Text y) = P CONTENT-CHARACTER-CHUNK y
+  Holds (Comment y) = OrEmpty OTHER-STRING y
+  Holds (Instruction x y) = P OTHER-NCNAME x × OrEmpty OTHER-STRING y
+  Holds End = Unit {0}
+
+  -- tables that hold only such strings, and only triples of such names
+  abbrev Meant : Vocabulary S → Triple → Type 0
+  Meant v x = (y : Name S) × Means d v x y × Parts y
+
+  record Good (v : Vocabulary S) : Type 0 where
+    of-strings : (t : StringTable) → All (P t) (strings v t)
+    of-names : (t : NameTable) → All (Meant v) (names v t)
+
+  still-meant : {v w : Vocabulary S} → Keeps d v w → (l : List Triple) → All (Meant v) l → All (Meant w) l
+  still-meant {w = w} k = all-so (Meant w) (λ x m. (m .0, means-kept k (m .1), m .2))
+
+  good-adding : (v : Vocabulary S) (t : StringTable) (x : S) → P t x → Good v → Good (adding v t x)
+  good-adding v t x s g =
+      record {
+        of-strings = λ u. rw (strings-adding v t x u) (all-extended (P u) (eqb (place t) (place u)) (strings v u) x (g .of-strings u) (λ e. subst (λ (y : StringTable). P y x) (same-table t u e) s));
+        of-names = λ u. rw (names-adding v t x u) (still-meant (keeps-adding v t x) (names v u) (g .of-names u));
+      }
+
+  good-adding-name : (v : Vocabulary S) (t : NameTable) (x : Triple) (y : Name S) → Means d v x y → Parts y → Good v → Good (addingName v t x)
+  good-adding-name v t x y m a g =
+      let k = keeps-adding-name v t x in
+      record {
+        of-strings = λ u. rw (strings-adding-name v t x u) (g .of-strings u);
+        of-names = λ u.
+            rw (names-adding-name v t x u)
+            (all-extended (Meant (addingName v t x)) (sameNames t u) (names v u) x (still-meant k (names v u) (g .of-names u)) (λ e. (y, means-kept k m, a)));
+      }
+
+  -- P holds of all that can be spelled
+  module _ (Spelt : S → Type 0) (of-spelt : (t : StringTable) (x : S) → Spelt x → P t x) where
+    id-holds : {t : StringTable} {v w : Vocabulary S} {x : S} {h : How} {n : ℕ} → IdDone d Spelt t v x h n w → Good v → P t x × Good w
+    id-holds {t} {v} (id-made {x = x} sp) g = let p = of-spelt t x sp in (p, good-adding v t x p g)
+    id-holds {t} {v} (id-used {x = x} {k = k} en) g = (all-entry (P t) (strings v t) k d x (g .of-strings t) en, g)
+
+    part-holds : {t : StringTable} {v w : Vocabulary S} {x : Option S} {h : Option How} {n : ℕ} → PartDone d Spelt t v x h n w → Good v → IfAny t x × Good w
+    part-holds no-part g = (tt, g)
+    part-holds (a-part u) g = id-holds u g
+
+    string-holds : {t : StringTable} {v w : Vocabulary S} {x : S} {h : How} → StringDone d Spelt t v x h w → Good v → P t x × Good w
+    string-holds {t} {v} (string-made {x = x} true sp) g = let p = of-spelt t x sp in (p, good-adding v t x p g)
+    string-holds {t} (string-made {x = x} false sp) g = (of-spelt t x sp, g)
+    string-holds {t} {v} (string-used {x = x} {k = k} en) g = (all-entry (P t) (strings v t) k d x (g .of-strings t) en, g)
+
+    value-holds : {t : StringTable} {v w : Vocabulary S} {x : S} {h : How} → ValueDone d Spelt t v x h w → Good v → OrEmpty t x × Good w
+    value-holds empty-value g = (is-empty, g)
+    value-holds (a-value u) g = let r = string-holds u g in (not-empty (r .0), r .1)
+
+    name-holds : {t : NameTable} {v w : Vocabulary S} {x : Name S} {h : NameHow} → NameDone d Spelt t v x h w → Good v → Parts x × Good w
+    name-holds {t} (name-made {p = p} {n = n} {l = l} {v₃ = v3} lone up un ul) g =
+        let a = part-holds up g in
+        let b = part-holds un (a .1) in
+        let c = id-holds ul (b .1) in
+        let y : Parts (record { prefix = p; namespace = n; local = l }) = record { prefix = a .0; namespace = b .0; local = c .0; not-alone = lone } in
+        (y, good-adding-name v3 t _ _ (parts-mean up un ul) y (c .1))
+    name-holds {t} {v} (name-used {k = k} {x = x} en) g =
+        let m = all-entry (Meant v) (names v t) k noTriple x (g .of-names t) en in
+        (subst Parts (sym (means-is (m .1))) (m .2), g)
+
+    item-holds : {v w : Vocabulary S} {i : Item S} → ItemDone d Spelt v i w → Good v → Holds (i .event) × Good w
+    item-holds (done-namespace up un) g = let a = part-holds up g in let b = part-holds un (a .1) in ((a .0, b .0), b .1)
+    item-holds (done-start u) g = name-holds u g
+    item-holds (done-attribute u1 u2) g = let a = name-holds u1 g in let b = value-holds u2 (a .1) in ((a .0, b .0), b .1)
+    item-holds (done-text u) g = string-holds u g
+    item-holds (done-comment u) g = value-holds u g
+    item-holds (done-instruction u1 u2) g = let a = id-holds u1 g in let b = value-holds u2 (a .1) in ((a .0, b .0), b .1)
+    item-holds done-end g = (tt, g)
+
+    all-hold : {v z : Vocabulary S} {items : List (Item S)} → Done d Spelt v items z → Good v → All (λ i. Holds (i .event)) items
+    all-hold no-item g = tt
+    all-hold (an-item u r) g = let a = item-holds u g in (a .0, all-hold r (a .1))
+
+    -- at the start the tables hold two strings, and no name
+    good-start : {p n : S} → P PREFIX p → P NAMESPACE-NAME n → Good (starting p n)
+    unfolding strings names starting
+    good-start {p} {n} a b = record { of-strings = two-strings; of-names = λ t. elim t [ ELEMENT-NAME ↦ tt | ATTRIBUTE-NAME ↦ tt ] }
+      where
+        two-strings : (t : StringTable) → All (P t) (strings (starting p n) t)
+        two-strings PREFIX = (a, tt)
+        two-strings NAMESPACE-NAME = (b, tt)
+        two-strings LOCAL-NAME = tt
+        two-strings OTHER-NCNAME = tt
+        two-strings OTHER-URI = tt
+        two-strings ATTRIBUTE-VALUE = tt
+        two-strings CONTENT-CHARACTER-CHUNK = tt
+        two-strings OTHER-STRING = tt
+
+    pub holds : {p n : S} {items : List (Item S)} {z : Vocabulary S} → P PREFIX p → P NAMESPACE-NAME n → Done d Spelt (starting p n) items z → All (λ i. Holds (i .event)) items
+    holds a b r = all-hold r (good-start a b)
+
+-- ---- 01's strings
+abbrev OfTable : StringTable → List ℕ → Type 0
+OfTable t x = Said x
+
+if-any : (t : StringTable) (x : Option (List ℕ)) → IfAny OfTable [] t x → SaidIfAny x
+if-any t none a = tt
+if-any t (some x) a = a
+
+as-name : (x : Name (List ℕ)) → Parts OfTable [] x → AllowedName x
+as-name x a = record { prefix = if-any PREFIX (x .prefix) (a .prefix); namespace = if-any NAMESPACE-NAME (x .namespace) (a .namespace); local = a .local; not-alone = a .not-alone }
+
+as-text : {t : StringTable} {x : List ℕ} → OrEmpty OfTable [] t x → isText x ≡ true
+unfolding isText after between
+as-text is-empty = refl
+as-text (not-empty a) = a .1
+
+as-allowed : (e : Event (List ℕ)) → Holds OfTable [] e → Allowed e
+as-allowed (Namespace p n) a = (if-any PREFIX p (a .0), if-any NAMESPACE-NAME n (a .1))
+as-allowed (Start x) a = as-name x a
+as-allowed (Attribute x y) a = (as-name x (a .0), as-text (a .1))
+as-allowed (Text y) a = a
+as-allowed (Comment y) a = as-text a
+as-allowed (Instruction x y) a = (a .0, as-text (a .1))
+as-allowed End a = tt
+
+two-said : Said xmlPrefix × Said xmlNamespace
+unfolding xmlPrefix xmlNamespace rows between first next after isText
+two-said = ((omega arith, refl), (omega arith, refl))
+
+pub plain-on-link : {items : List (Item (List ℕ))} {z : State (List ℕ)} {s : List ℕ} → Writes items z s → All (λ i. Allowed (i .event)) items
+plain-on-link {items} w =
+    all-so (λ i. Allowed (i .event)) (λ i a. as-allowed (i .event) a) items (holds OfTable [] Said (λ t x a. a) (two-said .0) (two-said .1) (document-done w))

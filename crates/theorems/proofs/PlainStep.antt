@@ -1,0 +1,196 @@
+-- One event of the writer's run, seen in plain octets: where it stands, what it is written as, and what is known then.
+use mathlib.Core.Path.{_≡_, refl, sym, ap, _∙_}
+use mathlib.Core.Bool.{Bool, true, false, not, _&&_, _||_}
+use mathlib.Core.List.{List, _∷_}
+use Prim.Native.Nat.{ℕ, _≤_}
+use native.Mathlib.Omega.{arith}
+use borrow.Author.Tests.{leb-true, le-leb}
+use lib.Dec.{leb}
+use lib.ListN.{length, length-map}
+use Rattle.format.specs.Numbers.{pick}
+use Rattle.format.specs.Events as E
+use Rattle.format.specs.Events.{eventMap, isDeclaration, isStart}
+use Rattle.format.specs.Tables.{StringTable, PREFIX, NAMESPACE-NAME, LOCAL-NAME, OTHER-NCNAME, OTHER-URI, ATTRIBUTE-VALUE, CONTENT-CHARACTER-CHUNK, OTHER-STRING, NameTable, ELEMENT-NAME, ATTRIBUTE-NAME, Vocabulary, strings, names, place, vocabularyMap, Limits, InLimits}
+use Rattle.format.specs.Items.{Mode, content, State, moved}
+use Rattle.events.specs.declared.Kind.{Kind}
+use Rattle.events.specs.declared.Kind.the-variants.{Blank, Namespace, Start, Attribute, Chunk, Comment, Instruction, End}
+use Rattle.events.specs.declared.Event.{Event}
+use Rattle.tables.specs.Located.{Located, octetsOf, plainWords, plainState}
+use Rattle.write_names.specs.Choices.{within}
+use Rattle.write_names.specs.Chosen.{chooseFor}
+use Rattle.writer.specs.Events.{isDeclaring, isListing, eventOf}
+use Rattle.writer.specs.Items.{WroteItem, writeItem}
+use Rattle.writer.specs.Writing.{attributeNext, announced, isAttribute, isEnd, opens, owed, settled, halvesOf}
+use Rattle.tables.proofs.Found.{both-true}
+use Rattle.theorems.specs.Verdicts.{plainOf}
+use Rattle.theorems.proofs.OneWriting.{later, later-start, later-declared}
+use Rattle.theorems.proofs.Produced.{Rest, octetsBy, knownBy}
+use Rattle.theorems.proofs.WriterChoices.{SameItem, same-item}
+use Rattle.theorems.proofs.Step.{halvesAs, halvesBy, nextBy, words-settled}
+
+-- ---- what does not depend on the strings
+module _ {S T : Type 0} (f : S → T) where
+  attribute-map : (e : E.Event S) → isAttribute (eventMap f e) ≡ isAttribute e
+  unfolding eventMap
+  attribute-map (E.Namespace p n) = refl
+  attribute-map (E.Start x) = refl
+  attribute-map (E.Attribute x y) = refl
+  attribute-map (E.Text y) = refl
+  attribute-map (E.Comment y) = refl
+  attribute-map (E.Instruction x y) = refl
+  attribute-map E.End = refl
+
+  end-map : (e : E.Event S) → isEnd (eventMap f e) ≡ isEnd e
+  unfolding eventMap
+  end-map (E.Namespace p n) = refl
+  end-map (E.Start x) = refl
+  end-map (E.Attribute x y) = refl
+  end-map (E.Text y) = refl
+  end-map (E.Comment y) = refl
+  end-map (E.Instruction x y) = refl
+  end-map E.End = refl
+
+  pub opens-map : (m : Mode) (e : E.Event S) → opens m (eventMap f e) ≡ opens m e
+  unfolding eventMap
+  opens-map m (E.Namespace p n) = refl
+  opens-map m (E.Start x) = refl
+  opens-map m (E.Attribute x y) = refl
+  opens-map m (E.Text y) = refl
+  opens-map m (E.Comment y) = refl
+  opens-map m (E.Instruction x y) = refl
+  opens-map m E.End = refl
+
+pub opens-is : {S : Type 0} (m : Mode) (e : E.Event S) → opens m e ≡ ((isDeclaration e || isStart e) && not (isDeclaring m))
+opens-is m (E.Namespace p n) = refl
+opens-is m (E.Start x) = refl
+opens-is m (E.Attribute x y) = refl
+opens-is m (E.Text y) = refl
+opens-is m (E.Comment y) = refl
+opens-is m (E.Instruction x y) = refl
+opens-is m E.End = refl
+
+-- ---- what the records ahead announce
+module _ (text : List ℕ) where
+  pub next-is : (e : Event) (es : List Event) → attributeNext (e ∷ es) ≡ isAttribute (plainOf text e)
+  unfolding eventOf
+  next-is e es = go (e .kind) ∙ sym (attribute-map (octetsOf text) (eventOf (e .kind) e))
+    where
+      go : (k : Kind) → elim k [ Blank ↦ false | Namespace ↦ false | Start ↦ false | Attribute ↦ true | Chunk ↦ false | Comment ↦ false | Instruction ↦ false | End ↦ false ] ≡ isAttribute (eventOf k e)
+      go Blank = refl
+      go Namespace = refl
+      go Start = refl
+      go Attribute = refl
+      go Chunk = refl
+      go Comment = refl
+      go Instruction = refl
+      go End = refl
+
+  announced-is : (e : Event) (es : List Event) → announced (e ∷ es) ≡ later (plainOf text e) (attributeNext es) (announced es)
+  unfolding announced eventOf eventMap
+  announced-is e es = go (e .kind)
+    where
+      go : (k : Kind) → elim k [ Blank ↦ false | Namespace ↦ announced es | Start ↦ attributeNext es | Attribute ↦ false | Chunk ↦ false | Comment ↦ false | Instruction ↦ false | End ↦ false ]
+          ≡ later (eventMap (octetsOf text) (eventOf k e)) (attributeNext es) (announced es)
+      go Blank = refl
+      go Namespace = refl
+      go Start = refl
+      go Attribute = refl
+      go Chunk = refl
+      go Comment = refl
+      go Instruction = refl
+      go End = refl
+
+  pub announced-start : (e : Event) (es : List Event) → isStart (plainOf text e) ≡ true → announced (e ∷ es) ≡ attributeNext es
+  announced-start e es t = announced-is e es ∙ later-start (plainOf text e) (attributeNext es) (announced es) t
+
+  pub announced-on : (e : Event) (es : List Event) → isDeclaration (plainOf text e) ≡ true → announced (e ∷ es) ≡ announced es
+  announced-on e es t = announced-is e es ∙ later-declared (plainOf text e) (attributeNext es) (announced es) t
+
+-- ---- one event
+module _ (L : Limits) (text : List ℕ) (a : Bool) (v : State Located) (e : E.Event Located) where
+  abbrev pv : State (List ℕ)
+  pv = plainState text v
+
+  abbrev pe : E.Event (List ℕ)
+  pe = eventMap (octetsOf text) e
+
+  abbrev w : WroteItem
+  w = writeItem L text a (settled v e) e
+
+  settled-plain : plainState text (settled v e) ≡ settled pv pe
+  unfolding settled
+  settled-plain = rw (attribute-map (octetsOf text) e) (go (isListing (v .mode) && not (isAttribute e)))
+    where
+      go : (t : Bool) → plainState text (pick t (moved v (v .words) content) v) ≡ pick t (moved (plainState text v) (plainWords text (v .words)) content) (plainState text v)
+      go true = refl
+      go false = refl
+
+  same : SameItem text L a (settled v e) e
+  same = same-item text L a (settled v e) e
+
+  pub next-plain : plainState text (w .state) ≡ nextBy L a pv pe
+  next-plain = same .state ∙ ap (λ (u : State (List ℕ)). knownBy L a u pe) settled-plain
+
+  pub choice-plain : w .choice ≡ chooseFor L (pv .words) pe .how
+  choice-plain = same .choice ∙ ap (λ (u : Vocabulary (List ℕ)). chooseFor L u pe .how) (ap (λ (u : State (List ℕ)). u .words) settled-plain ∙ words-settled pv pe)
+
+  pub halves-plain : (room at : ℕ) → halvesOf L text room at v e w ≡ halvesBy L at a pv pe
+  unfolding halvesOf halvesBy halvesAs owed
+  halves-plain room at =
+      rw (attribute-map (octetsOf text) e, end-map (octetsOf text) e, same .octets ∙ ap (λ (u : State (List ℕ)). octetsBy L a u pe) settled-plain)
+
+-- ---- the tables behind it
+known-words : (L : Limits) (a : Bool) (v : State (List ℕ)) (e : E.Event (List ℕ)) → knownBy L a v e .words ≡ chooseFor L (v .words) e .words
+unfolding chooseFor
+known-words L a v (E.Namespace p n) = refl
+known-words L a v (E.Start x) = refl
+known-words L a v (E.Attribute x y) = refl
+known-words L a v (E.Text y) = refl
+known-words L a v (E.Comment y) = refl
+known-words L a v (E.Instruction x y) = refl
+known-words L a v E.End = refl
+
+pub next-words : (L : Limits) (a : Bool) (v : State (List ℕ)) (e : E.Event (List ℕ)) → nextBy L a v e .words ≡ chooseFor L (v .words) e .words
+next-words L a v e = known-words L a (settled v e) e ∙ ap (λ (u : Vocabulary (List ℕ)). chooseFor L u e .words) (words-settled v e)
+
+pub within-plain : (L : Limits) (text : List ℕ) (v : Vocabulary Located) → within L (plainWords text v) ≡ within L v
+unfolding within vocabularyMap
+within-plain L text v =
+    rw (length-map (v .prefixes) (octetsOf text), length-map (v .namespaces) (octetsOf text), length-map (v .locals) (octetsOf text), length-map (v .ncnames) (octetsOf text))
+
+-- what is within the limits, by the writer's test and by how it adds
+pub fits-of : (L : Limits) (v : Vocabulary (List ℕ)) → within L v ≡ true → Rest L v → InLimits L v
+unfolding within strings names place
+fits-of L v e r =
+    let a = both-true (leb (length (v .prefixes)) (L .entries)) _ e in
+    let b = both-true (leb (length (v .namespaces)) (L .entries)) _ (a .1) in
+    let c = both-true (leb (length (v .locals)) (L .entries)) _ (b .1) in
+    let d = both-true (leb (length (v .ncnames)) (L .entries)) _ (c .1) in
+    let f = both-true (leb (length (v .elements)) (L .entries)) _ (d .1) in
+    record { few = go (leb-true _ _ (a .0)) (leb-true _ _ (b .0)) (leb-true _ _ (c .0)) (leb-true _ _ (d .0)); few-names = gone (leb-true _ _ (f .0)) (leb-true _ _ (f .1)) }
+  where
+    go : length (v .prefixes) ≤ L .entries → length (v .namespaces) ≤ L .entries → length (v .locals) ≤ L .entries → length (v .ncnames) ≤ L .entries → (t : StringTable) → length (strings v t) ≤ L .entries
+    go p n l o PREFIX = p
+    go p n l o NAMESPACE-NAME = n
+    go p n l o LOCAL-NAME = l
+    go p n l o OTHER-NCNAME = o
+    go p n l o OTHER-URI = r .few OTHER-URI (omega arith)
+    go p n l o ATTRIBUTE-VALUE = r .few ATTRIBUTE-VALUE (omega arith)
+    go p n l o CONTENT-CHARACTER-CHUNK = r .few CONTENT-CHARACTER-CHUNK (omega arith)
+    go p n l o OTHER-STRING = r .few OTHER-STRING (omega arith)
+
+    gone : length (v .elements) ≤ L .entries → length (v .attributes) ≤ L .entries → (t : NameTable) → length (names v t) ≤ L .entries
+    gone e a ELEMENT-NAME = e
+    gone e a ATTRIBUTE-NAME = a
+
+pub of-fits : (L : Limits) (v : Vocabulary (List ℕ)) → InLimits L v → within L v ≡ true
+unfolding within strings names
+of-fits L v f =
+    rw (
+      le-leb _ _ (f .few PREFIX),
+      le-leb _ _ (f .few NAMESPACE-NAME),
+      le-leb _ _ (f .few LOCAL-NAME),
+      le-leb _ _ (f .few OTHER-NCNAME),
+      le-leb _ _ (f .few-names ELEMENT-NAME),
+      le-leb _ _ (f .few-names ATTRIBUTE-NAME),
+    )

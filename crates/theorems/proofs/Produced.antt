@@ -1,0 +1,253 @@
+-- One event with a permitted choice is what the rules write, and its tables keep in order; 01's choices are permitted ones.
+use mathlib.Core.Path.{_≡_, refl, sym, ap, _∙_, subst}
+use mathlib.Core.Bool.{Bool, true, false}
+use mathlib.Core.Option.{Option}
+use mathlib.Core.List.{List, [], _∷_, _++_}
+use Prim.Native.Nat.{ℕ, _+_, _-_, _*_, _≤_, _<_}
+use native.Mathlib.Omega.{arith}
+use borrow.Author.Tests.{ne-eqb}
+use lib.Dec.{eqb}
+use lib.ListN.{length}
+use Rattle.format.specs.Numbers.{coded, sizes, numbers, c25, top}
+use Rattle.format.specs.Events.{Name, Event, Namespace, Start, Attribute, Text, Comment, Instruction, End, How, NameHow, Item, _by_, Choice, forStart}
+use Rattle.format.specs.Tables.{StringTable, PREFIX, NAMESPACE-NAME, LOCAL-NAME, OTHER-NCNAME, ATTRIBUTE-VALUE, CONTENT-CHARACTER-CHUNK, OTHER-STRING, NameTable, ELEMENT-NAME, ATTRIBUTE-NAME, Vocabulary, strings, place, extended, adding, Limits, InLimits}
+use Rattle.format.specs.Strings.{Spelling, bit, c15, Literal}
+use Rattle.format.specs.Names.{has, ofElement, ofAttribute, Named, Declared, declared}
+use Rattle.format.specs.Items.{Mode, content, declaring, listing, State, mayStart, knowing, moved, opened, Octets, o-start, o-first-namespace, o-namespace, o-named-start, o-attribute, o-text, o-comment, o-instruction}
+use Rattle.format.specs.Document.{closed}
+use Rattle.tables.proofs.Laws.{strings-adding}
+use Rattle.write_names.specs.Chosen.{Chose, chooseId, chooseOptional, chooseName, chooseLiteral, chooseValue, chooseFor}
+use Rattle.writer.specs.Items.{beforeDeclaration, beforeName, nameLead}
+use Rattle.theorems.specs.Permitted.{PermitsId, id-new, id-entry, PermitsIfAny, not-there, there, PermitsString, PermitsName, Permits, a-declaration, a-start, an-attribute, a-chunk, a-comment, an-instruction, an-end}
+use Rattle.theorems.proofs.Growing.{strings-adding-name, same-table, extended-few}
+use Rattle.theorems.proofs.Chosen.{Grows, same-size, grows-on, fits-before, idOctets, optionalOctets, literalOctets, valueOctets, nameOctets, id-case, id-grows, id-rule, optional-case, optional-grows, optional-rule, SpellingIfAny, SpellingIfSome, LiteralCase, lit-held, lit-new, literal-case, literal-permits, literal-grows, literal-rule, ValueCase, is-empty, is-literal, value-case, value-permits, value-grows, value-rule, Ranged, ranged-on, id-names, optional-names, literal-names, value-names, NameCase, name-held, name-new, name-case, name-permits, name-grows, name-ranged, NameSaid, name-rule}
+
+-- the tables in order: none over its limit, and each triple's numbers in range
+pub record Order (L : Limits) (v : Vocabulary (List ℕ)) : Type 0 where
+  pub fit : InLimits L v
+  pub ranged : Ranged v
+
+-- ---- the tables that no identifying string is added to: they are added to only where there is room
+pub record Rest (L : Limits) (v : Vocabulary (List ℕ)) : Type 0 where
+  pub few : (t : StringTable) → 4 ≤ place t → length (strings v t) ≤ L .entries
+
+-- what stands in the other tables stays
+same-rest : {L : Limits} {v w : Vocabulary (List ℕ)} → ((t : StringTable) → 4 ≤ place t → strings w t ≡ strings v t) → Rest L v → Rest L w
+same-rest e r = record { few = λ t h. let a = r .few t h in let b = ap length (e t h) in omega arith }
+
+other-table : (v : Vocabulary (List ℕ)) (t u : StringTable) (x : List ℕ) → place t < 4 → 4 ≤ place u → strings (adding v t x) u ≡ strings v u
+other-table v t u x a b = strings-adding v t x u ∙ ap (λ (c : Bool). extended c (strings v u) x) (ne-eqb (place t) (place u) (λ e. omega arith))
+
+adding-rest : {L : Limits} (v : Vocabulary (List ℕ)) (t : StringTable) (x : List ℕ) → length (strings v t) < L .entries → Rest L v → Rest L (adding v t x)
+adding-rest {L} v t x room r =
+    record {
+      few = λ u h.
+          rw (strings-adding v t x u)
+          (extended-few (eqb (place t) (place u)) (L .entries) (strings v u) x (r .few u h)
+          (λ e. let z = same-table t u e in rw (← z) room));
+    }
+
+id-rest : {t : StringTable} {v w : Vocabulary (List ℕ)} {x : List ℕ} {h : How} {n : ℕ} (u : StringTable) → place t < 4 → 4 ≤ place u → PermitsId t v x h n w → strings w u ≡ strings v u
+id-rest u a b (id-entry en) = refl
+id-rest {t} {v} {x = x} u a b (id-new h) = other-table v t u x a b
+
+optional-rest : {t : StringTable} {v w : Vocabulary (List ℕ)} {x : Option (List ℕ)} {h : Option How} {n : ℕ} (u : StringTable) → place t < 4 → 4 ≤ place u → PermitsIfAny t v x h n w → strings w u ≡ strings v u
+optional-rest u a b not-there = refl
+optional-rest u a b (there c) = id-rest u a b c
+
+literal-rest : {L : Limits} {t : StringTable} {v : Vocabulary (List ℕ)} {x : List ℕ} {c : Chose How} → LiteralCase L t v x c → Rest L v → Rest L (c .words)
+literal-rest (lit-held en) r = r
+literal-rest {t = t} {v = v} {x = x} (lit-new {added = true} room) r = adding-rest v t x (room refl) r
+literal-rest (lit-new {added = false} room) r = r
+
+value-rest : {L : Limits} {t : StringTable} {v : Vocabulary (List ℕ)} {x : List ℕ} {c : Chose How} → ValueCase L t v x c → Rest L v → Rest L (c .words)
+value-rest (is-empty e) r = r
+value-rest (is-literal h c) r = literal-rest c r
+
+name-rest : (t : NameTable) (v : Vocabulary (List ℕ)) (x : Name (List ℕ)) {c : Chose NameHow} (u : StringTable) → 4 ≤ place u → NameCase t v x c → strings (c .words) u ≡ strings v u
+unfolding place
+name-rest t v x u h (name-held en e) = refl
+name-rest t v x u h (name-new m) =
+    let p = chooseOptional PREFIX v (x .prefix) in
+    let n = chooseOptional NAMESPACE-NAME (p .words) (x .namespace) in
+    strings-adding-name _ t _ u ∙ id-rest u (omega arith) h (id-case LOCAL-NAME (n .words) (x .local)) ∙ optional-rest u (omega arith) h (optional-case NAMESPACE-NAME (p .words) (x .namespace))
+    ∙ optional-rest u (omega arith) h (optional-case PREFIX v (x .prefix))
+
+target-low : place OTHER-NCNAME < 4
+unfolding place
+target-low = omega arith
+
+prefix-low : place PREFIX < 4
+unfolding place
+prefix-low = omega arith
+
+namespace-low : place NAMESPACE-NAME < 4
+unfolding place
+namespace-low = omega arith
+
+-- so it is after each event
+pub rest-for : (C : Limits) (v : Vocabulary (List ℕ)) (e : Event (List ℕ)) → Order C v → Rest C (chooseFor C v e .words)
+unfolding chooseFor
+rest-for C v e o = go e (record { few = λ t h. o .fit .few t })
+  where
+    go : (e : Event (List ℕ)) → Rest C v → Rest C (chooseFor C v e .words)
+    go (Namespace p n) r =
+        let a = optional-case PREFIX v p in
+        let b = optional-case NAMESPACE-NAME (chooseOptional PREFIX v p .words) n in
+        same-rest (λ u h. optional-rest u namespace-low h b ∙ optional-rest u prefix-low h a) r
+    go (Start x) r = same-rest (λ u h. name-rest ELEMENT-NAME v x u h (name-case ELEMENT-NAME v x (o .ranged))) r
+    go (Attribute x y) r =
+        value-rest (value-case C ATTRIBUTE-VALUE (chooseName ATTRIBUTE-NAME v x .words) y)
+        (same-rest (λ u h. name-rest ATTRIBUTE-NAME v x u h (name-case ATTRIBUTE-NAME v x (o .ranged))) r)
+    go (Text y) r = literal-rest (literal-case C CONTENT-CHARACTER-CHUNK v y) r
+    go (Comment y) r = value-rest (value-case C OTHER-STRING v y) r
+    go (Instruction x y) r =
+        value-rest (value-case C OTHER-STRING (chooseId OTHER-NCNAME v x .words) y)
+        (same-rest (λ u h. id-rest u target-low h (id-case OTHER-NCNAME v x)) r)
+    go End r = r
+
+-- ---- 01's choices are permitted ones
+unfoldable pub permits-for : (C : Limits) (v : Vocabulary (List ℕ)) (e : Event (List ℕ)) → Ranged v → Permits v e (chooseFor C v e .how) (chooseFor C v e .words)
+unfolding chooseFor
+permits-for C v (Namespace p n) r = a-declaration (optional-case PREFIX v p) (optional-case NAMESPACE-NAME (chooseOptional PREFIX v p .words) n)
+permits-for C v (Start x) r = a-start (name-permits ELEMENT-NAME v x (name-case ELEMENT-NAME v x r))
+permits-for C v (Attribute x y) r = an-attribute (name-permits ATTRIBUTE-NAME v x (name-case ATTRIBUTE-NAME v x r)) (value-permits (value-case C ATTRIBUTE-VALUE (chooseName ATTRIBUTE-NAME v x .words) y))
+permits-for C v (Text y) r = a-chunk (literal-permits (literal-case C CONTENT-CHARACTER-CHUNK v y))
+permits-for C v (Comment y) r = a-comment (value-permits (value-case C OTHER-STRING v y))
+permits-for C v (Instruction x y) r = an-instruction (id-case OTHER-NCNAME v x) (value-permits (value-case C OTHER-STRING (chooseId OTHER-NCNAME v x .words) y))
+permits-for C v End r = an-end
+
+-- ---- tables only grow, and the numbers of triples stay in range
+pub permits-grows : {v w : Vocabulary (List ℕ)} {e : Event (List ℕ)} {c : Choice} → Permits v e c w → Grows v w
+permits-grows (a-declaration up un) = grows-on (optional-grows up) (optional-grows un)
+permits-grows (a-start u) = name-grows u
+permits-grows (an-attribute u y) = grows-on (name-grows u) (value-grows y)
+permits-grows (a-chunk y) = literal-grows y
+permits-grows (a-comment y) = value-grows y
+permits-grows (an-instruction u y) = grows-on (id-grows u) (value-grows y)
+permits-grows {v} an-end = same-size v
+
+permits-ranged : {v w : Vocabulary (List ℕ)} {e : Event (List ℕ)} {c : Choice} → Permits v e c w → Ranged v → Ranged w
+permits-ranged (a-declaration up un) r = ranged-on (grows-on (optional-grows up) (optional-grows un)) (λ u. optional-names un u ∙ optional-names up u) r
+permits-ranged (a-start u) r = name-ranged u r
+permits-ranged (an-attribute u y) r = ranged-on (value-grows y) (value-names y) (name-ranged u r)
+permits-ranged (a-chunk y) r = ranged-on (literal-grows y) (literal-names y) r
+permits-ranged (a-comment y) r = ranged-on (value-grows y) (value-names y) r
+permits-ranged (an-instruction x y) r = ranged-on (grows-on (id-grows x) (value-grows y)) (λ u. value-names y u ∙ id-names x u) r
+permits-ranged an-end r = r
+
+pub ranged-for : (C : Limits) (v : Vocabulary (List ℕ)) (e : Event (List ℕ)) → Ranged v → Ranged (chooseFor C v e .words)
+ranged-for C v e r = permits-ranged (permits-for C v e r) r
+
+-- ---- one event
+-- where an event may stand, a says whether an attribute follows its element's Start
+pub data Where (L : Limits) (a : Bool) (v : State (List ℕ)) : Event (List ℕ) → Type 0 where
+  first-namespace : {p n : Option (List ℕ)} → v .mode ≡ content → mayStart v ≡ true → v .level < L .depth → Where L a v (Namespace p n)
+  next-namespace : {p n : Option (List ℕ)} → v .mode ≡ declaring a → Where L a v (Namespace p n)
+  first-start : {x : Name (List ℕ)} → v .mode ≡ content → mayStart v ≡ true → v .level < L .depth → Where L a v (Start x)
+  named-start : {x : Name (List ℕ)} → v .mode ≡ declaring a → Where L a v (Start x)
+  in-list : {x : Name (List ℕ)} {y : List ℕ} {any : Bool} → v .mode ≡ listing any → Where L a v (Attribute x y)
+  in-element : {y : List ℕ} → v .mode ≡ content → 0 < v .level → Where L a v (Text y)
+  comment : {y : List ℕ} → v .mode ≡ content → Where L a v (Comment y)
+  instruction : {x y : List ℕ} → v .mode ≡ content → Where L a v (Instruction x y)
+
+-- its strings can be said
+abbrev pub Said : Event (List ℕ) → Type 0
+Said (Namespace p n) = SpellingIfAny p × SpellingIfAny n
+Said (Start x) = NameSaid x
+Said (Attribute x y) = NameSaid x × SpellingIfSome y
+Said (Text y) = Spelling y
+Said (Comment y) = SpellingIfSome y
+Said (Instruction x y) = Spelling x × SpellingIfSome y
+Said End = Unit {0}
+
+-- what is known behind it, with these tables
+abbrev pub behind : Bool → State (List ℕ) → Vocabulary (List ℕ) → Event (List ℕ) → State (List ℕ)
+behind a v w (Namespace p n) = moved v w (declaring a)
+behind a v w (Start x) = opened v w a
+behind a v w (Attribute x y) = moved v w (listing true)
+behind a v w (Text y) = knowing v w
+behind a v w (Comment y) = knowing v w
+behind a v w (Instruction x y) = knowing v w
+behind a v w End = closed v
+
+-- its octets, by the choice made for it; an End has none of its own
+unfoldable pub octetsAs : Bool → Mode → {v w : Vocabulary (List ℕ)} {e : Event (List ℕ)} {c : Choice} → Permits v e c w → List ℕ
+octetsAs a m (a-declaration {p = p} {n = n} {hp = hp} {hn = hn} up un) = beforeDeclaration m a ++ ((0xCC + 2 * has p + has n) ∷ (optionalOctets p hp ++ optionalOctets n hn))
+octetsAs a m (a-start {x = x} {h = h} u) = beforeName m ++ nameOctets ofElement (nameLead m a) x h
+octetsAs a m (an-attribute {x = x} {y = y} {h = h} {g = g} u z) = nameOctets ofAttribute 0 x h ++ valueOctets y g
+octetsAs a m (a-chunk {y = y} {h = h} u) = literalOctets c15 y h
+octetsAs a m (a-comment {y = y} {h = h} u) = 0xE2 ∷ valueOctets y h
+octetsAs a m (an-instruction {x = x} {y = y} {h = h} {g = g} u z) = 0xE1 ∷ (idOctets x h ++ valueOctets y g)
+octetsAs a m an-end = []
+
+module _ (C : Limits) where
+  -- with 01's choice
+  unfoldable pub octetsBy : Bool → State (List ℕ) → Event (List ℕ) → List ℕ
+  octetsBy a v (Namespace p n) =
+      let x : Chose (Option How) = chooseOptional PREFIX (v .words) p in
+      let y : Chose (Option How) = chooseOptional NAMESPACE-NAME (x .words) n in
+      beforeDeclaration (v .mode) a ++ ((0xCC + 2 * has p + has n) ∷ (optionalOctets p (x .how) ++ optionalOctets n (y .how)))
+  octetsBy a v (Start x) = beforeName (v .mode) ++ nameOctets ofElement (nameLead (v .mode) a) x (chooseName ELEMENT-NAME (v .words) x .how)
+  octetsBy a v (Attribute x y) =
+      let w : Chose NameHow = chooseName ATTRIBUTE-NAME (v .words) x in
+      nameOctets ofAttribute 0 x (w .how) ++ valueOctets y (chooseValue C ATTRIBUTE-VALUE (w .words) y .how)
+  octetsBy a v (Text y) = literalOctets c15 y (chooseLiteral C CONTENT-CHARACTER-CHUNK (v .words) y .how)
+  octetsBy a v (Comment y) = 0xE2 ∷ valueOctets y (chooseValue C OTHER-STRING (v .words) y .how)
+  octetsBy a v (Instruction x y) =
+      let w : Chose How = chooseId OTHER-NCNAME (v .words) x in
+      0xE1 ∷ (idOctets x (w .how) ++ valueOctets y (chooseValue C OTHER-STRING (w .words) y .how))
+  octetsBy a v End = []
+
+  -- what is known behind it
+  abbrev pub knownBy : Bool → State (List ℕ) → Event (List ℕ) → State (List ℕ)
+  knownBy a v e = behind a v (chooseFor C (v .words) e .words) e
+
+pub octets-by : (C : Limits) (a : Bool) (v : State (List ℕ)) (e : Event (List ℕ)) (r : Ranged (v .words)) → octetsAs a (v .mode) (permits-for C (v .words) e r) ≡ octetsBy C a v e
+unfolding octetsAs octetsBy permits-for chooseFor
+octets-by C a v (Namespace p n) r = refl
+octets-by C a v (Start x) r = refl
+octets-by C a v (Attribute x y) r = refl
+octets-by C a v (Text y) r = refl
+octets-by C a v (Comment y) r = refl
+octets-by C a v (Instruction x y) r = refl
+octets-by C a v End r = refl
+
+-- A permitted choice is what the rules write.
+module _ (L : Limits) (small : L .entries ≤ top) where
+  element-rule : (lead : ℕ) {v w : Vocabulary (List ℕ)} {x : Name (List ℕ)} {h : NameHow} → NameSaid x → InLimits L w → PermitsName ELEMENT-NAME v x h w → Named L ofElement lead v x h (nameOctets ofElement lead x h) w
+  unfolding ofElement sizes coded numbers
+  element-rule lead s f u = name-rule L small ofElement (omega arith) lead s f u
+
+  attribute-rule : {v w : Vocabulary (List ℕ)} {x : Name (List ℕ)} {h : NameHow} → NameSaid x → InLimits L w → PermitsName ATTRIBUTE-NAME v x h w → Named L ofAttribute 0 v x h (nameOctets ofAttribute 0 x h) w
+  unfolding ofAttribute sizes coded c25
+  attribute-rule s f u = name-rule L small ofAttribute (omega arith) 0 s f u
+
+  chunk-rule : {v w : Vocabulary (List ℕ)} {y : List ℕ} {h : How} → Spelling y → InLimits L w → PermitsString CONTENT-CHARACTER-CHUNK v y h w → Literal L c15 CONTENT-CHARACTER-CHUNK v y h (literalOctets c15 y h) w
+  unfolding c15 sizes coded numbers
+  chunk-rule s f u = literal-rule L small (omega arith) s f u
+
+  -- the strings of a declaration
+  declared-rule : {v v₁ w : Vocabulary (List ℕ)} {p n : Option (List ℕ)} {hp hn : Option How} {kp kn : ℕ} → SpellingIfAny p × SpellingIfAny n → InLimits L w
+      → PermitsIfAny PREFIX v p hp kp v₁ → PermitsIfAny NAMESPACE-NAME v₁ n hn kn w
+      → Declared L v p n hp hn ((0xCC + 2 * has p + has n) ∷ (optionalOctets p hp ++ optionalOctets n hn)) w
+  declared-rule s f up un = declared (optional-rule L small (s .0) (fits-before (optional-grows un) f) up) (optional-rule L small (s .1) f un)
+
+  before-at : (a : Bool) (m k : Mode) → m ≡ k → (v z : State (List ℕ)) (i : Item (List ℕ)) (os : List ℕ) → Octets L v i (beforeDeclaration k a ++ os) z → Octets L v i (beforeDeclaration m a ++ os) z
+  before-at a m k e v z i os u = subst (λ (y : Mode). Octets L v i (beforeDeclaration y a ++ os) z) (sym e) u
+
+  name-at : (a : Bool) (m k : Mode) → m ≡ k → (v z : State (List ℕ)) (x : Name (List ℕ)) (h : NameHow)
+      → Octets L v (Start x by forStart h) (beforeName k ++ nameOctets ofElement (nameLead k a) x h) z → Octets L v (Start x by forStart h) (beforeName m ++ nameOctets ofElement (nameLead m a) x h) z
+  name-at a m k e v z x h u = subst (λ (y : Mode). Octets L v (Start x by forStart h) (beforeName y ++ nameOctets ofElement (nameLead y a) x h) z) (sym e) u
+
+  pub made : (a : Bool) (v : State (List ℕ)) {e : Event (List ℕ)} {c : Choice} {w : Vocabulary (List ℕ)} → Said e → Where L a v e → InLimits L w → (p : Permits (v .words) e c w)
+      → Octets L v (e by c) (octetsAs a (v .mode) p) (behind a v w e)
+  unfolding octetsAs mayStart
+  made a v s (first-namespace md may deep) f (a-declaration up un) = before-at a (v .mode) content md _ _ _ _ (o-first-namespace {a = a} md may deep (declared-rule s f up un))
+  made a v s (next-namespace md) f (a-declaration up un) = before-at a (v .mode) (declaring a) md _ _ _ _ (o-namespace {a = a} md (declared-rule s f up un))
+  made a v s (first-start md may deep) f (a-start u) = name-at a (v .mode) content md _ _ _ _ (o-start a md may deep (element-rule (64 * bit a) s f u))
+  made a v s (named-start md) f (a-start u) = name-at a (v .mode) (declaring a) md _ _ _ _ (o-named-start md (element-rule 0 s f u))
+  made a v s (in-list md) f (an-attribute u y) = o-attribute md (attribute-rule (s .0) (fits-before (value-grows y) f) u) (value-rule L small (s .1) f y)
+  made a v s (in-element md lev) f (a-chunk y) = o-text md lev (chunk-rule s f y)
+  made a v s (comment md) f (a-comment y) = o-comment md (value-rule L small s f y)
+  made a v s (instruction md) f (an-instruction x y) = o-instruction md (id-rule L small (s .0) (fits-before (value-grows y) f) x) (value-rule L small (s .1) f y)

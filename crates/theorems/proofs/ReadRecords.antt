@@ -1,0 +1,85 @@
+-- The records that a reader hands out are well made: their stretches lie in the document and are not empty, a built-in string stands only where it can, and a
+-- prefix only with a namespace.
+use Prim.Native.Nat.{ℕ, _≤_}
+use mathlib.Core.Path.{_≡_, refl}
+use mathlib.Core.Option.{Option, none, some}
+use mathlib.Core.List.{List}
+use native.Mathlib.Omega.{arith}
+use Rattle.format.specs.Events.{Name, Event, Namespace, Start, Attribute, Text, Comment, Instruction, End, Item}
+use Rattle.format.specs.Tables.{StringTable, PREFIX, NAMESPACE-NAME, place}
+use Rattle.format.specs.Names.{has}
+use Rattle.format.specs.Allowed.{All}
+use Rattle.tables.specs.Located.{Located, empty, stretch, builtInPrefix, builtInNamespace, start}
+use Rattle.events.specs.declared.Text.the-variants.{Absent}
+use Rattle.events.specs.Records.{textOf, optionalText, recordOf}
+use Rattle.events.specs.WellMade as W
+use Rattle.events.specs.WellMade.{IsStretch, IsPrefix, IsNamespace, IsValue, IsName, WellMade}
+use Rattle.read_items.specs.Items.{Stand}
+use Rattle.reader.specs.Reading.{accepted, reading}
+use Rattle.theorems.proofs.Plain.{all-so, IfAny, Parts, OrEmpty, is-empty, not-empty, Holds, holds}
+use Rattle.theorems.proofs.ReadEffects.{Lies, reading-done}
+
+module _ (s : List ℕ) where
+  -- a string of table t: a stretch of the document, or what is built into that table
+  data Stands : StringTable → Located → Type 0 where
+    spelled-here : {t : StringTable} {x : Located} → Lies s x → Stands t x
+    the-prefix : Stands PREFIX builtInPrefix
+    the-namespace : Stands NAMESPACE-NAME builtInNamespace
+
+  as-prefix : (x : Option Located) → IfAny Stands empty PREFIX x → IsPrefix s (optionalText x)
+  as-prefix none a = W.no-prefix
+  as-prefix (some x) (spelled-here l) = W.a-prefix l
+  as-prefix (some x) the-prefix = W.xml-prefix
+
+  as-namespace : (x : Option Located) → IfAny Stands empty NAMESPACE-NAME x → IsNamespace s (optionalText x)
+  as-namespace none a = W.no-namespace
+  as-namespace (some x) (spelled-here l) = W.a-namespace l
+  as-namespace (some x) the-namespace = W.xml-namespace
+
+  -- nothing is built into the tables behind the first two
+  as-stretch : {t : StringTable} {x : Located} → 2 ≤ place t → Stands t x → IsStretch s (textOf x)
+  unfolding place
+  as-stretch h (spelled-here l) = l
+  as-stretch h the-prefix = absurd (omega arith)
+  as-stretch h the-namespace = absurd (omega arith)
+
+  as-value : {t : StringTable} {x : Located} → 2 ≤ place t → OrEmpty Stands empty t x → IsValue s (textOf x)
+  as-value h is-empty = W.no-octets
+  as-value h (not-empty a) = W.some-octets (as-stretch h a)
+
+  not-absent : (x : Located) → textOf x ≡ Absent → ⊥
+  not-absent empty e = let y : _≡_ {A = ℕ} 0 1 = cc in omega arith
+  not-absent (stretch p n) e = let y : _≡_ {A = ℕ} 0 1 = cc in omega arith
+  not-absent builtInPrefix e = let y : _≡_ {A = ℕ} 0 1 = cc in omega arith
+  not-absent builtInNamespace e = let y : _≡_ {A = ℕ} 0 1 = cc in omega arith
+
+  paired : (p n : Option Located) → has p ≤ has n → optionalText n ≡ Absent → optionalText p ≡ Absent
+  paired none n h e = refl
+  paired (some x) none h e = absurd (omega arith)
+  paired (some x) (some y) h e = absurd (not-absent y e)
+
+  as-name : (x : Name Located) → Parts Stands empty x → IsName s (optionalText (x .prefix)) (optionalText (x .namespace)) (textOf (x .local))
+  unfolding place
+  as-name x a =
+      record {
+        a-prefix = as-prefix (x .prefix) (a .prefix);
+        a-namespace = as-namespace (x .namespace) (a .namespace);
+        a-local = as-stretch (omega arith) (a .local);
+        not-alone = paired (x .prefix) (x .namespace) (a .not-alone);
+      }
+
+  as-record : (e : Event Located) → Holds Stands empty e → WellMade s (recordOf e)
+  unfolding recordOf place
+  as-record (Namespace p n) a = W.a-declaration (as-prefix p (a .0)) (as-namespace n (a .1))
+  as-record (Start x) a = W.a-start (as-name x a)
+  as-record (Attribute x y) a = W.an-attribute (as-name x (a .0)) (as-value (omega arith) (a .1))
+  as-record (Text y) a = W.a-chunk (as-stretch (omega arith) a)
+  as-record (Comment y) a = W.a-comment (as-value (omega arith) a)
+  as-record (Instruction x y) a = W.an-instruction (as-stretch (omega arith) (a .0)) (as-value (omega arith) (a .1))
+  as-record End a = W.an-end
+
+  pub well-made : (room : ℕ) (is : List (Item Located)) (m : Stand) → reading s room ≡ accepted is m → All (λ (i : Item Located). WellMade s (recordOf (i .event))) is
+  unfolding start
+  well-made room is m e =
+      all-so (λ (i : Item Located). WellMade s (recordOf (i .event))) (λ i a. as-record (i .event) a) is
+      (holds Stands empty (Lies s) (λ t x l. spelled-here l) the-prefix the-namespace (reading-done s room is m e))

@@ -1,0 +1,418 @@
+-- Steps and runs: an accepted run is what the rules write, and what they write is an accepted run, with room enough.
+use mathlib.Core.Path.{_≡_, refl, sym, ap, ap₂, _∙_, subst}
+use mathlib.Core.Bool.{Bool, true, false, _&&_}
+use mathlib.Core.Option.{Option}
+use mathlib.Core.List.{List, [], _∷_, _++_, append-nil, map}
+use Prim.Native.Nat.{ℕ, zero, suc, _+_, _-_, _*_, _/_, _%_, _≤_, _<_}
+use native.Mathlib.Omega.{arith}
+use borrow.Author.Tests.{lt-ltb, le-ltb, eq-eqb, eqb-true}
+use lib.Dec.{eqb}
+use lib.ListN.{length, getD, drop, length-append, length-drop, replicate}
+use lib.Seq.{drop-cons, drop-length}
+use Rattle.format.specs.Numbers.{spell, lengths, longest}
+use Rattle.format.specs.Events.{Name, How, NameHow, End, forEnd, Item, _by_, eventMap}
+use Rattle.format.specs.Tables.{StringTable, Vocabulary, Limits}
+use Rattle.format.specs.Strings.{bit, Layout, Literal, literal-spelled, literal-numbered}
+use Rattle.format.specs.Names.{NameLayout, Named, in-parts, by-number, Declared, declared}
+use Rattle.format.specs.Items.{Mode, content, declaring, listing, State, moved, Octets, o-start, o-first-namespace, o-namespace, o-named-start, o-attribute, o-text, o-comment, o-instruction}
+use Rattle.format.specs.Document.{halves, pad, aligned, closed, Written, document-end, attributes-end, element-end, item, knownAfter}
+use Rattle.fields.proofs.RoundTrip.{some-first}
+use Rattle.tables.specs.Located.{Located, plain, plainState}
+use Rattle.read_items.specs.Items.{Stand, Step, more, quiet, done, stop, octet, itemAt}
+use Rattle.read_items.specs.Steps.{endsAt, padsAt, documentEnd, endAt, byHalves, step}
+use Rattle.reader.specs.Reading.{Result, accepted, refusal, plus, turn, Mark, marked, run, trace}
+use Rattle.tables.proofs.Found.{both-true}
+use Rattle.theorems.specs.Places.{itemSpelled, allSpelled, inItem, spelledIn}
+use Rattle.theorems.proofs.Lists.{Refusal, Fault, fault, test, either, either-lt, not-true, drop-head, drop-past, ends-sound, ends-complete, pads-sound, pads-complete, halves-drop, halves-length, halves-sound, halves-complete, align-is, aligned-ge, aligned-in, pad-length}
+use Rattle.theorems.proofs.Items.{Took, item-sound, item-complete}
+
+-- ---- an item has octets, and opens one element at most
+-- A result is not the refusal of an event without a record.
+abbrev pub NotShort : Result → Type 0
+NotShort (accepted is m) = Unit {0}
+NotShort (refusal c p) = c ≡ 14 → ⊥
+
+module _ {L : Limits} where
+  named-some : {q : NameLayout} {lead : ℕ} {v w : Vocabulary (List ℕ)} {x : Name (List ℕ)} {h : NameHow} {o : List ℕ} → Named L q lead v x h o w → 0 < length o
+  named-some (in-parts paired up un ul new room) = omega arith
+  named-some {q} {lead} (by-number {k = k} small fits en) = some-first (q .numberForms) lead k fits
+
+  declared-some : {v w : Vocabulary (List ℕ)} {p n : Option (List ℕ)} {hp hn : Option How} {o : List ℕ} → Declared L v p n hp hn o w → 0 < length o
+  declared-some (declared up un) = omega arith
+
+  literal-some : {q : Layout} {t : StringTable} {v w : Vocabulary (List ℕ)} {x : List ℕ} {h : How} {o : List ℕ} → Literal L q t v x h o w → 0 < length o
+  literal-some {q} (literal-spelled {x = x} {added = a} sp room) =
+      let p = sp .some in let l = length-append (spell (lengths (q .lengthBit)) (q .spelledBits + q .addBit * bit a) (length x - 1)) x in omega arith
+  literal-some {q} (literal-numbered {k = k} small fits en) = some-first (q .numberForms) (q .numberedBits) k fits
+
+  octets-some : {v w : State (List ℕ)} {i : Item (List ℕ)} {o : List ℕ} → Octets L v i o w → (0 < length o) × (w .level ≤ suc (v .level))
+  octets-some (o-start a md may deep u) = (named-some u, omega arith)
+  octets-some (o-first-namespace md may deep u) = (omega arith, omega arith)
+  octets-some (o-namespace md u) = (declared-some u, omega arith)
+  octets-some (o-named-start md u) = (omega arith, omega arith)
+  octets-some (o-attribute {o₁ = o1} {o₂ = o2} md u1 u2) = let p = named-some u1 in let l = length-append o1 o2 in (omega arith, omega arith)
+  octets-some (o-text md lev u) = (literal-some u, omega arith)
+  octets-some (o-comment md u) = (omega arith, omega arith)
+  octets-some (o-instruction md u1 u2) = (omega arith, omega arith)
+
+-- ---- what is read is what the rules write
+module _ (L : Limits) (s : List ℕ) (bytes : (i : ℕ) → getD s i 0 < 256) (short : length s ≤ longest) where
+  -- from where the reader stands, the items and the document's end are written as the halves left
+  abbrev pub Rest : Stand → List (Item (List ℕ)) → State (List ℕ) → Type 0
+  Rest m items z = Written L (m .at) (plainState s (m .state)) items (drop (m .at) (halves s)) z
+
+  -- what is left to read, where an element that is open counts half of an octet's half: 3 for each event that can still come
+  abbrev pub left : Stand → ℕ
+  left m = 2 * (2 * length s - m .at) + m .state .level
+
+  -- if the rest is what the rules write, so is this step and the rest; the reader stays inside, and there is less left to read
+  abbrev pub Fine : Stand → Step → Type 0
+  Fine m (more p i n) =
+      ((items : List (Item (List ℕ))) (z : State (List ℕ)) → Rest n items z → Rest m (plain s i ∷ items) z) × (n .at ≤ 2 * length s) × (3 + left n ≤ left m) × (p ≤ length s)
+  Fine m (quiet n) = ((items : List (Item (List ℕ))) (z : State (List ℕ)) → Rest n items z → Rest m items z) × (n .at ≤ 2 * length s) × (2 + left n ≤ left m)
+  Fine m done = Rest m [] (plainState s (m .state))
+  Fine m (stop c p) = Fault s c p
+
+  item-fine : (m : Stand) → m .at ≤ 2 * length s → padsAt s (m .at) ≡ true → (a : Step) → Took L s bytes short (aligned (m .at) / 2) (m .state) a → Fine m a
+  item-fine m ml t (more p i n) w =
+      let k : ℕ = aligned (m .at) / 2 in
+      let o = w .octets in
+      let a = align-is (m .at) in
+      let z : n .at ≡ aligned (m .at) + 2 * length o = let q = w .next in omega arith in
+      let d : drop (m .at) (halves s) ≡ pad (m .at) ++ (halves o ++ drop (n .at) (halves s)) =
+      pads-sound s (m .at) t
+      ∙ ap (λ (x : ℕ). pad (m .at) ++ drop x (halves s)) (sym a)
+      ∙ ap (λ (l : List ℕ). pad (m .at) ++ l) (halves-sound s k o (k + length o) (w .here) ∙ ap (λ (x : ℕ). halves o ++ drop x (halves s)) (sym (w .next))) in
+      let e = octets-some (w .rule) in
+      let some = e .0 in
+      let lev = e .1 in
+      let ins = w .inside in
+      let al = aligned-ge (m .at) in (
+        λ items y u.
+            subst (λ (l : List ℕ). Written L (m .at) (plainState s (m .state)) (plain s i ∷ items) l y) (sym d)
+            (item (w .rule) (subst (λ (x : ℕ). Written L x (plainState s (n .state)) items (drop (n .at) (halves s)) y) z u)),
+        omega arith,
+        omega arith,
+        w .place,
+      )
+  item-fine m ml t (quiet n) w = absurd w
+  item-fine m ml t done w = absurd w
+  item-fine m ml t (stop c p) w = w
+
+  document-end-fine : (m : Stand) → m .at ≤ 2 * length s → m .state .mode ≡ content → m .state .level ≡ 0 → endsAt s (m .at) ≡ true → Fine m (documentEnd s m)
+  unfolding documentEnd
+  document-end-fine m ml q l t =
+      let d : drop (m .at) (halves s) ≡ 15 ∷ drop (suc (m .at)) (halves s) = ends-sound s (m .at) t in
+      let ah = drop-head (halves s) (m .at) 15 (drop (suc (m .at)) (halves s)) d .0 in
+      let hl = halves-length s in
+      let k2 : m .at / 2 ≤ length s = omega arith in
+      let k3 : aligned (suc (m .at)) / 2 ≤ length s = aligned-in (suc (m .at)) (length s) (omega arith) in
+      test (Fine m) (stop 15 (m .at / 2)) (fault s 15 (m .at / 2) refl k2) (m .state .root) _
+      λ t2. test (Fine m) (stop 6 (m .at / 2)) (fault s 6 (m .at / 2) refl k2) (padsAt s (suc (m .at))) _
+      λ t3. test (Fine m) (stop 15 (aligned (suc (m .at)) / 2)) (fault s 15 (aligned (suc (m .at)) / 2) refl k3) (eqb (aligned (suc (m .at))) (2 * length s)) _
+      λ t4.
+      let over : aligned (suc (m .at)) ≡ length (halves s) = eqb-true _ _ t4 ∙ sym (halves-length s) in
+      subst (λ (l : List ℕ). Written L (m .at) (plainState s (m .state)) [] l (plainState s (m .state)))
+      (sym (d ∙ ap (λ (l : List ℕ). 15 ∷ l) (pads-sound s (suc (m .at)) t3
+      ∙ ap (λ (x : ℕ). pad (suc (m .at)) ++ drop x (halves s)) over
+      ∙ ap (λ (l : List ℕ). pad (suc (m .at)) ++ l) (drop-length (halves s))
+      ∙ append-nil (pad (suc (m .at))))))
+      (document-end q l t2)
+
+  end-fine : (m : Stand) (md : Mode) → m .at ≤ 2 * length s → m .state .mode ≡ md → endsAt s (m .at) ≡ true → Fine m (endAt s m md)
+  unfolding endAt eventMap
+  end-fine m (declaring a) ml q t = fault s 5 (m .at / 2) refl (omega arith)
+  end-fine m (listing false) ml q t = fault s 15 (m .at / 2) refl (omega arith)
+  end-fine m (listing true) ml q t =
+      let d = ends-sound s (m .at) t in
+      let ah = drop-head (halves s) (m .at) 15 (drop (suc (m .at)) (halves s)) d .0 in
+      let hl = halves-length s in (
+        λ items y u. subst (λ (l : List ℕ). Written L (m .at) (plainState s (m .state)) items l y) (sym d) (attributes-end q u),
+        omega arith,
+        omega arith,
+      )
+  end-fine m content ml q t =
+      let d = ends-sound s (m .at) t in
+      let ah = drop-head (halves s) (m .at) 15 (drop (suc (m .at)) (halves s)) d .0 in
+      let hl = halves-length s in
+      either-lt (Fine m) 0 (m .state .level) _ _
+      (λ t1. (
+        λ items y u. subst (λ (l : List ℕ). Written L (m .at) (plainState s (m .state)) ((End by forEnd) ∷ items) l y) (sym d) (element-end q t1 u),
+        omega arith,
+        omega arith,
+        omega arith,
+      ))
+      λ t1. document-end-fine m ml q (omega arith) t
+
+  pub step-fine : (m : Stand) → m .at ≤ 2 * length s → Fine m (step L s m)
+  unfolding step
+  step-fine m ml =
+      let md : Mode = m .state .mode in
+      let k : ℕ = aligned (m .at) / 2 in
+      either (Fine m) (byHalves md && endsAt s (m .at)) _ _
+      (λ t. end-fine m md ml refl (both-true (byHalves md) (endsAt s (m .at)) t .1))
+      (λ t. test (Fine m) (stop 6 (m .at / 2)) (fault s 6 (m .at / 2) refl (omega arith)) (padsAt s (m .at)) _
+      λ t1. item-fine m ml t1 (itemAt L s k (m .state) md) (item-sound L s bytes short k (m .state) md (aligned-in (m .at) (length s) ml) refl))
+
+  abbrev pub Right : Stand → Result → Type 0
+  Right m (accepted is n) = Rest m (map (plain s) is) (plainState s (n .state))
+  Right m (refusal c p) = Refusal s c p
+
+  plus-right : (m n : Stand) (p : ℕ) (i : Item Located) → Fine m (more p i n) → (a : Result) → Right n a → Right m (plus i a)
+  plus-right m n p i g (accepted is l) r = g .0 (map (plain s) is) (plainState s (l .state)) r
+  plus-right m n p i g (refusal c q) r = r
+
+  quiet-right : (m n : Stand) → Fine m (quiet n) → (a : Result) → Right n a → Right m a
+  quiet-right m n g (accepted is l) r = g .0 (map (plain s) is) (plainState s (l .state)) r
+  quiet-right m n g (refusal c p) r = r
+
+  -- an accepted run is written by the rules; a refusal is one of 01's
+  turn-right : (go : ℕ → Stand → Result) → ((r : ℕ) (n : Stand) → n .at ≤ 2 * length s → Right n (go r n)) → (room : ℕ) (m : Stand) (a : Step) → Fine m a → Right m (turn go room m a)
+  turn-right go rec zero m (more p i n) g = (omega arith, omega arith, g .3)
+  turn-right go rec (suc r) m (more p i n) g = plus-right m n p i g (go r n) (rec r n (g .1))
+  turn-right go rec room m (quiet n) g = quiet-right m n g (go room n) (rec room n (g .1))
+  turn-right go rec room m done w = w
+  turn-right go rec room m (stop c p) w = w .0
+
+  pub run-right : (fuel room : ℕ) (m : Stand) → m .at ≤ 2 * length s → Right m (run L s fuel room m)
+  unfolding run
+  run-right zero room m ml = fault s 2 (m .at / 2) refl (omega arith) .0
+  run-right (suc fuel) room m ml = turn-right (λ r n. run L s fuel r n) (λ r n h. run-right fuel r n h) room m (step L s m) (step-fine m ml)
+
+  -- each step takes a half at least, so that more fuel than halves left changes nothing
+  turn-free : (go go′ : ℕ → Stand → Result) (k : ℕ) → ((r : ℕ) (n : Stand) → n .at ≤ 2 * length s → left n < 2 * k → go r n ≡ go′ r n)
+      → (room : ℕ) (m : Stand) → left m < 2 * suc k → (a : Step) → Fine m a → turn go room m a ≡ turn go′ room m a
+  turn-free go go′ k rec zero m h (more p i n) g = refl
+  turn-free go go′ k rec (suc r) m h (more p i n) g = let l = g .2 in ap (λ (x : Result). plus i x) (rec r n (g .1) (omega arith))
+  turn-free go go′ k rec room m h (quiet n) g = let l = g .2 in rec room n (g .1) (omega arith)
+  turn-free go go′ k rec room m h done w = refl
+  turn-free go go′ k rec room m h (stop c p) w = refl
+
+  pub fuel-free : (fuel extra room : ℕ) (m : Stand) → m .at ≤ 2 * length s → left m < 2 * fuel → run L s (extra + fuel) room m ≡ run L s fuel room m
+  unfolding run
+  fuel-free zero extra room m ml h = absurd (omega arith)
+  fuel-free (suc fuel) extra room m ml h =
+      let e : extra + suc fuel ≡ suc (extra + fuel) = omega arith in
+      rw e (turn-free (λ r n. run L s (extra + fuel) r n) (λ r n. run L s fuel r n) fuel (λ r n l k. fuel-free fuel extra r n l k) room m h (step L s m) (step-fine m ml))
+
+  -- the events are few
+  marked-few : (go : Stand → List Mark) → ((n : Stand) → n .at ≤ 2 * length s → 3 * length (go n) ≤ left n) → (m : Stand) (a : Step) → Fine m a → 3 * length (marked go a) ≤ left m
+  marked-few go rec m (more p i n) g = let r = rec n (g .1) in let l = g .2 in omega arith
+  marked-few go rec m (quiet n) g = let r = rec n (g .1) in let l = g .2 in omega arith
+  marked-few go rec m done w = omega arith
+  marked-few go rec m (stop c p) w = omega arith
+
+  pub trace-few : (fuel : ℕ) (m : Stand) → m .at ≤ 2 * length s → 3 * length (trace L s fuel m) ≤ left m
+  unfolding trace
+  trace-few zero m ml = omega arith
+  trace-few (suc fuel) m ml = marked-few (λ n. trace L s fuel n) (λ n h. trace-few fuel n h) m (step L s m) (step-fine m ml)
+
+  -- with a record for every event, nothing is refused for want of room
+  plus-not-short : (i : Item Located) (a : Result) → NotShort a → NotShort (plus i a)
+  plus-not-short i (accepted is m) h = tt
+  plus-not-short i (refusal c p) h = h
+
+  turn-not-short : (go : ℕ → Stand → Result) (marks : Stand → List Mark) → ((r : ℕ) (n : Stand) → n .at ≤ 2 * length s → length (marks n) ≤ r → NotShort (go r n))
+      → (room : ℕ) (m : Stand) (a : Step) → Fine m a → length (marked marks a) ≤ room → NotShort (turn go room m a)
+  turn-not-short go marks rec zero m (more p i n) g h = absurd (omega arith)
+  turn-not-short go marks rec (suc r) m (more p i n) g h = plus-not-short i (go r n) (rec r n (g .1) (omega arith))
+  turn-not-short go marks rec room m (quiet n) g h = rec room n (g .1) h
+  turn-not-short go marks rec room m done g h = tt
+  turn-not-short go marks rec room m (stop c p) g h = g .1
+
+  pub run-not-short : (fuel room : ℕ) (m : Stand) → m .at ≤ 2 * length s → length (trace L s fuel m) ≤ room → NotShort (run L s fuel room m)
+  unfolding run trace
+  run-not-short zero room m ml h = λ e. omega arith
+  run-not-short (suc fuel) room m ml h =
+      turn-not-short (λ r n. run L s fuel r n) (λ n. trace L s fuel n) (λ r n l k. run-not-short fuel r n l k) room m (step L s m) (step-fine m ml) h
+
+-- ---- room
+abbrev pub placesOf : List Mark → List ℕ
+placesOf = map (λ (k : Mark). k .place)
+
+module _ (run₁ : ℕ → Stand → Result) (trace₁ : Stand → List Mark) where
+  turn-short : ((r : ℕ) (n : Stand) → r < length (trace₁ n) → run₁ r n ≡ refusal 14 (getD (placesOf (trace₁ n)) r 0))
+      → (room : ℕ) (m : Stand) (a : Step) → room < length (marked trace₁ a) → turn run₁ room m a ≡ refusal 14 (getD (placesOf (marked trace₁ a)) room 0)
+  turn-short rec zero m (more p i n) h = refl
+  turn-short rec (suc r) m (more p i n) h = rw (rec r n (omega arith))
+  turn-short rec room m (quiet n) h = rec room n h
+  turn-short rec room m done h = absurd (omega arith)
+  turn-short rec room m (stop c p) h = absurd (omega arith)
+
+  turn-enough : ((r : ℕ) (n : Stand) → length (trace₁ n) ≤ r → run₁ r n ≡ run₁ (length (trace₁ n)) n)
+      → (room : ℕ) (m : Stand) (a : Step) → length (marked trace₁ a) ≤ room → turn run₁ room m a ≡ turn run₁ (length (marked trace₁ a)) m a
+  turn-enough rec zero m (more p i n) h = absurd (omega arith)
+  turn-enough rec (suc r) m (more p i n) h = ap (λ (x : Result). plus i x) (rec r n (omega arith))
+  turn-enough rec room m (quiet n) h = rec room n h
+  turn-enough rec room m done h = refl
+  turn-enough rec room m (stop c p) h = refl
+
+module _ (L : Limits) (s : List ℕ) where
+  -- the first event without a record is refused at its place
+  pub room-short : (fuel room : ℕ) (m : Stand) → room < length (trace L s fuel m) → run L s fuel room m ≡ refusal 14 (getD (placesOf (trace L s fuel m)) room 0)
+  unfolding run trace
+  room-short zero room m h = absurd (omega arith)
+  room-short (suc fuel) room m h = turn-short (λ r n. run L s fuel r n) (λ n. trace L s fuel n) (λ r n y. room-short fuel r n y) room m (step L s m) h
+
+  -- with a record for every event, more room changes nothing
+  pub room-enough : (fuel room : ℕ) (m : Stand) → length (trace L s fuel m) ≤ room → run L s fuel room m ≡ run L s fuel (length (trace L s fuel m)) m
+  unfolding run trace
+  room-enough zero room m h = refl
+  room-enough (suc fuel) room m h = turn-enough (λ r n. run L s fuel r n) (λ n. trace L s fuel n) (λ r n y. room-enough fuel r n y) room m (step L s m) h
+
+-- ---- what the rules write is read
+no-end : (n h : ℕ) (t u : List ℕ) → h < 15 → replicate n 0 ++ (h ∷ t) ≡ 15 ∷ u → ⊥
+no-end zero h t u l e = let z : h ≡ 15 = cc in omega arith
+no-end (suc n) h t u l e = let z : _≡_ {A = ℕ} 0 15 = cc in omega arith
+
+and-false : (a b : Bool) → (a ≡ true → b ≡ false) → (a && b) ≡ false
+and-false true b f = f refl
+and-false false b f = refl
+
+module _ (L : Limits) (s : List ℕ) where
+  -- an item's first half is no end, where an end could stand
+  not-end : (at k : ℕ) → 2 * k ≡ aligned at → k < length s → getD s k 0 < 0xF0 → padsAt s at ≡ true → endsAt s at ≡ false
+  unfolding halves pad
+  not-end at k z h l t =
+      not-true (endsAt s at)
+      λ u.
+      let d : drop at (halves s) ≡ pad at ++ (getD s k 0 / 16 ∷ (getD s k 0 % 16 ∷ halves (drop (suc k) s))) =
+      pads-sound s at t
+      ∙ ap (λ (x : ℕ). pad at ++ drop x (halves s)) (sym z)
+      ∙ ap (λ (x : List ℕ). pad at ++ x) (halves-drop k s ∙ ap halves (drop-cons s k 0 h)) in
+      no-end (at % 2) (getD s k 0 / 16) (getD s k 0 % 16 ∷ halves (drop (suc k) s)) (drop (suc at) (halves s)) (omega arith) (sym d ∙ ends-sound s at u)
+
+  -- l is where the item's strings are spelled
+  record Next (m : Stand) (i : Item (List ℕ)) (at : ℕ) (w : State (List ℕ)) (l : List Located) : Type 0 where
+    place : ℕ
+    found : Item Located
+    n : Stand
+    goes : step L s m ≡ more place found n
+    what : plain s found ≡ i
+    spells : itemSpelled found ≡ l
+    stands : n .at ≡ at
+    state : plainState s (n .state) ≡ w
+
+  abbrev NextIf : Stand → Item (List ℕ) → List ℕ → State (List ℕ) → List ℕ → State (List ℕ) → Type 0
+  NextIf m i o w hs v =
+      (u : Octets L v i o w) → drop (m .at) (halves s) ≡ pad (m .at) ++ (halves o ++ hs)
+      → Next m i (aligned (m .at) + 2 * length o) w (inItem (aligned (m .at) / 2) u) × (drop (aligned (m .at) + 2 * length o) (halves s) ≡ hs) × (0 < length o)
+
+  item-next : (m : Stand) (i : Item (List ℕ)) (o : List ℕ) (w : State (List ℕ)) (hs : List ℕ) → NextIf m i o w hs (plainState s (m .state))
+  unfolding step
+  item-next m i o w hs u d =
+      let at : ℕ = m .at in
+      let k : ℕ = aligned at / 2 in
+      let p = pads-complete s at (halves o ++ hs) d in
+      let al = align-is at in
+      let d1 : drop (2 * k) (halves s) ≡ halves o ++ hs = ap (λ (x : ℕ). drop x (halves s)) al ∙ p .1 in
+      let c = item-complete L s k (m .state) (drop (k + length o) s) u (halves-complete s k o hs d1) in
+      let ends : (byHalves (m .state .mode) && endsAt s at) ≡ false = and-false (byHalves (m .state .mode)) _ λ y. not-end at k al (c .here) (c .first y) (p .0) in
+      let l = halves-length o in
+      let y : aligned at + 2 * length o ≡ 2 * k + length (halves o) = omega arith in
+      let z : 2 * (k + length o) ≡ aligned at + 2 * length o = omega arith in (
+        record { place = c .place; found = c .found; n = octet (k + length o) (c .n); goes = rw (ends, p .0) (c .goes); what = c .what; spells = c .spells; stands = z; state = c .state },
+        ap (λ (x : ℕ). drop x (halves s)) y ∙ drop-past (halves s) (2 * k) (halves o) hs d1,
+        c .some,
+      )
+
+  module _ (m : Stand) (hs : List ℕ) (d : drop (m .at) (halves s) ≡ 15 ∷ hs) where
+    at-end : endsAt s (m .at) ≡ true
+    at-end = ends-complete s (m .at) hs d
+
+    past-end : drop (suc (m .at)) (halves s) ≡ hs
+    past-end = drop-head (halves s) (m .at) 15 hs d .2
+
+    quiet-next : m .state .mode ≡ listing true → step L s m ≡ quiet (record { at = suc (m .at); state = moved (m .state) (m .state .words) content })
+    unfolding step endAt
+    quiet-next md = rw (md, at-end)
+
+    abbrev ended : Stand
+    ended = record { at = suc (m .at); state = closed (m .state) }
+
+    end-next : m .state .mode ≡ content → 0 < m .state .level → step L s m ≡ more (m .at / 2) (End by forEnd) ended
+    unfolding step endAt
+    end-next md l = rw (md, at-end, lt-ltb 0 (m .state .level) l)
+
+  done-next : (m : Stand) → m .state .mode ≡ content → m .state .level ≡ 0 → m .state .root ≡ true → drop (m .at) (halves s) ≡ 15 ∷ pad (suc (m .at)) → step L s m ≡ done
+  unfolding step endAt documentEnd
+  done-next m md l r d =
+      let at : ℕ = m .at in
+      let a = drop-head (halves s) at 15 (pad (suc at)) d in
+      let q = pads-complete s (suc at) [] (a .2 ∙ sym (append-nil (pad (suc at)))) in
+      let x = pad-length (suc at) in
+      let b = ap length d in
+      let c = length-drop at (halves s) in
+      let h = a .0 in
+      let hl = halves-length s in
+      let over : aligned (suc at) ≡ 2 * length s = omega arith in
+      rw (md, at-end m (pad (suc at)) d, le-ltb 0 (m .state .level) (omega arith), r, q .0, eq-eqb (aligned (suc at)) (2 * length s) over)
+
+  -- a run with room for every event; what is known after each, and where the strings are spelled
+  pub record Reads (fuel room : ℕ) (m : Stand) (items : List (Item (List ℕ))) (z : State (List ℕ)) (after : List (State (List ℕ))) (l : List Located) : Type 0 where
+    pub events : List (Item Located)
+    pub last : Stand
+    pub runs : run L s fuel room m ≡ accepted events last
+    pub are : map (plain s) events ≡ items
+    pub end-is : plainState s (last .state) ≡ z
+    pub known : map (λ (k : Mark). plainState s (k .stand .state)) (trace L s fuel m) ≡ after
+    pub spells : allSpelled events ≡ l
+
+  go-on : (fuel room : ℕ) (m n : Stand) (p : ℕ) (f : Item Located) (i : Item (List ℕ)) (items : List (Item (List ℕ))) (z w : State (List ℕ)) (after : List (State (List ℕ))) (l r : List Located) → step L s m ≡ more p f n → plain s f ≡ i → itemSpelled f ≡ l → plainState s (n .state) ≡ w
+      → Reads fuel room n items z after r → Reads (suc fuel) (suc room) m (i ∷ items) z (w ∷ after) (l ++ r)
+  unfolding run trace allSpelled
+  go-on fuel room m n p f i items z w after l l′ e q sp st r =
+      record {
+        events = f ∷ r .events;
+        last = r .last;
+        runs = rw (e, r .runs);
+        are = ap₂ (λ (a : Item (List ℕ)) (l : List (Item (List ℕ))). a ∷ l) q (r .are);
+        end-is = r .end-is;
+        known = rw e (ap₂ (λ (a : State (List ℕ)) (l : List (State (List ℕ))). a ∷ l) st (r .known));
+        spells = ap₂ (λ (a b : List Located). a ++ b) sp (r .spells);
+      }
+
+  go-over : (fuel room : ℕ) (m n : Stand) (items : List (Item (List ℕ))) (z : State (List ℕ)) (after : List (State (List ℕ))) (l : List Located) → step L s m ≡ quiet n → Reads fuel room n items z after l → Reads (suc fuel) room m items z after l
+  unfolding run trace
+  go-over fuel room m n items z after l e r = record { events = r .events; last = r .last; runs = rw e (r .runs); are = r .are; end-is = r .end-is; known = rw e (r .known); spells = r .spells }
+
+  pub run-complete : {at : ℕ} {v z : State (List ℕ)} {items : List (Item (List ℕ))} {hs : List ℕ} (written : Written L at v items hs z) (m : Stand) (fuel room : ℕ) → m .at ≡ at → plainState s (m .state) ≡ v
+      → drop at (halves s) ≡ hs → length hs ≤ fuel → length items ≤ room → Reads fuel room m items z (knownAfter L written) (spelledIn written)
+  unfolding run trace eventMap knownAfter spelledIn allSpelled
+  run-complete (document-end md lv rt) m zero room a k d f g = absurd (omega arith)
+  run-complete (document-end md lv rt) m (suc fuel) room a k d f g =
+      record {
+        events = [];
+        last = m;
+        runs = rw (done-next m (ap (λ (x : State (List ℕ)). x .mode) k ∙ md) (ap (λ (x : State (List ℕ)). x .level) k ∙ lv) (ap (λ (x : State (List ℕ)). x .root) k ∙ rt) (rw a d));
+        are = refl;
+        end-is = k;
+        known = rw (done-next m (ap (λ (x : State (List ℕ)). x .mode) k ∙ md) (ap (λ (x : State (List ℕ)). x .level) k ∙ lv) (ap (λ (x : State (List ℕ)). x .root) k ∙ rt) (rw a d));
+        spells = refl;
+      }
+  run-complete (attributes-end md w) m zero room a k d f g = absurd (omega arith)
+  run-complete (attributes-end {z = y} {items = items} {hs = hs} md w) m (suc fuel) room a k d f g =
+      go-over fuel room m _ items y _ _ (quiet-next m hs (rw a d) (ap (λ (x : State (List ℕ)). x .mode) k ∙ md))
+      (run-complete w (record { at = suc (m .at); state = moved (m .state) (m .state .words) content }) fuel room (ap suc a) (ap (λ (x : State (List ℕ)). moved x (x .words) content) k) (rw a at (past-end m hs (rw a d))) (omega arith) g)
+  run-complete (element-end md lv w) m zero room a k d f g = absurd (omega arith)
+  run-complete (element-end md lv w) m (suc fuel) zero a k d f g = absurd (omega arith)
+  run-complete (element-end {z = y} {items = items} {hs = hs} md lv w) m (suc fuel) (suc room) a k d f g =
+      let z = ap (λ (x : State (List ℕ)). x .level) k in
+      go-on fuel room m (ended m hs (rw a d)) (m .at / 2) (End by forEnd) (End by forEnd) items y _ _ [] _ (end-next m hs (rw a d) (ap (λ (x : State (List ℕ)). x .mode) k ∙ md) (omega arith)) refl refl (ap (λ (x : State (List ℕ)). closed x) k)
+      (run-complete w (ended m hs (rw a d)) fuel room (ap suc a) (ap (λ (x : State (List ℕ)). closed x) k) (rw a at (past-end m hs (rw a d))) (omega arith) (omega arith))
+  run-complete (item {at = at} {w = v} {i = i} {o = o} {hs = hs} u w) m zero room a k d f g =
+      let t = subst (NextIf m i o v hs) k (item-next m i o v hs) u (rw a d) in
+      let l1 = length-append (pad at) (halves o ++ hs) in
+      let l2 = length-append (halves o) hs in
+      let l3 = halves-length o in
+      let l4 = t .2 in
+      absurd (omega arith)
+  run-complete (item u w) m (suc fuel) zero a k d f g = absurd (omega arith)
+  run-complete (item {at = at} {w = v} {z = y} {i = i} {o = o} {items = items} {hs = hs} u w) m (suc fuel) (suc room) a k d f g =
+      let t = subst (NextIf m i o v hs) k (item-next m i o v hs) u (rw a d) in
+      let l1 = length-append (pad at) (halves o ++ hs) in
+      let l2 = length-append (halves o) hs in
+      let l3 = halves-length o in
+      let l4 = t .2 in
+      go-on fuel room m (t .0 .n) (t .0 .place) (t .0 .found) i items y _ _ _ _ (t .0 .goes) (t .0 .what) (t .0 .spells ∙ ap (λ (x : ℕ). inItem (aligned x / 2) u) a) (t .0 .state)
+      (run-complete w (t .0 .n) fuel room (t .0 .stands ∙ ap (λ (x : ℕ). aligned x + 2 * length o) a) (t .0 .state) (rw a at (t .1)) (omega arith) (omega arith))

@@ -1,0 +1,187 @@
+-- DEMANDS 1 AND 2 OF THE WRITER'S CODE. The contract of `writer::write::write` equates what a call answers and leaves with `writeOf`, that of `lomphachit_write`
+-- with `writeWords`, which is `writeOf` in words: so what it accepts is written by the rules, from the very records that were given, and reading it gives back the same events and tables, whatever stood in the room.
+use Prim.Native.Nat.{ℕ, zero, suc, _+_, _*_, _^_, _≤_}
+use mathlib.Core.Path.{_≡_, refl, sym, ap, _∙_, subst}
+use mathlib.Core.Bool.{Bool, true, false, _&&_}
+use mathlib.Core.List.{List, [], _∷_, _++_, map}
+use native.Mathlib.Omega.{arith}
+use borrow.Author.Tests.{leb-true}
+use lib.ListN.{length, length-map}
+use lib.Dec.{eqb, leb}
+use Rattle.format.specs.Numbers.{pick}
+use Rattle.format.specs.Events.{Item, _by_}
+use Rattle.format.specs.Tables.{Limits, link}
+use Rattle.format.specs.Items.{State}
+use Rattle.format.specs.Document.{pad, beginning, header, Writes}
+use Rattle.tables.specs.declared.Counts.{Counts}
+use Rattle.tables.specs.Counts.{words}
+use Rattle.tables.specs.Located.{Located, plain, plainState, start}
+use Rattle.events.specs.declared.Event.{Event}
+use Rattle.events.specs.Records.{recordOf}
+use Rattle.events.specs.FromWords.{recordsOf}
+use Rattle.reader.specs.Reading.{accepting as reading, readOf}
+use Rattle.writer.specs.declared.Answer.{Answer}
+use Rattle.writer.specs.declared.Answer.the-variants.{Accepted, Refused}
+use Rattle.writer.specs.Events.{wellMade, eventOf, isContent, goesOn, allText}
+use Rattle.write_names.specs.Choices.{within}
+use Rattle.writer.specs.Items.{WroteItem, writeItem}
+use Rattle.writer.specs.Writing.{announced, Result, written, refusal, plus, opens, settled, fits, halvesOf, judge, finish, run, joined, Outcome, Leaves, refusing, accepting, outcome, writing, writeOf}
+use Rattle.theorems.proofs.Document as Whole
+use Rattle.theorems.proofs.Demands.{written-by-the-rules, the-events-given}
+use Rattle.writer.specs.Words.{answerWord, leaving, nothing, inWords, writeWords}
+use Rattle.theorems.proofs.Fits.{accepted-sized}
+
+-- A call with this output room left these octets, 0 behind them, and these tables; the rules write the octets from the items, whose records are those given.
+pub record Wrote (text : List ℕ) (es : List Event) (room : ℕ) (o : Outcome) : Type 0 where
+  pub items : List (Item Located)
+  pub last : State Located
+  pub octets : List ℕ
+  pub is : o ≡ accepting octets (last .words) room
+  pub given : map (λ (i : Item Located). recordOf (i .event)) items ≡ es
+  pub writes : Writes (map (plain text) items) (plainState text last) octets
+  pub fits : length octets ≤ room
+
+module _ (text : List ℕ) (room : ℕ) (es : List Event) where
+  from-result : length text ≤ 16384 → (r : Result) → writing text room es ≡ r → (n : ℕ) (c : Counts) → outcome r room .answer ≡ Accepted n c → Wrote text es room (outcome r room)
+  from-result short (written items hs z) e n c q =
+      let w = written-by-the-rules text room es items hs z short e in
+      record { items = items; last = z; octets = header ++ joined hs; is = refl; given = the-events-given text room es items hs z e; writes = w .0; fits = w .1 }
+  from-result short (refusal k p) e n c q = absurd (let z : _≡_ {A = ℕ} 0 1 = cc in omega arith)
+
+  by-room : (table n : ℕ) (c : Counts) (b d : Bool) → leb (length text) 16384 ≡ b
+      → pick b (pick d (outcome (writing text room es) room) (refusing 14 0 room table)) (refusing 1 0 room table) .answer ≡ Accepted n c
+      → Wrote text es room (pick b (pick d (outcome (writing text room es) room) (refusing 14 0 room table)) (refusing 1 0 room table))
+  by-room table n c true true short e = from-result (leb-true _ _ short) (writing text room es) refl n c e
+  by-room table n c true false short e = absurd (let z : _≡_ {A = ℕ} 0 1 = cc in omega arith)
+  by-room table n c false d short e = absurd (let z : _≡_ {A = ℕ} 0 1 = cc in omega arith)
+
+  -- 17. WRITE ACCEPTS only what the rules write, from the records given.
+  pub write-accepts : (table n : ℕ) (c : Counts) → writeOf es text room table .answer ≡ Accepted n c → Wrote text es room (writeOf es text room table)
+  unfolding writeOf
+  write-accepts table n c e = by-room table n c (leb (length text) 16384) (eqb table words) refl e
+
+-- What reading octets leaves: the records of events whose plain forms are these items', blank records behind them, and tables that are these, as octets.
+pub record ReadBack (s : List ℕ) (records : ℕ) (items : List (Item (List ℕ))) (z : State (List ℕ)) : Type 0 where
+  pub events : List (Item Located)
+  pub last : State Located
+  pub is : readOf s records words ≡ reading (map (λ (i : Item Located). recordOf (i .event)) events) (last .words) records
+  pub same : map (plain s) events ≡ items
+  pub tables : plainState s last ≡ z
+
+-- 18. READ BACK: what a call wrote is read, with a record for each event, and gives the same events and tables.
+pub read-back : (text : List ℕ) (room : ℕ) (es : List Event) (o : Outcome) (w : Wrote text es room o) (records : ℕ) → length es ≤ records
+    → ReadBack (w .octets) records (map (plain text) (w .items)) (plainState text (w .last))
+unfolding readOf
+read-back text room es o w records h =
+    let l = length-map (w .items) (λ (i : Item Located). recordOf (i .event)) in
+    let k = length-map (w .items) (plain text) in
+    let g = ap length (w .given) in
+    let a = Whole.accepts (w .octets) (map (plain text) (w .items)) (plainState text (w .last)) (w .writes) records (omega arith) in
+    let y = accepted-sized (w .octets) records (a .events) (a .last) (a .reads) in
+    record { events = a .events; last = a .last .state; is = rw (y, a .reads); same = a .are; tables = a .end-is }
+
+-- 19. REFUSED: a refusal is one of 01's numbers for a writer, at an event of the list or its end.
+abbrev pub Numbered : ℕ → Type 0
+Numbered n = (9 ≤ n) × (n ≤ 16) × (n ≡ 10 → ⊥) × (n ≡ 11 → ⊥) × (n ≡ 15 → ⊥)
+
+module _ (L : Limits) (text : List ℕ) (room : ℕ) where
+  abbrev Faulty : (low high : ℕ) → Result → Type 0
+  Faulty low high (written items hs z) = Unit {0}
+  Faulty low high (refusal n p) = Numbered n × (low ≤ p) × (p ≤ high)
+
+  verdicts : (at : ℕ) (v : State Located) (e : Event) (w : WroteItem) (hs : List ℕ) → (judge L text room at v e w hs ≡ 0 → ⊥) → Numbered (judge L text room at v e w hs)
+  unfolding judge
+  verdicts at v e w hs =
+      cases (wellMade text (e .kind) e && goesOn v (eventOf (e .kind) e)) (allText text (eventOf (e .kind) e)) (opens (v .mode) (eventOf (e .kind) e) && leb (L .depth) (v .level))
+      (within L (w .state .words)) (fits L text room (at + length hs))
+    where
+      cases : (a b c d f : Bool) → (_≡_ {A = ℕ} (pick a (pick b (pick c 13 (pick d (pick f 0 14) 12)) 9) 16) 0 → ⊥) → Numbered (pick a (pick b (pick c 13 (pick d (pick f 0 14) 12)) 9) 16)
+      cases false b c d f h = omega arith
+      cases true false c d f h = omega arith
+      cases true true true d f h = omega arith
+      cases true true false false f h = omega arith
+      cases true true false true false h = omega arith
+      cases true true false true true h = absurd (h refl)
+
+  finish-faulty : (at : ℕ) (v : State Located) (i : ℕ) → Faulty i i (finish L text room at v i)
+  unfolding finish
+  finish-faulty at v i = cases (isContent (v .mode) && (eqb (v .level) 0 && v .root)) (fits L text room (suc at))
+    where
+      cases : (a b : Bool) → Faulty i i (pick a (pick b (written [] (15 ∷ pad (suc at)) v) (refusal 14 i)) (refusal 16 i))
+      cases true true = tt
+      cases true false = (omega arith, omega arith, omega arith)
+      cases false b = (omega arith, omega arith, omega arith)
+
+  later : (i n : ℕ) (j : Item Located) (hs : List ℕ) (r : Result) → Faulty (suc i) (suc i + n) r → Faulty i (i + suc n) (plus j hs r)
+  later i n j hs (written items ks z) h = tt
+  later i n j hs (refusal k p) h = let a = h .1 in let b = h .2 in (h .0, omega arith, omega arith)
+
+  turned : (i m : ℕ) (j : Item Located) (hs : List ℕ) (r : Result) (n : ℕ) → ((n ≡ 0 → ⊥) → Numbered n) → Faulty (suc i) (suc i + m) r
+      → Faulty i (i + suc m) (elim n [ zero ↦ plus j hs r | suc k ↦ refusal (suc k) i ])
+  turned i m j hs r zero f h = later i m j hs r h
+  turned i m j hs r (suc k) f h = (f (omega arith), omega arith, omega arith)
+
+  run-faulty : (es : List Event) (at : ℕ) (v : State Located) (i : ℕ) → Faulty i (i + length es) (run L text room at v i es)
+  unfolding run
+  run-faulty [] at v i = let z : i + 0 ≡ i = omega arith in rw z (finish-faulty at v i)
+  run-faulty (e ∷ es) at v i =
+      let ev = eventOf (e .kind) e in
+      let w = writeItem L text (announced (e ∷ es)) (settled v ev) ev in
+      let hs = halvesOf L text room at v ev w in
+      turned i (length es) (ev by w .choice) hs (run L text room (at + length hs) (w .state) (suc i) es) (judge L text room at v e w hs) (verdicts at v e w hs) (run-faulty es (at + length hs) (w .state) (suc i))
+
+pub write-refused : (text : List ℕ) (room : ℕ) (es : List Event) (n p : ℕ) → writing text room es ≡ refusal n p → Numbered n × (p ≤ length es)
+unfolding writing
+write-refused text room es n p e =
+    let f = run-faulty link text room es (2 * length header) (beginning start) 0 in
+    let g : Faulty link text room 0 (0 + length es) (refusal n p) = subst (Faulty link text room 0 (0 + length es)) e f in
+    let h = g .2 in
+    (g .0, omega arith)
+
+-- 20. WRITE FROM WORDS: what is accepted is left as the words of what `write` leaves, from the records of the words (17).
+refused-small : (records text : List ℕ) (r t : ℕ) (b d : Bool) (k p : ℕ)
+    → pick b (pick d (outcome (writing text r (recordsOf records)) r) (refusing 14 0 r t)) (refusing 1 0 r t) .answer ≡ Refused k p → (1 ≤ k) × (k ≤ 16)
+refused-small records text r t true true k p e = from (writing text r (recordsOf records)) refl e
+  where
+    from : (a : Result) → writing text r (recordsOf records) ≡ a → outcome a r .answer ≡ Refused k p → (1 ≤ k) × (k ≤ 16)
+    from (written items hs z) q e = absurd (let y : _≡_ {A = ℕ} 0 1 = cc in omega arith)
+    from (refusal n place) q e =
+        let f = write-refused text r (recordsOf records) n place q .0 in
+        let ek : n ≡ k = cc in
+        let low = f .0 in
+        let high = f .1 in
+        (omega arith, omega arith)
+refused-small records text r t true false k p e = let ek : 14 ≡ k = cc in (omega arith, omega arith)
+refused-small records text r t false d k p e = let ek : 1 ≡ k = cc in (omega arith, omega arith)
+
+module _ (records text : List ℕ) (r t : ℕ) where
+  abbrev left : Outcome
+  left = writeOf (recordsOf records) text r t
+
+  by-answer : (n : ℕ) (a : Answer) → left .answer ≡ a → answerWord a ≡ n * 2 ^ 32 → Wrote text (recordsOf records) r left
+  unfolding writeOf
+  by-answer n (Accepted m c) e q = write-accepts text r (recordsOf records) t m c e
+  by-answer n (Refused k p) e q = let f = refused-small records text r t (leb (length text) 16384) (eqb t words) k p e in absurd (let low = f .0 in let high = f .1 in omega arith)
+
+  by-words : (c n : ℕ) (b d : Bool) → pick b (pick d (inWords left) (nothing 14 r t c)) (nothing 1 r t c) .answer ≡ n * 2 ^ 32
+      → Wrote text (recordsOf records) r left × (pick b (pick d (inWords left) (nothing 14 r t c)) (nothing 1 r t c) ≡ inWords left)
+  unfolding inWords
+  by-words c n true true e = (by-answer n (left .answer) refl e, refl)
+  by-words c n true false e = absurd (omega arith)
+  by-words c n false d e = absurd (omega arith)
+
+  pub words-written : (c n : ℕ) → writeWords records text r t c .answer ≡ n * 2 ^ 32 → Wrote text (recordsOf records) r left × (writeWords records text r t c ≡ inWords left)
+  unfolding writeWords
+  words-written c n e = by-words c n (leb (length text) 16384) (eqb c 10) e
+
+-- 21. DEMAND 1: what a call answers and leaves depends on the records and the text, and on how much room is lent, but not on what stood in it.
+module _ (es : List Event) (text o p t u : List ℕ) (a b : Answer) (o′ p′ t′ u′ : List ℕ) where
+  pub write-whatever-stood : length o ≡ length p → length t ≡ length u → Leaves a o′ t′ (writeOf es text (length o) (length t)) → Leaves b p′ u′ (writeOf es text (length p) (length u))
+      → (a ≡ b) × (o′ ≡ p′) × (t′ ≡ u′)
+  write-whatever-stood l m x y = let y′ = rw (← l, ← m) at y in (x .0 ∙ sym (y′ .0), x .2 ∙ sym (y′ .2), x .3 ∙ sym (y′ .3))
+
+--     The same of writing from words.
+pub written-whatever-stood : (records text o p t u c d : List ℕ) (a b : ℕ) (o′ p′ t′ u′ c′ d′ : List ℕ) → length o ≡ length p → length t ≡ length u → length c ≡ length d
+    → leaving a o′ t′ c′ ≡ writeWords records text (length o) (length t) (length c) → leaving b p′ u′ d′ ≡ writeWords records text (length p) (length u) (length d)
+    → leaving a o′ t′ c′ ≡ leaving b p′ u′ d′
+written-whatever-stood records text o p t u c d a b o′ p′ t′ u′ c′ d′ l m n x y = x ∙ rw (l, m, n) (sym y)

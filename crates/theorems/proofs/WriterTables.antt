@@ -1,0 +1,130 @@
+-- The writer's tables by where the strings stand: each table of strings holds what it held at the start and, behind it, the very strings that its choices add, in
+-- order. What is written by a number adds nothing, so it does not matter that the entry may stand elsewhere than the event's own string, as the same octets.
+use Prim.Native.Nat.{ℕ, zero, suc, _+_, _*_}
+use mathlib.Core.Path.{_≡_, subst}
+use mathlib.Core.Bool.{Bool, true, false, not, _&&_}
+use mathlib.Core.Option.{Option, none, some}
+use mathlib.Core.List.{List, [], _∷_, _++_, map}
+use lib.Dec.{eqb}
+use lib.ListN.{length}
+use Rattle.format.specs.Events as E
+use Rattle.format.specs.Events.{Name, How, spelled, numbered, NameHow, Item, _by_}
+use Rattle.format.specs.Tables.{StringTable, PREFIX, NAMESPACE-NAME, LOCAL-NAME, OTHER-NCNAME, ATTRIBUTE-VALUE, CONTENT-CHARACTER-CHUNK, OTHER-STRING, Vocabulary, strings, names, Limits, link}
+use Rattle.format.specs.Strings.{keeping, Layout, c14, c15}
+use Rattle.format.specs.Names.{NameLayout, ofElement, ofAttribute}
+use Rattle.format.specs.Items.{State}
+use Rattle.format.specs.Document.{header, beginning}
+use Rattle.format.specs.Uses.{madeIn, ofString, ofOption, ofName, ofItem, acts}
+use Rattle.events.specs.declared.Event.{Event}
+use Rattle.tables.specs.Located.{Located, empty, octetsOf, start}
+use Rattle.tables.specs.Search.{numberIn, numberOfTriple}
+use Rattle.write_names.specs.Choices.{Wrote, writeId, writeOptional, writeName, worthAdding, writeLiteral, writeValue}
+use Rattle.writer.specs.Events.{isContent, isListing, eventOf}
+use Rattle.writer.specs.Items.{writeItem, nameLead}
+use Rattle.writer.specs.Writing.{announced, Result, written, refusal, plus, isAttribute, settled, fits, halvesOf, judge, finish, run, writing}
+use Rattle.theorems.proofs.Lists.{test, either}
+use Rattle.theorems.proofs.Earlier.{Adds, adds-none, adds-both, adds-string, adds-name, adds-number, adds-name-number}
+
+-- ---- strings and names
+number-adds : (t : StringTable) (v : Vocabulary Located) (x : Located) (k : ℕ) → Adds v (ofString t x (numbered k)) v
+number-adds t v x zero = adds-none
+number-adds t v x (suc k) = adds-number t (suc k) x
+
+spelled-adds : (t : StringTable) (v : Vocabulary Located) (x : Located) (added : Bool) → Adds v (ofString t x (spelled added)) (keeping added v t x)
+spelled-adds t v x true = adds-string v t x
+spelled-adds t v x false = adds-none
+
+abbrev WroteString : StringTable → Vocabulary Located → Located → Wrote How → Type 0
+WroteString t v x w = Adds v (ofString t x (w .how)) (w .words)
+
+abbrev WrotePart : StringTable → Vocabulary Located → Option Located → Wrote (Option How) → Type 0
+WrotePart t v x w = Adds v (ofOption empty t x (w .how)) (w .words)
+
+module _ (text : List ℕ) where
+  id-adds : (t : StringTable) (v : Vocabulary Located) (x : Located) → WroteString t v x (writeId text t v x)
+  unfolding writeId
+  id-adds t v x =
+      let k = numberIn (map (octetsOf text) (strings v t)) (octetsOf text x) in
+      either (WroteString t v x) (eqb k 0) _ _ (λ e. adds-string v t x) (λ e. number-adds t v x k)
+
+  part-adds : (t : StringTable) (v : Vocabulary Located) (x : Option Located) → WrotePart t v x (writeOptional text t v x)
+  unfolding writeOptional
+  part-adds t v none = adds-none
+  part-adds t v (some x) = id-adds t v x
+
+  name-adds : (q : NameLayout) (lead : ℕ) (v : Vocabulary Located) (x : Name Located)
+      → Adds v (ofName empty (q .table) x (writeName q lead text v x .how)) (writeName q lead text v x .words)
+  unfolding writeName
+  name-adds q lead v x =
+      let p = writeOptional text PREFIX v (x .prefix) in
+      let n = writeOptional text NAMESPACE-NAME (p .words) (x .namespace) in
+      let l = writeId text LOCAL-NAME (n .words) (x .local) in
+      either (λ (w : Wrote NameHow). Adds v (ofName empty (q .table) x (w .how)) (w .words))
+      (eqb (numberOfTriple (names (l .words) (q .table)) (record { prefix = p .number; namespace = n .number; local = l .number })) 0) _ _
+      (λ e.
+      adds-both (part-adds PREFIX v (x .prefix))
+      (adds-both (part-adds NAMESPACE-NAME (p .words) (x .namespace)) (adds-both (id-adds LOCAL-NAME (n .words) (x .local)) (adds-name (l .words) (q .table) _ x))))
+      (λ e. adds-name-number (q .table) _ x)
+
+  module _ (L : Limits) where
+    literal-adds : (q : Layout) (t : StringTable) (v : Vocabulary Located) (x : Located) → WroteString t v x (writeLiteral L q text t v x)
+    unfolding writeLiteral
+    literal-adds q t v x =
+        let k = numberIn (map (octetsOf text) (strings v t)) (octetsOf text x) in
+        either (WroteString t v x) (eqb k 0) _ _ (λ e. spelled-adds t v x (worthAdding L (strings v t) (octetsOf text x))) (λ e. number-adds t v x k)
+
+    value-adds : (t : StringTable) (v : Vocabulary Located) (x : Located) → WroteString t v x (writeValue L text t v x)
+    unfolding writeValue
+    value-adds t v x = either (WroteString t v x) (eqb (length (octetsOf text x)) 0) _ _ (λ e. adds-none) (λ e. literal-adds c14 t v x)
+
+    -- ---- one event
+    item-adds : (a : Bool) (v : State Located) (e : E.Event Located) → Adds (v .words) (ofItem empty (e by writeItem L text a v e .choice)) (writeItem L text a v e .state .words)
+    unfolding writeItem ofElement ofAttribute
+    item-adds a v (E.Namespace p n) = adds-both (part-adds PREFIX (v .words) p) (part-adds NAMESPACE-NAME (writeOptional text PREFIX (v .words) p .words) n)
+    item-adds a v (E.Start x) = name-adds ofElement (nameLead (v .mode) a) (v .words) x
+    item-adds a v (E.Attribute x y) = adds-both (name-adds ofAttribute 0 (v .words) x) (value-adds ATTRIBUTE-VALUE (writeName ofAttribute 0 text (v .words) x .words) y)
+    item-adds a v (E.Text y) = literal-adds c15 CONTENT-CHARACTER-CHUNK (v .words) y
+    item-adds a v (E.Comment y) = value-adds OTHER-STRING (v .words) y
+    item-adds a v (E.Instruction x y) = adds-both (id-adds OTHER-NCNAME (v .words) x) (value-adds OTHER-STRING (writeId text OTHER-NCNAME (v .words) x .words) y)
+    item-adds a v E.End = adds-none
+
+    -- the end of an attribute list adds nothing
+    settled-adds : (a : Bool) (v : State Located) (e : E.Event Located)
+        → Adds (v .words) (ofItem empty (e by writeItem L text a (settled v e) e .choice)) (writeItem L text a (settled v e) e .state .words)
+    unfolding settled
+    settled-adds a v e =
+        either (λ (u : State Located). Adds (v .words) (ofItem empty (e by writeItem L text a u e .choice)) (writeItem L text a u e .state .words))
+        (isListing (v .mode) && not (isAttribute e)) _ _ (λ q. item-adds a _ e) (λ q. item-adds a v e)
+
+    -- ---- a run
+    abbrev AddsAll : Vocabulary Located → Result → Type 0
+    AddsAll v (written items hs z) = Adds v (acts empty items) (z .words)
+    AddsAll v (refusal n p) = Unit {0}
+
+    plus-adds : {v w : Vocabulary Located} (i : Item Located) (hs : List ℕ) → Adds v (ofItem empty i) w → (r : Result) → AddsAll w r → AddsAll v (plus i hs r)
+    plus-adds i hs f (written items rest z) g = adds-both f g
+    plus-adds i hs f (refusal n p) g = tt
+
+    turn-adds : (v : Vocabulary Located) (i : ℕ) (r : Result) → AddsAll v r → (j : ℕ) → AddsAll v (elim j [ zero ↦ r | suc n ↦ refusal (suc n) i ])
+    turn-adds v i r h zero = h
+    turn-adds v i r h (suc n) = tt
+
+    module _ (room : ℕ) where
+      run-adds : (es : List Event) (at : ℕ) (v : State Located) (i : ℕ) → AddsAll (v .words) (run L text room at v i es)
+      unfolding run finish
+      run-adds [] at v i =
+          test (AddsAll (v .words)) (refusal 16 i) tt (isContent (v .mode) && (eqb (v .level) 0 && v .root)) _
+          λ t. test (AddsAll (v .words)) (refusal 14 i) tt (fits L text room (suc at)) _ λ f. adds-none
+      run-adds (e ∷ es) at v i =
+          let ev = eventOf (e .kind) e in
+          let a = announced (e ∷ es) in
+          let w = writeItem L text a (settled v ev) ev in
+          let hs = halvesOf L text room at v ev w in
+          turn-adds (v .words) i _ (plus-adds (ev by w .choice) hs (settled-adds a v ev) (run L text room (at + length hs) (w .state) (suc i) es) (run-adds es (at + length hs) (w .state) (suc i)))
+          (judge L text room at v e w hs)
+
+-- ---- a document
+pub strings-written : (text : List ℕ) (room : ℕ) (es : List Event) (items : List (Item Located)) (hs : List ℕ) (z : State Located) → writing text room es ≡ written items hs z
+    → (t : StringTable) → strings (z .words) t ≡ strings start t ++ madeIn t (acts empty items)
+unfolding writing beginning
+strings-written text room es items hs z e = subst (AddsAll text link start) e (run-adds text link room es (2 * length header) (beginning start) 0) .then

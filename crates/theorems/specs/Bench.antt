@@ -1,0 +1,120 @@
+-- The bench (01, "Documents on the bench"): each case marked M and the readings that look right and are not, in one list, proved at once by computing the definitions.
+use Prim.Native.Nat.{ℕ}
+use mathlib.Core.Path.{_≡_, refl}
+use mathlib.Core.Option.{none, some}
+use mathlib.Core.List.{List, [], _∷_, _++_, map}
+use Rattle.format.specs.Events.{Name, Event, Namespace, Start, Attribute, Text, End, Item, eventMap}
+use Rattle.format.specs.Tables.{Triple, Vocabulary, xmlPrefix, xmlNamespace}
+use Rattle.format.specs.Document.{header}
+use Rattle.tables.specs.Located.{Located, octetsOf, plainWords}
+use Rattle.events.specs.Records.{recordOf}
+use Rattle.format.specs.Numbers as FNumbers
+use Rattle.format.specs.Text as FText
+use Rattle.format.specs.Events as FEvents
+use Rattle.format.specs.Tables as FTables
+use Rattle.format.specs.Strings as FStrings
+use Rattle.format.specs.Names as FNames
+use Rattle.format.specs.Items as FItems
+use Rattle.format.specs.Document as FDocument
+use Rattle.fields.specs.Fields as DFields
+use Rattle.tables.specs.Counts as TCounts
+use Rattle.tables.specs.Located as TLocated
+use Rattle.tables.specs.Search as TSearch
+use Rattle.events.specs.Records as ERecords
+use Rattle.read_names.specs.Strings as RStrings
+use Rattle.read_names.specs.Names as RNames
+use Rattle.read_items.specs.Items as RItems
+use Rattle.read_items.specs.Steps as RSteps
+use Rattle.reader.specs.Reading as RReading
+use Rattle.writer.specs.Events as WEvents
+use Rattle.write_names.specs.Choices as WChoices
+use Rattle.writer.specs.Items as WItems
+use Rattle.writer.specs.Writing as WWriting
+
+-- A document, the events and the tables that it stands for; or octets, the refusal's number and its place.
+pub data Case : Type 0 where
+  document : List ℕ → List (Event (List ℕ)) → Vocabulary (List ℕ) → Case
+  refused : List ℕ → (number place : ℕ) → Case
+
+-- What reading finds: events and tables, and what writing these events, with the document as text area, gives; or a refusal.
+pub data Found : Type 0 where
+  found : List (Event (List ℕ)) → Vocabulary (List ℕ) → List ℕ → Vocabulary (List ℕ) → Found
+  number : ℕ → ℕ → Found
+
+abbrev pub both : List ℕ → List (Item Located) → Vocabulary Located → WWriting.Result → Found
+both s is v (WWriting.written js hs z) =
+    found (map (λ (i : Item Located). eventMap (octetsOf s) (i .event)) is) (plainWords s v) (header ++ WWriting.joined hs) (plainWords s (z .words))
+both s is v (WWriting.refusal n p) = number n p
+
+abbrev pub read : List ℕ → RReading.Result → Found
+read s (RReading.accepted is m) = both s is (m .state .words) (WWriting.writing s 16384 (map (λ (i : Item Located). recordOf (i .event)) is))
+read s (RReading.refusal n p) = number n p
+
+abbrev pub finds : Case → Found
+finds (document s es v) = read s (RReading.reading s 32768)
+finds (refused s n p) = read s (RReading.reading s 32768)
+
+abbrev pub wants : Case → Found
+wants (document s es v) = found es v s v
+wants (refused s n p) = number n p
+
+-- Words of the cases.
+abbrev a : List ℕ
+a = 0x61 ∷ []
+
+abbrev b : List ℕ
+b = 0x62 ∷ []
+
+abbrev c : List ℕ
+c = 0x63 ∷ []
+
+abbrev u : List ℕ
+u = 0x75 ∷ []
+
+abbrev hi : List ℕ
+hi = 0x68 ∷ 0x69 ∷ []
+
+abbrev local : List ℕ → Name (List ℕ)
+local x = record { prefix = none; namespace = none; local = x }
+
+abbrev triple : ℕ → ℕ → ℕ → Triple
+triple p n l = record { prefix = p; namespace = n; local = l }
+
+-- The tables: namespaces behind the built-in one, local names, values, chunks, names of elements and of attributes.
+abbrev tables : (namespaces locals values chunks : List (List ℕ)) (elements attributes : List Triple) → Vocabulary (List ℕ)
+tables ns ls vs cs es ts =
+    record { prefixes = xmlPrefix ∷ []; namespaces = xmlNamespace ∷ ns; locals = ls; ncnames = []; uris = []; values = vs; chunks = cs; others = []; elements = es; attributes = ts }
+
+abbrev behindHeader : List ℕ → List ℕ
+behindHeader x = 0xE0 ∷ 0x00 ∷ 0x00 ∷ 0x01 ∷ 0x00 ∷ x
+
+abbrev pub cases : List Case
+cases =
+    -- <a/>
+    document (behindHeader (0x3C ∷ 0x00 ∷ 0x61 ∷ 0xFF ∷ [])) (Start (local a) ∷ End ∷ []) (tables [] (a ∷ []) [] [] (triple 0 0 1 ∷ []) [])
+    -- <a><a/></a>
+    ∷ document (behindHeader (0x3C ∷ 0x00 ∷ 0x61 ∷ 0x00 ∷ 0xFF ∷ 0xF0 ∷ [])) (Start (local a) ∷ Start (local a) ∷ End ∷ End ∷ []) (tables [] (a ∷ []) [] [] (triple 0 0 1 ∷ []) [])
+    -- <a b="c">hi</a>
+    ∷ document (behindHeader (0x7C ∷ 0x00 ∷ 0x61 ∷ 0x78 ∷ 0x00 ∷ 0x62 ∷ 0x40 ∷ 0x63 ∷ 0xF0 ∷ 0x91 ∷ 0x68 ∷ 0x69 ∷ 0xFF ∷ []))
+    (Start (local a) ∷ Attribute (local b) c ∷ Text hi ∷ End ∷ []) (tables [] (a ∷ b ∷ []) (c ∷ []) (hi ∷ []) (triple 0 0 1 ∷ []) (triple 0 0 2 ∷ []))
+    -- <a b=""/>
+    ∷ document (behindHeader (0x7C ∷ 0x00 ∷ 0x61 ∷ 0x78 ∷ 0x00 ∷ 0x62 ∷ 0xFF ∷ 0xFF ∷ 0xF0 ∷ []))
+    (Start (local a) ∷ Attribute (local b) [] ∷ End ∷ []) (tables [] (a ∷ b ∷ []) [] [] (triple 0 0 1 ∷ []) (triple 0 0 2 ∷ []))
+    -- <a xmlns="u"/>
+    ∷ document (behindHeader (0x38 ∷ 0xCD ∷ 0x00 ∷ 0x75 ∷ 0xF0 ∷ 0x3D ∷ 0x81 ∷ 0x00 ∷ 0x61 ∷ 0xFF ∷ []))
+    (Namespace none (some u) ∷ Start (record { prefix = none; namespace = some u; local = a }) ∷ End ∷ []) (tables (u ∷ []) (a ∷ []) [] [] (triple 0 2 1 ∷ []) [])
+    -- <a>hihi</a>, written as two chunks: they are two events
+    ∷ document (behindHeader (0x3C ∷ 0x00 ∷ 0x61 ∷ 0x91 ∷ 0x68 ∷ 0x69 ∷ 0xA0 ∷ 0xFF ∷ [])) (Start (local a) ∷ Text hi ∷ Text hi ∷ End ∷ [])
+    (tables [] (a ∷ []) [] (hi ∷ []) (triple 0 0 1 ∷ []) [])
+    ∷ refused (behindHeader (0xF0 ∷ [])) 15 5
+    ∷ refused (behindHeader (0x00 ∷ [])) 10 5
+    ∷ refused (0xE0 ∷ 0x00 ∷ 0x00 ∷ []) 2 0
+    ∷ refused (0xE0 ∷ 0x00 ∷ 0x00 ∷ 0x01 ∷ []) 2 4
+    ∷ refused (behindHeader (0x3C ∷ 0x00 ∷ 0x61 ∷ 0xF0 ∷ 0xF0 ∷ [])) 6 9
+    ∷ refused (behindHeader (0x3C ∷ 0x00 ∷ 0x61 ∷ 0xFF ∷ 0x00 ∷ [])) 15 9
+    ∷ []
+
+-- Every case is found as it is wanted.
+pub proved : map finds cases ≡ map wants cases
+unfolding FNumbers.coded FNumbers.lengths FNumbers.numbers FNumbers.c25 FNumbers.octets FNumbers.spell FText.rows FText.astray FText.between FText.first FText.next FText.after FText.isText FEvents.eventMap FTables.strings FTables.names FTables.place FTables.adding FTables.addingName FTables.vocabularyMap FTables.starting FTables.xmlPrefix FTables.xmlNamespace FTables.same FTables.holds FTables.sameTriple FTables.holdsName FTables.nameOf FTables.link FStrings.c14 FStrings.c15 FNames.ofElement FNames.ofAttribute FItems.mayStart FDocument.halves FDocument.pad FDocument.aligned FDocument.beginning FDocument.header DFields.valueFrom DFields.behind DFields.readIn DFields.fieldAt TCounts.countsOf TSearch.lowest TSearch.numberIn TSearch.numberOfTriple TLocated.octetsOf TLocated.start ERecords.recordOf RStrings.spelling RStrings.idAt RStrings.optionalAt RStrings.spelledAt RStrings.literalAt RStrings.valueAt RNames.partsAt RNames.numberedAt RNames.nameAt RNames.declaredAt RItems.namePadding RItems.namespaceAt RItems.elementAt RItems.namedAt RItems.attributeAt RItems.chunkAt RItems.commentAt RItems.instructionAt RItems.otherAt RItems.childAt RItems.declaringAt RItems.itemAt RSteps.halfAt RSteps.endsAt RSteps.padsAt RSteps.documentEnd RSteps.endAt RSteps.step RReading.run RReading.sized RReading.opening RReading.reading WEvents.isName WEvents.noName WEvents.wellMade WEvents.eventOf WEvents.goesOn WEvents.nameText WEvents.allText WChoices.writeId WChoices.writeOptional WChoices.writeName WChoices.worthAdding WChoices.writeLiteral WChoices.writeValue WItems.writeItem WChoices.within WWriting.announced WWriting.owed WWriting.settled WWriting.fits WWriting.halvesOf WWriting.judge WWriting.finish WWriting.run WWriting.joined WWriting.writing
+proved = refl

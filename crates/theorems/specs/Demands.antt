@@ -1,0 +1,165 @@
+-- THE THREE DEMANDS, as statements of what a call answers and leaves. The contracts equate that with `readOf`, `readWords`, `checkOf`, `writeOf` and `writeWords`; that
+-- the demands hold of these is proofs/DemandOne, DemandTwo, DemandThree and, for words and the check, DemandWords.
+use Prim.Native.Nat.{ℕ, _+_, _-_, _*_, _/_, _%_, _^_, _≤_, _<_}
+use mathlib.Core.Path.{_≡_}
+use mathlib.Core.Logic.{_↔_}
+use mathlib.Core.List.{List, [], _++_, map}
+use lib.ListN.{length, replicate}
+use Rattle.format.specs.Refusals.{SIZE, TEXT, FULL, DEPTH, ROOM, EVENT}
+use Rattle.format.specs.Events.{Item}
+use Rattle.format.specs.Tables.{StringTable, Vocabulary, strings}
+use Rattle.format.specs.Items.{State}
+use Rattle.format.specs.Document.{header, Writes}
+use Rattle.format.specs.Uses.{madeIn, acts, Known, MadeBy}
+use Rattle.format.specs.Allowed.{All}
+use Rattle.tables.specs.Located.{Located, empty, plain, plainWords, plainState, start}
+use Rattle.tables.specs.Counts.{words, entryWords, wordsOf}
+use Rattle.tables.specs.Told.{toldAccepted, toldRefused, entriesOf, wholeWord}
+use Rattle.events.specs.declared.Event.{Event}
+use Rattle.events.specs.Records.{blank, recordOf}
+use Rattle.events.specs.WellMade.{WellMade}
+use Rattle.events.specs.Words.{rowWords}
+use Rattle.reader.specs.Reading as Read
+use Rattle.reader.specs.Words as ReadWords
+use Rattle.writer.specs.Writing as Write
+use Rattle.writer.specs.Words as WriteWords
+use Rattle.theorems.specs.Places.{allSpelled, spelledIn}
+use Rattle.theorems.specs.Verdicts.{plains, itemsOf, Refused}
+
+-- ---- DEMAND 1: every input is answered; a refusal has one of 01's numbers and a place, and blanks everything that was lent.
+-- A number that 01 gives a reader; and one that it gives a writer.
+abbrev pub ReaderNumber : ℕ → Type 0
+ReaderNumber n = (1 ≤ n) × (n ≤ 15)
+
+pub data WriterNumber : ℕ → Type 0 where
+  size : WriterNumber SIZE
+  text : WriterNumber TEXT
+  full : WriterNumber FULL
+  depth : WriterNumber DEPTH
+  room : WriterNumber ROOM
+  event : WriterNumber EVENT
+
+pub data CheckAnswers (s : List ℕ) : ℕ → Type 0 where
+  passes : CheckAnswers s 0
+  fails : {n p : ℕ} → ReaderNumber n → (n ≡ ROOM → ⊥) → p ≤ length s → CheckAnswers s (p * 32 + n)
+
+pub data ReadAnswers (s : List ℕ) (room table : ℕ) (o : Read.Outcome) : Type 0 where
+  accepts : o .told .number ≡ 0 → o .told .place ≡ 0 → ReadAnswers s room table o
+  refuses : {n p : ℕ} → ReaderNumber n → p ≤ length s → o .told ≡ toldRefused n p → o .row ≡ replicate room blank → o .tables ≡ replicate table 0 → ReadAnswers s room table o
+
+pub data ReadWordsAnswer (s : List ℕ) (r t c : ℕ) (w : ReadWords.Words) : Type 0 where
+  accepts : w .answer % 2 ^ 32 ≡ 0 → ReadWordsAnswer s r t c w
+  refuses : {n p : ℕ} → ReaderNumber n → p ≤ length s → w .answer ≡ p * 32 + n → w .records ≡ replicate r 0 → w .tables ≡ replicate t 0 → w .counts ≡ replicate c 0 → ReadWordsAnswer s r t c w
+
+pub data WriteAnswers (es : List Event) (room table : ℕ) (o : Write.Outcome) : Type 0 where
+  accepts : o .told .number ≡ 0 → o .told .place ≡ 0 → WriteAnswers es room table o
+  refuses : {n p : ℕ} → WriterNumber n → p ≤ length es → o .told ≡ toldRefused n p → o .out ≡ replicate room 0 → o .tables ≡ replicate table 0 → WriteAnswers es room table o
+
+pub data WriteWordsAnswer (es : List Event) (r t c : ℕ) (w : WriteWords.Words) : Type 0 where
+  accepts : w .answer % 2 ^ 32 ≡ 0 → WriteWordsAnswer es r t c w
+  refuses : {n p : ℕ} → WriterNumber n → p ≤ length es → w .answer ≡ p * 32 + n → w .out ≡ replicate r 0 → w .tables ≡ replicate t 0 → w .counts ≡ replicate c 0 → WriteWordsAnswer es r t c w
+
+-- ---- DEMAND 3: octets are accepted exactly when the rules write them, from one pair of events and choices, and its events are handed out.
+-- For these items, which the rules write by the derivation w, the call left their records, blank ones behind them, and their tables; its answer has the counts. Each
+-- record is as 01's "Events" has it; each spelled string has the place at which the rules write it, and each number names an entry made earlier or built in, at its
+-- very place. The tables hold what is built in and what the events made, each entry at its very place.
+pub record HandsOut (s : List ℕ) (room : ℕ) (items : List (Item (List ℕ))) (z : State (List ℕ)) (w : Writes items z s) (o : Read.Outcome) : Type 0 where
+  pub events : List (Item Located)
+  pub tables : Vocabulary Located
+  pub answer : o .told ≡ toldAccepted (length items) (entriesOf (z .words))
+  pub row : o .row ≡ map (λ (i : Item Located). recordOf (i .event)) events ++ replicate (room - length items) blank
+  pub words : o .tables ≡ wordsOf entryWords tables
+  pub events-are : map (plain s) events ≡ items
+  pub tables-are : plainWords s tables ≡ z .words
+  pub well-made : All (λ (i : Item Located). WellMade s (recordOf (i .event))) events
+  pub spelled : allSpelled events ≡ spelledIn (w .rule)
+  pub earlier : Known empty (strings start) (λ t. []) (acts empty events)
+  pub tables-made : MadeBy empty start (acts empty events) tables
+
+pub record Demand3 (s : List ℕ) (room table : ℕ) (o : Read.Outcome) : Type 0 where
+  -- what the rules write is accepted, if there is a record for each event and the right table room, and this is handed out
+  pub accepts : (items : List (Item (List ℕ))) (z : State (List ℕ)) (w : Writes items z s) → length items ≤ room → table ≡ words → HandsOut s room items z w o
+  -- and nothing else is accepted
+  pub only : o .told .number ≡ 0 → (items : List (Item (List ℕ))) × (z : State (List ℕ)) × Writes items z s × (length items ≤ room) × (table ≡ words)
+  -- there is one such pair
+  pub one-pair : (items others : List (Item (List ℕ))) (y z : State (List ℕ)) → Writes items y s → Writes others z s → (items ≡ others) × (y ≡ z)
+
+-- ---- DEMAND 2: the writer accepts whatever 01 gives it no number to refuse, and writes it as the rules do, with 01's choices; reading it gives back what was given.
+-- 01 gives no number to refuse these records over this text area, with this room; s is the document that the rules write from them, and z what they know at its end.
+pub record Acceptable (es : List Event) (text : List ℕ) (room table : ℕ) (s : List ℕ) (z : State (List ℕ)) : Type 0 where
+  pub text-size : length text ≤ 16384
+  pub table-room : table ≡ words
+  pub well-made : All (WellMade text) es
+  pub writes : Writes (itemsOf (plains text es)) z s
+  pub fits : length s ≤ room
+
+-- The writer's definition writes them as these octets, and knows this at the end.
+pub record Wrote (es : List Event) (text : List ℕ) (room : ℕ) (s : List ℕ) (z : State (List ℕ)) : Type 0 where
+  pub items : List (Item Located)
+  pub halves : List ℕ
+  pub last : State Located
+  pub is : Write.writing text room es ≡ Write.written items halves last
+  pub octets : header ++ Write.joined halves ≡ s
+  pub known : plainState text last ≡ z
+
+-- The call left these octets, 0 behind them, and tables that are these as octets; its answer has their counts. The items are the records given, with 01's choices;
+-- the tables of strings hold what is built in and what these items made, each entry at the very place that its record gave. (A name is numbers, so it has no place.)
+pub record LeavesWritten (es : List Event) (text : List ℕ) (room : ℕ) (s : List ℕ) (z : State (List ℕ)) (o : Write.Outcome) : Type 0 where
+  pub items : List (Item Located)
+  pub tables : Vocabulary Located
+  pub answer : o .told ≡ toldAccepted (length s) (entriesOf (z .words))
+  pub octets : o .out ≡ s ++ replicate (room - length s) 0
+  pub words : o .tables ≡ wordsOf entryWords tables
+  pub tables-are : plainWords text tables ≡ z .words
+  pub given : map (λ (i : Item Located). recordOf (i .event)) items ≡ es
+  pub chosen : map (plain text) items ≡ itemsOf (plains text es)
+  pub strings-made : (t : StringTable) → strings tables t ≡ strings start t ++ madeIn t (acts empty items)
+
+-- 01 refuses them so.
+pub data RefusedBy (es : List Event) (text : List ℕ) (room table : ℕ) : (number place : ℕ) → Type 0 where
+  text-too-long : 16384 < length text → RefusedBy es text room table SIZE 0
+  wrong-table-room : length text ≤ 16384 → (table ≡ words → ⊥) → RefusedBy es text room table ROOM 0
+  at-events : {n p : ℕ} → length text ≤ 16384 → table ≡ words → Refused text room es n p → RefusedBy es text room table n p
+
+pub record Demand2 (es : List Event) (text : List ℕ) (room table : ℕ) (o : Write.Outcome) : Type 0 where
+  -- what 01 gives no number to refuse is accepted, as the rules write it
+  pub accepts : (s : List ℕ) (z : State (List ℕ)) → Acceptable es text room table s z → LeavesWritten es text room s z o
+  -- and nothing else is
+  pub only : o .told .number ≡ 0 → (s : List ℕ) × (z : State (List ℕ)) × Acceptable es text room table s z
+  -- reading it, with a record for each event, hands out the events that were given, and the same tables
+  pub back : (s : List ℕ) (z : State (List ℕ)) (a : Acceptable es text room table s z) (records : ℕ) → length es ≤ records
+      → HandsOut s records (itemsOf (plains text es)) z (a .writes) (Read.readOf s records words)
+  -- each refusal, its number and its place, is 01's
+  pub refuses : (n p : ℕ) → (o .told ≡ toldRefused n p) ↔ RefusedBy es text room table n p
+
+-- In words: what the row call would leave, and r % 13 words of 0 behind its records.
+pub record InReadWords (r : ℕ) (o : Read.Outcome) (w : ReadWords.Words) : Type 0 where
+  pub answer : w .answer ≡ wholeWord (o .told)
+  pub records : w .records ≡ rowWords (o .row) ++ replicate (r % 13) 0
+  pub tables : w .tables ≡ o .tables
+  pub counts : w .counts ≡ o .told .counts
+
+pub record InWriteWords (o : Write.Outcome) (w : WriteWords.Words) : Type 0 where
+  pub answer : w .answer ≡ wholeWord (o .told)
+  pub out : w .out ≡ o .out
+  pub tables : w .tables ≡ o .tables
+  pub counts : w .counts ≡ o .told .counts
+
+-- What the word calls owe: the same, in words, with 10 words for the counts.
+pub record Demand3Words (s : List ℕ) (r t c : ℕ) (w : ReadWords.Words) : Type 0 where
+  -- what the rules write is accepted, if there are 13 words for each event and the right room for tables and counts, and this is handed out
+  pub accepts : (items : List (Item (List ℕ))) (z : State (List ℕ)) (u : Writes items z s) → length items ≤ r / 13 → t ≡ words → c ≡ 10
+      → (o : Read.Outcome) × HandsOut s (r / 13) items z u o × InReadWords r o w
+  -- and nothing else is accepted
+  pub only : w .answer % 2 ^ 32 ≡ 0 → (items : List (Item (List ℕ))) × (z : State (List ℕ)) × Writes items z s × (length items ≤ r / 13) × (t ≡ words) × (c ≡ 10)
+
+-- 01 refuses so the records of words: SIZE, then the room of the counts, then as it refuses the records.
+pub data WordsRefusedBy (es : List Event) (text : List ℕ) (r t c : ℕ) : (number place : ℕ) → Type 0 where
+  text-too-long : 16384 < length text → WordsRefusedBy es text r t c SIZE 0
+  wrong-count-room : length text ≤ 16384 → (c ≡ 10 → ⊥) → WordsRefusedBy es text r t c ROOM 0
+  as-records : {n p : ℕ} → c ≡ 10 → RefusedBy es text r t n p → WordsRefusedBy es text r t c n p
+
+pub record Demand2Words (es : List Event) (text : List ℕ) (r t c : ℕ) (w : WriteWords.Words) : Type 0 where
+  pub accepts : (s : List ℕ) (z : State (List ℕ)) → Acceptable es text r t s z → c ≡ 10 → (o : Write.Outcome) × LeavesWritten es text r s z o × InWriteWords o w
+  pub only : w .answer % 2 ^ 32 ≡ 0 → (c ≡ 10) × ((s : List ℕ) × (z : State (List ℕ)) × Acceptable es text r t s z)
+  pub refuses : (n p : ℕ) → 1 ≤ n → n < 32 → (w .answer ≡ p * 32 + n) ↔ WordsRefusedBy es text r t c n p

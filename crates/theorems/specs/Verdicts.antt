@@ -1,0 +1,125 @@
+-- What 01 says of each event that is given to the writer, in the words of the rules: which events are right, and the refusal that the first wrong one gives.
+use Prim.Native.Nat.{ℕ, _+_, _*_, _/_, _≤_, _<_, min}
+use mathlib.Core.Path.{_≡_}
+use mathlib.Core.Bool.{true}
+use mathlib.Core.List.{List, [], _∷_, _++_, map}
+use lib.ListN.{length}
+use Rattle.format.specs.Refusals.{TEXT, FULL, DEPTH, ROOM, EVENT}
+use Rattle.format.specs.Text.{isText}
+use Rattle.format.specs.Events as E
+use Rattle.format.specs.Events.{Item, eventMap, IsDocument, BeginsDocument, openAfter, deepest, opensElement, stringsOf}
+use Rattle.format.specs.Tables.{Vocabulary, link, standard, InLimits}
+use Rattle.format.specs.Items.{State}
+use Rattle.format.specs.Document.{aligned, beginning, Begun, Document, header, started, Writes}
+use Rattle.format.specs.Allowed.{All}
+use Rattle.tables.specs.Located.{octetsOf}
+use Rattle.events.specs.declared.Event.{Event}
+use Rattle.events.specs.WellMade.{WellMade}
+use Rattle.write_names.specs.Chosen.{chosen, tablesAfter}
+use Rattle.writer.specs.Events.{eventOf}
+
+-- The plain event of a record over a text area; those of a list.
+abbrev pub plainOf : List ℕ → Event → E.Event (List ℕ)
+plainOf text e = eventMap (octetsOf text) (eventOf (e .kind) e)
+
+abbrev pub plains : List ℕ → List Event → List (E.Event (List ℕ))
+plains text es = map (plainOf text) es
+
+-- A plain list with 01's choices.
+abbrev pub itemsOf : List (E.Event (List ℕ)) → List (Item (List ℕ))
+itemsOf es = chosen link started es
+
+-- The rules write these items as one document, however deep it is and however long, and these are the tables then.
+pub record WrittenAs (items : List (Item (List ℕ))) (tables : Vocabulary (List ℕ)) : Type 0 where
+  pub octets : List ℕ
+  pub last : State (List ℕ)
+  pub writes : (depth size : ℕ) → deepest 0 (map (λ (i : Item (List ℕ)). i .event) items) ≤ depth → length octets ≤ size → Document (standard depth size) header started items last octets
+  pub known : last .words ≡ tables
+
+-- The rules write these events, with 01's choices, as one document, however deep it is and however long: within every limit on open elements and octets that
+-- it keeps. The limit on the entries of a table is the standard's own.
+pub record WrittenWidely (es : List (E.Event (List ℕ))) : Type 0 where
+  pub octets : List ℕ
+  pub last : State (List ℕ)
+  pub writes : (depth size : ℕ) → deepest 0 es ≤ depth → length octets ≤ size → Document (standard depth size) header started (itemsOf es) last octets
+  pub tables : last .words ≡ tablesAfter link started es
+
+-- What is written of these events is a document of the link, or it is over one of the link's three limits: nothing else keeps it off the link.
+pub data OrPasses (es : List (E.Event (List ℕ))) (last : State (List ℕ)) (octets : List ℕ) : Type 0 where
+  on-the-link : Writes (itemsOf es) last octets → OrPasses es last octets
+  over-depth : link .depth < deepest 0 es → OrPasses es last octets
+  over-entries : (InLimits link (tablesAfter link started es) → ⊥) → OrPasses es last octets
+  over-octets : link .octets < length octets → OrPasses es last octets
+
+-- The header and these items, filled up to octets, fit the output lent and the limit of a document.
+pub record FitsIn (room : ℕ) (items : List (Item (List ℕ))) : Type 0 where
+  pub halves : List ℕ
+  pub last : State (List ℕ)
+  pub are : Begun link (2 * length header) (beginning started) items halves last
+  pub fit : aligned (2 * length header + length halves) / 2 ≤ min room (link .octets)
+
+-- The rules write these items behind the header, but what they write does not fit.
+pub record Overflows (room : ℕ) (items : List (Item (List ℕ))) : Type 0 where
+  pub halves : List ℕ
+  pub last : State (List ℕ)
+  pub are : Begun link (2 * length header) (beginning started) items halves last
+  pub over : min room (link .octets) < aligned (2 * length header + length halves) / 2
+
+-- The rules write the document of these items, and it fits the output lent.
+pub record WrittenIn (room : ℕ) (items : List (Item (List ℕ))) : Type 0 where
+  pub octets : List ℕ
+  pub last : State (List ℕ)
+  pub writes : Writes items last octets
+  pub fit : length octets ≤ room
+
+module _ (text : List ℕ) (room : ℕ) where
+  -- The event e behind the events `before` and all these: 01's tests, in its order. A test that fails gives the number beside it.
+  module _ (before : List Event) (e : Event) where
+    abbrev pub upTo : List (E.Event (List ℕ))
+    upTo = plains text before ++ (plainOf text e ∷ [])
+
+    -- EVENT: a record as under "Events", with which some document's list goes on
+    abbrev pub IsEvent : Type 0
+    IsEvent = WellMade text e × BeginsDocument upTo
+
+    -- TEXT: its strings are text
+    abbrev pub IsText : Type 0
+    IsText = All (λ (x : List ℕ). isText x ≡ true) (stringsOf (plainOf text e))
+
+    -- DEPTH: it opens no element where as many are open as may be
+    abbrev pub IsShallow : Type 0
+    IsShallow = opensElement (plains text before) (plainOf text e) ≡ true → openAfter 0 (plains text before) < link .depth
+
+    -- FULL: no table has an entry too many
+    abbrev pub HasEntries : Type 0
+    HasEntries = InLimits link (tablesAfter link started upTo)
+
+    -- ROOM: what is written so far fits
+    abbrev pub HasRoom : Type 0
+    HasRoom = FitsIn room (itemsOf upTo)
+
+    pub record Right : Type 0 where
+      pub is-event : IsEvent
+      pub is-text : IsText
+      pub is-shallow : IsShallow
+      pub has-entries : HasEntries
+      pub has-room : HasRoom
+
+    -- Its first fault.
+    pub data Fault : ℕ → Type 0 where
+      not-an-event : (IsEvent → ⊥) → Fault EVENT
+      not-text : IsEvent → (IsText → ⊥) → Fault TEXT
+      too-deep : IsEvent → IsText → (IsShallow → ⊥) → Fault DEPTH
+      too-many : IsEvent → IsText → IsShallow → (HasEntries → ⊥) → Fault FULL
+      no-room : IsEvent → IsText → IsShallow → HasEntries → Overflows room (itemsOf upTo) → Fault ROOM
+
+  -- Each event of the list is right behind those before it.
+  abbrev pub AllRight : List Event → Type 0
+  AllRight es = (before : List Event) (e : Event) (after : List Event) → es ≡ before ++ (e ∷ after) → Right before e
+
+  -- The refusal of a list, its number and its place: the first event that is not right; behind the last event, a list that stops too soon (EVENT), or an end of
+  -- the document that does not fit (ROOM).
+  pub data Refused (es : List Event) : (number place : ℕ) → Type 0 where
+    at-event : {before : List Event} {e : Event} {n : ℕ} (after : List Event) → es ≡ before ++ (e ∷ after) → AllRight before → Fault before e n → Refused es n (length before)
+    too-soon : AllRight es → (IsDocument (plains text es) → ⊥) → Refused es EVENT (length es)
+    no-room-for-end : AllRight es → IsDocument (plains text es) → (WrittenIn room (itemsOf (plains text es)) → ⊥) → Refused es ROOM (length es)

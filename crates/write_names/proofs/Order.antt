@@ -1,0 +1,237 @@
+-- Tables in order stay so when an entry is added; they only grow, so a table that has an entry too many keeps it.
+-- Assumes nothing.
+use mathlib.Core.Path.{_≡_, refl, _∙_}
+use mathlib.Core.Bool.{Bool, true, false}
+use mathlib.Core.Option.{Option, none, some}
+use mathlib.Core.List.{List, [], _∷_, map}
+use Prim.Native.Nat.{ℕ, zero, suc, _+_, _≤_, _<_}
+use native.Mathlib.Omega.{arith}
+use borrow.Author.Tests.{leb-true, le-leb}
+use lib.Dec.{eqb}
+use lib.ListN.{length, replicate, length-append, length-replicate}
+use Rattle.format.specs.Numbers.{pick}
+use Rattle.format.specs.Events.{How}
+use Rattle.format.specs.Tables.{StringTable, PREFIX, NAMESPACE-NAME, LOCAL-NAME, OTHER-NCNAME, NameTable, ELEMENT-NAME, ATTRIBUTE-NAME, Triple, Vocabulary, strings, names, extended, adding, addingName, place, starting, link}
+use Rattle.tables.specs.declared.Counts.{Counts}
+use Rattle.tables.specs.Located.{Located, stretch, builtInPrefix, builtInNamespace, octetsOf, start}
+use Rattle.tables.specs.Search.{numberIn}
+use Rattle.tables.specs.Counts.{countsOf, words}
+use Rattle.tables.specs.Rows.{tableOf, vocabulary}
+use Rattle.tables.specs.Kept.{nameTableOf, countOf, oneMore, stored}
+use Rattle.tables.proofs.Laws.{length-strings, length-names, counted-start, counted-more, string-added, name-added, clean-start, clean-string, clean-name, inside-start, inside-string, inside-name, vocabulary-start}
+use Rattle.tables.proofs.Found.{both-true}
+use Rattle.tables.proofs.Rooms.{stored-length}
+use Rattle.write_names.specs.Choices.{Wrote, writeId, writeOptional, within}
+use Rattle.write_names.specs.Code.{Begins, InOrder}
+
+-- ---- in order
+begins-extended : (b : Bool) (x y : Located) (l : List Located) → Begins x l → Begins x (extended b l y)
+begins-extended false x y l h = h
+begins-extended true x y [] h = absurd h
+begins-extended true x y (z ∷ l) h = h
+
+begins-named : (p n : Located) (v : Vocabulary Located) (t : NameTable) (x : Triple) → Begins p (v .prefixes) → Begins n (v .namespaces)
+    → Begins p (addingName v t x .prefixes) × Begins n (addingName v t x .namespaces)
+unfolding addingName
+begins-named p n v ELEMENT-NAME x a b = (a, b)
+begins-named p n v ATTRIBUTE-NAME x a b = (a, b)
+
+module _ (text : List ℕ) (c : Counts) (w : List ℕ) (t : ℕ) (order : InOrder text c w) (room : countOf c t < 256) where
+  module _ (p n : ℕ) (small : t < 8) (some : 0 < n) (lies : p + n ≤ length text) where
+    pub string-more : vocabulary (oneMore c t) (stored w t (countOf c t) p n 0) ≡ adding (vocabulary c w) (tableOf t) (stretch p n)
+    string-more = string-added c w t (order .counted) room (order .room) p n small some
+
+    pub order-string : InOrder text (oneMore c t) (stored w t (countOf c t) p n 0)
+    unfolding adding
+    order-string =
+        record {
+          size = order .size;
+          room = stored-length w t (countOf c t) p n 0 ∙ order .room;
+          counted = counted-more c t (omega arith) room (order .counted);
+          clean = clean-string c w t (order .counted) room (order .room) p n small some (order .clean);
+          inside = rw string-more (inside-string text (vocabulary c w) (tableOf t) (stretch p n) (order .inside) lies);
+          prefix = rw string-more (begins-extended (eqb (place (tableOf t)) 0) builtInPrefix (stretch p n) (vocabulary c w .prefixes) (order .prefix));
+          namespace = rw string-more (begins-extended (eqb (place (tableOf t)) 1) builtInNamespace (stretch p n) (vocabulary c w .namespaces) (order .namespace));
+        }
+
+  module _ (x : Triple) (low : 8 ≤ t) (high : t < 10) where
+    pub name-more : vocabulary (oneMore c t) (stored w t (countOf c t) (x .prefix) (x .namespace) (x .local)) ≡ addingName (vocabulary c w) (nameTableOf t) x
+    name-more = name-added c w t (order .counted) room (order .room) x low high
+
+    pub order-name : InOrder text (oneMore c t) (stored w t (countOf c t) (x .prefix) (x .namespace) (x .local))
+    order-name =
+        record {
+          size = order .size;
+          room = stored-length w t (countOf c t) (x .prefix) (x .namespace) (x .local) ∙ order .room;
+          counted = counted-more c t high room (order .counted);
+          clean = clean-name c w t (order .counted) room (order .room) x low high (order .clean);
+          inside = rw name-more (inside-name text (vocabulary c w) (nameTableOf t) x (order .inside));
+          prefix = rw name-more (begins-named builtInPrefix builtInNamespace (vocabulary c w) (nameTableOf t) x (order .prefix) (order .namespace) .0);
+          namespace = rw name-more (begins-named builtInPrefix builtInNamespace (vocabulary c w) (nameTableOf t) x (order .prefix) (order .namespace) .1);
+        }
+
+pub order-start : (text : List ℕ) → length text ≤ 16384 → InOrder text (countsOf start) (replicate 7680 0)
+unfolding start starting
+order-start text h =
+    let is = vocabulary-start (replicate 7680 0) refl refl in
+    record {
+      size = h;
+      room = length-replicate {A = ℕ} 7680 0;
+      counted = counted-start;
+      clean = clean-start;
+      inside = rw is (inside-start text);
+      prefix = rw is refl;
+      namespace = rw is refl;
+    }
+
+-- ---- growing
+pub record Grows (v w : Vocabulary Located) : Type 0 where
+  pub prefixes : length (v .prefixes) ≤ length (w .prefixes)
+  pub namespaces : length (v .namespaces) ≤ length (w .namespaces)
+  pub locals : length (v .locals) ≤ length (w .locals)
+  pub ncnames : length (v .ncnames) ≤ length (w .ncnames)
+  pub elements : length (v .elements) ≤ length (w .elements)
+  pub attributes : length (v .attributes) ≤ length (w .attributes)
+
+pub grows-same : (v : Vocabulary Located) → Grows v v
+grows-same v = record { prefixes = omega arith; namespaces = omega arith; locals = omega arith; ncnames = omega arith; elements = omega arith; attributes = omega arith }
+
+pub grows-on : {u v w : Vocabulary Located} → Grows u v → Grows v w → Grows u w
+grows-on {u} {v} {w} a b =
+    let a₁ = a .prefixes in
+    let b₁ = b .prefixes in
+    let a₂ = a .namespaces in
+    let b₂ = b .namespaces in
+    let a₃ = a .locals in
+    let b₃ = b .locals in
+    let a₄ = a .ncnames in
+    let b₄ = b .ncnames in
+    let a₅ = a .elements in
+    let b₅ = b .elements in
+    let a₆ = a .attributes in
+    let b₆ = b .attributes in
+    record { prefixes = omega arith; namespaces = omega arith; locals = omega arith; ncnames = omega arith; elements = omega arith; attributes = omega arith }
+
+longer : {A : Type 0} (b : Bool) (l : List A) (x : A) → length l ≤ length (extended b l x)
+longer true l x = simp length-append (omega arith)
+longer false l x = omega arith
+
+grows-string : (v : Vocabulary Located) (t : StringTable) (x : Located) → Grows v (adding v t x)
+unfolding adding
+grows-string v t x =
+    record {
+      prefixes = longer (eqb (place t) 0) (v .prefixes) x;
+      namespaces = longer (eqb (place t) 1) (v .namespaces) x;
+      locals = longer (eqb (place t) 2) (v .locals) x;
+      ncnames = longer (eqb (place t) 3) (v .ncnames) x;
+      elements = omega arith;
+      attributes = omega arith;
+    }
+
+pub grows-name : (v : Vocabulary Located) (t : NameTable) (x : Triple) → Grows v (addingName v t x)
+unfolding addingName
+grows-name v ELEMENT-NAME x =
+    record { prefixes = omega arith; namespaces = omega arith; locals = omega arith; ncnames = omega arith; elements = longer true (v .elements) x; attributes = omega arith }
+grows-name v ATTRIBUTE-NAME x =
+    record { prefixes = omega arith; namespaces = omega arith; locals = omega arith; ncnames = omega arith; elements = omega arith; attributes = longer true (v .attributes) x }
+
+pub grows-id : (text : List ℕ) (t : StringTable) (v : Vocabulary Located) (x : Located) → Grows v (writeId text t v x .words)
+unfolding writeId
+grows-id text t v x = by (eqb (numberIn (map (octetsOf text) (strings v t)) (octetsOf text x)) 0) _ _ (grows-string v t x) (grows-same v)
+  where
+    by : (c : Bool) (a b : Wrote How) → Grows v (a .words) → Grows v (b .words) → Grows v (pick c a b .words)
+    by true a b p q = p
+    by false a b p q = q
+
+pub grows-optional : (text : List ℕ) (t : StringTable) (v : Vocabulary Located) (x : Option Located) → Grows v (writeOptional text t v x .words)
+unfolding writeOptional
+grows-optional text t v none = grows-same v
+grows-optional text t v (some x) = grows-id text t v x
+
+-- ---- an entry too many
+-- each of the six tables that a writer must not overfill
+within-lengths : (v : Vocabulary Located) → within link v ≡ true
+    → (length (v .prefixes) ≤ 256) × (length (v .namespaces) ≤ 256) × (length (v .locals) ≤ 256) × (length (v .ncnames) ≤ 256) × (length (v .elements) ≤ 256)
+    × (length (v .attributes) ≤ 256)
+unfolding within link
+within-lengths v e =
+    let p = both-true _ _ e in
+    let n = both-true _ _ (p .1) in
+    let l = both-true _ _ (n .1) in
+    let o = both-true _ _ (l .1) in
+    let m = both-true _ _ (o .1) in
+    (leb-true _ _ (p .0), leb-true _ _ (n .0), leb-true _ _ (l .0), leb-true _ _ (o .0), leb-true _ _ (m .0), leb-true _ _ (m .1))
+
+not-within : (v : Vocabulary Located) → (within link v ≡ true → ⊥) → within link v ≡ false
+not-within v h = by (within link v) refl
+  where
+    by : (b : Bool) → within link v ≡ b → within link v ≡ false
+    by false q = q
+    by true q = absurd (h q)
+
+pub within-grown : {v w : Vocabulary Located} → Grows v w → within link v ≡ false → within link w ≡ false
+unfolding within link
+within-grown {v} {w} g e =
+    not-within w λ q.
+    let l = within-lengths w q in
+    let g₁ = g .prefixes in
+    let g₂ = g .namespaces in
+    let g₃ = g .locals in
+    let g₄ = g .ncnames in
+    let g₅ = g .elements in
+    let g₆ = g .attributes in
+    let z : true ≡ false = rw (
+      le-leb (length (v .prefixes)) 256 (omega arith),
+      le-leb (length (v .namespaces)) 256 (omega arith),
+      le-leb (length (v .locals)) 256 (omega arith),
+      le-leb (length (v .ncnames)) 256 (omega arith),
+      le-leb (length (v .elements)) 256 (omega arith),
+      le-leb (length (v .attributes)) 256 (omega arith),
+    ) at e in
+    let y : _≡_ {A = ℕ} 0 1 = cc in
+    omega arith
+
+-- tables in order are within
+pub within-order : (text : List ℕ) (c : Counts) (w : List ℕ) → InOrder text c w → within link (vocabulary c w) ≡ true
+unfolding within link strings tableOf names nameTableOf
+within-order text c w order =
+    let l₀ = length-strings c w 0 (omega arith) in
+    let l₁ = length-strings c w 1 (omega arith) in
+    let l₂ = length-strings c w 2 (omega arith) in
+    let l₃ = length-strings c w 3 (omega arith) in
+    let l₈ = length-names c w 8 (omega arith) (omega arith) in
+    let l₉ = length-names c w 9 (omega arith) (omega arith) in
+    let c₀ = order .counted 0 in
+    let c₁ = order .counted 1 in
+    let c₂ = order .counted 2 in
+    let c₃ = order .counted 3 in
+    let c₈ = order .counted 8 in
+    let c₉ = order .counted 9 in
+    rw (
+      le-leb (length (vocabulary c w .prefixes)) 256 (omega arith),
+      le-leb (length (vocabulary c w .namespaces)) 256 (omega arith),
+      le-leb (length (vocabulary c w .locals)) 256 (omega arith),
+      le-leb (length (vocabulary c w .ncnames)) 256 (omega arith),
+      le-leb (length (vocabulary c w .elements)) 256 (omega arith),
+      le-leb (length (vocabulary c w .attributes)) 256 (omega arith),
+    )
+
+-- an entry behind 256 others
+module _ (v : Vocabulary Located) where
+  pub full-string : (t : ℕ) (x : Located) → t < 4 → 256 ≤ length (strings v (tableOf t)) → within link (adding v (tableOf t) x) ≡ false
+  unfolding adding strings tableOf place
+  full-string zero x h f = not-within (adding v PREFIX x) λ q. let l = within-lengths (adding v PREFIX x) q in let n = length-append (v .prefixes) (x ∷ []) in omega arith
+  full-string (suc zero) x h f =
+      not-within (adding v NAMESPACE-NAME x) λ q. let l = within-lengths (adding v NAMESPACE-NAME x) q in let n = length-append (v .namespaces) (x ∷ []) in omega arith
+  full-string (suc (suc zero)) x h f =
+      not-within (adding v LOCAL-NAME x) λ q. let l = within-lengths (adding v LOCAL-NAME x) q in let n = length-append (v .locals) (x ∷ []) in omega arith
+  full-string (suc (suc (suc zero))) x h f =
+      not-within (adding v OTHER-NCNAME x) λ q. let l = within-lengths (adding v OTHER-NCNAME x) q in let n = length-append (v .ncnames) (x ∷ []) in omega arith
+  full-string (suc (suc (suc (suc t)))) x h f = absurd (omega arith)
+
+  pub full-name : (t : NameTable) (x : Triple) → 256 ≤ length (names v t) → within link (addingName v t x) ≡ false
+  unfolding addingName names
+  full-name ELEMENT-NAME x f =
+      not-within (addingName v ELEMENT-NAME x) λ q. let l = within-lengths (addingName v ELEMENT-NAME x) q in let n = length-append (v .elements) (x ∷ []) in omega arith
+  full-name ATTRIBUTE-NAME x f =
+      not-within (addingName v ATTRIBUTE-NAME x) λ q. let l = within-lengths (addingName v ATTRIBUTE-NAME x) q in let n = length-append (v .attributes) (x ∷ []) in omega arith

@@ -1,0 +1,354 @@
+-- A law for each way out of the functions that write strings, on plain values.
+-- Assumes nothing.
+use mathlib.Core.Path.{_≡_, refl, sym, ap, _∙_}
+use mathlib.Core.Bool.{true, false}
+use mathlib.Core.Option.{some}
+use mathlib.Core.List.{List, [], _∷_, map}
+use Prim.Native.Nat.{ℕ, suc, _+_, _-_, _*_, _≤_, _<_}
+use native.Mathlib.Omega.{arith}
+use borrow.Author.Tests.{eq-eqb, ne-eqb, lt-leb, le-leb, le-ltb, lt-ltb}
+use lib.ListN.{length, set, take, drop, length-map}
+use Rattle.format.specs.Numbers.{lengths, numbers, c25, spell}
+use Rattle.format.specs.Events.{spelled, numbered}
+use Rattle.format.specs.Tables.{StringTable, CONTENT-CHARACTER-CHUNK, Vocabulary, strings, adding, link}
+use Rattle.format.specs.Strings.{withLength, Layout, c14, c15}
+use Rattle.format.specs.Names.{has, ofElement, ofAttribute}
+use Rattle.fields.specs.Put.{Puts}
+use Rattle.fields.proofs.Laws.{case}
+use Rattle.fields.proofs.Puts.{puts-nothing, puts-one, puts-append, part-length}
+use Rattle.tables.specs.declared.Counts.{Counts}
+use Rattle.tables.specs.Located.{Located, stretch, builtInPrefix, builtInNamespace, octetsOf}
+use Rattle.tables.specs.Search.{lowest, numberIn}
+use Rattle.tables.specs.Rows.{tableOf, stringAt, entries, vocabulary}
+use Rattle.tables.specs.Kept.{countOf, oneMore, stored, Inside, layoutOf}
+use Rattle.tables.proofs.Laws.{strings-are, length-strings, number-within, inside-table}
+use Rattle.events.specs.declared.Text.{Text}
+use Rattle.events.specs.declared.Text.the-variants.{Absent, Empty, Stretch, XmlPrefix, XmlNamespace}
+use Rattle.events.specs.Records.{locatedOf, optionalOf}
+use Rattle.events.specs.Words.{textTag, textPlace, textSize}
+use Rattle.tables.proofs.Found.{same-refl}
+use Rattle.write_names.specs.declared.Here.{Here}
+use Rattle.write_names.specs.declared.Wrote as W
+use Rattle.write_names.specs.declared.Wrote.the-variants.{Put, Full}
+use Rattle.write_names.specs.Choices.{Wrote, writeId, writeOptional, writeLiteral, writeValue, worthAdding, within}
+use Rattle.write_names.specs.Code.{Begins, InOrder, Suits, Fills, Spells, heldAs, spelledOctets, spelledWords, Stands, Meets}
+use Rattle.write_names.proofs.Order.{string-more, order-string, full-string}
+
+-- ---- a string of an event
+pub has-none : (x : Text) → textTag x ≡ 0 → (0 ≡ has (optionalOf x)) × (0 ≤ 1)
+has-none Absent e = (refl, omega arith)
+has-none Empty e = absurd (omega arith)
+has-none (Stretch p n) e = absurd (omega arith)
+has-none XmlPrefix e = absurd (omega arith)
+has-none XmlNamespace e = absurd (omega arith)
+
+pub has-one : (x : Text) → (textTag x ≡ 0 → ⊥) → (1 ≡ has (optionalOf x)) × (1 ≤ 1)
+has-one Absent e = absurd (e refl)
+has-one Empty e = (refl, omega arith)
+has-one (Stretch p n) e = (refl, omega arith)
+has-one XmlPrefix e = (refl, omega arith)
+has-one XmlNamespace e = (refl, omega arith)
+
+there : (x : Text) → 1 ≤ textTag x → optionalOf x ≡ some (locatedOf x)
+there Absent h = absurd (omega arith)
+there Empty h = refl
+there (Stretch p n) h = refl
+there XmlPrefix h = refl
+there XmlNamespace h = refl
+
+absent : (x : Text) → textTag x ≡ 0 → x ≡ Absent
+absent Absent e = refl
+absent Empty e = absurd (omega arith)
+absent (Stretch p n) e = absurd (omega arith)
+absent XmlPrefix e = absurd (omega arith)
+absent XmlNamespace e = absurd (omega arith)
+
+-- ---- a name's layout
+module _ (t : ℕ) (e : t ≡ 8) where
+  pub element-parts : (0x3C ≡ layoutOf t .inPartsBits) × (0x3C ≤ 0x78)
+  unfolding layoutOf ofElement
+  element-parts = rw (eq-eqb t 8 e) (refl, omega arith)
+
+  pub element-forms : layoutOf t .numberForms ≡ numbers 3
+  unfolding layoutOf ofElement
+  element-forms = rw (eq-eqb t 8 e)
+
+module _ (t : ℕ) (e : t ≡ 8 → ⊥) where
+  pub attribute-parts : (0x78 ≡ layoutOf t .inPartsBits) × (0x78 ≤ 0x78)
+  unfolding layoutOf ofAttribute
+  attribute-parts = rw (ne-eqb t 8 e) (refl, omega arith)
+
+  pub attribute-forms : layoutOf t .numberForms ≡ c25
+  unfolding layoutOf ofAttribute
+  attribute-forms = rw (ne-eqb t 8 e)
+
+-- ---- a string's number
+first-is : (text : List ℕ) (x : Located) (l : List Located) → Begins x l → 1 ≡ numberIn (map (octetsOf text) l) (octetsOf text x)
+unfolding numberIn lowest
+first-is text x [] h = absurd h
+first-is text x (y ∷ l) h = rw (h, same-refl (octetsOf text x))
+
+module _ (text w : List ℕ) (c : Counts) (t : ℕ) (order : InOrder text c w) (x : Text) where
+  pub held-absent : x ≡ Absent → (0 ≡ heldAs text (tableOf t) (vocabulary c w) x) × (0 ≤ 256)
+  unfolding heldAs
+  held-absent e = rw e (refl, omega arith)
+
+  pub held-empty : x ≡ Empty → Suits text t x → (0 ≡ heldAs text (tableOf t) (vocabulary c w) x) × (0 ≤ 256)
+  held-empty e s = absurd (rw e at s)
+
+  pub held-stretch : (p n a b m r : ℕ) → x ≡ Stretch p n → a ≡ p → b ≡ n → m ≡ countOf c t → t < 8
+      → r ≡ numberIn (map (octetsOf text) (entries (stringAt (tableOf t) w) (768 * t) m)) (octetsOf text (stretch a b))
+      → (r ≡ heldAs text (tableOf t) (vocabulary c w) x) × (r ≤ 256)
+  unfolding heldAs
+  held-stretch p n a b m r e ea eb em small is =
+      let q : r ≡ numberIn (map (octetsOf text) (strings (vocabulary c w) (tableOf t))) (octetsOf text (stretch p n)) = rw (strings-are c w t small, ← em, ← ea, ← eb) is in
+      let l = number-within (map (octetsOf text) (strings (vocabulary c w) (tableOf t))) (octetsOf text (stretch p n)) in
+      let k = length-map (strings (vocabulary c w) (tableOf t)) (octetsOf text) in
+      let f = length-strings c w t small in
+      let g = order .counted t in
+      (rw e q, omega arith)
+
+  pub held-prefix : x ≡ XmlPrefix → Suits text t x → (1 ≡ heldAs text (tableOf t) (vocabulary c w) x) × (1 ≤ 256)
+  unfolding heldAs tableOf strings
+  held-prefix e s =
+      let z : t ≡ 0 = rw e at s in
+      (rw (e, z) (first-is text builtInPrefix (vocabulary c w .prefixes) (order .prefix)), omega arith)
+
+  pub held-namespace : x ≡ XmlNamespace → Suits text t x → (1 ≡ heldAs text (tableOf t) (vocabulary c w) x) × (1 ≤ 256)
+  unfolding heldAs tableOf strings
+  held-namespace e s =
+      let z : t ≡ 1 = rw e at s in
+      (rw (e, z) (first-is text builtInNamespace (vocabulary c w .namespaces) (order .namespace)), omega arith)
+
+-- what `find` asks
+pub find-ready : (text w : List ℕ) (c : Counts) (t : ℕ) → InOrder text c w → t < 8 → (x : Text) (p n m : ℕ) → x ≡ Stretch p n → Suits text t x → m ≡ countOf c t
+    → (length w ≡ 7680) × (t < 8) × (m ≤ 256) × (p + n ≤ length text) × Inside text (entries (stringAt (tableOf t) w) (768 * t) m)
+find-ready text w c t order small x p n m e s em =
+    let q : (0 < n) × (p + n ≤ length text) = rw e at s in
+    let k = order .counted t in
+    (order .room, small, omega arith, q .1, rw em (inside-table text c w t small (order .inside)))
+
+-- a string that has no number is a stretch
+module _ (text w : List ℕ) (c : Counts) (t : ℕ) (order : InOrder text c w) where
+  pub new-stretch : (x : Text) → Suits text t x → 1 ≤ textTag x → 0 ≡ heldAs text (tableOf t) (vocabulary c w) x
+      → (x ≡ Stretch (textPlace x) (textSize x)) × (0 < textSize x) × (textPlace x + textSize x ≤ length text)
+  new-stretch Absent s h e = absurd (omega arith)
+  new-stretch Empty s h e = absurd s
+  new-stretch (Stretch p n) s h e = (refl, s .0, s .1)
+  new-stretch XmlPrefix s h e = let q = held-prefix text w c t order XmlPrefix refl s .0 in absurd (omega arith)
+  new-stretch XmlNamespace s h e = let q = held-namespace text w c t order XmlNamespace refl s .0 in absurd (omega arith)
+
+pub held-is : (text : List ℕ) (t : StringTable) (v : Vocabulary Located) (x : Text) → 1 ≤ textTag x → heldAs text t v x ≡ numberIn (map (octetsOf text) (strings v t)) (octetsOf text (locatedOf x))
+unfolding heldAs octetsOf
+held-is text t v Absent h = absurd (omega arith)
+held-is text t v Empty h = refl
+held-is text t v (Stretch p n) h = refl
+held-is text t v XmlPrefix h = refl
+held-is text t v XmlNamespace h = refl
+
+-- ---- a spelled string
+pub puts-spelled : (n lead : ℕ) (text : List ℕ) (place size : ℕ) {at r q : ℕ} {out out₁ out₂ : List ℕ} → place + size ≤ length text → length text ≤ 16384
+    → Puts out at r out₁ (spell (lengths n) lead (size - 1)) × (r ≤ at + 5) → Puts out₁ r q out₂ (take size (drop place text))
+    → Puts out at q out₂ (withLength (lengths n) lead (octetsOf text (stretch place size))) × (q ≤ at + 16389)
+unfolding octetsOf
+puts-spelled n lead text place size h short a b =
+    let l = part-length text place size h in
+    let k = b .behind in
+    let m = a .1 in
+    (rw l (puts-append (a .0) b), omega arith)
+
+-- ---- an entry more
+pub added-is : (h : Here) (t n p m : ℕ) (d : Counts) (w v : List ℕ) → d ≡ oneMore (h .counts) t → n ≡ countOf (h .counts) t → v ≡ stored w t n p m 0
+    → (_≡_ {A = Here} (record { at = h .at; counts = d }) (record { at = h .at; counts = oneMore (h .counts) t })) × (v ≡ stored w t (countOf (h .counts) t) p m 0)
+added-is h t n p m d w v ed en ev = (rw ed, rw (ev, en))
+
+-- ---- what was put stands for the definition
+module _ (text w : List ℕ) (c : Counts) (order : InOrder text c w) {out out′ o : List ℕ} {at r most : ℕ} where
+  pub stands-put : Puts out at r out′ o → r ≤ at + most → Stands text out at most (record { at = r; counts = c }) out′ w o (vocabulary c w)
+  stands-put p h = record { puts = p; few = h; tables = refl; order = order }
+
+  -- and the string at a place became an entry
+  pub stands-added : (t p n : ℕ) → t < 8 → countOf c t < 256 → 0 < n → p + n ≤ length text → (h : Here) (v : List ℕ)
+      → (h ≡ record { at = r; counts = oneMore c t }) × (v ≡ stored w t (countOf c t) p n 0) → Puts out at r out′ o → r ≤ at + most
+      → Stands text out at most h out′ v o (adding (vocabulary c w) (tableOf t) (stretch p n))
+  stands-added t p n small room full lies h v e q l =
+      rw (e .0, e .1) (record { puts = q; few = l; tables = string-more text c w t order room p n small full lies; order = order-string text c w t order room p n small full lies })
+
+-- ---- an identifying string: k is its number
+module _ (text : List ℕ) (t : StringTable) (v : Vocabulary Located) (x : Located) (k : ℕ) (is : k ≡ numberIn (map (octetsOf text) (strings v t)) (octetsOf text x)) where
+  numbered-is : (k ≡ 0 → ⊥) → writeId text t v x ≡ record { octets = spell c25 0x80 (k - 1); how = numbered k; number = k; words = v }
+  unfolding writeId
+  numbered-is n = rw (← is, ne-eqb k 0 n)
+
+  spelled-is : k ≡ 0 → writeId text t v x ≡ record { octets = withLength (lengths 2) 0 (octetsOf text x); how = spelled true; number = suc (length (strings v t)); words = adding v t x }
+  unfolding writeId
+  spelled-is z = rw (← is, z)
+
+module _ (text w : List ℕ) (c : Counts) (t : ℕ) (order : InOrder text c w) (x : Text) (k : ℕ) (there : 1 ≤ textTag x) (suits : Suits text t x)
+    (held : k ≡ heldAs text (tableOf t) (vocabulary c w) x) where
+  held-number : k ≡ numberIn (map (octetsOf text) (strings (vocabulary c w) (tableOf t))) (octetsOf text (locatedOf x))
+  held-number = held ∙ held-is text (tableOf t) (vocabulary c w) x there
+
+  pub id-numbered : (k ≡ 0 → ⊥) → {out out′ : List ℕ} {at r : ℕ} → Puts out at r out′ (spell c25 0x80 (k - 1)) × (r ≤ at + 3)
+      → Stands text out at 16389 (record { at = r; counts = c }) out′ w (writeId text (tableOf t) (vocabulary c w) (locatedOf x) .octets) (writeId text (tableOf t) (vocabulary c w) (locatedOf x) .words)
+  id-numbered n p = rw (numbered-is text (tableOf t) (vocabulary c w) (locatedOf x) k held-number n) (stands-put text w c order (p .0) (let l = p .1 in omega arith))
+
+  pub id-full : k ≡ 0 → t < 4 → 256 ≤ countOf c t → within link (writeId text (tableOf t) (vocabulary c w) (locatedOf x) .words) ≡ false
+  id-full z small full =
+      let l = length-strings c w t (omega arith) in
+      rw (spelled-is text (tableOf t) (vocabulary c w) (locatedOf x) k held-number z) (full-string (vocabulary c w) t (locatedOf x) small (omega arith))
+
+  pub id-stretch : k ≡ 0 → (0 < textSize x) × (textPlace x + textSize x ≤ length text)
+  id-stretch z = let f = new-stretch text w c t order x suits there (sym z ∙ held) in (f .1, f .2)
+
+  pub id-added : k ≡ 0 → t < 8 → countOf c t < 256 → (p n : ℕ) → p ≡ textPlace x → n ≡ textSize x → (h : Here) (v : List ℕ) {out out′ : List ℕ} {at r : ℕ}
+      → (h ≡ record { at = r; counts = oneMore c t }) × (v ≡ stored w t (countOf c t) p n 0)
+      → Puts out at r out′ (withLength (lengths 2) 0 (octetsOf text (stretch p n))) × (r ≤ at + 16389)
+      → Stands text out at 16389 h out′ v (writeId text (tableOf t) (vocabulary c w) (locatedOf x) .octets) (writeId text (tableOf t) (vocabulary c w) (locatedOf x) .words)
+  id-added z small room p n ep en h v e q =
+      let f = new-stretch text w c t order x suits there (sym z ∙ held) in
+      let y : locatedOf x ≡ stretch p n = ap locatedOf (f .0) ∙ rw (ep, en) in
+      rw (spelled-is text (tableOf t) (vocabulary c w) (locatedOf x) k held-number z, y)
+      (stands-added text w c order t p n small room (let a = f .1 in omega arith) (let a = f .2 in omega arith) h v e (q .0) (q .1))
+
+-- ---- one that may be absent
+module _ (text w : List ℕ) (c : Counts) (t : ℕ) (order : InOrder text c w) (x : Text) where
+  pub optional-absent : textTag x ≡ 0 → (h : Here) (out : List ℕ) → h .counts ≡ c
+      → Stands text out (h .at) 16389 h out w (writeOptional text (tableOf t) (vocabulary c w) (optionalOf x) .octets) (writeOptional text (tableOf t) (vocabulary c w) (optionalOf x) .words)
+  unfolding writeOptional
+  optional-absent e h out ec =
+      rw (absent x e) (record { puts = puts-nothing refl; few = omega arith; tables = ap (λ (d : Counts). vocabulary d w) ec; order = rw ec order })
+
+  pub optional-there : (textTag x ≡ 0 → ⊥) → (r : W.Wrote) (out out′ v : List ℕ) (at : ℕ) → Meets text out at 16389 r out′ v (writeId text (tableOf t) (vocabulary c w) (locatedOf x))
+      → Meets text out at 16389 r out′ v (writeOptional text (tableOf t) (vocabulary c w) (optionalOf x))
+  unfolding writeOptional
+  optional-there n (Put h) out out′ v at m = rw (there x (omega arith)) m
+  optional-there n Full out out′ v at m = rw (there x (omega arith)) m
+
+-- ---- a value, comment, content or chunk
+pub fills-empty : (text : List ℕ) (x : Text) → Fills text x → textSize x ≡ 0 → x ≡ Empty
+fills-empty text Absent f e = absurd f
+fills-empty text Empty f e = refl
+fills-empty text (Stretch p n) f e = let l = f .0 in absurd (omega arith)
+fills-empty text XmlPrefix f e = absurd f
+fills-empty text XmlNamespace f e = absurd f
+
+pub fills-spells : (text : List ℕ) (x : Text) → Fills text x → (textSize x ≡ 0 → ⊥) → Spells text x
+fills-spells text Absent f n = f
+fills-spells text Empty f n = absurd (n refl)
+fills-spells text (Stretch p m) f n = f
+fills-spells text XmlPrefix f n = f
+fills-spells text XmlNamespace f n = f
+
+pub spells-suits : (text : List ℕ) (t : ℕ) (x : Text) → Spells text x → Suits text t x
+spells-suits text t Absent f = absurd f
+spells-suits text t Empty f = f
+spells-suits text t (Stretch p m) f = f
+spells-suits text t XmlPrefix f = absurd f
+spells-suits text t XmlNamespace f = absurd f
+
+pub spells-stretch : (text : List ℕ) (x : Text) → Spells text x → (locatedOf x ≡ stretch (textPlace x) (textSize x)) × (0 < textSize x) × (textPlace x + textSize x ≤ length text) × (1 ≤ textTag x)
+spells-stretch text Absent f = absurd f
+spells-stretch text Empty f = absurd f
+spells-stretch text (Stretch p m) f = (refl, f .0, f .1, omega arith)
+spells-stretch text XmlPrefix f = absurd f
+spells-stretch text XmlNamespace f = absurd f
+
+module _ (text w : List ℕ) (c : Counts) (t : ℕ) (order : InOrder text c w) (x : Text) (spells : Spells text x) (small : t < 8) (bit lead add : ℕ)
+    (p n : ℕ) (ep : p ≡ textPlace x) (en : n ≡ textSize x) where
+  located : locatedOf x ≡ stretch p n
+  located = spells-stretch text x spells .0 ∙ rw (ep, en)
+
+  sized : length (octetsOf text (stretch p n)) ≡ n
+  unfolding octetsOf
+  sized = let f = spells-stretch text x spells in let l = f .2 in part-length text p n (omega arith)
+
+  worth-long : 5 < n → worthAdding link (strings (vocabulary c w) (tableOf t)) (octetsOf text (stretch p n)) ≡ false
+  unfolding worthAdding
+  worth-long h = rw (sized, lt-leb n 5 h)
+
+  worth-full : n ≤ 5 → 256 ≤ countOf c t → worthAdding link (strings (vocabulary c w) (tableOf t)) (octetsOf text (stretch p n)) ≡ false
+  unfolding worthAdding link
+  worth-full h full = rw (sized, le-leb n 5 h, length-strings c w t small, le-ltb _ _ full)
+
+  worth-more : n ≤ 5 → countOf c t < 256 → worthAdding link (strings (vocabulary c w) (tableOf t)) (octetsOf text (stretch p n)) ≡ true
+  unfolding worthAdding link
+  worth-more h room = rw (sized, le-leb n 5 h, length-strings c w t small, lt-ltb _ _ room)
+
+  -- one that is not added
+  pub literal-kept : (n ≤ 5 → 256 ≤ countOf c t) → {out out′ : List ℕ} {at r : ℕ} → Puts out at r out′ (withLength (lengths bit) lead (octetsOf text (stretch p n))) × (r ≤ at + 16389)
+      → Stands text out at 16389 (record { at = r; counts = c }) out′ w (spelledOctets bit lead add text (strings (vocabulary c w) (tableOf t)) (locatedOf x)) (spelledWords text (tableOf t) (vocabulary c w) (locatedOf x))
+  unfolding spelledOctets spelledWords
+  literal-kept why q =
+      let z : lead + add * 0 ≡ lead = omega arith in
+      rw (located, case 5 n worth-long (λ l. worth-full l (why l)), z) (stands-put text w c order (q .0) (q .1))
+
+  pub literal-added : n ≤ 5 → countOf c t < 256 → (b : ℕ) → b ≡ lead + add → (h : Here) (v : List ℕ) {out out′ : List ℕ} {at r : ℕ}
+      → (h ≡ record { at = r; counts = oneMore c t }) × (v ≡ stored w t (countOf c t) p n 0)
+      → Puts out at r out′ (withLength (lengths bit) b (octetsOf text (stretch p n))) × (r ≤ at + 16389)
+      → Stands text out at 16389 h out′ v (spelledOctets bit lead add text (strings (vocabulary c w) (tableOf t)) (locatedOf x)) (spelledWords text (tableOf t) (vocabulary c w) (locatedOf x))
+  unfolding spelledOctets spelledWords
+  literal-added l room b eb h v e q =
+      let z : lead + add * 1 ≡ b = omega arith in
+      let f = spells-stretch text x spells in
+      rw (located, worth-more l room, z)
+      (stands-added text w c order t p n small room (let a = f .1 in omega arith) (let a = f .2 in omega arith) h v e (q .0) (q .1))
+
+-- k is the number that the table has for it
+module _ (text w : List ℕ) (c : Counts) (t : ℕ) (order : InOrder text c w) (x : Text) (k : ℕ) (held : k ≡ heldAs text (tableOf t) (vocabulary c w) x) where
+  module _ (spells : Spells text x) (q : Layout) where
+    number-is : k ≡ numberIn (map (octetsOf text) (strings (vocabulary c w) (tableOf t))) (octetsOf text (locatedOf x))
+    number-is = held ∙ held-is text (tableOf t) (vocabulary c w) x (spells-stretch text x spells .3)
+
+    literal-numbered : (k ≡ 0 → ⊥) → {out out′ : List ℕ} {at r : ℕ} → Puts out at r out′ (spell (q .numberForms) (q .numberedBits) (k - 1)) → r ≤ at + 16389
+        → Stands text out at 16389 (record { at = r; counts = c }) out′ w (writeLiteral link q text (tableOf t) (vocabulary c w) (locatedOf x) .octets)
+        (writeLiteral link q text (tableOf t) (vocabulary c w) (locatedOf x) .words)
+    unfolding writeLiteral
+    literal-numbered n p l = rw (← number-is, ne-eqb k 0 n) (stands-put text w c order p l)
+
+    literal-spelled : k ≡ 0 → {out out′ v : List ℕ} {at : ℕ} (h : Here)
+        → Stands text out at 16389 h out′ v (spelledOctets (q .lengthBit) (q .spelledBits) (q .addBit) text (strings (vocabulary c w) (tableOf t)) (locatedOf x))
+        (spelledWords text (tableOf t) (vocabulary c w) (locatedOf x))
+        → Stands text out at 16389 h out′ v (writeLiteral link q text (tableOf t) (vocabulary c w) (locatedOf x) .octets) (writeLiteral link q text (tableOf t) (vocabulary c w) (locatedOf x) .words)
+    unfolding writeLiteral spelledOctets spelledWords
+    literal-spelled z h p = rw (← number-is, z) p
+
+  module _ (fills : Fills text x) where
+    value-is : (textSize x ≡ 0 → ⊥) → writeValue link text (tableOf t) (vocabulary c w) (locatedOf x) ≡ writeLiteral link c14 text (tableOf t) (vocabulary c w) (locatedOf x)
+    unfolding writeValue octetsOf
+    value-is n =
+        let f = spells-stretch text x (fills-spells text x fills n) in
+        let l = f .1 in
+        rw (f .0, part-length text (textPlace x) (textSize x) (f .2), ne-eqb (textSize x) 0 n)
+
+    pub value-numbered : (textSize x ≡ 0 → ⊥) → (k ≡ 0 → ⊥) → {out out′ : List ℕ} {at r : ℕ} → Puts out at r out′ (spell c25 0x80 (k - 1)) × (r ≤ at + 3)
+        → Stands text out at 16389 (record { at = r; counts = c }) out′ w (writeValue link text (tableOf t) (vocabulary c w) (locatedOf x) .octets)
+        (writeValue link text (tableOf t) (vocabulary c w) (locatedOf x) .words)
+    unfolding c14
+    value-numbered n m p = rw (value-is n) (literal-numbered (fills-spells text x fills n) c14 m (p .0) (let l = p .1 in omega arith))
+
+    pub value-spelled : (textSize x ≡ 0 → ⊥) → k ≡ 0 → {out out′ v : List ℕ} {at : ℕ} (h : Here)
+        → Stands text out at 16389 h out′ v (spelledOctets 5 0 0x40 text (strings (vocabulary c w) (tableOf t)) (locatedOf x)) (spelledWords text (tableOf t) (vocabulary c w) (locatedOf x))
+        → Stands text out at 16389 h out′ v (writeValue link text (tableOf t) (vocabulary c w) (locatedOf x) .octets) (writeValue link text (tableOf t) (vocabulary c w) (locatedOf x) .words)
+    unfolding c14
+    value-spelled n z h p = rw (value-is n) (literal-spelled (fills-spells text x fills n) c14 z h p)
+
+pub value-empty : (text w : List ℕ) (c : Counts) (t : ℕ) (order : InOrder text c w) (x : Text) (fills : Fills text x) → textSize x ≡ 0 → {out out′ : List ℕ} {at : ℕ} → out′ ≡ set out at 0xFF
+    → Stands text out at 16389 (record { at = at + 1; counts = c }) out′ w (writeValue link text (tableOf t) (vocabulary c w) (locatedOf x) .octets)
+    (writeValue link text (tableOf t) (vocabulary c w) (locatedOf x) .words)
+unfolding writeValue octetsOf
+value-empty text w c t order x fills z e = rw (fills-empty text x fills z) (stands-put text w c order (puts-one e) (omega arith))
+
+module _ (text w : List ℕ) (c : Counts) (order : InOrder text c w) (x : Text) (spells : Spells text x) (k : ℕ) (held : k ≡ heldAs text (tableOf 6) (vocabulary c w) x) where
+  pub chunk-numbered : (k ≡ 0 → ⊥) → {out out′ : List ℕ} {at r : ℕ} → Puts out at r out′ (spell (numbers 4) 0xA0 (k - 1)) × (r ≤ at + 4)
+      → Stands text out at 16389 (record { at = r; counts = c }) out′ w (writeLiteral link c15 text CONTENT-CHARACTER-CHUNK (vocabulary c w) (locatedOf x) .octets)
+      (writeLiteral link c15 text CONTENT-CHARACTER-CHUNK (vocabulary c w) (locatedOf x) .words)
+  unfolding c15 tableOf
+  chunk-numbered n p = literal-numbered text w c 6 order x k held spells c15 n (p .0) (let l = p .1 in omega arith)
+
+  pub chunk-spelled : k ≡ 0 → {out out′ v : List ℕ} {at : ℕ} (h : Here)
+      → Stands text out at 16389 h out′ v (spelledOctets 7 0x80 0x10 text (strings (vocabulary c w) (tableOf 6)) (locatedOf x)) (spelledWords text (tableOf 6) (vocabulary c w) (locatedOf x))
+      → Stands text out at 16389 h out′ v (writeLiteral link c15 text CONTENT-CHARACTER-CHUNK (vocabulary c w) (locatedOf x) .octets)
+      (writeLiteral link c15 text CONTENT-CHARACTER-CHUNK (vocabulary c w) (locatedOf x) .words)
+  unfolding c15 tableOf
+  chunk-spelled z h p = literal-spelled text w c 6 order x k held spells c15 z h p
