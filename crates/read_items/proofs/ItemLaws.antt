@@ -19,7 +19,7 @@ use Rattle.format.specs.Document.{halves, aligned}
 use Rattle.format.specs.Items as F
 use Rattle.format.specs.Items.{content, mayStart}
 use Rattle.tables.specs.Located.{Located}
-use Rattle.tables.specs.Counts.{words}
+use Rattle.tables.specs.Counts.{tableWords}
 use Rattle.tables.specs.Rows.{vocabulary}
 use Rattle.events.specs.declared.Text.{Text}
 use Rattle.events.specs.declared.Text.the-variants.{Absent}
@@ -80,7 +80,7 @@ next-half : (s : List ℕ) (at : ℕ) (t : Bool) → t ≡ padsAt s (at + 1) →
 next-half s at t e = ap (padsAt s) (sym (add-one at)) ∙ sym e
 
 -- ---- an answer that is a refusal
-refuse : {s v w : List ℕ} {n p : ℕ} {d : I.Step} → length w ≡ words → stop n p ≡ stepSeen d → Meets s v (Stop n p) w d
+refuse : {s v w : List ℕ} {n p : ℕ} {d : I.Step} → length w ≡ tableWords → stop n p ≡ stepSeen d → Meets s v (Stop n p) w d
 refuse l e = record { is = e; good = l }
 
 module _ (s w : List ℕ) (st : State) (g : Good s st w) where
@@ -400,12 +400,12 @@ module _ (s W : List ℕ) (st : State) (g : Good s st W) (k : ℕ) (a : Bool) wh
 
 -- ---- an element by its six bits
 module _ (s W w : List ℕ) (st : State) (k b : ℕ) (a : Bool) where
-  pub element-padding : length W ≡ words → true ≡ namePadding b → Meets s W (Stop 6 k) W (elementAt link s k b a (standOf st W .state))
+  pub element-padding : length W ≡ tableWords → true ≡ namePadding b → Meets s W (Stop 6 k) W (elementAt link s k b a (standOf st W .state))
   unfolding elementAt
   element-padding z e = refuse z (rw (← e))
 
   module _ (u : false ≡ namePadding b) where
-    pub element-second : length W ≡ words → false ≡ (ltb 0 (st .level) || not (st .root)) → Meets s W (Stop 15 k) W (elementAt link s k b a (standOf st W .state))
+    pub element-second : length W ≡ tableWords → false ≡ (ltb 0 (st .level) || not (st .root)) → Meets s W (Stop 15 k) W (elementAt link s k b a (standOf st W .state))
     unfolding elementAt mayStart
     element-second z e = refuse z (rw (← u, ← e))
 
@@ -415,7 +415,7 @@ module _ (s W w : List ℕ) (st : State) (k b : ℕ) (a : Bool) where
       element-numbered r l p = rw (← u, ← m, lt-ltb _ _ l) p
 
       module _ (l : 0x38 ≤ b) where
-        pub element-lone : length W ≡ words → b / 1 % 4 ≡ 2 → Meets s W (Stop 15 k) W (elementAt link s k b a (standOf st W .state))
+        pub element-lone : length W ≡ tableWords → b / 1 % 4 ≡ 2 → Meets s W (Stop 15 k) W (elementAt link s k b a (standOf st W .state))
         unfolding elementAt mayStart
         element-lone z e =
             let x : b % 4 ≡ 2 = omega arith in
@@ -426,7 +426,7 @@ module _ (s W w : List ℕ) (st : State) (k b : ℕ) (a : Bool) where
           whole : eqb (b % 4) 2 ≡ false
           whole = ne-eqb _ _ (λ (x : b % 4 ≡ 2). n (omega arith))
 
-          pub element-deep : length W ≡ words → 32 ≤ st .level → Meets s W (Stop 13 k) W (elementAt link s k b a (standOf st W .state))
+          pub element-deep : length W ≡ tableWords → 32 ≤ st .level → Meets s W (Stop 13 k) W (elementAt link s k b a (standOf st W .state))
           unfolding elementAt mayStart link
           element-deep z h = refuse z (rw (← u, ← m, le-ltb _ _ l, whole, and-false, le-ltb _ _ h))
 
@@ -630,7 +630,7 @@ module _ (s W : List ℕ) (st : State) where
   pub ends-within : true ≡ (byHalves (modeOf (st .mode)) && endsAt s (st .at)) → st .at < 2 * length s
   ends-within e = end-within s (st .at) (both (byHalves (modeOf (st .mode))) _ e)
 
-  pub step-padding : length W ≡ words → false ≡ (byHalves (modeOf (st .mode)) && endsAt s (st .at)) → false ≡ padsAt s (st .at)
+  pub step-padding : length W ≡ tableWords → false ≡ (byHalves (modeOf (st .mode)) && endsAt s (st .at)) → false ≡ padsAt s (st .at)
       → Meets s W (Stop 6 (st .at / 2)) W (step link s (standOf st W))
   unfolding step
   step-padding l e q = refuse l (rw (← e, ← q))

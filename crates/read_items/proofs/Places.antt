@@ -42,7 +42,7 @@ module _ (s : List ℕ) where
 
     namespace-placed : (k : ℕ) (v : State Located) (a : Bool) → k ≤ length s → Placed (namespaceAt L s k v a)
     unfolding namespaceAt
-    namespace-placed k v a h = into-placed (declaredAt L s k (v .words)) _ (declared-within s L k (v .words) h) λ d next w l. h
+    namespace-placed k v a h = into-placed (declaredAt L s k (v .tables)) _ (declared-within s L k (v .tables) h) λ d next w l. h
 
     element-placed : (k b : ℕ) (a : Bool) (v : State Located) → k < length s → Placed (elementAt L s k b a v)
     unfolding elementAt
@@ -50,11 +50,11 @@ module _ (s : List ℕ) where
         tests Placed (namePadding b) _ _ (λ _. omega arith)
         λ _. tests Placed (mayStart v) _ _
         (λ _. tests Placed (ltb b 0x38) _ _
-        (λ _. into-placed (numberedAt L ofElement s k (v .words)) _ (numbered-within s L ofElement k (v .words) (omega arith))
+        (λ _. into-placed (numberedAt L ofElement s k (v .tables)) _ (numbered-within s L ofElement k (v .tables) (omega arith))
         λ x next w l. tests Placed (ltb (v .level) (L .depth)) _ _ (λ _. omega arith) (λ _. omega arith))
         λ _. tests Placed (leb 0x3C b && lonePrefix b) _ _ (λ _. omega arith)
         λ _. tests Placed (ltb (v .level) (L .depth)) _ _
-        (λ _. tests Placed (eqb b 0x38) _ _ (λ _. namespace-placed (suc k) v a h) (λ _. start-placed k a v (partsAt L ofElement s b k (v .words)) (omega arith) (parts-within s L ofElement b k (v .words) h)))
+        (λ _. tests Placed (eqb b 0x38) _ _ (λ _. namespace-placed (suc k) v a h) (λ _. start-placed k a v (partsAt L ofElement s b k (v .tables)) (omega arith) (parts-within s L ofElement b k (v .tables) h)))
         (λ _. omega arith))
         (λ _. omega arith)
 
@@ -64,7 +64,7 @@ module _ (s : List ℕ) where
         tests Placed (ltb k (length s)) _ _
         (λ e. tests Placed (eqb (getD s k 0 % 64 / 4) 14) _ _ (λ _. omega arith)
         λ _. tests Placed (ltb (getD s k 0) 0x40) _ _
-        (λ _. tests Placed (namePadding (getD s k 0)) _ _ (λ _. omega arith) (λ _. start-placed k a v (nameAt L ofElement s (getD s k 0) k (v .words)) h (name-within s L ofElement (getD s k 0) k (v .words) (ltb-true _ _ e))))
+        (λ _. tests Placed (namePadding (getD s k 0)) _ _ (λ _. omega arith) (λ _. start-placed k a v (nameAt L ofElement s (getD s k 0) k (v .tables)) h (name-within s L ofElement (getD s k 0) k (v .tables) (ltb-true _ _ e))))
         (λ _. omega arith))
         (λ _. omega arith)
 
@@ -74,7 +74,7 @@ module _ (s : List ℕ) where
         tests Placed (ltb k (length s)) _ _
         (λ e. tests Placed (ltb (getD s k 0) 0x80) _ _
         (λ _. tests Placed (ltb (getD s k 0) 0x7C) _ _
-        (λ _. into-placed (nameAt L ofAttribute s (getD s k 0) k (v .words)) _ (name-within s L ofAttribute (getD s k 0) k (v .words) (ltb-true _ _ e))
+        (λ _. into-placed (nameAt L ofAttribute s (getD s k 0) k (v .tables)) _ (name-within s L ofAttribute (getD s k 0) k (v .tables) (ltb-true _ _ e))
         λ x k₁ w₁ h₁. into-placed (valueAt L s ATTRIBUTE-VALUE k₁ w₁) _ (value-within s L ATTRIBUTE-VALUE k₁ w₁ h₁) λ y k₂ w₂ h₂. h)
         (λ _. omega arith))
         (λ _. omega arith))
@@ -83,7 +83,7 @@ module _ (s : List ℕ) where
     instruction-placed : (k : ℕ) (v : State Located) → k < length s → Placed (instructionAt L s k v)
     unfolding instructionAt
     instruction-placed k v h =
-        into-placed (idAt L s OTHER-NCNAME (suc k) (v .words)) _ (id-within s L OTHER-NCNAME (suc k) (v .words) h)
+        into-placed (idAt L s OTHER-NCNAME (suc k) (v .tables)) _ (id-within s L OTHER-NCNAME (suc k) (v .tables) h)
         λ x k₁ w₁ h₁. into-placed (valueAt L s OTHER-STRING k₁ w₁) _ (value-within s L OTHER-STRING k₁ w₁ h₁) λ y k₂ w₂ h₂. omega arith
 
     other-placed : (k : ℕ) (v : State Located) → k ≤ length s → Placed (otherAt L s k v)
@@ -102,11 +102,11 @@ module _ (s : List ℕ) where
         λ _. tests Placed (ltb (getD s k 0) 0x80) _ _ (λ _. element-placed k (getD s k 0 - 0x40) true v l)
         λ _. tests Placed (ltb (getD s k 0) 0xC0) _ _
         (λ _. tests Placed (ltb 0 (v .level)) _ _
-        (λ _. into-placed (literalAt L c15 s CONTENT-CHARACTER-CHUNK k (v .words)) _ (literal-within s L c15 CONTENT-CHARACTER-CHUNK k (v .words) h) λ y next w n. h)
+        (λ _. into-placed (literalAt L c15 s CONTENT-CHARACTER-CHUNK k (v .tables)) _ (literal-within s L c15 CONTENT-CHARACTER-CHUNK k (v .tables) h) λ y next w n. h)
         (λ _. omega arith))
         λ _. tests Placed (eqb (getD s k 0) 0xE1) _ _ (λ _. instruction-placed k v l)
         λ _. tests Placed (eqb (getD s k 0) 0xE2) _ _
-        (λ _. into-placed (valueAt L s OTHER-STRING (suc k) (v .words)) _ (value-within s L OTHER-STRING (suc k) (v .words) l) λ y next w n. h)
+        (λ _. into-placed (valueAt L s OTHER-STRING (suc k) (v .tables)) _ (value-within s L OTHER-STRING (suc k) (v .tables) l) λ y next w n. h)
         (λ _. other-placed k v h))
         (λ _. omega arith)
 

@@ -4,7 +4,7 @@ use mathlib.Core.Path.{_≡_}
 use mathlib.Core.List.{List}
 use lib.ListN.{length}
 use Rattle.format.specs.Items as F
-use Rattle.tables.specs.Counts.{words}
+use Rattle.tables.specs.Counts.{tableWords}
 use Rattle.tables.specs.Rows.{vocabulary}
 use Rattle.events.specs.declared.Event.{Event}
 use Rattle.events.specs.Records.{recordOf}
@@ -23,7 +23,7 @@ modeOf (Declaring a) = F.declaring a
 modeOf (Listing any) = F.listing any
 
 abbrev pub standOf : State → List ℕ → Stand
-standOf st w = record { at = st .at; state = record { words = vocabulary (st .counts) w; level = st .level; root = st .root; mode = modeOf (st .mode) } }
+standOf st w = record { at = st .at; state = record { tables = vocabulary (st .counts) w; level = st .level; root = st .root; mode = modeOf (st .mode) } }
 
 pub data SeenStep : Type 0 where
   more : (place : ℕ) → Event → Stand → SeenStep
@@ -59,4 +59,4 @@ abbrev pub StepGood : List ℕ → List ℕ → Step → List ℕ → Type 0
 StepGood s v (More st p e) w = Good s st w
 StepGood s v (Quiet st) w = Good s st w
 StepGood s v Done w = w ≡ v
-StepGood s v (Stop n p) w = length w ≡ words
+StepGood s v (Stop n p) w = length w ≡ tableWords

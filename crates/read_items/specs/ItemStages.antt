@@ -77,5 +77,5 @@ startBy k a st (Faulty n p) = Stop n p
 -- An element by its name's number: its faults, then depth (13).
 unfoldable pub numberedStart : List ℕ → ℕ → Bool → F.State Located → I.Step
 numberedStart s k a v =
-    I.into (numberedAt link ofElement s k (v .words))
+    I.into (numberedAt link ofElement s k (v .tables))
     λ x next w. pick (ltb (v .level) (link .depth)) (I.more k (Start (x .name) by forStart (x .how)) (I.octet next (F.opened v w a))) (I.stop DEPTH k)

@@ -34,7 +34,7 @@ documentEnd s m =
 
 -- 1111 ends an attribute list, which has a member (15), an element, or the document.
 unfoldable pub endAt : List ℕ → Stand → Mode → Step
-endAt s m (listing true) = quiet (record { at = suc (m .at); state = moved (m .state) (m .state .words) content })
+endAt s m (listing true) = quiet (record { at = suc (m .at); state = moved (m .state) (m .state .tables) content })
 endAt s m (listing false) = stop STRUCTURE (m .at / 2)
 endAt s m (declaring a) = stop CODE (m .at / 2)
 endAt s m content = pick (ltb 0 (m .state .level)) (more (m .at / 2) (End by forEnd) (record { at = suc (m .at); state = closed (m .state) })) (documentEnd s m)

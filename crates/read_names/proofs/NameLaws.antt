@@ -25,7 +25,7 @@ use Rattle.fields.proofs.Bounds.{field-got}
 use Rattle.tables.specs.declared.Counts.{Counts}
 use Rattle.tables.specs.declared.Row.{Row}
 use Rattle.tables.specs.Located.{Located, empty, stretch, octetsOf}
-use Rattle.tables.specs.Counts.{words}
+use Rattle.tables.specs.Counts.{tableWords}
 use Rattle.tables.specs.Search.{numberOfTriple}
 use Rattle.tables.specs.Rows.{tableOf, stringAt, tripleAt, entries, vocabulary}
 use Rattle.tables.specs.Kept.{nameTableOf, countOf, oneMore, Counted, rowAt, stored, layoutOf, tripleOf}
@@ -190,7 +190,7 @@ module _ (c : Counts) (w : List ℕ) (t k next n f : ℕ) (y : Parts) (x : Tripl
     unfolding newName link
     name-full h = rw (held-is, eq-eqb f 0 new, length-names c w t low high, ← en, le-ltb _ _ h)
 
-    module _ (room : n < 256) (small : Counted c) (fits : length w ≡ words) (ranged : Ranged c (x ∷ [])) where
+    module _ (room : n < 256) (small : Counted c) (fits : length w ≡ tableWords) (ranged : Ranged c (x ∷ [])) where
       name-tidy : (s : List ℕ) → Tidy s c w → Tidy s (oneMore c t) (stored w t (countOf c t) (x .prefix) (x .namespace) (x .local))
       name-tidy s tidy =
           let added = name-added c w t small (omega arith) fits x low high in
@@ -379,7 +379,7 @@ module _ (q : NameLayout) (s : List ℕ) (b k : ℕ) (v : Vocabulary Located) (p
         parts-read x₃ k₃ v₃ e₃ t et g h = rw (parts-third, ← e₃, et) h
 
 -- ---- a refusal handed on
-module _ (s w : List ℕ) (g : S.Got Parts) (a : Named) (n p : ℕ) (h : S.refused n p ≡ g) (room : length w ≡ words) where
+module _ (s w : List ℕ) (g : S.Got Parts) (a : Named) (n p : ℕ) (h : S.refused n p ≡ g) (room : length w ≡ tableWords) where
   pub string-handed : (r : Field) → a ≡ stringFault r → r ≡ Refused n p → (seenName a w ≡ g) × NameTidy s a w
   string-handed r ea er = rw (ea, er) (h, room)
 

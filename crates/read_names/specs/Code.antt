@@ -5,7 +5,7 @@ use mathlib.Core.List.{List, [], _∷_}
 use lib.ListN.{length}
 use Rattle.format.specs.Tables.{NameTable, Triple, names}
 use Rattle.tables.specs.declared.Counts.{Counts}
-use Rattle.tables.specs.Counts.{words}
+use Rattle.tables.specs.Counts.{tableWords}
 use Rattle.tables.specs.Rows.{vocabulary}
 use Rattle.tables.specs.Kept.{Counted, Clean, AllInside}
 use Rattle.events.specs.declared.Text.{Text}
@@ -28,7 +28,7 @@ Ranged c (x ∷ xs) = (x .prefix ≤ c .prefix) × (x .namespace ≤ c .namespac
 -- The tables of a document s in lent words are in order.
 pub record Tidy (s : List ℕ) (c : Counts) (w : List ℕ) : Type 0 where
   pub size : length s ≤ 16384
-  pub room : length w ≡ words
+  pub room : length w ≡ tableWords
   pub counted : Counted c
   pub clean : Clean c w
   pub inside : AllInside s (vocabulary c w)
@@ -45,7 +45,7 @@ seenField (Refused n p) w = S.refused n p
 
 abbrev pub FieldTidy : List ℕ → Field → List ℕ → Type 0
 FieldTidy s (Got x n h) w = Tidy s (h .counts) w × (h .at ≤ length s)
-FieldTidy s (Refused n p) w = length w ≡ words
+FieldTidy s (Refused n p) w = length w ≡ tableWords
 
 abbrev pub idSeen : S.Got IdRead → S.Got Seen
 idSeen (S.got b next v) = S.got (record { text = textOf (b .string); number = b .number }) next v
@@ -67,7 +67,7 @@ seenName (Faulty n p) w = S.refused n p
 
 abbrev pub NameTidy : List ℕ → Named → List ℕ → Type 0
 NameTidy s (Read x h) w = Tidy s (h .counts) w × (h .at ≤ length s)
-NameTidy s (Faulty n p) w = length w ≡ words
+NameTidy s (Faulty n p) w = length w ≡ tableWords
 
 abbrev pub nameSeen : S.Got NameRead → S.Got Parts
 nameSeen (S.got b next v) = S.got (record { prefix = optionalText (b .name .prefix); namespace = optionalText (b .name .namespace); local = textOf (b .name .local) }) next v

@@ -6,7 +6,7 @@ ghost use lib.ListN.{length};
 ghost use Rattle.format.specs.Numbers.{top};
 ghost use Rattle.format.specs.Tables.{link};
 ghost use Rattle.fields.specs.Fields.{fieldAt};
-ghost use Rattle.tables.specs.Counts.{words};
+ghost use Rattle.tables.specs.Counts.{tableWords};
 ghost use Rattle.tables.specs.Rows.{vocabulary};
 ghost use Rattle.tables.specs.Kept.{nameTableOf, Counted, layoutOf, tripleOf};
 ghost use Rattle.read_names.specs.Names.{nameBit, partsAt, numberedAt, nameAt, declaredAt};
@@ -82,7 +82,7 @@ fn number(s: &[u8], at: usize, table: usize) -> Number
 
 // The string behind a number of a table; 0 is none.
 fn text(t: &[u32], table: usize, number: u32) -> Text
-    requires { ⌜ (length (now t) ≡ words) × (table < 8) × (number ≤ 256) ⌝ }
+    requires { ⌜ (length (now t) ≡ tableWords) × (table < 8) × (number ≤ 256) ⌝ }
     ensures { λ r. ⌜ r ≡ textAt (now (t .entry)) table number ⌝ }
 {
     if number == 0 {
@@ -93,7 +93,7 @@ fn text(t: &[u32], table: usize, number: u32) -> Text
 
 // The strings behind the numbers of a name.
 fn texts(t: &[u32], x: Row) -> Parts
-    requires { ⌜ (length (now t) ≡ words) × (x .a ≤ 256) × (x .b ≤ 256) × (x .c ≤ 256) ⌝ }
+    requires { ⌜ (length (now t) ≡ tableWords) × (x .a ≤ 256) × (x .b ≤ 256) × (x .c ≤ 256) ⌝ }
     ensures { λ r. ⌜ r ≡ textsAt (now (t .entry)) (tripleOf x) ⌝ }
 {
     Parts {
@@ -106,7 +106,7 @@ fn texts(t: &[u32], x: Row) -> Parts
 impl Here {
     // A name whose strings end here: its triple is new, and is added.
     fn triple(mut self, t: &mut [u32], table: usize, place: usize, name: Parts, x: Row) -> Named
-        requires { ⌜ (length (now t) ≡ words) × Counted (self .counts) × (8 ≤ table) × (table < 10) × Ranged (self .counts) (tripleOf x ∷ []) ⌝ }
+        requires { ⌜ (length (now t) ≡ tableWords) × Counted (self .counts) × (8 ≤ table) × (table < 10) × Ranged (self .counts) (tripleOf x ∷ []) ⌝ }
         ensures { λ r. ⌜ (seenName r (now (t .exit)) ≡ newName link (nameTableOf table) (tripleOf x) name place (self .at) (vocabulary (self .counts) (now (t .entry)))) × KeepsTidy self (now (t .entry)) r (now (t .exit)) ⌝ }
     {
         let n = self.counts.of(table);

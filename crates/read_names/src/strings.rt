@@ -6,7 +6,7 @@ ghost use Rattle.format.specs.Numbers.{lengths};
 ghost use Rattle.format.specs.Tables.{link, CONTENT-CHARACTER-CHUNK};
 ghost use Rattle.format.specs.Strings.{c15};
 ghost use Rattle.fields.specs.Fields.{fieldAt, noTop};
-ghost use Rattle.tables.specs.Counts.{words};
+ghost use Rattle.tables.specs.Counts.{tableWords};
 ghost use Rattle.tables.specs.Rows.{tableOf, stringAt, vocabulary};
 ghost use Rattle.tables.specs.Kept.{countOf};
 ghost use Rattle.events.specs.Records.{textOf};
@@ -80,7 +80,7 @@ fn stretch(s: &[u8], at: usize, bit: u32) -> Number
 
 // Entry i of a table, from 0. One without octets is built in.
 pub fn text_of(t: &[u32], table: usize, i: u32) -> Text
-    requires { ⌜ (length (now t) ≡ words) × (table < 8) × (i < 256) ⌝ }
+    requires { ⌜ (length (now t) ≡ tableWords) × (table < 8) × (i < 256) ⌝ }
     ensures { λ r. ⌜ r ≡ textOf (stringAt (tableOf table) (now (t .entry)) (768 * table + 3 * i)) ⌝ }
 {
     let e = tables::entry(t, table, i);
@@ -107,7 +107,7 @@ fn unnumbered(r: Field) -> Field
 impl Here {
     // The entry behind a number that was read here.
     fn held(mut self, t: &[u32], table: usize, r: Number) -> Field
-        requires { ⌜ (length (now t) ≡ words) × (table < 8) × (countOf (self .counts) table ≤ 256) × Positive r ⌝ }
+        requires { ⌜ (length (now t) ≡ tableWords) × (table < 8) × (countOf (self .counts) table ≤ 256) × Positive r ⌝ }
         ensures { λ a. ⌜ a ≡ heldOf (now (t .entry)) self table r ⌝ }
     {
         let Number::Got(n, next) = r else {
@@ -123,7 +123,7 @@ impl Here {
 
     // The octets at a place become an entry of their table.
     fn added(self, t: &mut [u32], table: usize, place: usize, size: usize) -> Field
-        requires { ⌜ (length (now t) ≡ words) × (table < 8) × (place + size ≤ 16384) ⌝ }
+        requires { ⌜ (length (now t) ≡ tableWords) × (table < 8) × (place + size ≤ 16384) ⌝ }
         ensures { λ a. ⌜ (a ≡ addedOf self table place size) × (now (t .exit) ≡ addedWords (self .counts) (now (t .entry)) table place size) ⌝ }
     {
         let count = self.counts.of(table);

@@ -16,7 +16,7 @@ use Rattle.format.specs.Tables.{link}
 use Rattle.format.specs.Document.{header}
 use Rattle.tables.specs.declared.Counts.{Counts}
 use Rattle.tables.specs.Located.{Located, start}
-use Rattle.tables.specs.Counts.{words, countsOf}
+use Rattle.tables.specs.Counts.{tableWords, countsOf}
 use Rattle.tables.specs.Rows.{vocabulary}
 use Rattle.tables.specs.Kept.{Clean}
 use Rattle.tables.proofs.Laws.{entries-are, counts-are}
@@ -82,8 +82,8 @@ module _ (s : List ℕ) (p : Place) (c : Counts) (v : List ℕ) (from : State) (
 
 -- ---- a run, by the events that steps come to: what it leaves in `room` records, with the events acc before it
 abbrev laid : ℕ → List Event → Result → Outcome
-laid room acc (accepted is m) = accepting (acc ++ map (λ (i : Item Located). recordOf (i .event)) is) (m .state .words) room
-laid room acc (refusal k p) = refusing k p room words
+laid room acc (accepted is m) = accepting (acc ++ map (λ (i : Item Located). recordOf (i .event)) is) (m .state .tables) room
+laid room acc (refusal k p) = refusing k p room tableWords
 
 -- behind n events in a row of `room` records: no event follows, or it has no record
 abbrev pub Over : (room n : ℕ) → Next → Type 0
@@ -93,14 +93,14 @@ Over room n (Refused k place) = Unit {0}
 
 module _ (s : List ℕ) (room : ℕ) where
   abbrev laidBy : List Event → ℕ → Reached → Outcome
-  laidBy acc zero (found p e m k) = refusing 14 p room words
+  laidBy acc zero (found p e m k) = refusing 14 p room tableWords
   laidBy acc (suc left) (found p e m k) = laid room (acc ++ (e ∷ [])) (run link s k left m)
   laidBy acc left (ended v) = accepting acc v room
-  laidBy acc left (fault k p) = refusing k p room words
+  laidBy acc left (fault k p) = refusing k p room tableWords
 
   laid-plus : (acc : List Event) (i : Item Located) (x : Result) → laid room acc (plus i x) ≡ laid room (acc ++ (recordOf (i .event) ∷ [])) x
   laid-plus acc i (accepted is m) =
-      ap (λ (es : List Event). accepting es (m .state .words) room) (sym (append-assoc acc (recordOf (i .event) ∷ []) (map (λ (j : Item Located). recordOf (j .event)) is)))
+      ap (λ (es : List Event). accepting es (m .state .tables) room) (sym (append-assoc acc (recordOf (i .event) ∷ []) (map (λ (j : Item Located). recordOf (j .event)) is)))
   laid-plus acc i (refusal k p) = refl
 
   laid-run : (acc : List Event) (fuel left : ℕ) (m : Stand) → laid room acc (run link s fuel left m) ≡ laidBy acc left (nextOf s fuel m)
@@ -113,7 +113,7 @@ module _ (s : List ℕ) (room : ℕ) where
       turned zero (I.more p i n) more = refl
       turned (suc k) (I.more p i n) more = laid-plus acc i (run link s fuel k n)
       turned left (I.quiet n) more = more n
-      turned left I.done more = ap (λ (es : List Event). accepting es (m .state .words) room) (append-nil acc)
+      turned left I.done more = ap (λ (es : List Event). accepting es (m .state .tables) room) (append-nil acc)
       turned left (I.stop k p) more = refl
 
   laid-none : (x : Result) → laid room [] x ≡ outcome x room
@@ -133,7 +133,7 @@ module _ (s : List ℕ) (room : ℕ) where
     pub spent : n + p .left ≤ 2 * length s + 1
     pub leads : laid room events (run link s (p .left) (room - n) (standAt p c us)) ≡ target
 
-  pub filling-start : 5 ≤ length s → length s ≤ 16384 → (us : List ℕ) → us ≡ replicate words 0 → (zs : List Event) → zs ≡ replicate room blank → Filling (first (length s)) (countsOf start) us zs 0
+  pub filling-start : 5 ≤ length s → length s ≤ 16384 → (us : List ℕ) → us ≡ replicate tableWords 0 → (zs : List Event) → zs ≡ replicate room blank → Filling (first (length s)) (countsOf start) us zs 0
   filling-start l h us e zs f =
       let z : room - 0 ≡ room = omega arith in
       record {
@@ -166,7 +166,7 @@ module _ (s : List ℕ) (room : ℕ) where
           leads = rw z at more;
         }
 
-    pub filled : (r : Next) → Reaches s p c us r d ws → Over room n r → settled room words (finished r n d) zs ws ≡ target
+    pub filled : (r : Next) → Reaches s p c us r d ws → Over room n r → settled room tableWords (finished r n d) zs ws ≡ target
     unfolding Clean
     filled (Found place e b) it l = let z : room - n ≡ 0 = omega arith in rw z at (comes (Found place e b) (it .0))
     filled Finished it l = rw (u .row) (same ∙ comes Finished (it .0))
@@ -204,7 +204,7 @@ module _ (s : List ℕ) (room : ℕ) (size : Bool) (is : size ≡ sized link s) 
 -- ---- what a reading comes to, by what is admitted
 module _ (s : List ℕ) (table : ℕ) where
   abbrev pub Admits : Opening → Type 0
-  Admits onward = (table ≡ words) × (5 ≤ length s) × (length s ≤ 16384)
+  Admits onward = (table ≡ tableWords) × (5 ≤ length s) × (length s ≤ 16384)
   Admits (halt k p) = p ≤ 16384
 
   pub admits : (o : Opening) → o ≡ admission s table → Admits o
@@ -212,10 +212,10 @@ module _ (s : List ℕ) (table : ℕ) where
   admits o e =
       rw e
       (tests Admits (sized link s) _ _
-      (λ _. tests Admits (eqb table words) _ _ (λ b. opened (opening link header s) refl (eqb-true table words b)) (λ _. omega arith))
+      (λ _. tests Admits (eqb table tableWords) _ _ (λ b. opened (opening link header s) refl (eqb-true table tableWords b)) (λ _. omega arith))
       (λ _. omega arith))
     where
-      opened : (x : Opening) → x ≡ opening link header s → table ≡ words → Admits x
+      opened : (x : Opening) → x ≡ opening link header s → table ≡ tableWords → Admits x
       opened onward q b = let k = opens s onward q in (b, k .0, k .1)
       opened (halt k p) q b = opens s (halt k p) q .1
 
@@ -226,13 +226,13 @@ module _ (s : List ℕ) (room table : ℕ) where
 
   pub reads : (o : Opening) → o ≡ admission s table → comesTo o ≡ readOf s room table
   unfolding admission readOf reading
-  reads o e = rw e (sizes (sized link s) (eqb table words) (λ b. eqb-true table words b))
+  reads o e = rw e (sizes (sized link s) (eqb table tableWords) (λ b. eqb-true table tableWords b))
     where
-      opened : (x : Opening) → table ≡ words → comesTo x ≡ outcome (resultFrom s room x) room
+      opened : (x : Opening) → table ≡ tableWords → comesTo x ≡ outcome (resultFrom s room x) room
       opened onward b = refl
       opened (halt k p) b = ap (refusing k p room) b
 
-      sizes : (a b : Bool) → (b ≡ true → table ≡ words) → comesTo (pick a (pick b (opening link header s) (halt 14 0)) (halt 1 0)) ≡ pick a (pick b (outcome (resultFrom s room (opening link header s)) room) (refusing 14 0 room table)) (refusing 1 0 room table)
+      sizes : (a b : Bool) → (b ≡ true → table ≡ tableWords) → comesTo (pick a (pick b (opening link header s) (halt 14 0)) (halt 1 0)) ≡ pick a (pick b (outcome (resultFrom s room (opening link header s)) room) (refusing 14 0 room table)) (refusing 1 0 room table)
       sizes true true f = opened (opening link header s) (f refl)
       sizes true false f = refl
       sizes false b f = refl

@@ -14,7 +14,7 @@ use Rattle.format.specs.Events.{Item}
 use Rattle.format.specs.Tables.{NameTable, ELEMENT-NAME, ATTRIBUTE-NAME, names, starting, same, link}
 use Rattle.format.specs.Document.{header, beginning}
 use Rattle.tables.specs.Located.{Located, start}
-use Rattle.tables.specs.Counts.{words, countsOf}
+use Rattle.tables.specs.Counts.{tableWords, countsOf}
 use Rattle.tables.specs.Rows.{vocabulary}
 use Rattle.tables.proofs.Laws.{vocabulary-start, counted-start, clean-start, inside-start}
 use Rattle.events.specs.declared.Event.{Event}
@@ -149,7 +149,7 @@ module _ (go : ℕ → Stand → Result) (m : Stand) (n : ℕ) where
   endsBy zero (more p e k) = faulty 14 p
   endsBy (suc room) (more p e k) = endingOf (n + 1) (go room k)
   endsBy room (quiet k) = endingOf n (go room k)
-  endsBy room done = ended n (m .state .words)
+  endsBy room done = ended n (m .state .tables)
   endsBy room (stop j p) = faulty j p
 
   abbrev keptBy : List ℕ → ℕ → SeenStep → List ℕ
@@ -160,7 +160,7 @@ module _ (go : ℕ → Stand → Result) (m : Stand) (n : ℕ) where
   keptBy w room (stop j p) = []
 
   plus-ends : (i : Item Located) (x : Result) → endingOf n (plus i x) ≡ endingOf (n + 1) x
-  plus-ends i (accepted is k) = ap (λ (j : ℕ). ended j (k .state .words)) (omega arith)
+  plus-ends i (accepted is k) = ap (λ (j : ℕ). ended j (k .state .tables)) (omega arith)
   plus-ends i (refusal j p) = refl
 
   sets-append : (w : List ℕ) (at : ℕ) (a b : List ℕ) → sets w at (a ++ b) ≡ sets (sets w at a) (at + length a) b
@@ -217,10 +217,10 @@ module _ (s v : List ℕ) (room : ℕ) where
     pub same-length : length w ≡ length v
 
   -- before the first item
-  tables-start : (t : List ℕ) → t ≡ replicate words 0 → vocabulary (countsOf start) t ≡ start
-  tables-start t e = rw e (vocabulary-start (replicate words 0) (getD-replicate {A = ℕ} words 1 0 0 (lit< tt)) (getD-replicate {A = ℕ} words 769 0 0 (lit< tt)))
+  tables-start : (t : List ℕ) → t ≡ replicate tableWords 0 → vocabulary (countsOf start) t ≡ start
+  tables-start t e = rw e (vocabulary-start (replicate tableWords 0) (getD-replicate {A = ℕ} tableWords 1 0 0 (lit< tt)) (getD-replicate {A = ℕ} tableWords 769 0 0 (lit< tt)))
 
-  pub start-is : (t : List ℕ) → t ≡ replicate words 0 → standOf fresh t ≡ origin start
+  pub start-is : (t : List ℕ) → t ≡ replicate tableWords 0 → standOf fresh t ≡ origin start
   unfolding beginning
   start-is t e = rw (tables-start t e)
 
@@ -229,14 +229,14 @@ module _ (s v : List ℕ) (room : ℕ) where
   ranged-start ELEMENT-NAME = tt
   ranged-start ATTRIBUTE-NAME = tt
 
-  pub underway-start : 5 ≤ length s → length s ≤ 16384 → (t : List ℕ) → t ≡ replicate words 0 → Underway (2 * length s + 1) 0 fresh t v
+  pub underway-start : 5 ≤ length s → length s ≤ 16384 → (t : List ℕ) → t ≡ replicate tableWords 0 → Underway (2 * length s + 1) 0 fresh t v
   underway-start l h t e =
       let z : room - 0 ≡ room = omega arith in
       record {
         good = record {
           tidy = record {
             size = h;
-            room = ap length e ∙ length-replicate {A = ℕ} words 0;
+            room = ap length e ∙ length-replicate {A = ℕ} tableWords 0;
             counted = counted-start;
             clean = rw e clean-start;
             inside = rw (tables-start t e) (inside-start s);

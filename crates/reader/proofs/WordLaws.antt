@@ -13,7 +13,7 @@ use Rattle.format.specs.Events.{Item}
 use Rattle.format.specs.Tables.{link}
 use Rattle.tables.specs.declared.Counts.{Counts}
 use Rattle.tables.specs.Located.{Located}
-use Rattle.tables.specs.Counts.{words, countsOf, entryWords, wordsOf}
+use Rattle.tables.specs.Counts.{tableWords, countsOf, entryWords, wordsOf}
 use Rattle.tables.specs.Rows.{vocabulary}
 use Rattle.tables.specs.Kept.{listed, Clean}
 use Rattle.tables.proofs.Laws.{counts-are}
@@ -54,7 +54,7 @@ filled is r h =
     rw (n, row-words is (replicate (r / 13 - length is) blank), blank-words (r / 13 - length is), append-assoc)
     (ap (λ (q : List ℕ). itemWords is ++ q) (replicate-append-replicate {A = ℕ} (13 * (r / 13 - length is)) (r % 13) 0 ∙ ap (λ (k : ℕ). replicate k 0) z))
 
-refused-words : (r k place : ℕ) (x : Result) → faulty k place ≡ endingOf 0 x → nothing (place * 32 + k) r words 10 ≡ inWords r (outcome x (r / 13))
+refused-words : (r k place : ℕ) (x : Result) → faulty k place ≡ endingOf 0 x → nothing (place * 32 + k) r tableWords 10 ≡ inWords r (outcome x (r / 13))
 unfolding inWords
 refused-words r k place (accepted is m) e = let z : _≡_ {A = ℕ} 0 1 = cc in absurd (omega arith)
 refused-words r k place (refusal j p) e =
@@ -81,13 +81,13 @@ accepted-words r n d w v (accepted is m) e h g k = λ i. leaving (word i) (recor
     word : n * 2 ^ 32 ≡ length (map (λ (i : Item Located). recordOf (i .event)) is) * 2 ^ 32 + 0
     word = omega (arith, count)
 
-    known : vocabulary d w ≡ m .state .words
+    known : vocabulary d w ≡ m .state .tables
     known = cc
 
-    table-words : w ≡ wordsOf entryWords (m .state .words)
+    table-words : w ≡ wordsOf entryWords (m .state .tables)
     table-words = sym g ∙ ap (wordsOf entryWords) known
 
-    counts : d ≡ countsOf (m .state .words)
+    counts : d ≡ countsOf (m .state .tables)
     counts = sym (counts-are d w) ∙ ap countsOf known
 
     record-words : v ≡ rowWords (map (λ (i : Item Located). recordOf (i .event)) is ++ replicate (r / 13 - length (map (λ (i : Item Located). recordOf (i .event)) is)) blank) ++ replicate (r % 13) 0
@@ -109,14 +109,14 @@ module _ (s : List ℕ) (r t c : ℕ) where
     unfolding readWords
     words-counts n = rw (← size, ne-eqb _ _ n)
 
-    pub words-tables : (t ≡ words → ⊥) → nothing 14 r t c ≡ readWords s r t c
+    pub words-tables : (t ≡ tableWords → ⊥) → nothing 14 r t c ≡ readWords s r t c
     unfolding readWords readOf inWords
     words-tables n = elim (ℕ-discrete c 10) [
       | yes b ↦ rw (b, ← size, ne-eqb _ _ n, blank-all r)
       | no b ↦ words-counts b
     ]
 
-    module _ (a : t ≡ words) (b : c ≡ 10) where
+    module _ (a : t ≡ tableWords) (b : c ≡ 10) where
       fields-first : inWords r (outcome (reading s (r / 13)) (r / 13)) ≡ readWords s r t c
       unfolding readWords readOf
       fields-first = rw (← size, eq-eqb _ _ a, eq-eqb _ _ b)

@@ -10,7 +10,7 @@ use Rattle.format.specs.Document.{header}
 use Rattle.format.specs.Refusals.{SIZE, ROOM}
 use Rattle.tables.specs.declared.Counts.{Counts}
 use Rattle.tables.specs.Located.{Located}
-use Rattle.tables.specs.Counts.{words}
+use Rattle.tables.specs.Counts.{tableWords}
 use Rattle.tables.specs.Rows.{vocabulary}
 use Rattle.events.specs.declared.Event.{Event}
 use Rattle.reader.specs.declared.Answer.{Answer}
@@ -50,7 +50,7 @@ pub data Reached : Type 0 where
 abbrev pub reach : (Stand → Reached) → ℕ → Stand → SeenStep → Reached
 reach go left m (more p e n) = found p e n left
 reach go left m (quiet n) = go n
-reach go left m done = ended (m .state .words)
+reach go left m done = ended (m .state .tables)
 reach go left m (stop n p) = fault n p
 
 unfoldable pub nextOf : List ℕ → (fuel : ℕ) → Stand → Reached
@@ -66,7 +66,7 @@ seenNext (Faulty n p) c w = fault n p
 abbrev pub NextGood : List ℕ → ℕ → Next → Counts → List ℕ → Type 0
 NextGood s left (Found p e next) c w = Good s (stateOf next c) w × (p ≤ length s) × (next .left < left)
 NextGood s left Finished c w = Tidy s c w
-NextGood s left (Faulty n p) c w = (length w ≡ words) × (p ≤ length s)
+NextGood s left (Faulty n p) c w = (length w ≡ tableWords) × (p ≤ length s)
 
 -- From a place, counts c and tables v, the answer with counts d and tables w.
 abbrev pub Reaches : List ℕ → Place → Counts → List ℕ → Next → Counts → List ℕ → Type 0
@@ -91,4 +91,4 @@ settled n m (Refused k p) row tables = refusing k p n m
 
 -- SIZE, then the table room, then the opening.
 unfoldable pub admission : List ℕ → (room : ℕ) → Opening
-admission s room = pick (sized link s) (pick (eqb room words) (opening link header s) (halt ROOM 0)) (halt SIZE 0)
+admission s room = pick (sized link s) (pick (eqb room tableWords) (opening link header s) (halt ROOM 0)) (halt SIZE 0)

@@ -11,7 +11,7 @@ use Rattle.format.specs.Tables.{Vocabulary, same, Limits, link}
 use Rattle.format.specs.Items.{State}
 use Rattle.format.specs.Document.{beginning, header}
 use Rattle.format.specs.Refusals.{SIZE, TRUNCATED, HEADER, OPTIONAL-PART, PADDING, ROOM}
-use Rattle.tables.specs.Counts.{countsOf, words, entryWords, wordsOf}
+use Rattle.tables.specs.Counts.{countsOf, tableWords, entryWords, wordsOf}
 use Rattle.tables.specs.Kept.{listed}
 use Rattle.tables.specs.Told.{Told, toldAccepted, toldRefused, entriesOf}
 use Rattle.events.specs.declared.Event.{Event}
@@ -85,7 +85,7 @@ opening L head s =
 
 -- Before the first item; each step takes a half, so the fuel suffices.
 abbrev pub origin : Vocabulary Located → Stand
-origin words = record { at = 10; state = beginning words }
+origin tables = record { at = 10; state = beginning tables }
 
 abbrev pub fuelOf : List ℕ → ℕ
 fuelOf s = suc (2 * length s)
@@ -144,14 +144,14 @@ accepting es v room =
     }
 
 abbrev pub outcome : Result → ℕ → Outcome
-outcome (accepted is m) room = accepting (map (λ (i : Item Located). recordOf (i .event)) is) (m .state .words) room
-outcome (refusal n p) room = refusing n p room words
+outcome (accepted is m) room = accepting (map (λ (i : Item Located). recordOf (i .event)) is) (m .state .tables) room
+outcome (refusal n p) room = refusing n p room tableWords
 
 -- Reading on the link, with `room` event records and `table` table words lent: SIZE, then the table room (14), both at place 0, then the fields.
 unfoldable pub readOf : List ℕ → (room table : ℕ) → Outcome
 readOf s room table =
     pick (sized link s)
-    (pick (eqb table words) (outcome (reading s room) room) (refusing ROOM 0 room table))
+    (pick (eqb table tableWords) (outcome (reading s room) room) (refusing ROOM 0 room table))
     (refusing SIZE 0 room table)
 
 -- The number that comes back to C: 0, or the place times 32 plus the refusal's number.

@@ -10,7 +10,7 @@ use Rattle.format.specs.Numbers.{pick}
 use Rattle.format.specs.Events.{Item}
 use Rattle.format.specs.Tables.{Vocabulary}
 use Rattle.tables.specs.Located.{Located, start}
-use Rattle.tables.specs.Counts.{countsOf, words}
+use Rattle.tables.specs.Counts.{countsOf, tableWords}
 use Rattle.tables.specs.Rows.{vocabulary}
 use Rattle.tables.specs.Kept.{Clean}
 use Rattle.tables.specs.Told.{lowWord}
@@ -41,7 +41,7 @@ pub data Ending : Type 0 where
 
 -- With n events before it.
 abbrev pub endingOf : ℕ → Result → Ending
-endingOf n (accepted is m) = ended (n + length is) (m .state .words)
+endingOf n (accepted is m) = ended (n + length is) (m .state .tables)
 endingOf n (refusal k p) = faulty k p
 
 abbrev pub seenEnding : Answer → List ℕ → Ending

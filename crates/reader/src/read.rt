@@ -5,7 +5,7 @@ ghost use Prim.Native.Nat.{_≤_};
 ghost use lib.ListN.{length, replicate};
 ghost use Rattle.format.specs.Tables.{link};
 ghost use Rattle.tables.specs.Located.{start};
-ghost use Rattle.tables.specs.Counts.{words};
+ghost use Rattle.tables.specs.Counts.{tableWords};
 ghost use Rattle.events.specs.Records.{blank};
 ghost use Rattle.read_items.specs.Code.{Good};
 ghost use Rattle.reader.specs.Reading.{run, origin, fuelOf, outcome, Leaves, readOf};
@@ -141,8 +141,8 @@ fn finish(a: Next, n: usize, c: Counts) -> Answer
 
 // A document whose opening is read, into a row and tables that are blank.
 fn fill(s: &[u8], events: &mut [Event], tables: &mut [u32]) -> Answer
-    requires { ⌜ (5 ≤ length (now s)) × (length (now s) ≤ 16384) × (now events ≡ replicate (length (now events)) blank) × (now tables ≡ replicate words 0) ⌝ }
-    ensures { λ r. ⌜ settled (length (now (events .entry))) words r (now (events .exit)) (now (tables .exit)) ≡ outcome (run link (now (s .entry)) (fuelOf (now (s .entry))) (length (now (events .entry))) (origin start)) (length (now (events .entry))) ⌝ }
+    requires { ⌜ (5 ≤ length (now s)) × (length (now s) ≤ 16384) × (now events ≡ replicate (length (now events)) blank) × (now tables ≡ replicate tableWords 0) ⌝ }
+    ensures { λ r. ⌜ settled (length (now (events .entry))) tableWords r (now (events .exit)) (now (tables .exit)) ≡ outcome (run link (now (s .entry)) (fuelOf (now (s .entry))) (length (now (events .entry))) (origin start)) (length (now (events .entry))) ⌝ }
 {
     let mut counts = Counts::start();
     let mut p = begin(s.len());

@@ -6,7 +6,7 @@ ghost use lib.Seq.{sets};
 ghost use Rattle.format.specs.Tables.{link, same};
 ghost use Rattle.format.specs.Document.{header};
 ghost use Rattle.tables.specs.Located.{start};
-ghost use Rattle.tables.specs.Counts.{words};
+ghost use Rattle.tables.specs.Counts.{tableWords};
 ghost use Rattle.events.specs.Words.{textWords};
 ghost use Rattle.reader.specs.Reading.{sized, opening, run, origin, fuelOf, reading, checkOf};
 ghost use Rattle.reader.specs.RunStages.{openingOf, fresh, kept, Ran, Small, answerNumber};
@@ -145,7 +145,7 @@ pub fn refused(k: u32, p: usize) -> Answer
 
 // Steps until the document's end, with records for `room` events; `records` keeps those for which it has words.
 fn steps(s: &[u8], t: &mut [u32], records: &mut [u32], room: usize) -> Answer
-    requires { ⌜ (5 ≤ length (now s)) × (length (now s) ≤ 16384) × (now t ≡ replicate words 0) ⌝ }
+    requires { ⌜ (5 ≤ length (now s)) × (length (now s) ≤ 16384) × (now t ≡ replicate tableWords 0) ⌝ }
     ensures { λ r. ⌜ Ran room (now (records .entry)) r (now (t .exit)) (now (records .exit)) (run link (now (s .entry)) (fuelOf (now (s .entry))) room (origin start)) ⌝ }
 {
     let mut st = begin();
@@ -179,7 +179,7 @@ fn steps(s: &[u8], t: &mut [u32], records: &mut [u32], room: usize) -> Answer
 
 // A document, with tables that are clear.
 fn reading(s: &[u8], t: &mut [u32], records: &mut [u32], room: usize) -> Answer
-    requires { ⌜ now t ≡ replicate words 0 ⌝ }
+    requires { ⌜ now t ≡ replicate tableWords 0 ⌝ }
     ensures { λ r. ⌜ Ran room (now (records .entry)) r (now (t .exit)) (now (records .exit)) (reading (now (s .entry)) room) ⌝ }
 {
     match opened(s) {

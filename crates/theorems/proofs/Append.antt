@@ -10,9 +10,9 @@ module _ (C : Limits) where
   pub chosen-append : (v : Vocabulary (List ℕ)) (xs ys : List (Event (List ℕ))) → chosen C v (xs ++ ys) ≡ chosen C v xs ++ chosen C (tablesAfter C v xs) ys
   unfolding chosen tablesAfter
   chosen-append v [] ys = refl
-  chosen-append v (e ∷ xs) ys = ap (λ (l : List (Item (List ℕ))). (e by chooseFor C v e .how) ∷ l) (chosen-append (chooseFor C v e .words) xs ys)
+  chosen-append v (e ∷ xs) ys = ap (λ (l : List (Item (List ℕ))). (e by chooseFor C v e .how) ∷ l) (chosen-append (chooseFor C v e .tables) xs ys)
 
   pub tables-append : (v : Vocabulary (List ℕ)) (xs ys : List (Event (List ℕ))) → tablesAfter C v (xs ++ ys) ≡ tablesAfter C (tablesAfter C v xs) ys
   unfolding tablesAfter
   tables-append v [] ys = refl
-  tables-append v (e ∷ xs) ys = tables-append (chooseFor C v e .words) xs ys
+  tables-append v (e ∷ xs) ys = tables-append (chooseFor C v e .tables) xs ys

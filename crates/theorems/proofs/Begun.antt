@@ -12,7 +12,7 @@ use Rattle.format.specs.Events.{Name, How, NameHow, Item, isDeclaration, isStar
 use Rattle.format.specs.Tables.{StringTable, NameTable, Triple, Vocabulary, strings, names, place, adding, addingName, Limits, InLimits}
 use Rattle.format.specs.Strings.{bit, Identifying, id-spelled, id-numbered, Optional, absent, present, Layout, Literal, literal-spelled, literal-numbered, Value, value-empty, value}
 use Rattle.format.specs.Names.{NameLayout, Named, in-parts, by-number, Declared, declared}
-use Rattle.format.specs.Items.{Mode, content, declaring, listing, State, afterStart, moved, Octets, o-start, o-first-namespace, o-namespace, o-named-start, o-attribute, o-text, o-comment, o-instruction}
+use Rattle.format.specs.Items.{Mode, content, declaring, listing, State, afterStart, moved, ItemWrittenAs, o-start, o-first-namespace, o-namespace, o-named-start, o-attribute, o-text, o-comment, o-instruction}
 use Rattle.format.specs.Document.{halves, pad, aligned, closed, Written, attributes-end, element-end, item, knownAfter, Begun, begun, after-attributes, after-end, after-item}
 use Rattle.format.specs.Uses.{sameNames}
 use Rattle.writer.specs.Events.{isDeclaring}
@@ -130,13 +130,13 @@ bitless (listing false) = content
 
 -- The same is known, but for the bit.
 pub record Alike (v v′ : State (List ℕ)) : Type 0 where
-  pub words : v .words ≡ v′ .words
+  pub tables : v .tables ≡ v′ .tables
   pub level : v .level ≡ v′ .level
   pub root : v .root ≡ v′ .root
   pub mode : bitless (v .mode) ≡ bitless (v′ .mode)
 
 alike : (v : State (List ℕ)) → Alike v v
-alike v = record { words = refl; level = refl; root = refl; mode = refl }
+alike v = record { tables = refl; level = refl; root = refl; mode = refl }
 
 start-bitless : (a : Bool) → bitless (afterStart a) ≡ content
 start-bitless true = refl
@@ -164,39 +164,39 @@ module _ {L : Limits} where
   behind-bits lead′ (in-parts lone up un ul new room) = (_, in-parts lone up un ul new room, refl)
   behind-bits {q} {lead} lead′ (by-number {k = k} small fits en) = (_, by-number small fits en, spell-size (q .numberForms) lead lead′ k)
 
-  octets-alike : {v v′ w w′ : State (List ℕ)} {i : Item (List ℕ)} {o o′ : List ℕ} → Alike v v′ → Octets L v i o w → Octets L v′ i o′ w′
+  octets-alike : {v v′ w w′ : State (List ℕ)} {i : Item (List ℕ)} {o o′ : List ℕ} → Alike v v′ → ItemWrittenAs L v i o w → ItemWrittenAs L v′ i o′ w′
       → (length o ≡ length o′) × Alike w w′
   octets-alike e (o-start a md may deep u) (o-start b md′ may′ deep′ u′) =
       let t = behind-bits (64 * bit b) u in
-      let r = named-one (t .1) (rw (← (e .words)) at u′) refl in
-      (t .2 ∙ ap length (r .0), record { words = r .1; level = ap suc (e .level); root = refl; mode = start-bitless a ∙ sym (start-bitless b) })
+      let r = named-one (t .1) (rw (← (e .tables)) at u′) refl in
+      (t .2 ∙ ap length (r .0), record { tables = r .1; level = ap suc (e .level); root = refl; mode = start-bitless a ∙ sym (start-bitless b) })
   octets-alike e (o-start a md may deep u) (o-named-start md′ u′) = clash (cc)
   octets-alike e (o-named-start md u) (o-start a md′ may′ deep′ u′) = clash (cc)
   octets-alike e (o-named-start {a = a} md u) (o-named-start {a = b} md′ u′) =
-      let r = named-one u (rw (← (e .words)) at u′) refl in
-      (ap (λ (l : List ℕ). suc (length l)) (r .0), record { words = r .1; level = ap suc (e .level); root = refl; mode = start-bitless a ∙ sym (start-bitless b) })
+      let r = named-one u (rw (← (e .tables)) at u′) refl in
+      (ap (λ (l : List ℕ). suc (length l)) (r .0), record { tables = r .1; level = ap suc (e .level); root = refl; mode = start-bitless a ∙ sym (start-bitless b) })
   octets-alike e (o-first-namespace md may deep u) (o-first-namespace md′ may′ deep′ u′) =
-      let r = declared-one u (rw (← (e .words)) at u′) in
-      (ap (λ (l : List ℕ). suc (length l)) (r .0), record { words = r .1; level = e .level; root = e .root; mode = refl })
+      let r = declared-one u (rw (← (e .tables)) at u′) in
+      (ap (λ (l : List ℕ). suc (length l)) (r .0), record { tables = r .1; level = e .level; root = e .root; mode = refl })
   octets-alike e (o-first-namespace md may deep u) (o-namespace md′ u′) = clash (cc)
   octets-alike e (o-namespace md u) (o-first-namespace md′ may′ deep′ u′) = clash (cc)
   octets-alike e (o-namespace md u) (o-namespace md′ u′) =
-      let r = declared-one u (rw (← (e .words)) at u′) in
-      (ap length (r .0), record { words = r .1; level = e .level; root = e .root; mode = refl })
+      let r = declared-one u (rw (← (e .tables)) at u′) in
+      (ap length (r .0), record { tables = r .1; level = e .level; root = e .root; mode = refl })
   octets-alike e (o-attribute md u1 u2) (o-attribute md′ u1′ u2′) =
-      let r = named-one u1 (rw (← (e .words)) at u1′) refl in
+      let r = named-one u1 (rw (← (e .tables)) at u1′) refl in
       let t = value-one u2 (rw (← (r .1)) at u2′) in
-      ((λ j. length (r .0 j ++ t .0 j)), record { words = t .1; level = e .level; root = e .root; mode = refl })
+      ((λ j. length (r .0 j ++ t .0 j)), record { tables = t .1; level = e .level; root = e .root; mode = refl })
   octets-alike e (o-text md lv u) (o-text md′ lv′ u′) =
-      let r = literal-one u (rw (← (e .words)) at u′) in
-      (ap length (r .0), record { words = r .1; level = e .level; root = e .root; mode = e .mode })
+      let r = literal-one u (rw (← (e .tables)) at u′) in
+      (ap length (r .0), record { tables = r .1; level = e .level; root = e .root; mode = e .mode })
   octets-alike e (o-comment md u) (o-comment md′ u′) =
-      let r = value-one u (rw (← (e .words)) at u′) in
-      (ap (λ (l : List ℕ). suc (length l)) (r .0), record { words = r .1; level = e .level; root = e .root; mode = e .mode })
+      let r = value-one u (rw (← (e .tables)) at u′) in
+      (ap (λ (l : List ℕ). suc (length l)) (r .0), record { tables = r .1; level = e .level; root = e .root; mode = e .mode })
   octets-alike e (o-instruction md u1 u2) (o-instruction md′ u1′ u2′) =
-      let r = identifying-one u1 (rw (← (e .words)) at u1′) in
+      let r = identifying-one u1 (rw (← (e .tables)) at u1′) in
       let t = value-one u2 (rw (← (r .2)) at u2′) in
-      ((λ j. suc (length (r .0 j ++ t .0 j))), record { words = t .1; level = e .level; root = e .root; mode = e .mode })
+      ((λ j. suc (length (r .0 j ++ t .0 j))), record { tables = t .1; level = e .level; root = e .root; mode = e .mode })
 
   -- an attribute does not follow the end of its list
   no-attribute : {at : ℕ} {v w : State (List ℕ)} {i : Item (List ℕ)} {items : List (Item (List ℕ))} {hs : List ℕ}
@@ -206,20 +206,20 @@ module _ {L : Limits} where
   no-attribute (after-item u b) e = where-attributes u ∙ ap inList e
 
   no-list : {at : ℕ} {v v′ u w : State (List ℕ)} {i : Item (List ℕ)} {o : List ℕ} {items : List (Item (List ℕ))} {hs : List ℕ} {X : Type 0}
-      → bitless (v′ .mode) ≡ bitless (v .mode) → v .mode ≡ listing true → Begun L at (moved v (v .words) content) (i ∷ items) hs w → Octets L v′ i o u → X
+      → bitless (v′ .mode) ≡ bitless (v .mode) → v .mode ≡ listing true → Begun L at (moved v (v .tables) content) (i ∷ items) hs w → ItemWrittenAs L v′ i o u → X
   no-list {v′ = v′} e md b u = let y = member-bitless (v′ .mode) (cc) in clash (cc (no-attribute b refl, where-attributes u))
 
   pub begun-alike : {at : ℕ} {v v′ w w′ : State (List ℕ)} {items : List (Item (List ℕ))} {hs hs′ : List ℕ}
       → Alike v v′ → Begun L at v items hs w → Begun L at v′ items hs′ w′ → (length hs ≡ length hs′) × Alike w w′
   begun-alike e begun begun = (refl, e)
   begun-alike e (after-attributes md b) (after-attributes md′ b′) =
-      let r = begun-alike (record { words = e .words; level = e .level; root = e .root; mode = refl }) b b′ in
+      let r = begun-alike (record { tables = e .tables; level = e .level; root = e .root; mode = refl }) b b′ in
       (ap suc (r .0), r .1)
   begun-alike e (after-attributes md b) (after-end md′ lv′ b′) = clash (cc)
   begun-alike e (after-attributes md b) (after-item u′ b′) = no-list (sym (e .mode)) md b u′
   begun-alike e (after-end md lv b) (after-attributes md′ b′) = clash (cc)
   begun-alike e (after-end md lv b) (after-end md′ lv′ b′) =
-      let r = begun-alike (record { words = e .words; level = ap (λ (n : ℕ). n - 1) (e .level); root = e .root; mode = refl }) b b′ in
+      let r = begun-alike (record { tables = e .tables; level = ap (λ (n : ℕ). n - 1) (e .level); root = e .root; mode = refl }) b b′ in
       (ap suc (r .0), r .1)
   begun-alike e (after-end md lv b) (after-item u′ b′) = no-end u′
   begun-alike e (after-item u b) (after-attributes md′ b′) = no-list (e .mode) md′ b′ u
@@ -276,7 +276,7 @@ module _ {L : Limits} where
   declared-fits : {v w : Vocabulary (List ℕ)} {p n : Option (List ℕ)} {hp hn : Option How} {o : List ℕ} → Declared L v p n hp hn o w → InLimits L v → InLimits L w
   declared-fits (declared up un) f = optional-fits un (optional-fits up f)
 
-  octets-fit : {v w : State (List ℕ)} {i : Item (List ℕ)} {o : List ℕ} → Octets L v i o w → InLimits L (v .words) → InLimits L (w .words)
+  octets-fit : {v w : State (List ℕ)} {i : Item (List ℕ)} {o : List ℕ} → ItemWrittenAs L v i o w → InLimits L (v .tables) → InLimits L (w .tables)
   octets-fit (o-start a md may deep u) f = named-fits u f
   octets-fit (o-first-namespace md may deep u) f = declared-fits u f
   octets-fit (o-namespace md u) f = declared-fits u f
@@ -286,13 +286,13 @@ module _ {L : Limits} where
   octets-fit (o-comment md u) f = value-fits u f
   octets-fit (o-instruction md u1 u2) f = value-fits u2 (identifying-fits u1 f)
 
-  pub fits-on : {at : ℕ} {v w : State (List ℕ)} {items : List (Item (List ℕ))} {hs : List ℕ} → Begun L at v items hs w → InLimits L (v .words) → InLimits L (w .words)
+  pub fits-on : {at : ℕ} {v w : State (List ℕ)} {items : List (Item (List ℕ))} {hs : List ℕ} → Begun L at v items hs w → InLimits L (v .tables) → InLimits L (w .tables)
   fits-on begun f = f
   fits-on (after-attributes md b) f = fits-on b f
   fits-on (after-end md lv b) f = fits-on b f
   fits-on (after-item u b) f = fits-on b (octets-fit u f)
 
-  pub shallow-is : {v w : State (List ℕ)} {i : Item (List ℕ)} {o : List ℕ} → Octets L v i o w
+  pub shallow-is : {v w : State (List ℕ)} {i : Item (List ℕ)} {o : List ℕ} → ItemWrittenAs L v i o w
       → (isDeclaration (i .event) || isStart (i .event)) ≡ true → isDeclaring (v .mode) ≡ false → v .level < L .depth
   shallow-is (o-start a md may deep u) opens e = deep
   shallow-is (o-first-namespace md may deep u) opens e = deep
@@ -315,7 +315,7 @@ start-declares true = refl
 start-declares false = refl
 
 module _ {L : Limits} where
-  octets-level : {v w : State (List ℕ)} {i : Item (List ℕ)} {o : List ℕ} → Octets L v i o w → w .level ≡ openThen (v .level) (i .event)
+  octets-level : {v w : State (List ℕ)} {i : Item (List ℕ)} {o : List ℕ} → ItemWrittenAs L v i o w → w .level ≡ openThen (v .level) (i .event)
   octets-level (o-start a md may deep u) = refl
   octets-level (o-first-namespace md may deep u) = refl
   octets-level (o-namespace md u) = refl
@@ -332,7 +332,7 @@ module _ {L : Limits} where
   level-is (after-end md lv b) = level-is b
   level-is (after-item {items = items} u b) = level-is b ∙ ap (λ (n : ℕ). openAfter n (events items)) (octets-level u)
 
-  octets-declare : {v w : State (List ℕ)} {i : Item (List ℕ)} {o : List ℕ} → Octets L v i o w → isDeclaring (w .mode) ≡ isDeclaration (i .event)
+  octets-declare : {v w : State (List ℕ)} {i : Item (List ℕ)} {o : List ℕ} → ItemWrittenAs L v i o w → isDeclaring (w .mode) ≡ isDeclaration (i .event)
   octets-declare (o-start a md may deep u) = start-declares a
   octets-declare (o-first-namespace md may deep u) = refl
   octets-declare (o-namespace md u) = refl

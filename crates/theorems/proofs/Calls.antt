@@ -15,7 +15,7 @@ use Rattle.format.specs.Tables.{link}
 use Rattle.format.specs.Items.{State}
 use Rattle.format.specs.Document.{Writes}
 use Rattle.tables.specs.declared.Counts.{Counts}
-use Rattle.tables.specs.Counts.{words}
+use Rattle.tables.specs.Counts.{tableWords}
 use Rattle.tables.specs.Located.{Located, plain, plainState}
 use Rattle.events.specs.declared.Event.{Event}
 use Rattle.events.specs.Records.{recordOf}
@@ -38,7 +38,7 @@ pub record Written (s : List ℕ) : Type 0 where
 pub record Handed (s : List ℕ) (room : ℕ) (o : Outcome) : Type 0 where
   pub events : List (Item Located)
   pub last : State Located
-  pub is : o ≡ accepting (map (λ (i : Item Located). recordOf (i .event)) events) (last .words) room
+  pub is : o ≡ accepting (map (λ (i : Item Located). recordOf (i .event)) events) (last .tables) room
   pub writes : Writes (map (plain s) events) (plainState s last) s
 
 module _ (s : List ℕ) (bytes : AreOctets s) where
@@ -57,12 +57,12 @@ module _ (s : List ℕ) (bytes : AreOctets s) where
     -- 13. READ ACCEPTS what the rules write, and the events in the row are those.
     pub read-accepts : (table n : ℕ) (c : Counts) → readOf s room table .answer ≡ Accepted n c → Handed s room (readOf s room table)
     unfolding readOf
-    read-accepts table n c e = by-room table n c (sized link s) (eqb table words) e
+    read-accepts table n c e = by-room table n c (sized link s) (eqb table tableWords) e
 
     --     And all that the rules write, if there is a record for each event and the table room is right; the events in the row are those of the items, and the
     --     tables in the words those that the rules know at the end.
     pub written-is-read : (items : List (Item (List ℕ))) (z : State (List ℕ)) → Writes items z s → length items ≤ room
-        → (h : Handed s room (readOf s room words)) × (map (plain s) (h .events) ≡ items) × (plainState s (h .last) ≡ z)
+        → (h : Handed s room (readOf s room tableWords)) × (map (plain s) (h .events) ≡ items) × (plainState s (h .last) ≡ z)
     unfolding readOf
     written-is-read items z w h =
         let a = Whole.accepts s items z w room h in
@@ -123,7 +123,7 @@ module _ (s : List ℕ) (bytes : AreOctets s) where
     by-answer : (n : ℕ) (a : Answer) → left .answer ≡ a → answerWord a ≡ n * 2 ^ 32 → Handed s (r / 13) left
     unfolding readOf
     by-answer n (Accepted m c) e q = read-accepts (r / 13) t m c e
-    by-answer n (Refused k p) e q = let f = refused-small (sized link s) (eqb t words) refl k p e in absurd (omega arith)
+    by-answer n (Refused k p) e q = let f = refused-small (sized link s) (eqb t tableWords) refl k p e in absurd (omega arith)
 
     by-words : (c n : ℕ) (b d : Bool) → pick b (pick d (inWords r left) (nothing 14 r t c)) (nothing 1 r t c) .answer ≡ n * 2 ^ 32
         → Handed s (r / 13) left × (pick b (pick d (inWords r left) (nothing 14 r t c)) (nothing 1 r t c) ≡ inWords r left)
@@ -138,7 +138,7 @@ module _ (s : List ℕ) (bytes : AreOctets s) where
 
   --     And all that the rules write is, if there are words for each event and the tables' room is right.
   pub written-is-worded : (items : List (Item (List ℕ))) (z : State (List ℕ)) → Writes items z s → (r : ℕ) → length items ≤ r / 13
-      → Handed s (r / 13) (readOf s (r / 13) words) × (readWords s r words 10 ≡ inWords r (readOf s (r / 13) words))
+      → Handed s (r / 13) (readOf s (r / 13) tableWords) × (readWords s r tableWords 10 ≡ inWords r (readOf s (r / 13) tableWords))
   unfolding readWords
   written-is-worded items z w r h =
       let a = Whole.accepts s items z w (r / 13) h in

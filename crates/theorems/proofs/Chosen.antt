@@ -100,7 +100,7 @@ nameOctets q lead x (byNumber k) = spell (q .numberForms) lead (k - 1)
 
 -- ---- an identifying string is held, or new: 01's choice is a permitted one
 abbrev IdCase : StringTable → Vocabulary (List ℕ) → List ℕ → Chose How → Type 0
-IdCase t v x c = PermitsId t v x (c .how) (c .number) (c .words)
+IdCase t v x c = PermitsId t v x (c .how) (c .number) (c .tables)
 
 -- what a number other than 0 says
 found : (t : StringTable) (v : Vocabulary (List ℕ)) (x : List ℕ) (n : ℕ) → numberIn (strings v t) x ≡ suc n → Entry (strings v t) n [] x
@@ -111,7 +111,7 @@ found t v x n e =
 
 module _ (t : StringTable) (v : Vocabulary (List ℕ)) (x : List ℕ) where
   id-from : (k : ℕ) → numberIn (strings v t) x ≡ k
-      → IdCase t v x (pick (eqb k 0) (record { how = spelled true; number = suc (length (strings v t)); words = adding v t x }) (record { how = numbered k; number = k; words = v }))
+      → IdCase t v x (pick (eqb k 0) (record { how = spelled true; number = suc (length (strings v t)); tables = adding v t x }) (record { how = numbered k; number = k; tables = v }))
   id-from zero e = id-new (holds-number (strings v t) x ∙ ap (λ (k : ℕ). not (eqb k 0)) e)
   id-from (suc n) e = rw (ne-eqb (suc n) 0 (λ z. omega arith)) (id-entry {k = n} (found t v x n e))
 
@@ -130,7 +130,7 @@ module _ (L : Limits) (small : L .entries ≤ top) where
 
 -- one that may be absent
 abbrev OptionalCase : StringTable → Vocabulary (List ℕ) → Option (List ℕ) → Chose (Option How) → Type 0
-OptionalCase t v x c = PermitsIfAny t v x (c .how) (c .number) (c .words)
+OptionalCase t v x c = PermitsIfAny t v x (c .how) (c .number) (c .tables)
 
 pub optional-case : (t : StringTable) (v : Vocabulary (List ℕ)) (x : Option (List ℕ)) → OptionalCase t v x (chooseOptional t v x)
 unfolding chooseOptional
@@ -154,12 +154,12 @@ module _ (L : Limits) (small : L .entries ≤ top) where
 
 -- ---- C.14, C.15
 pub data LiteralCase (L : Limits) (t : StringTable) (v : Vocabulary (List ℕ)) (x : List ℕ) : Chose How → Type 0 where
-  lit-held : {j : ℕ} → Entry (strings v t) j [] x → LiteralCase L t v x (record { how = numbered (suc j); number = suc j; words = v })
-  lit-new : {added : Bool} → (added ≡ true → length (strings v t) < L .entries) → LiteralCase L t v x (record { how = spelled added; number = 0; words = keeping added v t x })
+  lit-held : {j : ℕ} → Entry (strings v t) j [] x → LiteralCase L t v x (record { how = numbered (suc j); number = suc j; tables = v })
+  lit-new : {added : Bool} → (added ≡ true → length (strings v t) < L .entries) → LiteralCase L t v x (record { how = spelled added; number = 0; tables = keeping added v t x })
 
 module _ (L : Limits) (t : StringTable) (v : Vocabulary (List ℕ)) (x : List ℕ) where
   literal-from : (k : ℕ) (added : Bool) → numberIn (strings v t) x ≡ k → (added ≡ true → length (strings v t) < L .entries)
-      → LiteralCase L t v x (pick (eqb k 0) (record { how = spelled added; number = 0; words = keeping added v t x }) (record { how = numbered k; number = k; words = v }))
+      → LiteralCase L t v x (pick (eqb k 0) (record { how = spelled added; number = 0; tables = keeping added v t x }) (record { how = numbered k; number = k; tables = v }))
   literal-from zero added e r = lit-new r
   literal-from (suc n) added e r = rw (ne-eqb (suc n) 0 (λ z. omega arith)) (lit-held {j = n} (found t v x n e))
 
@@ -171,7 +171,7 @@ module _ (L : Limits) (t : StringTable) (v : Vocabulary (List ℕ)) (x : List �
   unfolding chooseLiteral
   literal-case = literal-from (numberIn (strings v t) x) (worthAdding L (strings v t) x) refl worth-room
 
-pub literal-permits : {L : Limits} {t : StringTable} {v : Vocabulary (List ℕ)} {x : List ℕ} {c : Chose How} → LiteralCase L t v x c → PermitsString t v x (c .how) (c .words)
+pub literal-permits : {L : Limits} {t : StringTable} {v : Vocabulary (List ℕ)} {x : List ℕ} {c : Chose How} → LiteralCase L t v x c → PermitsString t v x (c .how) (c .tables)
 literal-permits (lit-held en) = string-entry en
 literal-permits (lit-new {added = a} r) = string-spelled a
 
@@ -196,7 +196,7 @@ module _ (L : Limits) (small : L .entries ≤ top) where
 
 -- ---- values
 pub data ValueCase (L : Limits) (t : StringTable) (v : Vocabulary (List ℕ)) (x : List ℕ) : Chose How → Type 0 where
-  is-empty : x ≡ [] → ValueCase L t v x (record { how = numbered 0; number = 0; words = v })
+  is-empty : x ≡ [] → ValueCase L t v x (record { how = numbered 0; number = 0; tables = v })
   is-literal : {c : Chose How} → 0 < length x → LiteralCase L t v x c → ValueCase L t v x c
 
 pub value-case : (L : Limits) (t : StringTable) (v : Vocabulary (List ℕ)) (x : List ℕ) → ValueCase L t v x (chooseValue L t v x)
@@ -204,7 +204,7 @@ unfolding chooseValue
 value-case L t v [] = is-empty refl
 value-case L t v (b ∷ x) = rw (ne-eqb (length (b ∷ x)) 0 (λ z. omega arith)) (is-literal (omega arith) (literal-case L t v (b ∷ x)))
 
-pub value-permits : {L : Limits} {t : StringTable} {v : Vocabulary (List ℕ)} {x : List ℕ} {c : Chose How} → ValueCase L t v x c → PermitsValue t v x (c .how) (c .words)
+pub value-permits : {L : Limits} {t : StringTable} {v : Vocabulary (List ℕ)} {x : List ℕ} {c : Chose How} → ValueCase L t v x c → PermitsValue t v x (c .how) (c .tables)
 value-permits (is-empty e) = rw e value-none
 value-permits (is-literal h (lit-held en)) = value-entry en
 value-permits (is-literal h (lit-new {added = a} r)) = value-spelled a h
@@ -327,29 +327,29 @@ module _ (t : NameTable) (v : Vocabulary (List ℕ)) (x : Name (List ℕ)) where
   p = chooseOptional PREFIX v (x .prefix)
 
   abbrev n : Chose (Option How)
-  n = chooseOptional NAMESPACE-NAME (p .words) (x .namespace)
+  n = chooseOptional NAMESPACE-NAME (p .tables) (x .namespace)
 
   abbrev l : Chose How
-  l = chooseId LOCAL-NAME (n .words) (x .local)
+  l = chooseId LOCAL-NAME (n .tables) (x .local)
 
   abbrev cp : OptionalCase PREFIX v (x .prefix) p
   cp = optional-case PREFIX v (x .prefix)
 
-  abbrev cn : OptionalCase NAMESPACE-NAME (p .words) (x .namespace) n
-  cn = optional-case NAMESPACE-NAME (p .words) (x .namespace)
+  abbrev cn : OptionalCase NAMESPACE-NAME (p .tables) (x .namespace) n
+  cn = optional-case NAMESPACE-NAME (p .tables) (x .namespace)
 
-  abbrev cl : IdCase LOCAL-NAME (n .words) (x .local) l
-  cl = id-case LOCAL-NAME (n .words) (x .local)
+  abbrev cl : IdCase LOCAL-NAME (n .tables) (x .local) l
+  cl = id-case LOCAL-NAME (n .tables) (x .local)
 
   abbrev triple : Triple
   triple = record { prefix = p .number; namespace = n .number; local = l .number }
 
   pub data NameCase : Chose NameHow → Type 0 where
-    name-held : {j : ℕ} → Entry (names v t) j noTriple triple → nameOf v [] triple ≡ x → NameCase (record { how = byNumber (suc j); number = suc j; words = v })
-    name-new : holdsName (names (l .words) t) triple ≡ false
-        → NameCase (record { how = inParts (p .how) (n .how) (l .how); number = suc (length (names (l .words) t)); words = addingName (l .words) t triple })
+    name-held : {j : ℕ} → Entry (names v t) j noTriple triple → nameOf v [] triple ≡ x → NameCase (record { how = byNumber (suc j); number = suc j; tables = v })
+    name-new : holdsName (names (l .tables) t) triple ≡ false
+        → NameCase (record { how = inParts (p .how) (n .how) (l .how); number = suc (length (names (l .tables) t)); tables = addingName (l .tables) t triple })
 
-  no-names : (u : NameTable) → names (l .words) u ≡ names v u
+  no-names : (u : NameTable) → names (l .tables) u ≡ names v u
   no-names u = id-names cl u ∙ optional-names cn u ∙ optional-names cp u
 
   -- parts with numbers of the tables before: the name behind the triple is the name
@@ -359,20 +359,20 @@ module _ (t : NameTable) (v : Vocabulary (List ℕ)) (x : Name (List ℕ)) where
       let a = optional-was cp (r .prefix) in
       let n1 = subst (λ (w : Vocabulary (List ℕ)). n .number ≤ length (strings w NAMESPACE-NAME)) (sym (a .0)) (r .namespace) in
       let b = optional-was cn n1 in
-      let e : n .words ≡ v = b .0 ∙ a .0 in
+      let e : n .tables ≡ v = b .0 ∙ a .0 in
       let l1 = subst (λ (w : Vocabulary (List ℕ)). l .number ≤ length (strings w LOCAL-NAME)) (sym e) (r .local) in
       let c = id-was cl l1 in
       let b1 = subst (λ (w : Vocabulary (List ℕ)). partOf (strings w NAMESPACE-NAME) [] (n .number) ≡ x .namespace) (a .0) (b .1) in
       let c1 = subst (λ (w : Vocabulary (List ℕ)). getD (strings w LOCAL-NAME) (l .number - 1) [] ≡ x .local) e (c .1) in
       λ i. record { prefix = a .1 i; namespace = b1 i; local = c1 i }
 
-  name-from : Ranged v → (k : ℕ) → numberOfTriple (names (l .words) t) triple ≡ k
+  name-from : Ranged v → (k : ℕ) → numberOfTriple (names (l .tables) t) triple ≡ k
       → NameCase (pick (eqb k 0)
-      (record { how = inParts (p .how) (n .how) (l .how); number = suc (length (names (l .words) t)); words = addingName (l .words) t triple })
-      (record { how = byNumber k; number = k; words = v }))
-  name-from r zero e = name-new (holds-name-number (names (l .words) t) triple ∙ ap (λ (k : ℕ). not (eqb k 0)) e)
+      (record { how = inParts (p .how) (n .how) (l .how); number = suc (length (names (l .tables) t)); tables = addingName (l .tables) t triple })
+      (record { how = byNumber k; number = k; tables = v }))
+  name-from r zero e = name-new (holds-name-number (names (l .tables) t) triple ∙ ap (λ (k : ℕ). not (eqb k 0)) e)
   name-from r (suc m) e =
-      let en = rw e at (name-number-entry (names (l .words) t) noTriple triple (λ z. absurd (omega arith))) in
+      let en = rw e at (name-number-entry (names (l .tables) t) noTriple triple (λ z. absurd (omega arith))) in
       let y : suc m - 1 ≡ m = omega arith in
       let no = no-names t in
       let here : Entry (names v t) m noTriple triple = rw (y, no) at en in
@@ -381,9 +381,9 @@ module _ (t : NameTable) (v : Vocabulary (List ℕ)) (x : Name (List ℕ)) where
 
   pub name-case : Ranged v → NameCase (chooseName t v x)
   unfolding chooseName
-  name-case r = name-from r (numberOfTriple (names (l .words) t) triple) refl
+  name-case r = name-from r (numberOfTriple (names (l .tables) t) triple) refl
 
-  pub name-permits : {c : Chose NameHow} → NameCase c → PermitsName t v x (c .how) (c .words)
+  pub name-permits : {c : Chose NameHow} → NameCase c → PermitsName t v x (c .how) (c .tables)
   name-permits (name-held {j = j} en e) = subst (λ (y : Name (List ℕ)). PermitsName t v y (byNumber (suc j)) v) e (name-entry en)
   name-permits (name-new h) = name-parts cp cn cl h
 

@@ -10,7 +10,7 @@ use lib.ListN.{length, length-append}
 use lib.Dec.{leb}
 use Rattle.format.specs.Numbers.{AreOctets}
 use Rattle.format.specs.Tables.{link}
-use Rattle.tables.specs.Counts.{words}
+use Rattle.tables.specs.Counts.{tableWords}
 use Rattle.tables.specs.Told.{Told, wholeWord}
 use Rattle.events.specs.declared.Event.{Event}
 use Rattle.events.specs.FromWords.{recordsOf}
@@ -42,7 +42,7 @@ module _ (s : List ℕ) (bytes : AreOctets s) where
   demand-1-check = check-result (Read.reading s 32768) (Whole.means s bytes 32768) (check-never-14 s bytes)
 
   module _ (room : ℕ) where
-    read-result : (a : Read.Result) → Whole.Means s bytes a → ReadAnswers s room words (Read.outcome a room)
+    read-result : (a : Read.Result) → Whole.Means s bytes a → ReadAnswers s room tableWords (Read.outcome a room)
     read-result (Read.accepted is m) w = ReadAnswers.accepts refl refl
     read-result (Read.refusal n p) w = ReadAnswers.refuses (w .0, w .1) (w .2) refl refl refl
 
@@ -50,7 +50,7 @@ module _ (s : List ℕ) (bytes : AreOctets s) where
     unfolding Read.readOf
     read-answers table =
         either (ReadAnswers s room table) (Read.sized link s) _ _
-        (λ y. either-eq (ReadAnswers s room table) table words _ _
+        (λ y. either-eq (ReadAnswers s room table) table tableWords _ _
         (λ e. rw e (read-result (Read.reading s room) (Whole.means s bytes room)))
         (λ n. ReadAnswers.refuses {n = 14} {p = 0} (omega arith, omega arith) (omega arith) refl refl refl))
         (λ y. ReadAnswers.refuses {n = 1} {p = 0} (omega arith, omega arith) (omega arith) refl refl refl)
@@ -100,7 +100,7 @@ module _ (es : List Event) (text : List ℕ) where
     refused-number (too-soon all nay) = (WriterNumber.event, omega arith)
     refused-number (no-room-for-end all d nay) = (WriterNumber.room, omega arith)
 
-    write-result : length text ≤ 16384 → (a : Write.Result) → Write.writing text room es ≡ a → WriteAnswers es room words (Write.outcome a room)
+    write-result : length text ≤ 16384 → (a : Write.Result) → Write.writing text room es ≡ a → WriteAnswers es room tableWords (Write.outcome a room)
     write-result short (Write.written is hs z) e = WriteAnswers.accepts refl refl
     write-result short (Write.refusal n p) e = let w = refused-number (refused-by text short room es n p e) in WriteAnswers.refuses (w .0) (w .1) refl refl refl
 
@@ -108,7 +108,7 @@ module _ (es : List Event) (text : List ℕ) where
     unfolding Write.writeOf
     write-answers table =
         either (WriteAnswers es room table) (leb (length text) 16384) _ _
-        (λ y. either-eq (WriteAnswers es room table) table words _ _
+        (λ y. either-eq (WriteAnswers es room table) table tableWords _ _
         (λ e. rw e (write-result (leb-true _ _ y) (Write.writing text room es) refl))
         (λ n. WriteAnswers.refuses {p = 0} WriterNumber.room (omega arith) refl refl refl))
         (λ y. WriteAnswers.refuses {p = 0} WriterNumber.size (omega arith) refl refl refl)

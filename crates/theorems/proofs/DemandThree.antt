@@ -13,7 +13,7 @@ use Rattle.format.specs.Tables.{link}
 use Rattle.format.specs.Items.{State}
 use Rattle.format.specs.Document.{Writes}
 use Rattle.tables.specs.Located.{Located, plain, plainState}
-use Rattle.tables.specs.Counts.{words}
+use Rattle.tables.specs.Counts.{tableWords}
 use Rattle.tables.specs.Told.{toldAccepted, entriesOf}
 use Rattle.events.specs.Records.{blank, recordOf}
 use Rattle.reader.specs.Reading.{Result, accepted, refusal, sized, reading, refusing, outcome, readOf, Accepts}
@@ -24,22 +24,22 @@ use Rattle.theorems.proofs.Fits.{accepted-fits, accepted-sized}
 use Rattle.theorems.proofs.Demands.{accepted-is-written, one-pair, refused, records-well-made, made-earlier-places, spelled-places, tables-made-places}
 
 module _ (s : List ℕ) (room table : ℕ) where
-  pub accepts : (items : List (Item (List ℕ))) (z : State (List ℕ)) (w : Writes items z s) → length items ≤ room → table ≡ words → HandsOut s room items z w (readOf s room table)
+  pub accepts : (items : List (Item (List ℕ))) (z : State (List ℕ)) (w : Writes items z s) → length items ≤ room → table ≡ tableWords → HandsOut s room items z w (readOf s room table)
   unfolding readOf
   accepts items z w h right =
       let a = Whole.accepts s items z w room h in
       let known : plainState s (a .last .state) ≡ z = a .end-is in
       let is : length (a .events) ≡ length items = sym (length-map (a .events) (plain s)) ∙ ap length (a .are) in
       let as-many : length (map (λ (i : Item Located). recordOf (i .event)) (a .events)) ≡ length items = length-map (a .events) (λ (i : Item Located). recordOf (i .event)) ∙ is in
-      rw (accepted-sized s room (a .events) (a .last) (a .reads), eq-eqb table words right, a .reads)
+      rw (accepted-sized s room (a .events) (a .last) (a .reads), eq-eqb table tableWords right, a .reads)
       (record {
         events = a .events;
-        tables = a .last .state .words;
-        answer = λ i. toldAccepted (as-many i) ((sym (entries-map _ (a .last .state .words)) ∙ ap (λ (u : State (List ℕ)). entriesOf (u .words)) known) i);
+        tables = a .last .state .tables;
+        answer = λ i. toldAccepted (as-many i) ((sym (entries-map _ (a .last .state .tables)) ∙ ap (λ (u : State (List ℕ)). entriesOf (u .tables)) known) i);
         row = ap (λ (n : ℕ). map (λ (i : Item Located). recordOf (i .event)) (a .events) ++ replicate (room - n) blank) as-many;
-        words = refl;
+        table-words = refl;
         events-are = a .are;
-        tables-are = ap (λ (u : State (List ℕ)). u .words) known;
+        tables-are = ap (λ (u : State (List ℕ)). u .tables) known;
         well-made = records-well-made s room (a .events) (a .last) (a .reads);
         spelled = spelled-places items z s w room h (a .events) (a .last) (a .reads);
         earlier = made-earlier-places s room (a .events) (a .last) (a .reads);
@@ -47,19 +47,19 @@ module _ (s : List ℕ) (room table : ℕ) where
       })
 
 module _ (s : List ℕ) (bytes : AreOctets s) (room table : ℕ) where
-  only-from : table ≡ words → (r : Result) → reading s room ≡ r → outcome r room .told .number ≡ 0
-      → (items : List (Item (List ℕ))) × (z : State (List ℕ)) × Writes items z s × (length items ≤ room) × (table ≡ words)
+  only-from : table ≡ tableWords → (r : Result) → reading s room ≡ r → outcome r room .told .number ≡ 0
+      → (items : List (Item (List ℕ))) × (z : State (List ℕ)) × Writes items z s × (length items ≤ room) × (table ≡ tableWords)
   only-from right (accepted is m) q e =
       let a : Accepts s room (map (plain s) is) (plainState s (m .state)) = record { events = is; last = m; reads = q; are = refl; end-is = refl } in
       (map (plain s) is, plainState s (m .state), accepted-is-written s bytes room _ _ a, accepted-fits s room _ _ a, right)
   only-from right (refusal n p) q e = absurd (let k = refused s bytes room n p q .0 in omega arith)
 
-  only : (b d : Bool) → eqb table words ≡ d → pick b (pick d (outcome (reading s room) room) (refusing 14 0 room table)) (refusing 1 0 room table) .told .number ≡ 0
-      → (items : List (Item (List ℕ))) × (z : State (List ℕ)) × Writes items z s × (length items ≤ room) × (table ≡ words)
-  only true true q e = only-from (eqb-true table words q) (reading s room) refl e
+  only : (b d : Bool) → eqb table tableWords ≡ d → pick b (pick d (outcome (reading s room) room) (refusing 14 0 room table)) (refusing 1 0 room table) .told .number ≡ 0
+      → (items : List (Item (List ℕ))) × (z : State (List ℕ)) × Writes items z s × (length items ≤ room) × (table ≡ tableWords)
+  only true true q e = only-from (eqb-true table tableWords q) (reading s room) refl e
   only true false q e = absurd (omega arith)
   only false d q e = absurd (omega arith)
 
   pub demand-3 : Demand3 s room table (readOf s room table)
   unfolding readOf
-  demand-3 = record { accepts = accepts s room table; only = only (sized link s) (eqb table words) refl; one-pair = λ items others y z w u. one-pair s bytes items others y z w u }
+  demand-3 = record { accepts = accepts s room table; only = only (sized link s) (eqb table tableWords) refl; one-pair = λ items others y z w u. one-pair s bytes items others y z w u }

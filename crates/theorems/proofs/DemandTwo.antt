@@ -15,7 +15,7 @@ use Rattle.format.specs.Items.{State}
 use Rattle.format.specs.Document.{header, started}
 use Rattle.format.specs.Allowed.{All}
 use Rattle.tables.specs.Located.{Located, plainState}
-use Rattle.tables.specs.Counts.{words}
+use Rattle.tables.specs.Counts.{tableWords}
 use Rattle.tables.specs.Told.{Told, toldAccepted, toldRefused, entriesOf}
 use Rattle.events.specs.declared.Event.{Event}
 use Rattle.events.specs.WellMade.{WellMade}
@@ -50,7 +50,7 @@ refused-some (no-room-for-end all d w) = omega arith
 
 module _ (es : List Event) (text : List ℕ) (room : ℕ) where
   module _ (short : length text ≤ 16384) where
-    from-written : (items : List (Item Located)) (hs : List ℕ) (y : State Located) → writing text room es ≡ written items hs y → Acceptable es text room words (header ++ joined hs) (plainState text y)
+    from-written : (items : List (Item Located)) (hs : List ℕ) (y : State Located) → writing text room es ≡ written items hs y → Acceptable es text room tableWords (header ++ joined hs) (plainState text y)
     from-written items hs y q =
         let m = meant text short room es items hs y q in
         record {
@@ -63,10 +63,10 @@ module _ (es : List Event) (text : List ℕ) (room : ℕ) where
 
     -- OF THE DEFINITION: it writes s, with z known at the end, exactly when the records are well made, the rules write s from their plain events with 01's
     -- choices, z being known then, and s fits.
-    pub writes-exactly : (s : List ℕ) (z : State (List ℕ)) → Wrote es text room s z ↔ Acceptable es text room words s z
+    pub writes-exactly : (s : List ℕ) (z : State (List ℕ)) → Wrote es text room s z ↔ Acceptable es text room tableWords s z
     writes-exactly s z = (
-      λ w. subst (λ (u : State (List ℕ)). Acceptable es text room words s u) (w .known)
-          (subst (λ (o : List ℕ). Acceptable es text room words o (plainState text (w .last))) (w .octets) (from-written (w .items) (w .halves) (w .last) (w .is))),
+      λ w. subst (λ (u : State (List ℕ)). Acceptable es text room tableWords s u) (w .known)
+          (subst (λ (o : List ℕ). Acceptable es text room tableWords o (plainState text (w .last))) (w .octets) (from-written (w .items) (w .halves) (w .last) (w .is))),
       λ a. writes-it text room es (a .well-made) z s (a .writes) (a .fits) short,
     )
 
@@ -79,30 +79,30 @@ module _ (es : List Event) (text : List ℕ) (room : ℕ) where
     unfolding writeOf
     accepts s z a =
         let w = writes-it text room es (a .well-made) z s (a .writes) (a .fits) (a .text-size) in
-        rw (le-leb (length text) 16384 (a .text-size), eq-eqb table words (a .table-room), w .is)
+        rw (le-leb (length text) 16384 (a .text-size), eq-eqb table tableWords (a .table-room), w .is)
         (record {
           items = w .items;
-          tables = w .last .words;
-          answer = λ i. toldAccepted (length (w .octets i)) ((sym (entries-map _ (w .last .words)) ∙ ap (λ (u : State (List ℕ)). entriesOf (u .words)) (w .known)) i);
+          tables = w .last .tables;
+          answer = λ i. toldAccepted (length (w .octets i)) ((sym (entries-map _ (w .last .tables)) ∙ ap (λ (u : State (List ℕ)). entriesOf (u .tables)) (w .known)) i);
           octets = ap (λ (o : List ℕ). o ++ replicate (room - length o) 0) (w .octets);
-          words = refl;
-          tables-are = ap (λ (u : State (List ℕ)). u .words) (w .known);
+          table-words = refl;
+          tables-are = ap (λ (u : State (List ℕ)). u .tables) (w .known);
           given = the-events-given text room es (w .items) (w .halves) (w .last) (w .is);
           chosen = meant text (a .text-size) room es (w .items) (w .halves) (w .last) (w .is) .chosen-by;
           strings-made = strings-written text room es (w .items) (w .halves) (w .last) (w .is);
         })
 
-    only-from : length text ≤ 16384 → table ≡ words → (r : Result) → writing text room es ≡ r → outcome r room .told .number ≡ 0 → (s : List ℕ) × (z : State (List ℕ)) × Acceptable es text room table s z
+    only-from : length text ≤ 16384 → table ≡ tableWords → (r : Result) → writing text room es ≡ r → outcome r room .told .number ≡ 0 → (s : List ℕ) × (z : State (List ℕ)) × Acceptable es text room table s z
     only-from short right (written items hs y) q e = (header ++ joined hs, plainState text y, rw right (from-written short items hs y q))
     only-from short right (refusal n p) q e = absurd (let k = refused-some (refused-by text short room es n p q) in omega arith)
 
-    only : (b d : Bool) → leb (length text) 16384 ≡ b → eqb table words ≡ d → Asked b d .told .number ≡ 0 → (s : List ℕ) × (z : State (List ℕ)) × Acceptable es text room table s z
-    only true true p q e = only-from (leb-true _ _ p) (eqb-true table words q) (writing text room es) refl e
+    only : (b d : Bool) → leb (length text) 16384 ≡ b → eqb table tableWords ≡ d → Asked b d .told .number ≡ 0 → (s : List ℕ) × (z : State (List ℕ)) × Acceptable es text room table s z
+    only true true p q e = only-from (leb-true _ _ p) (eqb-true table tableWords q) (writing text room es) refl e
     only true false p q e = absurd (omega arith)
     only false d p q e = absurd (omega arith)
 
     -- the refusals
-    told-from : length text ≤ 16384 → table ≡ words → (n p : ℕ) (r : Result) → writing text room es ≡ r → outcome r room .told ≡ toldRefused n p → RefusedBy es text room table n p
+    told-from : length text ≤ 16384 → table ≡ tableWords → (n p : ℕ) (r : Result) → writing text room es ≡ r → outcome r room .told ≡ toldRefused n p → RefusedBy es text room table n p
     unfolding header
     told-from short right n p (written items hs y) q e = absurd (let k = ap (λ (t : Told). t .count) e in omega arith)
     told-from short right n p (refusal k i) q e =
@@ -110,12 +110,12 @@ module _ (es : List Event) (text : List ℕ) (room : ℕ) where
         let ep : i ≡ p = ap (λ (t : Told). t .place) e in
         at-events short right (refused-by text short room es n p (q ∙ λ j. refusal (en j) (ep j)))
 
-    refused-told : (n p : ℕ) (b d : Bool) → leb (length text) 16384 ≡ b → eqb table words ≡ d → Asked b d .told ≡ toldRefused n p → RefusedBy es text room table n p
-    refused-told n p true true u q e = told-from (leb-true _ _ u) (eqb-true table words q) n p (writing text room es) refl e
+    refused-told : (n p : ℕ) (b d : Bool) → leb (length text) 16384 ≡ b → eqb table tableWords ≡ d → Asked b d .told ≡ toldRefused n p → RefusedBy es text room table n p
+    refused-told n p true true u q e = told-from (leb-true _ _ u) (eqb-true table tableWords q) n p (writing text room es) refl e
     refused-told n p true false u q e =
         let en : 14 ≡ n = ap (λ (t : Told). t .number) e in
         let ep : 0 ≡ p = ap (λ (t : Told). t .place) e in
-        rw (← en, ← ep) (wrong-table-room (leb-true _ _ u) (λ k. clash (sym q ∙ eq-eqb table words k)))
+        rw (← en, ← ep) (wrong-table-room (leb-true _ _ u) (λ k. clash (sym q ∙ eq-eqb table tableWords k)))
     refused-told n p false d u q e =
         let en : 1 ≡ n = ap (λ (t : Told). t .number) e in
         let ep : 0 ≡ p = ap (λ (t : Told). t .place) e in
@@ -124,8 +124,8 @@ module _ (es : List Event) (text : List ℕ) (room : ℕ) where
     told-refused : {n p : ℕ} → RefusedBy es text room table n p → writeOf es text room table .told ≡ toldRefused n p
     unfolding writeOf
     told-refused (text-too-long h) = rw (lt-leb (length text) 16384 h)
-    told-refused (wrong-table-room h no-words) = rw (le-leb (length text) 16384 h, ne-eqb table words no-words)
-    told-refused (at-events {n = n} {p = p} h right r) = rw (le-leb (length text) 16384 h, eq-eqb table words right, refuses-it text h room es n p r)
+    told-refused (wrong-table-room h no-words) = rw (le-leb (length text) 16384 h, ne-eqb table tableWords no-words)
+    told-refused (at-events {n = n} {p = p} h right r) = rw (le-leb (length text) 16384 h, eq-eqb table tableWords right, refuses-it text h room es n p r)
 
   -- OF THE CALL.
   pub demand-2 : (table : ℕ) → Demand2 es text room table (writeOf es text room table)
@@ -133,12 +133,12 @@ module _ (es : List Event) (text : List ℕ) (room : ℕ) where
   demand-2 table =
       record {
         accepts = accepts table;
-        only = only table (leb (length text) 16384) (eqb table words) refl refl;
+        only = only table (leb (length text) 16384) (eqb table tableWords) refl refl;
         back = λ s z a records h.
-            Three.accepts s records words (itemsOf (plains text es)) z (a .writes)
+            Three.accepts s records tableWords (itemsOf (plains text es)) z (a .writes)
             (let l = ap length (chosen-events link started (plains text es)) in
             let m = length-map (itemsOf (plains text es)) (λ (i : Item (List ℕ)). i .event) in
             let n = length-map es (plainOf text) in
             omega arith) refl;
-        refuses = λ n p. (refused-told table n p (leb (length text) 16384) (eqb table words) refl refl, told-refused table);
+        refuses = λ n p. (refused-told table n p (leb (length text) 16384) (eqb table tableWords) refl refl, told-refused table);
       }

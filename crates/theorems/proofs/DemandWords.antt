@@ -14,7 +14,7 @@ use Rattle.format.specs.Events.{Item}
 use Rattle.format.specs.Tables.{link}
 use Rattle.format.specs.Items.{State}
 use Rattle.format.specs.Document.{Writes}
-use Rattle.tables.specs.Counts.{words}
+use Rattle.tables.specs.Counts.{tableWords}
 use Rattle.tables.specs.Told.{toldRefused, lowWord, wholeWord}
 use Rattle.events.specs.declared.Event.{Event}
 use Rattle.events.specs.FromWords.{recordsOf}
@@ -35,7 +35,7 @@ module _ (s : List ℕ) (bytes : AreOctets s) where
   demand-3-check = (λ e. let w = check-accepts s bytes e in (w .items, w .last, w .writes), λ w. written-is-checked s bytes (w .0) (w .1) (w .2))
 
   -- The check answers as the reader with 32,768 event records.
-  pub check-is-reading : Read.checkOf s ≡ lowWord (Read.readOf s 32768 words .told)
+  pub check-is-reading : Read.checkOf s ≡ lowWord (Read.readOf s 32768 tableWords .told)
   unfolding Read.checkOf Read.readOf Read.reading Read.opening
   check-is-reading = from-size (Read.sized link s) refl
     where
@@ -43,7 +43,7 @@ module _ (s : List ℕ) (bytes : AreOctets s) where
       told (Read.accepted is m) = refl
       told (Read.refusal n p) = refl
 
-      from-size : (b : Bool) → Read.sized link s ≡ b → Read.numberOf (Read.reading s 32768) ≡ lowWord (pick b (Read.outcome (Read.reading s 32768) 32768) (Read.refusing 1 0 32768 words) .told)
+      from-size : (b : Bool) → Read.sized link s ≡ b → Read.numberOf (Read.reading s 32768) ≡ lowWord (pick b (Read.outcome (Read.reading s 32768) 32768) (Read.refusing 1 0 32768 tableWords) .told)
       from-size true e = told (Read.reading s 32768)
       from-size false e = rw e
 
@@ -61,7 +61,7 @@ module _ (s : List ℕ) (bytes : AreOctets s) where
         ]
 
     read-words-only : (c : ℕ) → ReadWords.readWords s r t c .answer % 2 ^ 32 ≡ 0
-        → (items : List (Item (List ℕ))) × (z : State (List ℕ)) × Writes items z s × (length items ≤ r / 13) × (t ≡ words) × (c ≡ 10)
+        → (items : List (Item (List ℕ))) × (z : State (List ℕ)) × Writes items z s × (length items ≤ r / 13) × (t ≡ tableWords) × (c ≡ 10)
     read-words-only c e = let a = read-words-accepted c e in let b = demand-3 s bytes (r / 13) t .only (a .1) in (b .0, b .1, b .2, b .3, b .4, a .0)
 
     -- DEMAND 3 of `lomphachit_read`

@@ -93,11 +93,11 @@ spelled-places items z s w room h events last e = Whole.spelled-is s items z w r
 
 --    MADE: the tables at the end hold the built-in entries, then what the choices of the items make, in order, and nothing else; and the reader's tables have the
 --    very places that its events have.
-pub tables-made : (items : List (Item (List ℕ))) (z : State (List ℕ)) (s : List ℕ) → Writes items z s → MadeBy [] started (acts [] items) (z .words)
+pub tables-made : (items : List (Item (List ℕ))) (z : State (List ℕ)) (s : List ℕ) → Writes items z s → MadeBy [] started (acts [] items) (z .tables)
 tables-made items z s w = Before.made xmlPrefix xmlNamespace (document-done w)
 
 pub tables-made-places : (s : List ℕ) (room : ℕ) (events : List (Item Located)) (last : Stand) → reading s room ≡ accepted events last
-    → MadeBy empty start (acts empty events) (last .state .words)
+    → MadeBy empty start (acts empty events) (last .state .tables)
 tables-made-places s room events last e = Places.made-places s room events last e
 
 -- 5. TABLES: what the reader knows after each event is what the rules know then.
@@ -169,7 +169,7 @@ module _ (items : List (Item (List ℕ))) (w : Vocabulary (List ℕ)) where
   every-choice doc may short few permits = Every.every-choice items doc may short permits few
 
 --     And no other choices: what the rules write is permitted, and leaves those tables.
-pub permitted : (items : List (Item (List ℕ))) (z : State (List ℕ)) (s : List ℕ) (L : Limits) → Document L header started items z s → PermitsAll started items (z .words)
+pub permitted : (items : List (Item (List ℕ))) (z : State (List ℕ)) (s : List ℕ) (L : Limits) → Document L header started items z s → PermitsAll started items (z .tables)
 unfolding beginning
 permitted items z s L d = Permitted.permitted (d .rule)
 

@@ -21,7 +21,7 @@ use Rattle.theorems.proofs.Opening.{Opened, opening-sound, opening-comp
 
 pub plain-start : (s : List ℕ) → plainState s (beginning start) ≡ beginning (starting xmlPrefix xmlNamespace)
 unfolding beginning start octetsOf
-plain-start s = λ i. record { words = starting-map (octetsOf s) builtInPrefix builtInNamespace i; level = 0; root = false; mode = content }
+plain-start s = λ i. record { tables = starting-map (octetsOf s) builtInPrefix builtInNamespace i; level = 0; root = false; mode = content }
 
 five : length header ≡ 5
 unfolding header

@@ -6,7 +6,7 @@ use mathlib.Core.List.{List, _∷_, map}
 use borrow.Author.Tests.{lt-ltb}
 use Rattle.format.specs.Events.{Event, Namespace, Start, Attribute, Text, Comment, Instruction, End, Item, no-attribute, IsDocument}
 use Rattle.format.specs.Tables.{Vocabulary, Limits}
-use Rattle.format.specs.Items.{State, mayStart, Octets, o-start, o-first-namespace, o-namespace, o-named-start, o-attribute, o-text, o-comment, o-instruction}
+use Rattle.format.specs.Items.{State, mayStart, ItemWrittenAs, o-start, o-first-namespace, o-namespace, o-named-start, o-attribute, o-text, o-comment, o-instruction}
 use Rattle.format.specs.Document.{Written, document-end, attributes-end, element-end, item, Document}
 use Rattle.writer.specs.Events.{goesOn}
 use Rattle.theorems.proofs.Structure.{Rest, back, ended-back, all-left}
@@ -16,7 +16,7 @@ events items = map (λ (i : Item (List ℕ)). i .event) items
 
 module _ {L : Limits} where
   -- an item in front of what is left behind it: the rules go on as `goesOn` does
-  fronts : {v w : State (List ℕ)} {i : Item (List ℕ)} {o : List ℕ} (es : List (Event (List ℕ))) → Octets L v i o w → Rest w es → Rest v (i .event ∷ es)
+  fronts : {v w : State (List ℕ)} {i : Item (List ℕ)} {o : List ℕ} (es : List (Event (List ℕ))) → ItemWrittenAs L v i o w → Rest w es → Rest v (i .event ∷ es)
   unfolding goesOn mayStart
   fronts {v} es (o-start a {x = x} md may deep u) k = back a v (Start x) es (rw md may) k
   fronts {v} es (o-first-namespace {a = a} {p = p} {n = n} md may deep u) k = back a v (Namespace p n) es (rw md may) k

@@ -11,7 +11,7 @@ use Rattle.format.specs.Tables.{StringTable, PREFIX, NAMESPACE-NAME, LOCAL-NAME
 use Rattle.format.specs.Tables.{NameTable, ELEMENT-NAME, ATTRIBUTE-NAME, Triple, noTriple, Vocabulary, strings, names, adding, addingName, Entry, nameOf, Limits}
 use Rattle.format.specs.Strings.{keeping, Identifying, id-spelled, id-numbered, Optional, absent, present, Layout, Literal, literal-spelled, literal-numbered, Value, value-empty, value}
 use Rattle.format.specs.Names.{has, NameLayout, ofElement, ofAttribute, Named, in-parts, by-number, Declared, declared}
-use Rattle.format.specs.Items.{State, Octets, o-start, o-first-namespace, o-namespace, o-named-start, o-attribute, o-text, o-comment, o-instruction}
+use Rattle.format.specs.Items.{State, ItemWrittenAs, o-start, o-first-namespace, o-namespace, o-named-start, o-attribute, o-text, o-comment, o-instruction}
 use Rattle.format.specs.Document.{beginning, Written, document-end, attributes-end, element-end, item, Document}
 use Rattle.format.specs.Allowed.{Said}
 
@@ -84,7 +84,7 @@ module _ {L : Limits} where
       → Declared L v p n hp hn o w → ItemDone [] Said v (Namespace p n by forNamespace hp hn) w
   namespace-done (declared up un) = done-namespace (part-done up) (part-done un)
 
-  octets-done : {v w : State (List ℕ)} {i : Item (List ℕ)} {o : List ℕ} → Octets L v i o w → ItemDone [] Said (v .words) i (w .words)
+  octets-done : {v w : State (List ℕ)} {i : Item (List ℕ)} {o : List ℕ} → ItemWrittenAs L v i o w → ItemDone [] Said (v .tables) i (w .tables)
   unfolding ofElement ofAttribute
   octets-done (o-start a md may deep u) = done-start (name-done u)
   octets-done (o-first-namespace md may deep u) = namespace-done u
@@ -95,13 +95,13 @@ module _ {L : Limits} where
   octets-done (o-comment md u) = done-comment (value-done u)
   octets-done (o-instruction md u1 u2) = done-instruction (id-done u1) (value-done u2)
 
-  written-done : {at : ℕ} {v z : State (List ℕ)} {items : List (Item (List ℕ))} {hs : List ℕ} → Written L at v items hs z → Done [] Said (v .words) items (z .words)
+  written-done : {at : ℕ} {v z : State (List ℕ)} {items : List (Item (List ℕ))} {hs : List ℕ} → Written L at v items hs z → Done [] Said (v .tables) items (z .tables)
   written-done (document-end md lv rt) = no-item
   written-done (attributes-end md w) = written-done w
   written-done (element-end md lv w) = an-item done-end (written-done w)
   written-done (item u w) = an-item (octets-done u) (written-done w)
 
   pub document-done : {h : List ℕ} {start : Vocabulary (List ℕ)} {items : List (Item (List ℕ))} {z : State (List ℕ)} {s : List ℕ}
-      → Document L h start items z s → Done [] Said start items (z .words)
+      → Document L h start items z s → Done [] Said start items (z .tables)
   unfolding beginning
   document-done d = written-done (d .rule)

@@ -120,12 +120,12 @@ all-add (an-item p ps) =
 pub chosen-permitted : (C : Limits) (v : Vocabulary (List ℕ)) (es : List (Event (List ℕ))) → Ranged v → PermitsAll v (chosen C v es) (tablesAfter C v es)
 unfolding chosen tablesAfter
 chosen-permitted C v [] r = no-item
-chosen-permitted C v (e ∷ es) r = an-item (permits-for C v e r) (chosen-permitted C (chooseFor C v e .words) es (ranged-for C v e r))
+chosen-permitted C v (e ∷ es) r = an-item (permits-for C v e r) (chosen-permitted C (chooseFor C v e .tables) es (ranged-for C v e r))
 
 pub chosen-events : (C : Limits) (v : Vocabulary (List ℕ)) (es : List (Event (List ℕ))) → events (chosen C v es) ≡ es
 unfolding chosen
 chosen-events C v [] = refl
-chosen-events C v (e ∷ es) = ap (λ (l : List (Event (List ℕ))). e ∷ l) (chosen-events C (chooseFor C v e .words) es)
+chosen-events C v (e ∷ es) = ap (λ (l : List (Event (List ℕ))). e ∷ l) (chosen-events C (chooseFor C v e .tables) es)
 
 -- ---- from the tables with which every document starts
 few-started : (t : StringTable) → length (strings started t) ≤ 1

@@ -60,11 +60,11 @@ pub record CanWrite (L : Limits) (at : ℕ) (v : State (List ℕ)) (items : List
   pub halves : List ℕ
   pub last : State (List ℕ)
   pub rule : Written L at v items halves last
-  pub known : last .words ≡ tables
+  pub known : last .tables ≡ tables
 
 module _ (L : Limits) (small : L .entries ≤ top) where
   can-write : {w : Vocabulary (List ℕ)} (items : List (Item (List ℕ))) (at : ℕ) (v : State (List ℕ)) → Rest v (events items) → Sane v → All Said (events items) → deepest (v .level) (events items) ≤ L .depth → InLimits L w
-      → Ahead (v .mode) (announcedBy (events items)) → PermitsAll (v .words) items w → CanWrite L at v items w
+      → Ahead (v .mode) (announcedBy (events items)) → PermitsAll (v .tables) items w → CanWrite L at v items w
   unfolding announcedBy
   can-write [] at v k s sd dp i ah no-item = let e = ended v s k in record { halves = _; last = v; rule = document-end (e .0) (e .1) (e .2); known = refl }
   can-write (x ∷ items) at v k s sd dp i ah (an-item {u = u} p ps) =

@@ -14,7 +14,7 @@ use Rattle.fields.specs.declared.Number.{Number}
 use Rattle.fields.specs.declared.Number.the-variants.{Got as Num, Refused as NoNum}
 use Rattle.fields.specs.Fields.{fieldAt, noTop}
 use Rattle.fields.proofs.Laws.{rooms, Roomy}
-use Rattle.tables.specs.Located.{Located, stretch, octetsOf, plainWords}
+use Rattle.tables.specs.Located.{Located, stretch, octetsOf, plainTables}
 use Rattle.read_names.specs.Strings.{Got, got, refused, then, number, spelling}
 use Rattle.read_items.specs.Items.{Step, stop, into}
 use Rattle.theorems.proofs.Lists.{Fault, fault, test, test-le, stretch-sound, stretch-length, stretch-complete, drop-past}
@@ -25,7 +25,7 @@ module _ (s : List ℕ) where
   -- from octet k, where v is known, b has been read, up to the octet `next`, and w is known then
   pub record FieldRead {B : Type 0} (R : Vocabulary (List ℕ) → B → List ℕ → Vocabulary (List ℕ) → Type 0) (k : ℕ) (v : Vocabulary Located) (b : B) (next : ℕ) (w : Vocabulary Located) : Type 0 where
     pub octets : List ℕ
-    pub rule : R (plainWords s v) b octets (plainWords s w)
+    pub rule : R (plainTables s v) b octets (plainTables s w)
     pub here : drop k s ≡ octets ++ drop next s
     pub next-is : next ≡ k + length octets
     pub inside : next ≤ length s
@@ -81,7 +81,7 @@ module _ (s : List ℕ) where
     pub b : B
     pub v : Vocabulary Located
     pub goes : g ≡ got b next v
-    pub state : plainWords s v ≡ w
+    pub state : plainTables s v ≡ w
     pub what : Q b
 
   pub hit-at : {B : Type 0} (Q : B → Type 0) (a b : ℕ) (w : Vocabulary (List ℕ)) (g : Got B) → a ≡ b → Hit Q a w g → Hit Q b w g

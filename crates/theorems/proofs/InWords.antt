@@ -8,7 +8,7 @@ use borrow.Author.Tests.{eq-eqb, ne-eqb, leb-true, leb-false}
 use lib.ListN.{length}
 use lib.Dec.{eqb, leb}
 use Rattle.format.specs.Tables.{link}
-use Rattle.tables.specs.Counts.{words}
+use Rattle.tables.specs.Counts.{tableWords}
 use Rattle.tables.specs.Told.{Told, toldAccepted, wholeWord}
 use Rattle.tables.proofs.Laws.{entries-are}
 use Rattle.events.specs.FromWords.{recordsOf}
@@ -27,14 +27,14 @@ module _ (s : List ℕ) (r t : ℕ) where
 
   -- the enum says what 01's numbers say
   read-result : (a : Read.Result) → Read.told (Read.outcome a (r / 13) .answer) ≡ Read.outcome a (r / 13) .told
-  read-result (Read.accepted is m) = ap (toldAccepted _) (sym (entries-are (m .state .words)))
+  read-result (Read.accepted is m) = ap (toldAccepted _) (sym (entries-are (m .state .tables)))
   read-result (Read.refusal n p) = refl
 
   read-told : Read.told (rows-read .answer) ≡ rows-read .told
   unfolding Read.readOf
   read-told =
       let P : Read.Outcome → Type 0 = λ o. Read.told (o .answer) ≡ o .told in
-      either P (Read.sized link s) _ _ (λ y. either P (eqb t words) _ _ (λ e. read-result (Read.reading s (r / 13))) (λ n. refl)) (λ n. refl)
+      either P (Read.sized link s) _ _ (λ y. either P (eqb t tableWords) _ _ (λ e. read-result (Read.reading s (r / 13))) (λ n. refl)) (λ n. refl)
 
   pub in-read-words : InReadWords r rows-read (ReadWords.inWords r rows-read)
   unfolding ReadWords.inWords
@@ -59,14 +59,14 @@ module _ (records text : List ℕ) (r t : ℕ) where
   rows-written = Write.writeOf (recordsOf records) text r t
 
   write-result : (a : Write.Result) → Write.told (Write.outcome a r .answer) ≡ Write.outcome a r .told
-  write-result (Write.written is hs z) = ap (toldAccepted _) (sym (entries-are (z .words)))
+  write-result (Write.written is hs z) = ap (toldAccepted _) (sym (entries-are (z .tables)))
   write-result (Write.refusal n p) = refl
 
   write-told : Write.told (rows-written .answer) ≡ rows-written .told
   unfolding Write.writeOf
   write-told =
       let P : Write.Outcome → Type 0 = λ o. Write.told (o .answer) ≡ o .told in
-      either P (leb (length text) 16384) _ _ (λ y. either P (eqb t words) _ _ (λ e. write-result (Write.writing text r (recordsOf records))) (λ n. refl)) (λ n. refl)
+      either P (leb (length text) 16384) _ _ (λ y. either P (eqb t tableWords) _ _ (λ e. write-result (Write.writing text r (recordsOf records))) (λ n. refl)) (λ n. refl)
 
   pub in-write-words : InWriteWords rows-written (WriteWords.inWords rows-written)
   unfolding WriteWords.inWords

@@ -14,13 +14,13 @@ use Rattle.format.specs.Events.{Name, Namespace, Start, Attribute, Text, Commen
 use Rattle.format.specs.Tables.{OTHER-NCNAME, ATTRIBUTE-VALUE, CONTENT-CHARACTER-CHUNK, OTHER-STRING, Vocabulary, Limits}
 use Rattle.format.specs.Strings.{bit, c15, Value}
 use Rattle.format.specs.Names.{ofElement, ofAttribute, Named, Declared}
-use Rattle.format.specs.Items.{Mode, content, declaring, listing, State, mayStart, knowing, moved, opened, Octets, o-start, o-first-namespace, o-namespace, o-named-start, o-attribute, o-text, o-comment, o-instruction}
+use Rattle.format.specs.Items.{Mode, content, declaring, listing, State, mayStart, knowing, moved, opened, ItemWrittenAs, o-start, o-first-namespace, o-namespace, o-named-start, o-attribute, o-text, o-comment, o-instruction}
 use Rattle.fields.specs.declared.Cursor.{Cursor}
 use Rattle.fields.specs.declared.Number.{Number}
 use Rattle.fields.specs.declared.Number.the-variants.{Got as Num, Refused as NoNum}
 use Rattle.fields.specs.Fields.{readIn, fieldAt}
 use Rattle.fields.proofs.Laws.{case, rooms}
-use Rattle.tables.specs.Located.{Located, plain, plainWords, plainState}
+use Rattle.tables.specs.Located.{Located, plain, plainTables, plainState}
 use Rattle.read_names.specs.Strings.{Got, idAt, literalAt, valueAt}
 use Rattle.read_names.specs.Names.{NameRead, lonePrefix, partsAt, numberedAt, nameAt, declaredAt}
 use Rattle.read_items.specs.Items.{Stand, Step, more, quiet, done, stop, octet, namePadding, startOf, namespaceAt, elementAt, namedAt, attributeAt, chunkAt, commentAt, instructionAt, otherAt, childAt, declaringAt, itemAt}
@@ -86,7 +86,7 @@ number-unpadded s k b n c e z h =
 module _ (L : Limits) (s : List ℕ) (bytes : (i : ℕ) → getD s i 0 < 256) (short : length s ≤ longest) where
   pub record ItemRead (k : ℕ) (v : State Located) (p : ℕ) (i : Item Located) (n : Stand) : Type 0 where
     pub octets : List ℕ
-    pub rule : Octets L (plainState s v) (plain s i) octets (plainState s (n .state))
+    pub rule : ItemWrittenAs L (plainState s v) (plain s i) octets (plainState s (n .state))
     pub here : drop k s ≡ octets ++ drop (k + length octets) s
     pub next : n .at ≡ 2 * (k + length octets)
     pub inside : k + length octets ≤ length s
@@ -100,14 +100,14 @@ module _ (L : Limits) (s : List ℕ) (bytes : (i : ℕ) → getD s i 0 < 256) (s
 
   -- the octets and what stands before them
   took : (k : ℕ) (v : State Located) (p : ℕ) (i : Item Located) (next : ℕ) (w : State Located) (o : List ℕ) → drop k s ≡ o ++ drop next s → next ≡ k + length o → next ≤ length s → p ≤ length s
-      → Octets L (plainState s v) (plain s i) o (plainState s w) → ItemRead k v p i (octet next w)
+      → ItemWrittenAs L (plainState s v) (plain s i) o (plainState s w) → ItemRead k v p i (octet next w)
   took k v p i next w o d l ll pl u = record { octets = o; rule = u; here = rw (← l) d; next = ap (λ (x : ℕ). 2 * x) l; inside = omega arith; place = pl }
 
   -- a Start, behind the octets `pre`, once its name is read
   module _ (a : Bool) (lead k j : ℕ) (pre : List ℕ) (v : State Located) (d : drop j s ≡ pre ++ drop k s) (l : k ≡ j + length pre) (kl : k ≤ length s)
-      (f : (x : Name (List ℕ)) (h : NameHow) (os : List ℕ) (w : Vocabulary (List ℕ)) → Named L ofElement lead (plainWords s (v .words)) x h os w
-      → Octets L (plainState s v) (Start x by forStart h) (pre ++ os) (opened (plainState s v) w a)) where
-    start-read : (x : NameRead) (next : ℕ) (w : Vocabulary Located) → FieldRead s (NameR L s bytes short ofElement lead) k (v .words) x next w
+      (f : (x : Name (List ℕ)) (h : NameHow) (os : List ℕ) (w : Vocabulary (List ℕ)) → Named L ofElement lead (plainTables s (v .tables)) x h os w
+      → ItemWrittenAs L (plainState s v) (Start x by forStart h) (pre ++ os) (opened (plainState s v) w a)) where
+    start-read : (x : NameRead) (next : ℕ) (w : Vocabulary Located) → FieldRead s (NameR L s bytes short ofElement lead) k (v .tables) x next w
         → ItemRead j v k (Start (x .name) by forStart (x .how)) (octet next (opened v w a))
     unfolding eventMap
     start-read x next w r =
@@ -115,16 +115,16 @@ module _ (L : Limits) (s : List ℕ) (bytes : (i : ℕ) → getD s i 0 < 256) (s
         let la = length-append pre (r .octets) in
         took j v k (Start (x .name) by forStart (x .how)) next (opened v w a) (pre ++ r .octets) (d ∙ ap (λ (l : List ℕ). pre ++ l) (r .here) ∙ sym (append-assoc pre (r .octets) (drop next s))) (omega arith) (r .inside) kl (f _ _ _ _ (r .rule))
 
-    start-sound : (g : Got NameRead) → Ok s (NameR L s bytes short ofElement lead) k (v .words) g → Took j v (startOf L k a v g)
-    start-sound g r = in-step s (Took j v) (λ c p f. f) (NameR L s bytes short ofElement lead) k (v .words) g r _ λ x next w r. start-read x next w r
+    start-sound : (g : Got NameRead) → Ok s (NameR L s bytes short ofElement lead) k (v .tables) g → Took j v (startOf L k a v g)
+    start-sound g r = in-step s (Took j v) (λ c p f. f) (NameR L s bytes short ofElement lead) k (v .tables) g r _ λ x next w r. start-read x next w r
 
   namespace-sound : (k j : ℕ) (pre : List ℕ) (v : State Located) (a : Bool) → drop j s ≡ pre ++ drop k s → k ≡ j + length pre → k ≤ length s
-      → ((p n : Option (List ℕ)) (hp hn : Option How) (os : List ℕ) (w : Vocabulary (List ℕ)) → Declared L (plainWords s (v .words)) p n hp hn os w
-      → Octets L (plainState s v) (Namespace p n by forNamespace hp hn) (pre ++ os) (moved (plainState s v) w (declaring a)))
+      → ((p n : Option (List ℕ)) (hp hn : Option How) (os : List ℕ) (w : Vocabulary (List ℕ)) → Declared L (plainTables s (v .tables)) p n hp hn os w
+      → ItemWrittenAs L (plainState s v) (Namespace p n by forNamespace hp hn) (pre ++ os) (moved (plainState s v) w (declaring a)))
       → Took j v (namespaceAt L s k v a)
   unfolding namespaceAt eventMap
   namespace-sound k j pre v a d l kl f =
-      in-step s (Took j v) (λ c p f. f) (DeclaredR L s bytes short) k (v .words) (declaredAt L s k (v .words)) (declared-sound L s bytes short k (v .words) kl) _
+      in-step s (Took j v) (λ c p f. f) (DeclaredR L s bytes short) k (v .tables) (declaredAt L s k (v .tables)) (declared-sound L s bytes short k (v .tables) kl) _
       λ x next w r.
       let n1 = r .next-is in
       let la = length-append pre (r .octets) in
@@ -140,7 +140,7 @@ module _ (L : Limits) (s : List ℕ) (bytes : (i : ℕ) → getD s i 0 < 256) (s
       test-not P (stop 6 k) (fault s 6 k refl kl) (namePadding b) _
       λ t0. test P (stop 15 k) (fault s 15 k refl kl) (mayStart v) _
       λ t1. either-lt P b 0x38 _ _
-      (λ h1. in-step s P (λ c p f. f) (NameR L s bytes short ofElement (64 * bit a)) k (v .words) (numberedAt L ofElement s k (v .words)) (numbered-sound L s bytes short ofElement (64 * bit a) k (v .words) kl (omega arith)) _
+      (λ h1. in-step s P (λ c p f. f) (NameR L s bytes short ofElement (64 * bit a)) k (v .tables) (numberedAt L ofElement s k (v .tables)) (numbered-sound L s bytes short ofElement (64 * bit a) k (v .tables) kl (omega arith)) _
       λ x next w r. test-lt P (stop 13 k) (fault s 13 k refl kl) (v .level) (L .depth) _
       λ t2. start-read a (64 * bit a) k k [] v refl (omega arith) kl (λ x hw os w u. o-start a md t1 t2 u) x next w r)
       λ h1. test-not P (stop 15 k) (fault s 15 k refl kl) (leb 0x3C b && lonePrefix b) _
@@ -150,7 +150,7 @@ module _ (L : Limits) (s : List ℕ) (bytes : (i : ℕ) → getD s i 0 < 256) (s
       (drop-cons s k 0 h ∙ ap (λ (x : ℕ). x ∷ drop (suc k) s) (let y : getD s k 0 ≡ 64 * bit a + 0x38 = omega arith in y)) (omega arith) h
       (λ p n hp hn os w u. o-first-namespace md t1 t2 u))
       (λ e. let lo = unpadded-parts b t0 (omega arith) hb in
-      start-sound a (64 * bit a) k k [] v refl (omega arith) kl (λ x hw os w u. o-start a md t1 t2 u) (partsAt L ofElement s b k (v .words)) (parts-sound L s bytes short ofElement (64 * bit a) b k (v .words) (omega arith) h))
+      start-sound a (64 * bit a) k k [] v refl (omega arith) kl (λ x hw os w u. o-start a md t1 t2 u) (partsAt L ofElement s b k (v .tables)) (parts-sound L s bytes short ofElement (64 * bit a) b k (v .tables) (omega arith) h))
 
   -- behind F0
   named-sound : (a : Bool) (k : ℕ) (v : State Located) → v .mode ≡ declaring a → getD s k 0 ≡ 0xF0 → Took k v (namedAt L s (suc k) a v)
@@ -162,14 +162,14 @@ module _ (L : Limits) (s : List ℕ) (bytes : (i : ℕ) → getD s i 0 < 256) (s
       let h = inside L s bytes short k 0xF0 e (omega arith) in
       let jl : j ≤ length s = omega arith in
       let d : drop k s ≡ (0xF0 ∷ []) ++ drop j s = drop-cons s k 0 h ∙ ap (λ (x : ℕ). x ∷ drop j s) e in
-      let rule : (x : Name (List ℕ)) (hw : NameHow) (os : List ℕ) (w : Vocabulary (List ℕ)) → Named L ofElement 0 (plainWords s (v .words)) x hw os w
-      → Octets L (plainState s v) (Start x by forStart hw) ((0xF0 ∷ []) ++ os) (opened (plainState s v) w a) = λ x hw os w u. o-named-start md u in
+      let rule : (x : Name (List ℕ)) (hw : NameHow) (os : List ℕ) (w : Vocabulary (List ℕ)) → Named L ofElement 0 (plainTables s (v .tables)) x hw os w
+      → ItemWrittenAs L (plainState s v) (Start x by forStart hw) ((0xF0 ∷ []) ++ os) (opened (plainState s v) w a) = λ x hw os w u. o-named-start md u in
       test-lt P (stop 2 j) (fault s 2 j refl jl) j (length s) _
       λ h1. either-eq P (o % 64 / 4) 14 _ _ (λ y. fault s 5 j refl jl)
       λ h2. test-lt P (stop 6 j) (fault s 6 j refl jl) o 0x40 _
       λ h3. test-not P (stop 6 j) (fault s 6 j refl jl) (namePadding o) _
-      λ h4. start-sound a 0 j k (0xF0 ∷ []) v d (omega arith) jl rule (nameAt L ofElement s o j (v .words))
-      (name-sound L s bytes short ofElement 0 o j (v .words) (λ y. omega arith) (λ y. omega arith) h1)
+      λ h4. start-sound a 0 j k (0xF0 ∷ []) v d (omega arith) jl rule (nameAt L ofElement s o j (v .tables))
+      (name-sound L s bytes short ofElement 0 o j (v .tables) (λ y. omega arith) (λ y. omega arith) h1)
 
   attribute-sound : (any : Bool) (k : ℕ) (v : State Located) → k ≤ length s → v .mode ≡ listing any → Took k v (attributeAt L s k v)
   unfolding attributeAt eventMap ofAttribute
@@ -179,8 +179,8 @@ module _ (L : Limits) (s : List ℕ) (bytes : (i : ℕ) → getD s i 0 < 256) (s
       test-lt P (stop 2 k) (fault s 2 k refl kl) k (length s) _
       λ h. test-lt P (stop 5 k) (fault s 5 k refl kl) o 0x80 _
       λ h1. test-lt P (stop 6 k) (fault s 6 k refl kl) o 0x7C _
-      λ h2. in-step s P (λ c p f. f) (NameR L s bytes short ofAttribute 0) k (v .words) (nameAt L ofAttribute s o k (v .words))
-      (name-sound L s bytes short ofAttribute 0 o k (v .words) (λ y. omega arith) (λ y. omega arith) h) _
+      λ h2. in-step s P (λ c p f. f) (NameR L s bytes short ofAttribute 0) k (v .tables) (nameAt L ofAttribute s o k (v .tables))
+      (name-sound L s bytes short ofAttribute 0 o k (v .tables) (λ y. omega arith) (λ y. omega arith) h) _
       λ x k₁ w₁ r₁. in-step s P (λ c p f. f) (ValueR L s bytes short ATTRIBUTE-VALUE) k₁ w₁ (valueAt L s ATTRIBUTE-VALUE k₁ w₁) (value-sound L s bytes short ATTRIBUTE-VALUE k₁ w₁ (r₁ .inside)) _
       λ y k₂ w₂ r₂.
       let n1 = r₁ .next-is in
@@ -193,15 +193,15 @@ module _ (L : Limits) (s : List ℕ) (bytes : (i : ℕ) → getD s i 0 < 256) (s
   chunk-sound : (k : ℕ) (v : State Located) → k ≤ length s → v .mode ≡ content → 0 < v .level → 0x80 ≤ getD s k 0 → getD s k 0 < 0xC0 → Took k v (chunkAt L s k v)
   unfolding chunkAt eventMap c15
   chunk-sound k v kl md lev lo hi =
-      in-step s (Took k v) (λ c p f. f) (LiteralR L s bytes short c15 CONTENT-CHARACTER-CHUNK) k (v .words) (literalAt L c15 s CONTENT-CHARACTER-CHUNK k (v .words))
-      (literal-sound L s bytes short c15 shape15 CONTENT-CHARACTER-CHUNK k (v .words) kl (omega arith) (omega arith)) _
+      in-step s (Took k v) (λ c p f. f) (LiteralR L s bytes short c15 CONTENT-CHARACTER-CHUNK) k (v .tables) (literalAt L c15 s CONTENT-CHARACTER-CHUNK k (v .tables))
+      (literal-sound L s bytes short c15 shape15 CONTENT-CHARACTER-CHUNK k (v .tables) kl (omega arith) (omega arith)) _
       λ y next w r. took k v k (Text (y .string) by forText (y .how)) next (knowing v w) (r .octets) (r .here) (r .next-is) (r .inside) kl (o-text md lev (r .rule))
 
   comment-sound : (k : ℕ) (v : State Located) → v .mode ≡ content → getD s k 0 ≡ 0xE2 → k < length s → Took k v (commentAt L s k v)
   unfolding commentAt eventMap
   comment-sound k v md e h =
       let kl : k ≤ length s = omega arith in
-      in-step s (Took k v) (λ c p f. f) (ValueR L s bytes short OTHER-STRING) (suc k) (v .words) (valueAt L s OTHER-STRING (suc k) (v .words)) (value-sound L s bytes short OTHER-STRING (suc k) (v .words) h) _
+      in-step s (Took k v) (λ c p f. f) (ValueR L s bytes short OTHER-STRING) (suc k) (v .tables) (valueAt L s OTHER-STRING (suc k) (v .tables)) (value-sound L s bytes short OTHER-STRING (suc k) (v .tables) h) _
       λ y next w r.
       let n1 = r .next-is in
       took k v k (Comment (y .string) by forComment (y .how)) next (knowing v w) (0xE2 ∷ r .octets)
@@ -212,7 +212,7 @@ module _ (L : Limits) (s : List ℕ) (bytes : (i : ℕ) → getD s i 0 < 256) (s
   instruction-sound k v md e h =
       let kl : k ≤ length s = omega arith in
       let P : Step → Type 0 = Took k v in
-      in-step s P (λ c p f. f) (IdR L s bytes short OTHER-NCNAME) (suc k) (v .words) (idAt L s OTHER-NCNAME (suc k) (v .words)) (id-sound L s bytes short OTHER-NCNAME (suc k) (v .words) h) _
+      in-step s P (λ c p f. f) (IdR L s bytes short OTHER-NCNAME) (suc k) (v .tables) (idAt L s OTHER-NCNAME (suc k) (v .tables)) (id-sound L s bytes short OTHER-NCNAME (suc k) (v .tables) h) _
       λ x k₁ w₁ r₁. in-step s P (λ c p f. f) (ValueR L s bytes short OTHER-STRING) k₁ w₁ (valueAt L s OTHER-STRING k₁ w₁) (value-sound L s bytes short OTHER-STRING k₁ w₁ (r₁ .inside)) _
       λ y k₂ w₂ r₂.
       let n1 = r₁ .next-is in
@@ -310,22 +310,22 @@ module _ (L : Limits) (s : List ℕ) where
   -- a Start, at its first octet
   record StartHit (a : Bool) (k : ℕ) (v : State Located) (x : Name (List ℕ)) (h : NameHow) (os : List ℕ) (w : Vocabulary (List ℕ)) (p : List Located) (t : Step) : Type 0 where
     name : NameRead
-    words : Vocabulary Located
-    goes : t ≡ more k (Start (name .name) by forStart (name .how)) (octet (k + length os) (opened v words a))
+    tables : Vocabulary Located
+    goes : t ≡ more k (Start (name .name) by forStart (name .how)) (octet (k + length os) (opened v tables a))
     what : NameQ L s x h p name
-    state : plainWords s words ≡ w
+    state : plainTables s tables ≡ w
 
   start-of : (a : Bool) (k : ℕ) (v : State Located) {x : Name (List ℕ)} {h : NameHow} {os : List ℕ} {w : Vocabulary (List ℕ)} {p : List Located} (g : Got NameRead) → Hit s (NameQ L s x h p) (k + length os) w g → StartHit a k v x h os w p (startOf L k a v g)
-  start-of a k v g h = record { name = h .b; words = h .v; goes = rw (h .goes); what = h .what; state = h .state }
+  start-of a k v g h = record { name = h .b; tables = h .v; goes = rw (h .goes); what = h .what; state = h .state }
 
   element-hit : (a : Bool) (k : ℕ) (v : State Located) {x : Name (List ℕ)} {h : NameHow} {os : List ℕ} {w : Vocabulary (List ℕ)} {p : List Located} → mayStart v ≡ true → v .level < L .depth → k < length s
-      → NameHit L s ofElement (64 * bit a) k (v .words) x h os w p → StartHit a k v x h os w p (childAt L s k v)
+      → NameHit L s ofElement (64 * bit a) k (v .tables) x h os w p → StartHit a k v x h os w p (childAt L s k v)
   unfolding elementAt ofElement rooms coded numbers
   element-hit a k v {os = os} may deep l (hit-numbered o oc hi n c e hit) =
       let z : getD s k 0 % 64 ≡ o = let b1 = one-bit a in omega arith in
       record {
         name = hit .b;
-        words = hit .v;
+        tables = hit .v;
         goes = element-goes a k o v oc (omega arith) l ∙ rw (number-unpadded s k o n c e z hi, may, lt-ltb o 0x38 hi, hit .goes, lt-ltb (v .level) (L .depth) deep);
         what = hit .what;
         state = hit .state;
@@ -333,7 +333,7 @@ module _ (L : Limits) (s : List ℕ) where
   element-hit a k v {os = os} may deep l (hit-parts o oc lo hi lone hit) =
       record {
         name = hit .b;
-        words = hit .v;
+        tables = hit .v;
         goes = element-goes a k o v oc hi l
             ∙ rw (parts-unpadded o lo hi, may, le-ltb o 0x38 (omega arith), le-leb 0x3C o lo, lone, lt-ltb (v .level) (L .depth) deep, ne-eqb o 0x38 (omega arith), hit .goes);
         what = hit .what;
@@ -341,7 +341,7 @@ module _ (L : Limits) (s : List ℕ) where
       }
 
   named-hit : (a : Bool) (k : ℕ) (v : State Located) {x : Name (List ℕ)} {h : NameHow} {os : List ℕ} {w : Vocabulary (List ℕ)} {p : List Located} → k < length s
-      → NameHit L s ofElement 0 k (v .words) x h os w p → StartHit a k v x h os w p (namedAt L s k a v)
+      → NameHit L s ofElement 0 k (v .tables) x h os w p → StartHit a k v x h os w p (namedAt L s k a v)
   unfolding namedAt nameAt ofElement rooms coded numbers
   named-hit a k v l (hit-numbered o oc hi n c e hit) =
       let q : getD s k 0 ≡ o = omega arith in
@@ -362,16 +362,16 @@ module _ (L : Limits) (s : List ℕ) where
   name-first a (hit-numbered o oc hi n c e hit) = let b1 = one-bit a in omega arith
   name-first a (hit-parts o oc lo hi lone hit) = let b1 = one-bit a in omega arith
 
-  pub item-complete : (k : ℕ) (v : State Located) {i : Item (List ℕ)} {o : List ℕ} {w : State (List ℕ)} (rest : List ℕ) (u : Octets L (plainState s v) i o w) → drop k s ≡ o ++ rest → ItemHit k v i o w (inItem k u)
+  pub item-complete : (k : ℕ) (v : State Located) {i : Item (List ℕ)} {o : List ℕ} {w : State (List ℕ)} (rest : List ℕ) (u : ItemWrittenAs L (plainState s v) i o w) → drop k s ≡ o ++ rest → ItemHit k v i o w (inItem k u)
   unfolding itemAt declaringAt namespaceAt elementAt attributeAt chunkAt commentAt instructionAt eventMap mayStart ofElement ofAttribute
   item-complete k v rest (o-start a {o = os} md may deep u) d =
-      let c = name-complete L s ofElement element-shape (bit a) (64 * bit a) k (omega arith) (v .words) rest u d in
+      let c = name-complete L s ofElement element-shape (bit a) (64 * bit a) k (omega arith) (v .tables) rest u d in
       let t = element-hit a k v may deep (c .2) (c .0) in
       let f = name-first a (c .0) in
       record {
         place = k;
         found = Start (t .name .name) by forStart (t .name .how);
-        n = opened v (t .words) a;
+        n = opened v (t .tables) a;
         goes = ap (λ (y : Mode). itemAt L s k v y) md ∙ t .goes;
         what = λ j. Start (t .what .0 j) by forStart (t .what .1 j);
         spells = t .what .2;
@@ -384,7 +384,7 @@ module _ (L : Limits) (s : List ℕ) where
       let f = drop-head s k (64 * bit a + 0x38) (os ++ rest) d in
       let oc = f .1 in
       let b1 = one-bit a in
-      let c = declared-complete L s (suc k) (v .words) rest u (f .2) in
+      let c = declared-complete L s (suc k) (v .tables) rest u (f .2) in
       let h = c .0 in
       let z : suc k + length os ≡ k + suc (length os) = omega arith in
       let pad : namePadding 0x38 ≡ false = unfold namePadding in refl in
@@ -401,7 +401,7 @@ module _ (L : Limits) (s : List ℕ) where
         first = λ y. omega arith;
       }
   item-complete k v rest (o-namespace {a = a} {o = os} md u) d =
-      let c = declared-complete L s k (v .words) rest u d in
+      let c = declared-complete L s k (v .tables) rest u d in
       let h = c .0 in
       let lo = c .1 in
       let hi = c .2 in
@@ -419,13 +419,13 @@ module _ (L : Limits) (s : List ℕ) where
       }
   item-complete k v rest (o-named-start {a = a} {o = os} md u) d =
       let f = drop-head s k 0xF0 (os ++ rest) d in
-      let c = name-complete L s ofElement element-shape 0 0 (suc k) refl (v .words) rest u (f .2) in
+      let c = name-complete L s ofElement element-shape 0 0 (suc k) refl (v .tables) rest u (f .2) in
       let t = named-hit a (suc k) v (c .2) (c .0) in
       let z : suc k + length os ≡ k + suc (length os) = omega arith in
       record {
         place = suc k;
         found = Start (t .name .name) by forStart (t .name .how);
-        n = opened v (t .words) a;
+        n = opened v (t .tables) a;
         goes = ap (λ (y : Mode). itemAt L s k v y) md ∙ rw (eq-eqb (getD s k 0) 0xF0 (f .1), t .goes, z);
         what = λ j. Start (t .what .0 j) by forStart (t .what .1 j);
         spells = t .what .2;
@@ -436,8 +436,8 @@ module _ (L : Limits) (s : List ℕ) where
       }
   item-complete k v rest (o-attribute {some = any} {y = y} {g = g} {o₁ = o1} {o₂ = o2} {w₁ = w1} {w₂ = w2} md u1 u2) d =
       let d1 : drop k s ≡ o1 ++ (o2 ++ rest) = d ∙ append-assoc o1 o2 rest in
-      let c = name-complete L s ofAttribute attribute-shape 0 0 k refl (v .words) (o2 ++ rest) u1 d1 in
-      let t = attribute-hit k (v .words) (c .0) in
+      let c = name-complete L s ofAttribute attribute-shape 0 0 k refl (v .tables) (o2 ++ rest) u1 d1 in
+      let t = attribute-hit k (v .tables) (c .0) in
       let h = t .0 in
       let hi = t .1 in
       let e = value-complete L s ATTRIBUTE-VALUE (k + length o1) (h .v) rest (subst (λ (x : Vocabulary (List ℕ)). Value L ATTRIBUTE-VALUE x y g o2 w2) (sym (h .state)) u2) (drop-past s k o1 (o2 ++ rest) d1) in
@@ -457,7 +457,7 @@ module _ (L : Limits) (s : List ℕ) where
         first = λ y. omega arith;
       }
   item-complete k v rest (o-text {o = os} md lev u) d =
-      let c = literal-complete L s c15 shape15 CONTENT-CHARACTER-CHUNK k (v .words) rest u d in
+      let c = literal-complete L s c15 shape15 CONTENT-CHARACTER-CHUNK k (v .tables) rest u d in
       let h = c .hit in
       record {
         place = k;
@@ -473,7 +473,7 @@ module _ (L : Limits) (s : List ℕ) where
       }
   item-complete k v rest (o-comment {o = os} md u) d =
       let f = drop-head s k 0xE2 (os ++ rest) d in
-      let h = value-complete L s OTHER-STRING (suc k) (v .words) rest u (f .2) in
+      let h = value-complete L s OTHER-STRING (suc k) (v .tables) rest u (f .2) in
       let z : suc k + length os ≡ k + suc (length os) = omega arith in
       let oc = f .1 in
       record {
@@ -492,7 +492,7 @@ module _ (L : Limits) (s : List ℕ) where
       let f = drop-head s k 0xE1 ((o1 ++ o2) ++ rest) d in
       let oc = f .1 in
       let d1 : drop (suc k) s ≡ o1 ++ (o2 ++ rest) = f .2 ∙ append-assoc o1 o2 rest in
-      let h = id-complete L s OTHER-NCNAME (suc k) (v .words) (o2 ++ rest) u1 d1 in
+      let h = id-complete L s OTHER-NCNAME (suc k) (v .tables) (o2 ++ rest) u1 d1 in
       let e = value-complete L s OTHER-STRING (suc k + length o1) (h .v) rest (subst (λ (z : Vocabulary (List ℕ)). Value L OTHER-STRING z y g o2 w2) (sym (h .state)) u2) (drop-past s (suc k) o1 (o2 ++ rest) d1) in
       let la = length-append o1 o2 in
       let z : suc k + length o1 + length o2 ≡ k + suc (length (o1 ++ o2)) = omega arith in

@@ -19,7 +19,7 @@ use Rattle.fields.specs.declared.Number.the-variants.{Got as Num}
 use Rattle.fields.specs.Fields.{fieldAt}
 use Rattle.fields.proofs.Laws.{rooms, Roomy}
 use Rattle.fields.proofs.RoundTrip.{some-first}
-use Rattle.tables.specs.Located.{Located, empty, octetsOf, plainWords}
+use Rattle.tables.specs.Located.{Located, empty, octetsOf, plainTables}
 use Rattle.read_names.specs.Strings.{Got, refused, idAt, optionalAt}
 use Rattle.read_names.specs.Names.{NameRead, DeclaredRead, prefixBit, namespaceBit, lonePrefix, nameBit, partsAt, numberedAt, nameAt, declaredAt}
 use Rattle.theorems.specs.Places.{optionSpelled, nameSpelled, inName, inDeclared}
@@ -103,7 +103,7 @@ module _ (L : Limits) (s : List ℕ) (bytes : (i : ℕ) → getD s i 0 < 256) (s
       let en : Entry (names v (q .table)) (r .v) noTriple x = record { made = omega arith; is = ap (λ (m : ℕ). getD (names v (q .table)) m noTriple) (sym e) } in
       record {
         octets = spell (q .numberForms) lead (r .v);
-        rule = subst₂ (λ (m : ℕ) (y : Name (List ℕ)). Named L q lead (plainWords s v) y (byNumber m) (spell (q .numberForms) lead (r .v)) (plainWords s v)) (sym i) (sym (name-map (octetsOf s) v empty x))
+        rule = subst₂ (λ (m : ℕ) (y : Name (List ℕ)). Named L q lead (plainTables s v) y (byNumber m) (spell (q .numberForms) lead (r .v)) (plainTables s v)) (sym i) (sym (name-map (octetsOf s) v empty x))
             (by-number (omega arith) (r .small) (rw (names-map (octetsOf s) v (q .table)) en));
         here = r .here;
         next-is = r .next-is;
@@ -222,7 +222,7 @@ module _ (L : Limits) (s : List ℕ) where
         })
 
   pub name-complete : (q : NameLayout) → NameShape q → (times lead k : ℕ) → lead ≡ times * 2 ^ (9 - nameBit (q .table)) → (v : Vocabulary Located) {x : Name (List ℕ)} {h : NameHow} {os : List ℕ} {w : Vocabulary (List ℕ)} (rest : List ℕ)
-      (u : Named L q lead (plainWords s v) x h os w) → drop k s ≡ os ++ rest → NameHit q lead k v x h os w (inName k u) × (0 < length os) × (k < length s)
+      (u : Named L q lead (plainTables s v) x h os w) → drop k s ≡ os ++ rest → NameHit q lead k v x h os w (inName k u) × (0 < length os) × (k < length s)
   unfolding numberedAt octetsOf
   name-complete q g times lead k e v rest (by-number {k = j} {x = x} small fits en) d =
       let f = num-first s (q .numberForms) lead j k rest (g .numbers-ok) fits d in
@@ -239,7 +239,7 @@ module _ (L : Limits) (s : List ℕ) where
               v = v;
               goes = refl;
               state = refl;
-              what = (name-map (octetsOf s) v empty _ ∙ ap (λ (y : Triple). nameOf (plainWords s v) [] y) (ap (λ (u : ℕ). getD (names v (q .table)) u noTriple) z ∙ here .is), refl, refl);
+              what = (name-map (octetsOf s) v empty _ ∙ ap (λ (y : Triple). nameOf (plainTables s v) [] y) (ap (λ (u : ℕ). getD (names v (q .table)) u noTriple) z ∙ here .is), refl, refl);
             })),
         some-first (q .numberForms) lead j fits,
         f .2,
@@ -274,7 +274,7 @@ module _ (L : Limits) (s : List ℕ) where
       × (optionSpelled (b .prefix) (b .prefixHow) ++ optionSpelled (b .namespace) (b .namespaceHow) ≡ l)
 
   pub declared-complete : (k : ℕ) (v : Vocabulary Located) {p n : Option (List ℕ)} {hp hn : Option How} {os : List ℕ} {w : Vocabulary (List ℕ)} (rest : List ℕ)
-      (u : Declared L (plainWords s v) p n hp hn os w) → drop k s ≡ os ++ rest
+      (u : Declared L (plainTables s v) p n hp hn os w) → drop k s ≡ os ++ rest
       → Hit s (DeclaredQ p n hp hn (inDeclared k u)) (k + length os) w (declaredAt L s k v) × (0xCC ≤ getD s k 0) × (getD s k 0 < 0xD0) × (k < length s) × (0 < length os)
   unfolding declaredAt
   declared-complete k v rest (declared {p = p} {n = n} {hp = hp} {hn = hn} {kp = kp} {kn = kn} {op = op} {on = on} {v₁ = w₁} {v₂ = w₂} up un) d =

@@ -9,7 +9,7 @@ use Rattle.format.specs.Events.{Name, Event, Namespace, Start, Attribute, Text,
 use Rattle.format.specs.Tables.{StringTable, Vocabulary, addingName, Limits}
 use Rattle.format.specs.Strings.{bit, Identifying, id-spelled, id-numbered, Optional, absent, present, Layout, Literal, literal-spelled, literal-numbered, Value, value-empty, value}
 use Rattle.format.specs.Names.{has, NameLayout, Named, in-parts, by-number, Declared, declared}
-use Rattle.format.specs.Items.{Mode, content, declaring, listing, State, afterStart, knowing, moved, opened, Octets, o-start, o-first-namespace, o-namespace, o-named-start, o-attribute, o-text, o-comment, o-instruction}
+use Rattle.format.specs.Items.{Mode, content, declaring, listing, State, afterStart, knowing, moved, opened, ItemWrittenAs, o-start, o-first-namespace, o-namespace, o-named-start, o-attribute, o-text, o-comment, o-instruction}
 use Rattle.writer.specs.Writing.{isAttribute}
 use Rattle.tables.proofs.Found.{clash as false-true}
 use Rattle.format.specs.Document.{halves, pad, Written, document-end, attributes-end, element-end, item, Document}
@@ -139,7 +139,7 @@ module _ {L : Limits} where
       ((λ j. (0xCC + 2 * has p + has n) ∷ (a .0 j ++ b .0 j)), b .2)
 
   -- attributes are written in attribute lists, and nothing else is; End is no item's event
-  pub where-attributes : {v w : State (List ℕ)} {i : Item (List ℕ)} {o : List ℕ} → Octets L v i o w → isAttribute (i .event) ≡ inList (v .mode)
+  pub where-attributes : {v w : State (List ℕ)} {i : Item (List ℕ)} {o : List ℕ} → ItemWrittenAs L v i o w → isAttribute (i .event) ≡ inList (v .mode)
   where-attributes (o-start a md may deep u) = cc
   where-attributes (o-first-namespace md may deep u) = cc
   where-attributes (o-namespace md u) = cc
@@ -149,7 +149,7 @@ module _ {L : Limits} where
   where-attributes (o-comment md u) = cc
   where-attributes (o-instruction md u1 u2) = cc
 
-  pub no-end : {v w : State (List ℕ)} {o : List ℕ} {X : Type 0} → Octets L v (End by forEnd) o w → X
+  pub no-end : {v w : State (List ℕ)} {o : List ℕ} {X : Type 0} → ItemWrittenAs L v (End by forEnd) o w → X
   no-end u = elim u [ ]
 
   next-is : {at : ℕ} {v z : State (List ℕ)} {items : List (Item (List ℕ))} {hs : List ℕ}
@@ -177,7 +177,7 @@ module _ {L : Limits} where
   behind-declarations a (item (o-instruction md u1 u2) w) e = cc
 
   mode-is : {at : ℕ} {v w z : State (List ℕ)} {i : Item (List ℕ)} {o : List ℕ} {items : List (Item (List ℕ))} {hs : List ℕ}
-      → Octets L v i o w → Written L at w items hs z → w .mode ≡ modeAfter (i .event) items
+      → ItemWrittenAs L v i o w → Written L at w items hs z → w .mode ≡ modeAfter (i .event) items
   mode-is (o-start a md may deep u) w = ap afterStart (behind-start a w refl)
   mode-is (o-first-namespace {a = a} md may deep u) w = ap declaring (behind-declarations a w refl)
   mode-is (o-namespace {a = a} md u) w = ap declaring (behind-declarations a w refl)
@@ -188,7 +188,7 @@ module _ {L : Limits} where
   mode-is (o-instruction md u1 u2) w = md
 
   -- items
-  octets-one : {v w w′ : State (List ℕ)} {i : Item (List ℕ)} {o o′ : List ℕ} → Octets L v i o w → Octets L v i o′ w′ → w .mode ≡ w′ .mode → (o ≡ o′) × (w ≡ w′)
+  octets-one : {v w w′ : State (List ℕ)} {i : Item (List ℕ)} {o o′ : List ℕ} → ItemWrittenAs L v i o w → ItemWrittenAs L v i o′ w′ → w .mode ≡ w′ .mode → (o ≡ o′) × (w ≡ w′)
   octets-one {v} (o-start a md may deep u) (o-start b md′ may′ deep′ u′) e =
       let q : a ≡ b = sym (bit-said a) ∙ ap inList e ∙ bit-said b in
       let r = named-one u (rw (← q) at u′) refl in
@@ -219,8 +219,8 @@ module _ {L : Limits} where
 
   -- a list that has ended does not go on
   no-list : {at : ℕ} {v w z : State (List ℕ)} {i : Item (List ℕ)} {o : List ℕ} {items : List (Item (List ℕ))} {hs : List ℕ} {X : Type 0}
-      → v .mode ≡ listing true → Octets L v i o w
-      → Written L at (moved v (v .words) content) (i ∷ items) hs z → X
+      → v .mode ≡ listing true → ItemWrittenAs L v i o w
+      → Written L at (moved v (v .tables) content) (i ∷ items) hs z → X
   no-list md u w = let a = where-attributes u in let b = next-is w (λ e. clash (cc)) in clash (cc)
 
   pub one-writing : {at : ℕ} {v z z′ : State (List ℕ)} {items : List (Item (List ℕ))} {hs hs′ : List ℕ}

@@ -6,7 +6,7 @@ use Rattle.format.specs.Events.{Name, How, NameHow, Item}
 use Rattle.format.specs.Tables.{StringTable, ELEMENT-NAME, ATTRIBUTE-NAME, Vocabulary, Limits}
 use Rattle.format.specs.Strings.{Identifying, id-spelled, id-numbered, Optional, absent, present, Layout, Literal, literal-spelled, literal-numbered, Value, value-empty, value}
 use Rattle.format.specs.Names.{NameLayout, ofElement, ofAttribute, Named, in-parts, by-number, declared}
-use Rattle.format.specs.Items.{State, Octets, o-start, o-first-namespace, o-namespace, o-named-start, o-attribute, o-text, o-comment, o-instruction}
+use Rattle.format.specs.Items.{State, ItemWrittenAs, o-start, o-first-namespace, o-namespace, o-named-start, o-attribute, o-text, o-comment, o-instruction}
 use Rattle.format.specs.Document.{Written, document-end, attributes-end, element-end, item}
 use Rattle.theorems.specs.Permitted.{PermitsId, id-new, id-entry, PermitsIfAny, not-there, there, PermitsString, string-spelled, string-entry, PermitsValue, value-none, value-spelled, value-entry}
 use Rattle.theorems.specs.Permitted.{PermitsName, name-parts, name-entry, Permits, a-declaration, a-start, an-attribute, a-chunk, a-comment, an-instruction, an-end, PermitsAll, no-item, an-item}
@@ -41,7 +41,7 @@ module _ {L : Limits} where
   unfolding ofAttribute
   attribute-may u = name-may u
 
-  octets-may : {v w : State (List ℕ)} {i : Item (List ℕ)} {o : List ℕ} → Octets L v i o w → Permits (v .words) (i .event) (i .choice) (w .words)
+  octets-may : {v w : State (List ℕ)} {i : Item (List ℕ)} {o : List ℕ} → ItemWrittenAs L v i o w → Permits (v .tables) (i .event) (i .choice) (w .tables)
   octets-may (o-start a md may deep u) = a-start (element-may u)
   octets-may (o-first-namespace md may deep (declared up un)) = a-declaration (optional-may up) (optional-may un)
   octets-may (o-namespace md (declared up un)) = a-declaration (optional-may up) (optional-may un)
@@ -51,7 +51,7 @@ module _ {L : Limits} where
   octets-may (o-comment md y) = a-comment (value-may y)
   octets-may (o-instruction md x y) = an-instruction (id-may x) (value-may y)
 
-  pub permitted : {at : ℕ} {v z : State (List ℕ)} {items : List (Item (List ℕ))} {hs : List ℕ} → Written L at v items hs z → PermitsAll (v .words) items (z .words)
+  pub permitted : {at : ℕ} {v z : State (List ℕ)} {items : List (Item (List ℕ))} {hs : List ℕ} → Written L at v items hs z → PermitsAll (v .tables) items (z .tables)
   permitted (document-end md lv rt) = no-item
   permitted (attributes-end md w) = permitted w
   permitted (element-end md lv w) = an-item an-end (permitted w)

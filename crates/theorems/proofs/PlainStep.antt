@@ -15,7 +15,7 @@ use Rattle.format.specs.Items.{Mode, content, State, moved}
 use Rattle.events.specs.declared.Kind.{Kind}
 use Rattle.events.specs.declared.Kind.the-variants.{Blank, Namespace, Start, Attribute, Chunk, Comment, Instruction, End}
 use Rattle.events.specs.declared.Event.{Event}
-use Rattle.tables.specs.Located.{Located, octetsOf, plainWords, plainState}
+use Rattle.tables.specs.Located.{Located, octetsOf, plainTables, plainState}
 use Rattle.write_names.specs.Choices.{within}
 use Rattle.write_names.specs.Chosen.{chooseFor}
 use Rattle.writer.specs.Events.{isDeclaring, isListing, eventOf}
@@ -121,7 +121,7 @@ module _ (L : Limits) (text : List ℕ) (a : Bool) (v : State Located) (e : E.Ev
   unfolding settled
   settled-plain = rw (attribute-map (octetsOf text) e) (go (isListing (v .mode) && not (isAttribute e)))
     where
-      go : (t : Bool) → plainState text (pick t (moved v (v .words) content) v) ≡ pick t (moved (plainState text v) (plainWords text (v .words)) content) (plainState text v)
+      go : (t : Bool) → plainState text (pick t (moved v (v .tables) content) v) ≡ pick t (moved (plainState text v) (plainTables text (v .tables)) content) (plainState text v)
       go true = refl
       go false = refl
 
@@ -131,8 +131,8 @@ module _ (L : Limits) (text : List ℕ) (a : Bool) (v : State Located) (e : E.Ev
   pub next-plain : plainState text (w .state) ≡ nextBy L a pv pe
   next-plain = same .state ∙ ap (λ (u : State (List ℕ)). knownBy L a u pe) settled-plain
 
-  pub choice-plain : w .choice ≡ chooseFor L (pv .words) pe .how
-  choice-plain = same .choice ∙ ap (λ (u : Vocabulary (List ℕ)). chooseFor L u pe .how) (ap (λ (u : State (List ℕ)). u .words) settled-plain ∙ words-settled pv pe)
+  pub choice-plain : w .choice ≡ chooseFor L (pv .tables) pe .how
+  choice-plain = same .choice ∙ ap (λ (u : Vocabulary (List ℕ)). chooseFor L u pe .how) (ap (λ (u : State (List ℕ)). u .tables) settled-plain ∙ words-settled pv pe)
 
   pub halves-plain : (room at : ℕ) → halvesOf L text room at v e w ≡ halvesBy L at a pv pe
   unfolding halvesOf halvesBy halvesAs owed
@@ -140,7 +140,7 @@ module _ (L : Limits) (text : List ℕ) (a : Bool) (v : State Located) (e : E.Ev
       rw (attribute-map (octetsOf text) e, end-map (octetsOf text) e, same .octets ∙ ap (λ (u : State (List ℕ)). octetsBy L a u pe) settled-plain)
 
 -- ---- the tables behind it
-known-words : (L : Limits) (a : Bool) (v : State (List ℕ)) (e : E.Event (List ℕ)) → knownBy L a v e .words ≡ chooseFor L (v .words) e .words
+known-words : (L : Limits) (a : Bool) (v : State (List ℕ)) (e : E.Event (List ℕ)) → knownBy L a v e .tables ≡ chooseFor L (v .tables) e .tables
 unfolding chooseFor
 known-words L a v (E.Namespace p n) = refl
 known-words L a v (E.Start x) = refl
@@ -150,10 +150,10 @@ known-words L a v (E.Comment y) = refl
 known-words L a v (E.Instruction x y) = refl
 known-words L a v E.End = refl
 
-pub next-words : (L : Limits) (a : Bool) (v : State (List ℕ)) (e : E.Event (List ℕ)) → nextBy L a v e .words ≡ chooseFor L (v .words) e .words
-next-words L a v e = known-words L a (settled v e) e ∙ ap (λ (u : Vocabulary (List ℕ)). chooseFor L u e .words) (words-settled v e)
+pub next-words : (L : Limits) (a : Bool) (v : State (List ℕ)) (e : E.Event (List ℕ)) → nextBy L a v e .tables ≡ chooseFor L (v .tables) e .tables
+next-words L a v e = known-words L a (settled v e) e ∙ ap (λ (u : Vocabulary (List ℕ)). chooseFor L u e .tables) (words-settled v e)
 
-pub within-plain : (L : Limits) (text : List ℕ) (v : Vocabulary Located) → within L (plainWords text v) ≡ within L v
+pub within-plain : (L : Limits) (text : List ℕ) (v : Vocabulary Located) → within L (plainTables text v) ≡ within L v
 unfolding within vocabularyMap
 within-plain L text v =
     rw (length-map (v .prefixes) (octetsOf text), length-map (v .namespaces) (octetsOf text), length-map (v .locals) (octetsOf text), length-map (v .ncnames) (octetsOf text))

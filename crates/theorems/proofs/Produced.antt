@@ -13,7 +13,7 @@ use Rattle.format.specs.Events.{Name, Event, Namespace, Start, Attribute, Text,
 use Rattle.format.specs.Tables.{StringTable, PREFIX, NAMESPACE-NAME, LOCAL-NAME, OTHER-NCNAME, ATTRIBUTE-VALUE, CONTENT-CHARACTER-CHUNK, OTHER-STRING, NameTable, ELEMENT-NAME, ATTRIBUTE-NAME, Vocabulary, strings, place, extended, adding, Limits, InLimits}
 use Rattle.format.specs.Strings.{Spelling, bit, c15, Literal}
 use Rattle.format.specs.Names.{has, ofElement, ofAttribute, Named, Declared, declared}
-use Rattle.format.specs.Items.{Mode, content, declaring, listing, State, mayStart, knowing, moved, opened, Octets, o-start, o-first-namespace, o-namespace, o-named-start, o-attribute, o-text, o-comment, o-instruction}
+use Rattle.format.specs.Items.{Mode, content, declaring, listing, State, mayStart, knowing, moved, opened, ItemWrittenAs, o-start, o-first-namespace, o-namespace, o-named-start, o-attribute, o-text, o-comment, o-instruction}
 use Rattle.format.specs.Document.{closed}
 use Rattle.tables.proofs.Laws.{strings-adding}
 use Rattle.write_names.specs.Chosen.{Chose, chooseId, chooseOptional, chooseName, chooseLiteral, chooseValue, chooseFor}
@@ -55,22 +55,22 @@ optional-rest : {t : StringTable} {v w : Vocabulary (List ℕ)} {x : Option (Lis
 optional-rest u a b not-there = refl
 optional-rest u a b (there c) = id-rest u a b c
 
-literal-rest : {L : Limits} {t : StringTable} {v : Vocabulary (List ℕ)} {x : List ℕ} {c : Chose How} → LiteralCase L t v x c → Rest L v → Rest L (c .words)
+literal-rest : {L : Limits} {t : StringTable} {v : Vocabulary (List ℕ)} {x : List ℕ} {c : Chose How} → LiteralCase L t v x c → Rest L v → Rest L (c .tables)
 literal-rest (lit-held en) r = r
 literal-rest {t = t} {v = v} {x = x} (lit-new {added = true} room) r = adding-rest v t x (room refl) r
 literal-rest (lit-new {added = false} room) r = r
 
-value-rest : {L : Limits} {t : StringTable} {v : Vocabulary (List ℕ)} {x : List ℕ} {c : Chose How} → ValueCase L t v x c → Rest L v → Rest L (c .words)
+value-rest : {L : Limits} {t : StringTable} {v : Vocabulary (List ℕ)} {x : List ℕ} {c : Chose How} → ValueCase L t v x c → Rest L v → Rest L (c .tables)
 value-rest (is-empty e) r = r
 value-rest (is-literal h c) r = literal-rest c r
 
-name-rest : (t : NameTable) (v : Vocabulary (List ℕ)) (x : Name (List ℕ)) {c : Chose NameHow} (u : StringTable) → 4 ≤ place u → NameCase t v x c → strings (c .words) u ≡ strings v u
+name-rest : (t : NameTable) (v : Vocabulary (List ℕ)) (x : Name (List ℕ)) {c : Chose NameHow} (u : StringTable) → 4 ≤ place u → NameCase t v x c → strings (c .tables) u ≡ strings v u
 unfolding place
 name-rest t v x u h (name-held en e) = refl
 name-rest t v x u h (name-new m) =
     let p = chooseOptional PREFIX v (x .prefix) in
-    let n = chooseOptional NAMESPACE-NAME (p .words) (x .namespace) in
-    strings-adding-name _ t _ u ∙ id-rest u (omega arith) h (id-case LOCAL-NAME (n .words) (x .local)) ∙ optional-rest u (omega arith) h (optional-case NAMESPACE-NAME (p .words) (x .namespace))
+    let n = chooseOptional NAMESPACE-NAME (p .tables) (x .namespace) in
+    strings-adding-name _ t _ u ∙ id-rest u (omega arith) h (id-case LOCAL-NAME (n .tables) (x .local)) ∙ optional-rest u (omega arith) h (optional-case NAMESPACE-NAME (p .tables) (x .namespace))
     ∙ optional-rest u (omega arith) h (optional-case PREFIX v (x .prefix))
 
 target-low : place OTHER-NCNAME < 4
@@ -86,35 +86,35 @@ unfolding place
 namespace-low = omega arith
 
 -- so it is after each event
-pub rest-for : (C : Limits) (v : Vocabulary (List ℕ)) (e : Event (List ℕ)) → Order C v → Rest C (chooseFor C v e .words)
+pub rest-for : (C : Limits) (v : Vocabulary (List ℕ)) (e : Event (List ℕ)) → Order C v → Rest C (chooseFor C v e .tables)
 unfolding chooseFor
 rest-for C v e o = go e (record { few = λ t h. o .fit .few t })
   where
-    go : (e : Event (List ℕ)) → Rest C v → Rest C (chooseFor C v e .words)
+    go : (e : Event (List ℕ)) → Rest C v → Rest C (chooseFor C v e .tables)
     go (Namespace p n) r =
         let a = optional-case PREFIX v p in
-        let b = optional-case NAMESPACE-NAME (chooseOptional PREFIX v p .words) n in
+        let b = optional-case NAMESPACE-NAME (chooseOptional PREFIX v p .tables) n in
         same-rest (λ u h. optional-rest u namespace-low h b ∙ optional-rest u prefix-low h a) r
     go (Start x) r = same-rest (λ u h. name-rest ELEMENT-NAME v x u h (name-case ELEMENT-NAME v x (o .ranged))) r
     go (Attribute x y) r =
-        value-rest (value-case C ATTRIBUTE-VALUE (chooseName ATTRIBUTE-NAME v x .words) y)
+        value-rest (value-case C ATTRIBUTE-VALUE (chooseName ATTRIBUTE-NAME v x .tables) y)
         (same-rest (λ u h. name-rest ATTRIBUTE-NAME v x u h (name-case ATTRIBUTE-NAME v x (o .ranged))) r)
     go (Text y) r = literal-rest (literal-case C CONTENT-CHARACTER-CHUNK v y) r
     go (Comment y) r = value-rest (value-case C OTHER-STRING v y) r
     go (Instruction x y) r =
-        value-rest (value-case C OTHER-STRING (chooseId OTHER-NCNAME v x .words) y)
+        value-rest (value-case C OTHER-STRING (chooseId OTHER-NCNAME v x .tables) y)
         (same-rest (λ u h. id-rest u target-low h (id-case OTHER-NCNAME v x)) r)
     go End r = r
 
 -- ---- 01's choices are permitted ones
-unfoldable pub permits-for : (C : Limits) (v : Vocabulary (List ℕ)) (e : Event (List ℕ)) → Ranged v → Permits v e (chooseFor C v e .how) (chooseFor C v e .words)
+unfoldable pub permits-for : (C : Limits) (v : Vocabulary (List ℕ)) (e : Event (List ℕ)) → Ranged v → Permits v e (chooseFor C v e .how) (chooseFor C v e .tables)
 unfolding chooseFor
-permits-for C v (Namespace p n) r = a-declaration (optional-case PREFIX v p) (optional-case NAMESPACE-NAME (chooseOptional PREFIX v p .words) n)
+permits-for C v (Namespace p n) r = a-declaration (optional-case PREFIX v p) (optional-case NAMESPACE-NAME (chooseOptional PREFIX v p .tables) n)
 permits-for C v (Start x) r = a-start (name-permits ELEMENT-NAME v x (name-case ELEMENT-NAME v x r))
-permits-for C v (Attribute x y) r = an-attribute (name-permits ATTRIBUTE-NAME v x (name-case ATTRIBUTE-NAME v x r)) (value-permits (value-case C ATTRIBUTE-VALUE (chooseName ATTRIBUTE-NAME v x .words) y))
+permits-for C v (Attribute x y) r = an-attribute (name-permits ATTRIBUTE-NAME v x (name-case ATTRIBUTE-NAME v x r)) (value-permits (value-case C ATTRIBUTE-VALUE (chooseName ATTRIBUTE-NAME v x .tables) y))
 permits-for C v (Text y) r = a-chunk (literal-permits (literal-case C CONTENT-CHARACTER-CHUNK v y))
 permits-for C v (Comment y) r = a-comment (value-permits (value-case C OTHER-STRING v y))
-permits-for C v (Instruction x y) r = an-instruction (id-case OTHER-NCNAME v x) (value-permits (value-case C OTHER-STRING (chooseId OTHER-NCNAME v x .words) y))
+permits-for C v (Instruction x y) r = an-instruction (id-case OTHER-NCNAME v x) (value-permits (value-case C OTHER-STRING (chooseId OTHER-NCNAME v x .tables) y))
 permits-for C v End r = an-end
 
 -- ---- tables only grow, and the numbers of triples stay in range
@@ -136,7 +136,7 @@ permits-ranged (a-comment y) r = ranged-on (value-grows y) (value-names y) r
 permits-ranged (an-instruction x y) r = ranged-on (grows-on (id-grows x) (value-grows y)) (λ u. value-names y u ∙ id-names x u) r
 permits-ranged an-end r = r
 
-pub ranged-for : (C : Limits) (v : Vocabulary (List ℕ)) (e : Event (List ℕ)) → Ranged v → Ranged (chooseFor C v e .words)
+pub ranged-for : (C : Limits) (v : Vocabulary (List ℕ)) (e : Event (List ℕ)) → Ranged v → Ranged (chooseFor C v e .tables)
 ranged-for C v e r = permits-ranged (permits-for C v e r) r
 
 -- ---- one event
@@ -185,25 +185,25 @@ module _ (C : Limits) where
   -- with 01's choice
   unfoldable pub octetsBy : Bool → State (List ℕ) → Event (List ℕ) → List ℕ
   octetsBy a v (Namespace p n) =
-      let x : Chose (Option How) = chooseOptional PREFIX (v .words) p in
-      let y : Chose (Option How) = chooseOptional NAMESPACE-NAME (x .words) n in
+      let x : Chose (Option How) = chooseOptional PREFIX (v .tables) p in
+      let y : Chose (Option How) = chooseOptional NAMESPACE-NAME (x .tables) n in
       beforeDeclaration (v .mode) a ++ ((0xCC + 2 * has p + has n) ∷ (optionalOctets p (x .how) ++ optionalOctets n (y .how)))
-  octetsBy a v (Start x) = beforeName (v .mode) ++ nameOctets ofElement (nameLead (v .mode) a) x (chooseName ELEMENT-NAME (v .words) x .how)
+  octetsBy a v (Start x) = beforeName (v .mode) ++ nameOctets ofElement (nameLead (v .mode) a) x (chooseName ELEMENT-NAME (v .tables) x .how)
   octetsBy a v (Attribute x y) =
-      let w : Chose NameHow = chooseName ATTRIBUTE-NAME (v .words) x in
-      nameOctets ofAttribute 0 x (w .how) ++ valueOctets y (chooseValue C ATTRIBUTE-VALUE (w .words) y .how)
-  octetsBy a v (Text y) = literalOctets c15 y (chooseLiteral C CONTENT-CHARACTER-CHUNK (v .words) y .how)
-  octetsBy a v (Comment y) = 0xE2 ∷ valueOctets y (chooseValue C OTHER-STRING (v .words) y .how)
+      let w : Chose NameHow = chooseName ATTRIBUTE-NAME (v .tables) x in
+      nameOctets ofAttribute 0 x (w .how) ++ valueOctets y (chooseValue C ATTRIBUTE-VALUE (w .tables) y .how)
+  octetsBy a v (Text y) = literalOctets c15 y (chooseLiteral C CONTENT-CHARACTER-CHUNK (v .tables) y .how)
+  octetsBy a v (Comment y) = 0xE2 ∷ valueOctets y (chooseValue C OTHER-STRING (v .tables) y .how)
   octetsBy a v (Instruction x y) =
-      let w : Chose How = chooseId OTHER-NCNAME (v .words) x in
-      0xE1 ∷ (idOctets x (w .how) ++ valueOctets y (chooseValue C OTHER-STRING (w .words) y .how))
+      let w : Chose How = chooseId OTHER-NCNAME (v .tables) x in
+      0xE1 ∷ (idOctets x (w .how) ++ valueOctets y (chooseValue C OTHER-STRING (w .tables) y .how))
   octetsBy a v End = []
 
   -- what is known behind it
   abbrev pub knownBy : Bool → State (List ℕ) → Event (List ℕ) → State (List ℕ)
-  knownBy a v e = behind a v (chooseFor C (v .words) e .words) e
+  knownBy a v e = behind a v (chooseFor C (v .tables) e .tables) e
 
-pub octets-by : (C : Limits) (a : Bool) (v : State (List ℕ)) (e : Event (List ℕ)) (r : Ranged (v .words)) → octetsAs a (v .mode) (permits-for C (v .words) e r) ≡ octetsBy C a v e
+pub octets-by : (C : Limits) (a : Bool) (v : State (List ℕ)) (e : Event (List ℕ)) (r : Ranged (v .tables)) → octetsAs a (v .mode) (permits-for C (v .tables) e r) ≡ octetsBy C a v e
 unfolding octetsAs octetsBy permits-for chooseFor
 octets-by C a v (Namespace p n) r = refl
 octets-by C a v (Start x) r = refl
@@ -233,15 +233,15 @@ module _ (L : Limits) (small : L .entries ≤ top) where
       → Declared L v p n hp hn ((0xCC + 2 * has p + has n) ∷ (optionalOctets p hp ++ optionalOctets n hn)) w
   declared-rule s f up un = declared (optional-rule L small (s .0) (fits-before (optional-grows un) f) up) (optional-rule L small (s .1) f un)
 
-  before-at : (a : Bool) (m k : Mode) → m ≡ k → (v z : State (List ℕ)) (i : Item (List ℕ)) (os : List ℕ) → Octets L v i (beforeDeclaration k a ++ os) z → Octets L v i (beforeDeclaration m a ++ os) z
-  before-at a m k e v z i os u = subst (λ (y : Mode). Octets L v i (beforeDeclaration y a ++ os) z) (sym e) u
+  before-at : (a : Bool) (m k : Mode) → m ≡ k → (v z : State (List ℕ)) (i : Item (List ℕ)) (os : List ℕ) → ItemWrittenAs L v i (beforeDeclaration k a ++ os) z → ItemWrittenAs L v i (beforeDeclaration m a ++ os) z
+  before-at a m k e v z i os u = subst (λ (y : Mode). ItemWrittenAs L v i (beforeDeclaration y a ++ os) z) (sym e) u
 
   name-at : (a : Bool) (m k : Mode) → m ≡ k → (v z : State (List ℕ)) (x : Name (List ℕ)) (h : NameHow)
-      → Octets L v (Start x by forStart h) (beforeName k ++ nameOctets ofElement (nameLead k a) x h) z → Octets L v (Start x by forStart h) (beforeName m ++ nameOctets ofElement (nameLead m a) x h) z
-  name-at a m k e v z x h u = subst (λ (y : Mode). Octets L v (Start x by forStart h) (beforeName y ++ nameOctets ofElement (nameLead y a) x h) z) (sym e) u
+      → ItemWrittenAs L v (Start x by forStart h) (beforeName k ++ nameOctets ofElement (nameLead k a) x h) z → ItemWrittenAs L v (Start x by forStart h) (beforeName m ++ nameOctets ofElement (nameLead m a) x h) z
+  name-at a m k e v z x h u = subst (λ (y : Mode). ItemWrittenAs L v (Start x by forStart h) (beforeName y ++ nameOctets ofElement (nameLead y a) x h) z) (sym e) u
 
-  pub made : (a : Bool) (v : State (List ℕ)) {e : Event (List ℕ)} {c : Choice} {w : Vocabulary (List ℕ)} → Said e → Where L a v e → InLimits L w → (p : Permits (v .words) e c w)
-      → Octets L v (e by c) (octetsAs a (v .mode) p) (behind a v w e)
+  pub made : (a : Bool) (v : State (List ℕ)) {e : Event (List ℕ)} {c : Choice} {w : Vocabulary (List ℕ)} → Said e → Where L a v e → InLimits L w → (p : Permits (v .tables) e c w)
+      → ItemWrittenAs L v (e by c) (octetsAs a (v .mode) p) (behind a v w e)
   unfolding octetsAs mayStart
   made a v s (first-namespace md may deep) f (a-declaration up un) = before-at a (v .mode) content md _ _ _ _ (o-first-namespace {a = a} md may deep (declared-rule s f up un))
   made a v s (next-namespace md) f (a-declaration up un) = before-at a (v .mode) (declaring a) md _ _ _ _ (o-namespace {a = a} md (declared-rule s f up un))

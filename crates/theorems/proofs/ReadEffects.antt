@@ -178,8 +178,8 @@ module _ (L : Limits) (s : List ℕ) where
 
   -- ---- items: a step's answer, where v is known
   abbrev Gave : Vocabulary Located → Step → Type 0
-  Gave v (more p i n) = ItemDone empty (Lies s) v i (n .state .words)
-  Gave v (quiet n) = n .state .words ≡ v
+  Gave v (more p i n) = ItemDone empty (Lies s) v i (n .state .tables)
+  Gave v (quiet n) = n .state .tables ≡ v
   Gave v done = Unit {0}
   Gave v (stop n p) = Unit {0}
 
@@ -188,112 +188,112 @@ module _ (L : Limits) (s : List ℕ) where
   into-gave v R (got b next w) f r h = h b next w r
   into-gave v R (refused n p) f r h = tt
 
-  start-gave : (k : ℕ) (a : Bool) (v : State Located) (g : Got NameRead) → Did (NameDid (ofElement .table) (v .words)) g → Gave (v .words) (startOf L k a v g)
+  start-gave : (k : ℕ) (a : Bool) (v : State Located) (g : Got NameRead) → Did (NameDid (ofElement .table) (v .tables)) g → Gave (v .tables) (startOf L k a v g)
   unfolding ofElement
-  start-gave k a v g r = into-gave (v .words) (NameDid (ofElement .table) (v .words)) g _ r λ x next w u. done-start u
+  start-gave k a v g r = into-gave (v .tables) (NameDid (ofElement .table) (v .tables)) g _ r λ x next w u. done-start u
 
-  namespace-gave : (k : ℕ) (v : State Located) (a : Bool) → Gave (v .words) (namespaceAt L s k v a)
+  namespace-gave : (k : ℕ) (v : State Located) (a : Bool) → Gave (v .tables) (namespaceAt L s k v a)
   unfolding namespaceAt
-  namespace-gave k v a = into-gave (v .words) (DeclaredDid (v .words)) (declaredAt L s k (v .words)) _ (declared-did k (v .words)) λ d next w u. u
+  namespace-gave k v a = into-gave (v .tables) (DeclaredDid (v .tables)) (declaredAt L s k (v .tables)) _ (declared-did k (v .tables)) λ d next w u. u
 
-  element-gave : (k b : ℕ) (a : Bool) (v : State Located) → Gave (v .words) (elementAt L s k b a v)
+  element-gave : (k b : ℕ) (a : Bool) (v : State Located) → Gave (v .tables) (elementAt L s k b a v)
   unfolding elementAt ofElement
   element-gave k b a v =
-      let P : Step → Type 0 = Gave (v .words) in
+      let P : Step → Type 0 = Gave (v .tables) in
       test-not P (stop 6 k) tt (namePadding b) _
       λ e. test P (stop 15 k) tt (mayStart v) _
       λ e. either P (ltb b 0x38) _ _
-      (λ e. into-gave (v .words) (NameDid (ofElement .table) (v .words)) (numberedAt L ofElement s k (v .words)) _ (numbered-did ofElement k (v .words))
+      (λ e. into-gave (v .tables) (NameDid (ofElement .table) (v .tables)) (numberedAt L ofElement s k (v .tables)) _ (numbered-did ofElement k (v .tables))
       λ x next w u. test P (stop 13 k) tt (ltb (v .level) (L .depth)) _ λ e. done-start u)
       λ e. test-not P (stop 15 k) tt (leb 0x3C b && lonePrefix b) _
       λ e. test P (stop 13 k) tt (ltb (v .level) (L .depth)) _
-      λ e. either P (eqb b 0x38) _ _ (λ e. namespace-gave (suc k) v a) (λ e. start-gave k a v (partsAt L ofElement s b k (v .words)) (parts-did ofElement b k (v .words)))
+      λ e. either P (eqb b 0x38) _ _ (λ e. namespace-gave (suc k) v a) (λ e. start-gave k a v (partsAt L ofElement s b k (v .tables)) (parts-did ofElement b k (v .tables)))
 
-  named-gave : (k : ℕ) (a : Bool) (v : State Located) → Gave (v .words) (namedAt L s k a v)
+  named-gave : (k : ℕ) (a : Bool) (v : State Located) → Gave (v .tables) (namedAt L s k a v)
   unfolding namedAt
   named-gave k a v =
-      let P : Step → Type 0 = Gave (v .words) in
+      let P : Step → Type 0 = Gave (v .tables) in
       test P (stop 2 k) tt (ltb k (length s)) _
       λ e. test-not P (stop 5 k) tt (eqb (getD s k 0 % 64 / 4) 14) _
       λ e. test P (stop 6 k) tt (ltb (getD s k 0) 0x40) _
       λ e. test-not P (stop 6 k) tt (namePadding (getD s k 0)) _
-      λ e. start-gave k a v (nameAt L ofElement s (getD s k 0) k (v .words)) (name-did ofElement (getD s k 0) k (v .words))
+      λ e. start-gave k a v (nameAt L ofElement s (getD s k 0) k (v .tables)) (name-did ofElement (getD s k 0) k (v .tables))
 
-  attribute-gave : (k : ℕ) (v : State Located) → Gave (v .words) (attributeAt L s k v)
+  attribute-gave : (k : ℕ) (v : State Located) → Gave (v .tables) (attributeAt L s k v)
   unfolding attributeAt ofAttribute
   attribute-gave k v =
-      let P : Step → Type 0 = Gave (v .words) in
+      let P : Step → Type 0 = Gave (v .tables) in
       test P (stop 2 k) tt (ltb k (length s)) _
       λ e. test P (stop 5 k) tt (ltb (getD s k 0) 0x80) _
       λ e. test P (stop 6 k) tt (ltb (getD s k 0) 0x7C) _
-      λ e. into-gave (v .words) (NameDid (ofAttribute .table) (v .words)) (nameAt L ofAttribute s (getD s k 0) k (v .words)) _ (name-did ofAttribute (getD s k 0) k (v .words))
-      λ x k₁ w₁ r₁. into-gave (v .words) (ValueDid ATTRIBUTE-VALUE w₁) (valueAt L s ATTRIBUTE-VALUE k₁ w₁) _ (value-did ATTRIBUTE-VALUE k₁ w₁)
+      λ e. into-gave (v .tables) (NameDid (ofAttribute .table) (v .tables)) (nameAt L ofAttribute s (getD s k 0) k (v .tables)) _ (name-did ofAttribute (getD s k 0) k (v .tables))
+      λ x k₁ w₁ r₁. into-gave (v .tables) (ValueDid ATTRIBUTE-VALUE w₁) (valueAt L s ATTRIBUTE-VALUE k₁ w₁) _ (value-did ATTRIBUTE-VALUE k₁ w₁)
       λ y k₂ w₂ r₂. done-attribute r₁ r₂
 
-  child-gave : (k : ℕ) (v : State Located) → Gave (v .words) (childAt L s k v)
+  child-gave : (k : ℕ) (v : State Located) → Gave (v .tables) (childAt L s k v)
   unfolding childAt chunkAt commentAt instructionAt otherAt
   child-gave k v =
-      let P : Step → Type 0 = Gave (v .words) in
+      let P : Step → Type 0 = Gave (v .tables) in
       let o : ℕ = getD s k 0 in
       test P (stop 2 k) tt (ltb k (length s)) _
       λ e. either P (ltb o 0x40) _ _ (λ e. element-gave k o false v)
       λ e. either P (ltb o 0x80) _ _ (λ e. element-gave k (o - 0x40) true v)
       λ e. either P (ltb o 0xC0) _ _
       (λ e. test P (stop 5 k) tt (ltb 0 (v .level)) _
-      λ e. into-gave (v .words) (StringDid CONTENT-CHARACTER-CHUNK (v .words)) (literalAt L c15 s CONTENT-CHARACTER-CHUNK k (v .words)) _ (string-did c15 CONTENT-CHARACTER-CHUNK k (v .words))
+      λ e. into-gave (v .tables) (StringDid CONTENT-CHARACTER-CHUNK (v .tables)) (literalAt L c15 s CONTENT-CHARACTER-CHUNK k (v .tables)) _ (string-did c15 CONTENT-CHARACTER-CHUNK k (v .tables))
       λ y next w u. done-text u)
       λ e. either P (eqb o 0xE1) _ _
-      (λ e. into-gave (v .words) (IdDid OTHER-NCNAME (v .words)) (idAt L s OTHER-NCNAME (suc k) (v .words)) _ (id-did OTHER-NCNAME (suc k) (v .words))
-      λ x k₁ w₁ r₁. into-gave (v .words) (ValueDid OTHER-STRING w₁) (valueAt L s OTHER-STRING k₁ w₁) _ (value-did OTHER-STRING k₁ w₁)
+      (λ e. into-gave (v .tables) (IdDid OTHER-NCNAME (v .tables)) (idAt L s OTHER-NCNAME (suc k) (v .tables)) _ (id-did OTHER-NCNAME (suc k) (v .tables))
+      λ x k₁ w₁ r₁. into-gave (v .tables) (ValueDid OTHER-STRING w₁) (valueAt L s OTHER-STRING k₁ w₁) _ (value-did OTHER-STRING k₁ w₁)
       λ y k₂ w₂ r₂. done-instruction r₁ r₂)
       λ e. either P (eqb o 0xE2) _ _
-      (λ e. into-gave (v .words) (ValueDid OTHER-STRING (v .words)) (valueAt L s OTHER-STRING (suc k) (v .words)) _ (value-did OTHER-STRING (suc k) (v .words))
+      (λ e. into-gave (v .tables) (ValueDid OTHER-STRING (v .tables)) (valueAt L s OTHER-STRING (suc k) (v .tables)) _ (value-did OTHER-STRING (suc k) (v .tables))
       λ y next w u. done-comment u)
       λ e. test P (stop 6 k) tt (ltb o 0xF0) _ λ e. test P (stop 5 k) tt (eqb (o / 4) (pick (ltb 0 (v .level)) 0x32 0x31)) _ λ e. tt
 
-  item-gave : (k : ℕ) (v : State Located) (m : Mode) → Gave (v .words) (itemAt L s k v m)
+  item-gave : (k : ℕ) (v : State Located) (m : Mode) → Gave (v .tables) (itemAt L s k v m)
   unfolding itemAt declaringAt
   item-gave k v content = child-gave k v
-  item-gave k v (declaring a) = either (Gave (v .words)) (eqb (getD s k 0) 0xF0) _ _ (λ e. named-gave (suc k) a v) (λ e. namespace-gave k v a)
+  item-gave k v (declaring a) = either (Gave (v .tables)) (eqb (getD s k 0) 0xF0) _ _ (λ e. named-gave (suc k) a v) (λ e. namespace-gave k v a)
   item-gave k v (listing any) = attribute-gave k v
 
-  end-gave : (m : Stand) (d : Mode) → Gave (m .state .words) (endAt s m d)
+  end-gave : (m : Stand) (d : Mode) → Gave (m .state .tables) (endAt s m d)
   unfolding endAt documentEnd
   end-gave m (listing true) = refl
   end-gave m (listing false) = tt
   end-gave m (declaring a) = tt
   end-gave m content =
-      let P : Step → Type 0 = Gave (m .state .words) in
+      let P : Step → Type 0 = Gave (m .state .tables) in
       either P (ltb 0 (m .state .level)) _ _ (λ e. done-end)
       λ e. test P (stop 15 (m .at / 2)) tt (m .state .root) _
       λ e. test P (stop 6 (m .at / 2)) tt (padsAt s (suc (m .at))) _
       λ e. test P (stop 15 (aligned (suc (m .at)) / 2)) tt (eqb (aligned (suc (m .at))) (2 * length s)) _ λ e. tt
 
-  step-gave : (m : Stand) → Gave (m .state .words) (step L s m)
+  step-gave : (m : Stand) → Gave (m .state .tables) (step L s m)
   unfolding step
   step-gave m =
-      let P : Step → Type 0 = Gave (m .state .words) in
+      let P : Step → Type 0 = Gave (m .state .tables) in
       either P (byHalves (m .state .mode) && endsAt s (m .at)) _ _ (λ e. end-gave m (m .state .mode))
       λ e. test P (stop 6 (m .at / 2)) tt (padsAt s (m .at)) _ λ e. item-gave (aligned (m .at) / 2) (m .state) (m .state .mode)
 
   -- ---- a run
   abbrev GaveAll : Vocabulary Located → Result → Type 0
-  GaveAll v (accepted is m) = Done empty (Lies s) v is (m .state .words)
+  GaveAll v (accepted is m) = Done empty (Lies s) v is (m .state .tables)
   GaveAll v (refusal n p) = Unit {0}
 
   plus-gave : {v w : Vocabulary Located} (i : Item Located) → ItemDone empty (Lies s) v i w → (a : Result) → GaveAll w a → GaveAll v (plus i a)
   plus-gave i u (accepted is m) r = an-item u r
   plus-gave i u (refusal n p) r = tt
 
-  turn-gave : (go : ℕ → Stand → Result) → ((r : ℕ) (n : Stand) → GaveAll (n .state .words) (go r n)) → (room : ℕ) (m : Stand) (a : Step) → Gave (m .state .words) a
-      → GaveAll (m .state .words) (turn go room m a)
+  turn-gave : (go : ℕ → Stand → Result) → ((r : ℕ) (n : Stand) → GaveAll (n .state .tables) (go r n)) → (room : ℕ) (m : Stand) (a : Step) → Gave (m .state .tables) a
+      → GaveAll (m .state .tables) (turn go room m a)
   turn-gave go rec zero m (more p i n) g = tt
   turn-gave go rec (suc r) m (more p i n) g = plus-gave i g (go r n) (rec r n)
   turn-gave go rec room m (quiet n) g = subst (λ (v : Vocabulary Located). GaveAll v (go room n)) g (rec room n)
   turn-gave go rec room m done g = no-item
   turn-gave go rec room m (stop n p) g = tt
 
-  run-gave : (fuel room : ℕ) (m : Stand) → GaveAll (m .state .words) (run L s fuel room m)
+  run-gave : (fuel room : ℕ) (m : Stand) → GaveAll (m .state .tables) (run L s fuel room m)
   unfolding run
   run-gave zero room m = tt
   run-gave (suc fuel) room m = turn-gave (λ r n. run L s fuel r n) (λ r n. run-gave fuel r n) room m (step L s m) (step-gave m)
@@ -304,6 +304,6 @@ module _ (s : List ℕ) (room : ℕ) where
   from-gave onward = run-gave link s (fuelOf s) room (origin start)
   from-gave (halt n p) = tt
 
-  pub reading-done : (is : List (Item Located)) (m : Stand) → reading s room ≡ accepted is m → Done empty (Lies s) start is (m .state .words)
+  pub reading-done : (is : List (Item Located)) (m : Stand) → reading s room ≡ accepted is m → Done empty (Lies s) start is (m .state .tables)
   unfolding reading
   reading-done is m e = subst (GaveAll link s start) e (from-gave (opening link header s))

@@ -16,6 +16,6 @@ unfolding start
 earlier-places s room is m e = earlier builtInPrefix builtInNamespace (reading-done s room is m e)
 
 -- the tables at the end have the very places that the items spelled
-pub made-places : (s : List ℕ) (room : ℕ) (is : List (Item Located)) (m : Stand) → reading s room ≡ accepted is m → MadeBy empty start (acts empty is) (m .state .words)
+pub made-places : (s : List ℕ) (room : ℕ) (is : List (Item Located)) (m : Stand) → reading s room ≡ accepted is m → MadeBy empty start (acts empty is) (m .state .tables)
 unfolding start
 made-places s room is m e = made builtInPrefix builtInNamespace (reading-done s room is m e)

@@ -8,7 +8,7 @@ use Rattle.format.specs.Events.{Name, Event, End, How, NameHow, Item, _by_, for
 use Rattle.format.specs.Tables.{StringTable, PREFIX, NAMESPACE-NAME, LOCAL-NAME, OTHER-NCNAME, ATTRIBUTE-VALUE, CONTENT-CHARACTER-CHUNK, OTHER-STRING, ELEMENT-NAME, ATTRIBUTE-NAME, Vocabulary, addingName, Limits}
 use Rattle.format.specs.Strings.{keeping, Identifying, id-spelled, id-numbered, Optional, absent, present, Layout, Literal, literal-spelled, literal-numbered, Value, value-empty, value}
 use Rattle.format.specs.Names.{NameLayout, ofElement, ofAttribute, Named, in-parts, by-number, Declared, declared}
-use Rattle.format.specs.Items.{State, Octets, o-start, o-first-namespace, o-namespace, o-named-start, o-attribute, o-text, o-comment, o-instruction}
+use Rattle.format.specs.Items.{State, ItemWrittenAs, o-start, o-first-namespace, o-namespace, o-named-start, o-attribute, o-text, o-comment, o-instruction}
 use Rattle.format.specs.Document.{Begun, begun, after-attributes, after-end, after-item}
 use Rattle.write_names.specs.Chosen.{Chose, chooseId, chooseOptional, chooseName, chooseFor, chosen, tablesAfter}
 use Rattle.theorems.specs.Permitted.{PermitsId, id-new, id-entry, PermitsIfAny, not-there, there}
@@ -31,7 +31,7 @@ module _ {L : Limits} where
   optional-words (present u) (there c) e = id-words u c (cc)
 
   literal-words : {C : Limits} {q : Layout} {t : StringTable} {v w : Vocabulary (List ℕ)} {x : List ℕ} {h : How} {o : List ℕ} {c : Chose How}
-      → Literal L q t v x h o w → LiteralCase C t v x c → h ≡ c .how → w ≡ c .words
+      → Literal L q t v x h o w → LiteralCase C t v x c → h ≡ c .how → w ≡ c .tables
   literal-words {t = t} {v = v} {x = x} (literal-spelled {added = a} sp room) (lit-new {added = b} r) e = let y : a ≡ b = cc in λ j. keeping (y j) v t x
   literal-words (literal-spelled sp room) (lit-held en) e = cc
   literal-words (literal-numbered small fits en) (lit-new r) e = cc
@@ -39,7 +39,7 @@ module _ {L : Limits} where
 
   -- an empty value adds nothing, and is no literal's choice
   value-words : {C : Limits} {t : StringTable} {v w : Vocabulary (List ℕ)} {x : List ℕ} {h : How} {o : List ℕ} {c : Chose How}
-      → Value L t v x h o w → ValueCase C t v x c → h ≡ c .how → w ≡ c .words
+      → Value L t v x h o w → ValueCase C t v x c → h ≡ c .how → w ≡ c .tables
   value-words value-empty (is-empty z) e = refl
   value-words value-empty (is-literal long c) e = absurd (omega arith)
   value-words (value u) (is-empty z) e = literal-some u e
@@ -47,39 +47,39 @@ module _ {L : Limits} where
 
   -- ---- names: the numbers of the parts make the triple
   named-words : {q : NameLayout} {lead : ℕ} {v w : Vocabulary (List ℕ)} {x : Name (List ℕ)} {h : NameHow} {o : List ℕ} {c : Chose NameHow}
-      → Named L q lead v x h o w → NameCase (q .table) v x c → h ≡ c .how → w ≡ c .words
+      → Named L q lead v x h o w → NameCase (q .table) v x c → h ≡ c .how → w ≡ c .tables
   named-words {q} {v = v} {x = x} (in-parts lone up un ul first room) (name-new m) e =
       let p = chooseOptional PREFIX v (x .prefix) in
-      let n = chooseOptional NAMESPACE-NAME (p .words) (x .namespace) in
+      let n = chooseOptional NAMESPACE-NAME (p .tables) (x .namespace) in
       let a = optional-words up (optional-case PREFIX v (x .prefix)) (cc) in
-      let b = optional-words (rw (a .0) at un) (optional-case NAMESPACE-NAME (p .words) (x .namespace)) (cc) in
-      let d = id-words (rw (b .0) at ul) (id-case LOCAL-NAME (n .words) (x .local)) (cc) in
+      let b = optional-words (rw (a .0) at un) (optional-case NAMESPACE-NAME (p .tables) (x .namespace)) (cc) in
+      let d = id-words (rw (b .0) at ul) (id-case LOCAL-NAME (n .tables) (x .local)) (cc) in
       λ j. addingName (d .0 j) (q .table) (record { prefix = a .1 j; namespace = b .1 j; local = d .1 j })
   named-words (in-parts lone up un ul first room) (name-held en m) e = cc
   named-words (by-number small fits en) (name-new m) e = cc
   named-words (by-number small fits en) (name-held en′ m) e = refl
 
   element-words : {lead : ℕ} {v w : Vocabulary (List ℕ)} {x : Name (List ℕ)} {h : NameHow} {o : List ℕ}
-      → Named L ofElement lead v x h o w → Ranged v → h ≡ chooseName ELEMENT-NAME v x .how → w ≡ chooseName ELEMENT-NAME v x .words
+      → Named L ofElement lead v x h o w → Ranged v → h ≡ chooseName ELEMENT-NAME v x .how → w ≡ chooseName ELEMENT-NAME v x .tables
   unfolding ofElement
   element-words {v = v} {x = x} u r e = named-words u (name-case ELEMENT-NAME v x r) e
 
   attribute-words : {lead : ℕ} {v w : Vocabulary (List ℕ)} {x : Name (List ℕ)} {h : NameHow} {o : List ℕ}
-      → Named L ofAttribute lead v x h o w → Ranged v → h ≡ chooseName ATTRIBUTE-NAME v x .how → w ≡ chooseName ATTRIBUTE-NAME v x .words
+      → Named L ofAttribute lead v x h o w → Ranged v → h ≡ chooseName ATTRIBUTE-NAME v x .how → w ≡ chooseName ATTRIBUTE-NAME v x .tables
   unfolding ofAttribute
   attribute-words {v = v} {x = x} u r e = named-words u (name-case ATTRIBUTE-NAME v x r) e
 
   declared-words : {v w : Vocabulary (List ℕ)} {p n : Option (List ℕ)} {hp hn : Option How} {o : List ℕ} → Declared L v p n hp hn o w
-      → hp ≡ chooseOptional PREFIX v p .how → hn ≡ chooseOptional NAMESPACE-NAME (chooseOptional PREFIX v p .words) n .how
-      → w ≡ chooseOptional NAMESPACE-NAME (chooseOptional PREFIX v p .words) n .words
+      → hp ≡ chooseOptional PREFIX v p .how → hn ≡ chooseOptional NAMESPACE-NAME (chooseOptional PREFIX v p .tables) n .how
+      → w ≡ chooseOptional NAMESPACE-NAME (chooseOptional PREFIX v p .tables) n .tables
   declared-words {v = v} {p = p} {n = n} (declared up un) ep en =
       let a = optional-words up (optional-case PREFIX v p) ep in
-      optional-words (rw (a .0) at un) (optional-case NAMESPACE-NAME (chooseOptional PREFIX v p .words) n) en .0
+      optional-words (rw (a .0) at un) (optional-case NAMESPACE-NAME (chooseOptional PREFIX v p .tables) n) en .0
 
   -- ---- items
   module _ (C : Limits) where
-    octets-words : {v w : State (List ℕ)} {i : Item (List ℕ)} {o : List ℕ} → Octets L v i o w → Ranged (v .words)
-        → i .choice ≡ chooseFor C (v .words) (i .event) .how → w .words ≡ chooseFor C (v .words) (i .event) .words
+    octets-words : {v w : State (List ℕ)} {i : Item (List ℕ)} {o : List ℕ} → ItemWrittenAs L v i o w → Ranged (v .tables)
+        → i .choice ≡ chooseFor C (v .tables) (i .event) .how → w .tables ≡ chooseFor C (v .tables) (i .event) .tables
     unfolding chooseFor
     octets-words (o-start a md may deep u) r e = element-words u r (cc)
     octets-words (o-first-namespace md may deep u) r e = declared-words u (cc) (cc)
@@ -87,16 +87,16 @@ module _ {L : Limits} where
     octets-words (o-named-start md u) r e = element-words u r (cc)
     octets-words {v} (o-attribute {x = x} {y = y} md u1 u2) r e =
         let a = attribute-words u1 r (cc) in
-        value-words (rw a at u2) (value-case C ATTRIBUTE-VALUE (chooseName ATTRIBUTE-NAME (v .words) x .words) y) (cc)
-    octets-words {v} (o-text {y = y} md lv u) r e = literal-words u (literal-case C CONTENT-CHARACTER-CHUNK (v .words) y) (cc)
-    octets-words {v} (o-comment {y = y} md u) r e = value-words u (value-case C OTHER-STRING (v .words) y) (cc)
+        value-words (rw a at u2) (value-case C ATTRIBUTE-VALUE (chooseName ATTRIBUTE-NAME (v .tables) x .tables) y) (cc)
+    octets-words {v} (o-text {y = y} md lv u) r e = literal-words u (literal-case C CONTENT-CHARACTER-CHUNK (v .tables) y) (cc)
+    octets-words {v} (o-comment {y = y} md u) r e = value-words u (value-case C OTHER-STRING (v .tables) y) (cc)
     octets-words {v} (o-instruction {x = x} {y = y} md u1 u2) r e =
-        let a = id-words u1 (id-case OTHER-NCNAME (v .words) x) (cc) in
-        value-words (rw (a .0) at u2) (value-case C OTHER-STRING (chooseId OTHER-NCNAME (v .words) x .words) y) (cc)
+        let a = id-words u1 (id-case OTHER-NCNAME (v .tables) x) (cc) in
+        value-words (rw (a .0) at u2) (value-case C OTHER-STRING (chooseId OTHER-NCNAME (v .tables) x .tables) y) (cc)
 
     -- a list of them; the tables are said to be u, so that each step can name them by the choices
     from-items : {at : ℕ} {v w : State (List ℕ)} {u : Vocabulary (List ℕ)} {items : List (Item (List ℕ))} {hs : List ℕ} (es : List (Event (List ℕ)))
-        → Begun L at v items hs w → v .words ≡ u → Ranged u → items ≡ chosen C u es → w .words ≡ tablesAfter C u es
+        → Begun L at v items hs w → v .tables ≡ u → Ranged u → items ≡ chosen C u es → w .tables ≡ tablesAfter C u es
     unfolding chosen tablesAfter chooseFor
     from-items [] begun q r e = q
     from-items [] (after-attributes md b) q r e = cc
@@ -106,12 +106,12 @@ module _ {L : Limits} where
     from-items (x ∷ es) (after-attributes md b) q r e = from-items (x ∷ es) b q r e
     from-items {u = u} (x ∷ es) (after-end md lv b) q r e =
         let y : (End by forEnd) ≡ (x by chooseFor C u x .how) = cc in
-        from-items es b (q ∙ ap (λ (i : Item (List ℕ)). chooseFor C u (i .event) .words) y) (ranged-for C u x r) (cc)
+        from-items es b (q ∙ ap (λ (i : Item (List ℕ)). chooseFor C u (i .event) .tables) y) (ranged-for C u x r) (cc)
     from-items {u = u} (x ∷ es) (after-item {i = i} o b) q r e =
         let y : i ≡ (x by chooseFor C u x .how) = cc in
         let p = octets-words (rw y at o) (rw q r) (rw q) in
         from-items es b (rw q at p) (ranged-for C u x r) (cc)
 
     pub begun-words : {at : ℕ} {v w : State (List ℕ)} {hs : List ℕ} (es : List (Event (List ℕ)))
-        → Begun L at v (chosen C (v .words) es) hs w → Ranged (v .words) → w .words ≡ tablesAfter C (v .words) es
+        → Begun L at v (chosen C (v .tables) es) hs w → Ranged (v .tables) → w .tables ≡ tablesAfter C (v .tables) es
     begun-words es b r = from-items es b refl r refl

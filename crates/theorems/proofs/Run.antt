@@ -14,7 +14,7 @@ use Rattle.format.specs.Events.{Name, How, NameHow, End, forEnd, Item, _by_, ev
 use Rattle.format.specs.Tables.{StringTable, Vocabulary, Limits}
 use Rattle.format.specs.Strings.{bit, Layout, Literal, literal-spelled, literal-numbered}
 use Rattle.format.specs.Names.{NameLayout, Named, in-parts, by-number, Declared, declared}
-use Rattle.format.specs.Items.{Mode, content, declaring, listing, State, moved, Octets, o-start, o-first-namespace, o-namespace, o-named-start, o-attribute, o-text, o-comment, o-instruction}
+use Rattle.format.specs.Items.{Mode, content, declaring, listing, State, moved, ItemWrittenAs, o-start, o-first-namespace, o-namespace, o-named-start, o-attribute, o-text, o-comment, o-instruction}
 use Rattle.format.specs.Document.{halves, pad, aligned, closed, Written, document-end, attributes-end, element-end, item, knownAfter}
 use Rattle.fields.proofs.RoundTrip.{some-first}
 use Rattle.tables.specs.Located.{Located, plain, plainState}
@@ -45,7 +45,7 @@ module _ {L : Limits} where
       let p = sp .some in let l = length-append (spell (lengths (q .lengthBit)) (q .spelledBits + q .addBit * bit a) (length x - 1)) x in omega arith
   literal-some {q} (literal-numbered {k = k} small fits en) = some-first (q .numberForms) (q .numberedBits) k fits
 
-  octets-some : {v w : State (List ℕ)} {i : Item (List ℕ)} {o : List ℕ} → Octets L v i o w → (0 < length o) × (w .level ≤ suc (v .level))
+  octets-some : {v w : State (List ℕ)} {i : Item (List ℕ)} {o : List ℕ} → ItemWrittenAs L v i o w → (0 < length o) × (w .level ≤ suc (v .level))
   octets-some (o-start a md may deep u) = (named-some u, omega arith)
   octets-some (o-first-namespace md may deep u) = (omega arith, omega arith)
   octets-some (o-namespace md u) = (declared-some u, omega arith)
@@ -295,7 +295,7 @@ module _ (L : Limits) (s : List ℕ) where
 
   abbrev NextIf : Stand → Item (List ℕ) → List ℕ → State (List ℕ) → List ℕ → State (List ℕ) → Type 0
   NextIf m i o w hs v =
-      (u : Octets L v i o w) → drop (m .at) (halves s) ≡ pad (m .at) ++ (halves o ++ hs)
+      (u : ItemWrittenAs L v i o w) → drop (m .at) (halves s) ≡ pad (m .at) ++ (halves o ++ hs)
       → Next m i (aligned (m .at) + 2 * length o) w (inItem (aligned (m .at) / 2) u) × (drop (aligned (m .at) + 2 * length o) (halves s) ≡ hs) × (0 < length o)
 
   item-next : (m : Stand) (i : Item (List ℕ)) (o : List ℕ) (w : State (List ℕ)) (hs : List ℕ) → NextIf m i o w hs (plainState s (m .state))
@@ -323,7 +323,7 @@ module _ (L : Limits) (s : List ℕ) where
     past-end : drop (suc (m .at)) (halves s) ≡ hs
     past-end = drop-head (halves s) (m .at) 15 hs d .2
 
-    quiet-next : m .state .mode ≡ listing true → step L s m ≡ quiet (record { at = suc (m .at); state = moved (m .state) (m .state .words) content })
+    quiet-next : m .state .mode ≡ listing true → step L s m ≡ quiet (record { at = suc (m .at); state = moved (m .state) (m .state .tables) content })
     unfolding step endAt
     quiet-next md = rw (md, at-end)
 
@@ -393,7 +393,7 @@ module _ (L : Limits) (s : List ℕ) where
   run-complete (attributes-end md w) m zero room a k d f g = absurd (omega arith)
   run-complete (attributes-end {z = y} {items = items} {hs = hs} md w) m (suc fuel) room a k d f g =
       go-over fuel room m _ items y _ _ (quiet-next m hs (rw a d) (ap (λ (x : State (List ℕ)). x .mode) k ∙ md))
-      (run-complete w (record { at = suc (m .at); state = moved (m .state) (m .state .words) content }) fuel room (ap suc a) (ap (λ (x : State (List ℕ)). moved x (x .words) content) k) (rw a at (past-end m hs (rw a d))) (omega arith) g)
+      (run-complete w (record { at = suc (m .at); state = moved (m .state) (m .state .tables) content }) fuel room (ap suc a) (ap (λ (x : State (List ℕ)). moved x (x .tables) content) k) (rw a at (past-end m hs (rw a d))) (omega arith) g)
   run-complete (element-end md lv w) m zero room a k d f g = absurd (omega arith)
   run-complete (element-end md lv w) m (suc fuel) zero a k d f g = absurd (omega arith)
   run-complete (element-end {z = y} {items = items} {hs = hs} md lv w) m (suc fuel) (suc room) a k d f g =

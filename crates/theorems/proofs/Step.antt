@@ -11,7 +11,7 @@ use Rattle.format.specs.Numbers.{pick, top}
 use Rattle.format.specs.Events as E
 use Rattle.format.specs.Events.{Choice, _by_, isDeclaration}
 use Rattle.format.specs.Tables.{Vocabulary, Limits, InLimits}
-use Rattle.format.specs.Items.{Mode, content, declaring, listing, State, mayStart, afterStart, knowing, moved, Octets}
+use Rattle.format.specs.Items.{Mode, content, declaring, listing, State, mayStart, afterStart, knowing, moved, ItemWrittenAs}
 use Rattle.format.specs.Document.{halves, pad, Begun, begun, after-attributes, after-end, after-item}
 use Rattle.write_names.specs.Chosen.{chooseFor}
 use Rattle.writer.specs.Events.{amongChildren, isDeclaring, isListing, goesOn}
@@ -35,7 +35,7 @@ module _ (L : Limits) (a : Bool) (v : State (List ℕ)) where
 
   -- behind the end of an attribute list, if this event is no attribute
   abbrev Behind : Mode → E.Event (List ℕ) → State (List ℕ)
-  Behind m e = pick (isListing m && not (isAttribute e)) (moved v (v .words) content) v
+  Behind m e = pick (isListing m && not (isAttribute e)) (moved v (v .tables) content) v
 
   -- the first event of an element, or the next of its declarations
   starts : (e : E.Event (List ℕ)) (m : Mode) → v .mode ≡ m → Ahead m a → (isDeclaring m || (amongChildren m && mayStart v)) ≡ true → (not (isDeclaring m) && leb (L .depth) (v .level)) ≡ false → isAttribute e ≡ false
@@ -43,14 +43,14 @@ module _ (L : Limits) (a : Bool) (v : State (List ℕ)) where
   unfolding mayStart
   starts e content md ah go deep nay f g = f v md go (shallow-is true refl deep)
   starts e (declaring b) md ah go deep nay f g = g v (md ∙ ap (λ (y : Bool). declaring y) ah)
-  starts e (listing true) md ah go deep nay f g = rw nay (f (moved v (v .words) content) refl go (shallow-is true refl deep))
+  starts e (listing true) md ah go deep nay f g = rw nay (f (moved v (v .tables) content) refl go (shallow-is true refl deep))
   starts e (listing false) md ah go deep nay f g = clash go
 
   -- a child that is no element
   inside : (e : E.Event (List ℕ)) (m : Mode) → v .mode ≡ m → amongChildren m ≡ true → isAttribute e ≡ false → ((u : State (List ℕ)) → u .mode ≡ content → u .level ≡ v .level → Where L a u e) → Where L a (Behind m e) e
   inside e content md go nay f = f v md refl
   inside e (declaring b) md go nay f = clash go
-  inside e (listing true) md go nay f = rw nay (f (moved v (v .words) content) refl refl)
+  inside e (listing true) md go nay f = rw nay (f (moved v (v .tables) content) refl refl)
   inside e (listing false) md go nay f = clash go
 
   in-a-list : (x : E.Name (List ℕ)) (y : List ℕ) (m : Mode) → v .mode ≡ m → isListing m ≡ true → Where L a (Behind m (E.Attribute x y)) (E.Attribute x y)
@@ -93,17 +93,17 @@ module _ (v : State (List ℕ)) where
       flip false y = refl
 
   -- an End stands among children, in an element
-  end-here : (m : Mode) → v .mode ≡ m → amongChildren m ≡ true → (pick (isListing m && true) (moved v (v .words) content) v .mode ≡ content)
+  end-here : (m : Mode) → v .mode ≡ m → amongChildren m ≡ true → (pick (isListing m && true) (moved v (v .tables) content) v .mode ≡ content)
   end-here content md t = md
   end-here (declaring b) md t = clash t
   end-here (listing true) md t = refl
   end-here (listing false) md t = clash t
 
-  level-here : (t : Bool) → pick t (moved v (v .words) content) v .level ≡ v .level
+  level-here : (t : Bool) → pick t (moved v (v .tables) content) v .level ≡ v .level
   level-here true = refl
   level-here false = refl
 
-  words-here : (t : Bool) → pick t (moved v (v .words) content) v .words ≡ v .words
+  words-here : (t : Bool) → pick t (moved v (v .tables) content) v .tables ≡ v .tables
   words-here true = refl
   words-here false = refl
 
@@ -118,17 +118,17 @@ module _ (C : Limits) where
   abbrev pub nextBy : Bool → State (List ℕ) → E.Event (List ℕ) → State (List ℕ)
   nextBy a v e = knownBy C a (settled v e) e
 
-pub words-settled : (v : State (List ℕ)) (e : E.Event (List ℕ)) → settled v e .words ≡ v .words
+pub words-settled : (v : State (List ℕ)) (e : E.Event (List ℕ)) → settled v e .tables ≡ v .tables
 unfolding settled
 words-settled v e = words-here v (isListing (v .mode) && not (isAttribute e))
 
 module _ (L : Limits) (small : L .entries ≤ top) where
-  item-alone : (at : ℕ) {v w : State (List ℕ)} {i : E.Item (List ℕ)} {o : List ℕ} → Octets L v i o w → Begun L at v (i ∷ []) (pad at ++ halves o) w
+  item-alone : (at : ℕ) {v w : State (List ℕ)} {i : E.Item (List ℕ)} {o : List ℕ} → ItemWrittenAs L v i o w → Begun L at v (i ∷ []) (pad at ++ halves o) w
   item-alone at {v} {w} {i} {o} u = subst (λ (l : List ℕ). Begun L at v (i ∷ []) (pad at ++ l) w) (append-nil (halves o)) (after-item u begun)
 
   -- behind what is owed
   own : (at : ℕ) (a : Bool) (v : State (List ℕ)) (e : E.Event (List ℕ)) {c : Choice} {w : Vocabulary (List ℕ)} (t : Bool) → isEnd e ≡ t → Said e → (t ≡ false → Where L a v e)
-      → (t ≡ true → (v .mode ≡ content) × (0 < v .level)) → InLimits L w → (p : Permits (v .words) e c w)
+      → (t ≡ true → (v .mode ≡ content) × (0 < v .level)) → InLimits L w → (p : Permits (v .tables) e c w)
       → Begun L at v ((e by c) ∷ []) (pick t (15 ∷ []) (pad at ++ halves (octetsAs a (v .mode) p))) (behind a v w e)
   own at a v e false k s f g i p = item-alone at (made L small a v s (f refl) i p)
   own at a v E.End true k s f g i an-end = let y = g refl in after-end (y .0) (y .1) begun
@@ -155,12 +155,12 @@ module _ (L : Limits) (small : L .entries ≤ top) where
 
   -- the end of an attribute list that is owed, in front
   owed-front : (at : ℕ) (v w : State (List ℕ)) (t : Bool) (i : E.Item (List ℕ)) (hs : List ℕ) → (t ≡ true → v .mode ≡ listing true)
-      → Begun L (at + length {A = ℕ} (pick t (15 ∷ []) [])) (pick t (moved v (v .words) content) v) (i ∷ []) hs w → Begun L at v (i ∷ []) (pick t (15 ∷ []) [] ++ hs) w
+      → Begun L (at + length {A = ℕ} (pick t (15 ∷ []) [])) (pick t (moved v (v .tables) content) v) (i ∷ []) hs w → Begun L at v (i ∷ []) (pick t (15 ∷ []) [] ++ hs) w
   owed-front at v w true i hs f u = let y : at + 1 ≡ suc at = omega arith in after-attributes (f refl) (rw y at u)
   owed-front at v w false i hs f u = let y : at + 0 ≡ at = omega arith in rw y at u
 
   pub front : (at : ℕ) (a : Bool) (v : State (List ℕ)) (e : E.Event (List ℕ)) {c : Choice} {w : Vocabulary (List ℕ)} → Ahead (v .mode) a → Said e → goesOn v e ≡ true
-      → (opens (v .mode) e && leb (L .depth) (v .level)) ≡ false → InLimits L w → (p : Permits (settled v e .words) e c w)
+      → (opens (v .mode) e && leb (L .depth) (v .level)) ≡ false → InLimits L w → (p : Permits (settled v e .tables) e c w)
       → Begun L at v ((e by c) ∷ []) (halvesAs at v e (octetsAs a (settled v e .mode) p)) (behind a (settled v e) w e)
   unfolding settled owed halvesAs
   front at a v e {w = w} ah s go deep i p =
@@ -170,23 +170,23 @@ module _ (L : Limits) (small : L .entries ≤ top) where
       owed-front at v (behind a (settled v e) w e) t _ _ (λ y. listed v e (v .mode) refl go y) b
 
   -- with 01's choice
-  pub front-by : (C : Limits) (at : ℕ) (a : Bool) (v : State (List ℕ)) (e : E.Event (List ℕ)) → Ahead (v .mode) a → Ranged (v .words) → Said e → goesOn v e ≡ true
-      → (opens (v .mode) e && leb (L .depth) (v .level)) ≡ false → InLimits L (chooseFor C (v .words) e .words)
-      → Begun L at v ((e by chooseFor C (v .words) e .how) ∷ []) (halvesBy C at a v e) (nextBy C a v e)
+  pub front-by : (C : Limits) (at : ℕ) (a : Bool) (v : State (List ℕ)) (e : E.Event (List ℕ)) → Ahead (v .mode) a → Ranged (v .tables) → Said e → goesOn v e ≡ true
+      → (opens (v .mode) e && leb (L .depth) (v .level)) ≡ false → InLimits L (chooseFor C (v .tables) e .tables)
+      → Begun L at v ((e by chooseFor C (v .tables) e .how) ∷ []) (halvesBy C at a v e) (nextBy C a v e)
   unfolding halvesBy
   front-by C at a v e ah r s go deep i =
       let u : State (List ℕ) = settled v e in
       let same = words-settled v e in
       let r′ = subst (λ (z : Vocabulary (List ℕ)). Ranged z) (sym same) r in
-      let b = front at a v e ah s go deep (subst (λ (z : Vocabulary (List ℕ)). InLimits L (chooseFor C z e .words)) (sym same) i) (permits-for C (u .words) e r′) in
+      let b = front at a v e ah s go deep (subst (λ (z : Vocabulary (List ℕ)). InLimits L (chooseFor C z e .tables)) (sym same) i) (permits-for C (u .tables) e r′) in
       subst₂ (λ (z : Vocabulary (List ℕ)) (os : List ℕ). Begun L at v ((e by chooseFor C z e .how) ∷ []) (halvesAs at v e os) (nextBy C a v e)) same (octets-by C a u e r′) b
 
 -- ---- the place behind an event is that of the structure, with the tables that the choice leaves
-picked : (t : Bool) (v : State (List ℕ)) → pick t (moved v (v .words) content) v ≡ moved v (v .words) (pick t (moved v (v .words) content) v .mode)
+picked : (t : Bool) (v : State (List ℕ)) → pick t (moved v (v .tables) content) v ≡ moved v (v .tables) (pick t (moved v (v .tables) content) v .mode)
 picked true v = refl
 picked false v = refl
 
-settled-is : (v : State (List ℕ)) (e : E.Event (List ℕ)) → settled v e ≡ moved v (v .words) (settled v e .mode)
+settled-is : (v : State (List ℕ)) (e : E.Event (List ℕ)) → settled v e ≡ moved v (v .tables) (settled v e .mode)
 unfolding settled
 settled-is v e = picked (isListing (v .mode) && not (isAttribute e)) v
 
@@ -196,9 +196,9 @@ module _ (a : Bool) (v : State (List ℕ)) where
   unfolding settled
   stays e w nay go =
       let md : settled v e .mode ≡ content = rw nay (end-here v (v .mode) refl go) in
-      ap (λ (u : State (List ℕ)). knowing u w) (settled-is v e ∙ ap (λ (m : Mode). moved v (v .words) m) md)
+      ap (λ (u : State (List ℕ)). knowing u w) (settled-is v e ∙ ap (λ (m : Mode). moved v (v .tables) m) md)
 
-  pub next-state : (e : E.Event (List ℕ)) {c : Choice} {w : Vocabulary (List ℕ)} → goesOn v e ≡ true → Permits (v .words) e c w → behind a (settled v e) w e ≡ knowing (stepped a v e) w
+  pub next-state : (e : E.Event (List ℕ)) {c : Choice} {w : Vocabulary (List ℕ)} → goesOn v e ≡ true → Permits (v .tables) e c w → behind a (settled v e) w e ≡ knowing (stepped a v e) w
   unfolding goesOn
   next-state (E.Namespace p n) {w = w} go u = ap (λ (y : State (List ℕ)). behind a y w (E.Namespace p n)) (settled-is v (E.Namespace p n))
   next-state (E.Start x) {w = w} go u = ap (λ (y : State (List ℕ)). behind a y w (E.Start x)) (settled-is v (E.Start x))
@@ -208,9 +208,9 @@ module _ (a : Bool) (v : State (List ℕ)) where
   next-state (E.Instruction x y) {w = w} go u = stays (E.Instruction x y) w refl go
   next-state E.End {w = w} go an-end = ap (λ (y : State (List ℕ)). behind a y w E.End) (settled-is v E.End)
 
-  pub next-by : (C : Limits) (e : E.Event (List ℕ)) → goesOn v e ≡ true → Ranged (v .words) → nextBy C a v e ≡ knowing (stepped a v e) (chooseFor C (v .words) e .words)
+  pub next-by : (C : Limits) (e : E.Event (List ℕ)) → goesOn v e ≡ true → Ranged (v .tables) → nextBy C a v e ≡ knowing (stepped a v e) (chooseFor C (v .tables) e .tables)
   next-by C e go r =
-      ap (λ (u : Vocabulary (List ℕ)). behind a (settled v e) (chooseFor C u e .words) e) (words-settled v e) ∙ next-state e go (permits-for C (v .words) e r)
+      ap (λ (u : Vocabulary (List ℕ)). behind a (settled v e) (chooseFor C u e .tables) e) (words-settled v e) ∙ next-state e go (permits-for C (v .tables) e r)
 
 pub ahead-next : (a b : Bool) (v : State (List ℕ)) (e : E.Event (List ℕ)) → (isDeclaration e ≡ true → a ≡ b) → Ahead (stepped a v e .mode) b
 ahead-next a b v (E.Namespace p n) f = f refl

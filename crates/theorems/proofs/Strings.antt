@@ -17,7 +17,7 @@ use Rattle.format.specs.Names.{has}
 use Rattle.fields.specs.Fields.{fieldAt, noTop}
 use Rattle.fields.proofs.Laws.{case, rooms, Roomy}
 use Rattle.fields.proofs.RoundTrip.{some-first}
-use Rattle.tables.specs.Located.{Located, empty, stretch, octetsOf, plainWords}
+use Rattle.tables.specs.Located.{Located, empty, stretch, octetsOf, plainTables}
 use Rattle.read_names.specs.Strings.{Got, got, refused, IdRead, OptionalRead, StringRead, idAt, optionalAt, numberBit, spelledAt, literalAt, valueAt}
 use Rattle.theorems.specs.Places.{ifSpelled, optionSpelled, inField, inOption}
 use Rattle.theorems.proofs.Lists.{fault, test, test-lt, test-le, test-not, test-ge, either-lt, either-eq, drop-head}
@@ -32,11 +32,11 @@ long-enough bit = omega arith
 
 module _ (s : List ℕ) where
   -- entry n of a table, both ways
-  entry-sound : (v : Vocabulary Located) (t : StringTable) (n k : ℕ) → n ≡ suc k → n ≤ length (strings v t) → Entry (strings (plainWords s v) t) k [] (octetsOf s (getD (strings v t) (n - 1) empty))
+  entry-sound : (v : Vocabulary Located) (t : StringTable) (n k : ℕ) → n ≡ suc k → n ≤ length (strings v t) → Entry (strings (plainTables s v) t) k [] (octetsOf s (getD (strings v t) (n - 1) empty))
   unfolding octetsOf
   entry-sound v t n k e h = let z : n - 1 ≡ k = omega arith in rw z (entry-map (octetsOf s) v t k empty (omega arith))
 
-  entry-complete : (v : Vocabulary Located) (t : StringTable) (k : ℕ) (x : List ℕ) → Entry (strings (plainWords s v) t) k [] x
+  entry-complete : (v : Vocabulary Located) (t : StringTable) (k : ℕ) (x : List ℕ) → Entry (strings (plainTables s v) t) k [] x
       → (suc k ≤ length (strings v t)) × (octetsOf s (getD (strings v t) (suc k - 1) empty) ≡ x)
   unfolding octetsOf
   entry-complete v t k x en =
@@ -153,7 +153,7 @@ module _ (L : Limits) (s : List ℕ) (bytes : (i : ℕ) → getD s i 0 < 256) (s
       let u = r .under in
       record {
         octets = spell c25 0x80 (r .v);
-        rule = subst (λ (m : ℕ). Identifying L t (plainWords s v) (octetsOf s (getD (strings v t) (n - 1) empty)) (numbered m) m (spell c25 0x80 (r .v)) (plainWords s v)) (sym i)
+        rule = subst (λ (m : ℕ). Identifying L t (plainTables s v) (octetsOf s (getD (strings v t) (n - 1) empty)) (numbered m) m (spell c25 0x80 (r .v)) (plainTables s v)) (sym i)
             (id-numbered (omega arith) (entry-sound s v t n (r .v) i t1));
         here = r .here;
         next-is = r .next-is;
@@ -216,7 +216,7 @@ module _ (L : Limits) (s : List ℕ) (bytes : (i : ℕ) → getD s i 0 < 256) (s
       let u = r .under in
       record {
         octets = spell (q .numberForms) (q .numberedBits) (r .v);
-        rule = subst (λ (m : ℕ). Literal L q t (plainWords s v) (octetsOf s (getD (strings v t) (n - 1) empty)) (numbered m) (spell (q .numberForms) (q .numberedBits) (r .v)) (plainWords s v)) (sym i)
+        rule = subst (λ (m : ℕ). Literal L q t (plainTables s v) (octetsOf s (getD (strings v t) (n - 1) empty)) (numbered m) (spell (q .numberForms) (q .numberedBits) (r .v)) (plainTables s v)) (sym i)
             (literal-numbered (omega arith) (r .small) (entry-sound s v t n (r .v) i t1));
         here = r .here;
         next-is = r .next-is;
@@ -253,7 +253,7 @@ module _ (L : Limits) (s : List ℕ) where
   IdQ x h n p b = (octetsOf s (b .string) ≡ x) × (b .how ≡ h) × (b .number ≡ n) × (ifSpelled (b .string) (b .how) ≡ p)
 
   pub id-complete : (t : StringTable) (k : ℕ) (v : Vocabulary Located) {x : List ℕ} {h : How} {n : ℕ} {o : List ℕ} {w : Vocabulary (List ℕ)} (rest : List ℕ)
-      → Identifying L t (plainWords s v) x h n o w → drop k s ≡ o ++ rest → Hit s (IdQ x h n (inField k h x o)) (k + length o) w (idAt L s t k v)
+      → Identifying L t (plainTables s v) x h n o w → drop k s ≡ o ++ rest → Hit s (IdQ x h n (inField k h x o)) (k + length o) w (idAt L s t k v)
   unfolding idAt octetsOf rooms sizes coded lengths c25
   id-complete t k v rest (id-spelled {x = x} sp new room) d =
       let e = spelt s (lengths 2) 2 0 0 k x rest (omega arith) (omega arith) (long-enough 2) refl sp d in
@@ -261,13 +261,13 @@ module _ (L : Limits) (s : List ℕ) where
       let len = length-strings (octetsOf s) v t in
       let fresh : holds (map (octetsOf s) (strings v t)) x ≡ false = rw (strings-map (octetsOf s) v t) at new in
       let end = e .end-is in
-      hit-at s (IdQ x (spelled true) (suc (length (strings (plainWords s v) t))) _) (e .next + length x) _ _ _ (e .end-is)
+      hit-at s (IdQ x (spelled true) (suc (length (strings (plainTables s v) t))) _) (e .next + length x) _ _ _ (e .end-is)
       (rw (lt-ltb (getD s k 0) 0x80 (omega arith), e .num, spelling-is s (lengths 2) 2 0 k x e _ (sp .formed), e .text-is, fresh, lt-ltb (length (strings v t)) (L .entries) (omega arith))
       (record {
         b = record { string = stretch (e .next) (length x); how = spelled true; number = suc (length (strings v t)) };
         v = adding v t (stretch (e .next) (length x));
         goes = refl;
-        state = adding-map (octetsOf s) v t (stretch (e .next) (length x)) ∙ ap (λ (y : List ℕ). adding (plainWords s v) t y) (e .text-is);
+        state = adding-map (octetsOf s) v t (stretch (e .next) (length x)) ∙ ap (λ (y : List ℕ). adding (plainTables s v) t y) (e .text-is);
         what = (e .text-is, refl, ap suc (sym len), ap (λ (p : ℕ). stretch p (length x) ∷ []) (omega arith));
       }))
   id-complete t k v rest (id-numbered {x = x} {k = j} small en) d =
@@ -282,7 +282,7 @@ module _ (L : Limits) (s : List ℕ) where
   OptionalQ x h n p b = (Option·map (octetsOf s) (b .string) ≡ x) × (b .how ≡ h) × (b .number ≡ n) × (optionSpelled (b .string) (b .how) ≡ p)
 
   pub optional-complete : (t : StringTable) (k : ℕ) (v : Vocabulary Located) {x : Option (List ℕ)} {h : Option How} {n : ℕ} {o : List ℕ} {w : Vocabulary (List ℕ)} (rest : List ℕ)
-      → Optional L t (plainWords s v) x h n o w → drop k s ≡ o ++ rest → Hit s (OptionalQ x h n (inOption k h x o)) (k + length o) w (optionalAt L (there x) s t k v)
+      → Optional L t (plainTables s v) x h n o w → drop k s ≡ o ++ rest → Hit s (OptionalQ x h n (inOption k h x o)) (k + length o) w (optionalAt L (there x) s t k v)
   unfolding optionalAt
   optional-complete t k v rest absent d =
       hit-at s (OptionalQ none none 0 []) k (k + 0) _ _ (omega arith) (record { b = record { string = none; how = none; number = 0 }; v = v; goes = refl; state = refl; what = (refl, refl, refl, refl) })
@@ -313,9 +313,9 @@ module _ (L : Limits) (s : List ℕ) where
     pub here : k < length s
 
   spelled-complete : (q : Layout) → Shape q → (t : StringTable) (k : ℕ) (v : Vocabulary Located) (added : Bool) (x rest : List ℕ) → Spelling x
-      → (added ≡ true → length (strings (plainWords s v) t) < L .entries)
+      → (added ≡ true → length (strings (plainTables s v) t) < L .entries)
       → drop k s ≡ withLength (lengths (q .lengthBit)) (q .spelledBits + q .addBit * bit added) x ++ rest
-      → Hit s (StringQ x (spelled added) (inField k (spelled added) x (withLength (lengths (q .lengthBit)) (q .spelledBits + q .addBit * bit added) x))) (k + length (withLength (lengths (q .lengthBit)) (q .spelledBits + q .addBit * bit added) x)) (keeping added (plainWords s v) t x) (spelledAt L q s t k added v)
+      → Hit s (StringQ x (spelled added) (inField k (spelled added) x (withLength (lengths (q .lengthBit)) (q .spelledBits + q .addBit * bit added) x))) (k + length (withLength (lengths (q .lengthBit)) (q .spelledBits + q .addBit * bit added) x)) (keeping added (plainTables s v) t x) (spelledAt L q s t k added v)
       × Spelt s (lengths (q .lengthBit)) (q .lengthBit) (q .spelledBits + q .addBit * bit added) k x
   unfolding spelledAt octetsOf
   spelled-complete q g t k v added x rest sp room d =
@@ -330,14 +330,14 @@ module _ (L : Limits) (s : List ℕ) where
               b = record { string = stretch (e .next) (length x); how = spelled added };
               v = keeping added v t (stretch (e .next) (length x));
               goes = refl;
-              state = keeping-map (octetsOf s) added v t (stretch (e .next) (length x)) ∙ ap (λ (y : List ℕ). keeping added (plainWords s v) t y) (e .text-is);
+              state = keeping-map (octetsOf s) added v t (stretch (e .next) (length x)) ∙ ap (λ (y : List ℕ). keeping added (plainTables s v) t y) (e .text-is);
               what = (e .text-is, refl, ap (λ (p : ℕ). stretch p (length x) ∷ []) (omega arith));
             })),
         e,
       )
 
   pub literal-complete : (q : Layout) → Shape q → (t : StringTable) (k : ℕ) (v : Vocabulary Located) {x : List ℕ} {h : How} {o : List ℕ} {w : Vocabulary (List ℕ)} (rest : List ℕ)
-      → Literal L q t (plainWords s v) x h o w → drop k s ≡ o ++ rest → LiteralHit q t k v x h o w
+      → Literal L q t (plainTables s v) x h o w → drop k s ≡ o ++ rest → LiteralHit q t k v x h o w
   unfolding literalAt
   literal-complete q g t k v rest (literal-spelled {x = x} {added = false} sp room) d =
       let c = spelled-complete q g t k v false x rest sp room d in
@@ -387,7 +387,7 @@ module _ (L : Limits) (s : List ℕ) where
       }
 
   pub value-complete : (t : StringTable) (k : ℕ) (v : Vocabulary Located) {x : List ℕ} {h : How} {o : List ℕ} {w : Vocabulary (List ℕ)} (rest : List ℕ)
-      → Value L t (plainWords s v) x h o w → drop k s ≡ o ++ rest → Hit s (StringQ x h (inField k h x o)) (k + length o) w (valueAt L s t k v)
+      → Value L t (plainTables s v) x h o w → drop k s ≡ o ++ rest → Hit s (StringQ x h (inField k h x o)) (k + length o) w (valueAt L s t k v)
   unfolding valueAt octetsOf
   value-complete t k v rest value-empty d =
       let a = drop-head s k 0xFF rest d in

@@ -52,12 +52,12 @@ module _ {S : Type 0} where
 
   -- The place behind an event; a says whether an attribute follows a Start.
   abbrev pub stepped : Bool → State S → Event S → State S
-  stepped a v (Namespace p n) = moved v (v .words) (declaring a)
-  stepped a v (Start x) = opened v (v .words) a
-  stepped a v (Attribute x y) = moved v (v .words) (listing true)
-  stepped a v (Text y) = moved v (v .words) content
-  stepped a v (Comment y) = moved v (v .words) content
-  stepped a v (Instruction x y) = moved v (v .words) content
+  stepped a v (Namespace p n) = moved v (v .tables) (declaring a)
+  stepped a v (Start x) = opened v (v .tables) a
+  stepped a v (Attribute x y) = moved v (v .tables) (listing true)
+  stepped a v (Text y) = moved v (v .tables) content
+  stepped a v (Comment y) = moved v (v .tables) content
+  stepped a v (Instruction x y) = moved v (v .tables) content
   stepped a v End = closed v
 
   abbrev pub Sane : State S → Type 0
@@ -141,7 +141,7 @@ module _ {S : Type 0} where
   Follows v (e ∷ tail) = (goesOn v e ≡ true) × Behind (v .level) (v .root) e tail
 
   abbrev place : Vocabulary S → Mode → ℕ → Bool → State S
-  place w m n root = record { words = w; level = n; root = root; mode = m }
+  place w m n root = record { tables = w; level = n; root = root; mode = m }
 
   with-element : (v : State S) {es rest : List (Event S)} → (isDeclaring (v .mode) || (amongChildren (v .mode) && mayStart v)) ≡ true → Element es rest → Inside (v .level) true rest → Follows v es
   unfolding goesOn
@@ -203,7 +203,7 @@ module _ {S : Type 0} where
   split w (listing any) (suc n) true es s (rest, at, k, t) = attributes w any n at k t
 
   follows : (v : State S) (es : List (Event S)) → Sane v → Rest v es → Follows v es
-  follows v es s k = split (v .words) (v .mode) (v .level) (v .root) es s k
+  follows v es s k = split (v .tables) (v .mode) (v .level) (v .root) es s k
 
   pub goes : (v : State S) (e : Event S) (tail : List (Event S)) → Sane v → Rest v (e ∷ tail) → goesOn v e ≡ true
   goes v e tail s k = follows v (e ∷ tail) s k .0
@@ -292,7 +292,7 @@ module _ {S : Type 0} where
 
 -- Whether a list goes on has nothing to do with what its strings are.
 pub goes-map : {S T : Type 0} (f : S → T) (v : State S) (e : Event S)
-    → goesOn (record { words = vocabularyMap f (v .words); level = v .level; root = v .root; mode = v .mode }) (eventMap f e) ≡ goesOn v e
+    → goesOn (record { tables = vocabularyMap f (v .tables); level = v .level; root = v .root; mode = v .mode }) (eventMap f e) ≡ goesOn v e
 unfolding goesOn mayStart eventMap
 goes-map f v (Namespace p n) = refl
 goes-map f v (Start x) = refl

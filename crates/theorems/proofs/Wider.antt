@@ -7,7 +7,7 @@ use Rattle.format.specs.Events.{Name, How, NameHow, Item}
 use Rattle.format.specs.Tables.{StringTable, Vocabulary, Limits, link, standard}
 use Rattle.format.specs.Strings.{Identifying, id-spelled, id-numbered, Optional, absent, present, Layout, Literal, literal-spelled, literal-numbered, Value, value-empty, value}
 use Rattle.format.specs.Names.{NameLayout, Named, in-parts, by-number, Declared, declared}
-use Rattle.format.specs.Items.{State, Octets, o-start, o-first-namespace, o-namespace, o-named-start, o-attribute, o-text, o-comment, o-instruction}
+use Rattle.format.specs.Items.{State, ItemWrittenAs, o-start, o-first-namespace, o-namespace, o-named-start, o-attribute, o-text, o-comment, o-instruction}
 use Rattle.format.specs.Document.{Written, document-end, attributes-end, element-end, item, Document}
 
 module _ {L M : Limits} (long : L .octets ≤ M .octets) (many : L .entries ≤ M .entries) (deep : L .depth ≤ M .depth) where
@@ -37,7 +37,7 @@ module _ {L M : Limits} (long : L .octets ≤ M .octets) (many : L .entries ≤ 
   declares : {v w : Vocabulary (List ℕ)} {p n : Option (List ℕ)} {hp hn : Option How} {o : List ℕ} → Declared L v p n hp hn o w → Declared M v p n hp hn o w
   declares (declared up un) = declared (optional up) (optional un)
 
-  octets : {v w : State (List ℕ)} {i : Item (List ℕ)} {o : List ℕ} → Octets L v i o w → Octets M v i o w
+  octets : {v w : State (List ℕ)} {i : Item (List ℕ)} {o : List ℕ} → ItemWrittenAs L v i o w → ItemWrittenAs M v i o w
   octets (o-start a md may lv u) = o-start a md may (omega arith) (named u)
   octets (o-first-namespace md may lv u) = o-first-namespace md may (omega arith) (declares u)
   octets (o-namespace md u) = o-namespace md (declares u)

@@ -45,7 +45,7 @@ module _ (text : List ℕ) (room : ℕ) (ps rest : List (E.Event (List ℕ))) (p
   choice = pe by chooseFor link (tablesAfter link started ps) pe .how
 
   abbrev others : List (Item (List ℕ))
-  others = chosen link (chooseFor link (tablesAfter link started ps) pe .words) rest
+  others = chosen link (chooseFor link (tablesAfter link started ps) pe .tables) rest
 
   at-event : itemsOf (ps ++ (pe ∷ rest)) ≡ itemsOf ps ++ (choice ∷ others)
   unfolding chosen

@@ -14,7 +14,7 @@ use Rattle.format.specs.Tables.{Limits, link}
 use Rattle.format.specs.Items.{State}
 use Rattle.format.specs.Document.{pad, beginning, header, Writes}
 use Rattle.tables.specs.declared.Counts.{Counts}
-use Rattle.tables.specs.Counts.{words}
+use Rattle.tables.specs.Counts.{tableWords}
 use Rattle.tables.specs.Located.{Located, plain, plainState, start}
 use Rattle.events.specs.declared.Event.{Event}
 use Rattle.events.specs.Records.{recordOf}
@@ -36,7 +36,7 @@ pub record Wrote (text : List ℕ) (es : List Event) (room : ℕ) (o : Outcome) 
   pub items : List (Item Located)
   pub last : State Located
   pub octets : List ℕ
-  pub is : o ≡ accepting octets (last .words) room
+  pub is : o ≡ accepting octets (last .tables) room
   pub given : map (λ (i : Item Located). recordOf (i .event)) items ≡ es
   pub writes : Writes (map (plain text) items) (plainState text last) octets
   pub fits : length octets ≤ room
@@ -58,13 +58,13 @@ module _ (text : List ℕ) (room : ℕ) (es : List Event) where
   -- 17. WRITE ACCEPTS only what the rules write, from the records given.
   pub write-accepts : (table n : ℕ) (c : Counts) → writeOf es text room table .answer ≡ Accepted n c → Wrote text es room (writeOf es text room table)
   unfolding writeOf
-  write-accepts table n c e = by-room table n c (leb (length text) 16384) (eqb table words) refl e
+  write-accepts table n c e = by-room table n c (leb (length text) 16384) (eqb table tableWords) refl e
 
 -- What reading octets leaves: the records of events whose plain forms are these items', blank records behind them, and tables that are these, as octets.
 pub record ReadBack (s : List ℕ) (records : ℕ) (items : List (Item (List ℕ))) (z : State (List ℕ)) : Type 0 where
   pub events : List (Item Located)
   pub last : State Located
-  pub is : readOf s records words ≡ reading (map (λ (i : Item Located). recordOf (i .event)) events) (last .words) records
+  pub is : readOf s records tableWords ≡ reading (map (λ (i : Item Located). recordOf (i .event)) events) (last .tables) records
   pub same : map (plain s) events ≡ items
   pub tables : plainState s last ≡ z
 
@@ -93,7 +93,7 @@ module _ (L : Limits) (text : List ℕ) (room : ℕ) where
   unfolding judge
   verdicts at v e w hs =
       cases (wellMade text (e .kind) e && goesOn v (eventOf (e .kind) e)) (allText text (eventOf (e .kind) e)) (opens (v .mode) (eventOf (e .kind) e) && leb (L .depth) (v .level))
-      (within L (w .state .words)) (fits L text room (at + length hs))
+      (within L (w .state .tables)) (fits L text room (at + length hs))
     where
       cases : (a b c d f : Bool) → (_≡_ {A = ℕ} (pick a (pick b (pick c 13 (pick d (pick f 0 14) 12)) 9) 16) 0 → ⊥) → Numbered (pick a (pick b (pick c 13 (pick d (pick f 0 14) 12)) 9) 16)
       cases false b c d f h = omega arith
@@ -161,7 +161,7 @@ module _ (records text : List ℕ) (r t : ℕ) where
   by-answer : (n : ℕ) (a : Answer) → left .answer ≡ a → answerWord a ≡ n * 2 ^ 32 → Wrote text (recordsOf records) r left
   unfolding writeOf
   by-answer n (Accepted m c) e q = write-accepts text r (recordsOf records) t m c e
-  by-answer n (Refused k p) e q = let f = refused-small records text r t (leb (length text) 16384) (eqb t words) k p e in absurd (let low = f .0 in let high = f .1 in omega arith)
+  by-answer n (Refused k p) e q = let f = refused-small records text r t (leb (length text) 16384) (eqb t tableWords) k p e in absurd (let low = f .0 in let high = f .1 in omega arith)
 
   by-words : (c n : ℕ) (b d : Bool) → pick b (pick d (inWords left) (nothing 14 r t c)) (nothing 1 r t c) .answer ≡ n * 2 ^ 32
       → Wrote text (recordsOf records) r left × (pick b (pick d (inWords left) (nothing 14 r t c)) (nothing 1 r t c) ≡ inWords left)

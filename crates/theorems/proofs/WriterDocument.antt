@@ -81,12 +81,12 @@ module _ (text : List ℕ) (short : length text ≤ 16384) (room : ℕ) where
   unfolding beginning chosen tablesAfter
   first-stands es =
       let s = plain-start text in
-      let w = ap (λ (u : State (List ℕ)). u .words) s in
+      let w = ap (λ (u : State (List ℕ)). u .tables) s in
       record {
         halves = [];
         begun = rw s begun;
         at-is = omega arith;
-        words = w;
+        tables = w;
         order = rw w started-order;
         ahead = tt;
         sane = sane-first started;
@@ -119,7 +119,7 @@ module _ (text : List ℕ) (short : length text ≤ 16384) (room : ℕ) where
         writes = document-of (w .0) (omega arith);
         fits = omega arith;
         known = w .1;
-        chosen-by = u .1 ∙ ap (λ (v : State (List ℕ)). chosen link (v .words) (plains text es)) (plain-start text);
+        chosen-by = u .1 ∙ ap (λ (v : State (List ℕ)). chosen link (v .tables) (plains text es)) (plain-start text);
         all-right = u .2;
       }
   from-run es ks (refusal n p) u h = u

@@ -17,7 +17,7 @@ use Rattle.format.specs.Items.{Mode, content, declaring, listing, State, knowin
 use Rattle.format.specs.Document.{halves, pad, aligned, Written, document-end, knownAfter, beginning, Begun, header, started}
 use Rattle.events.specs.declared.Event.{Event}
 use Rattle.events.specs.WellMade.{WellMade}
-use Rattle.tables.specs.Located.{Located, octetsOf, plain, plainWords, plainState}
+use Rattle.tables.specs.Located.{Located, octetsOf, plain, plainTables, plainState}
 use Rattle.write_names.specs.Choices.{within}
 use Rattle.write_names.specs.Chosen.{chooseFor, chosen, tablesAfter}
 use Rattle.writer.specs.Events.{wellMade, eventOf, isContent, isDeclaring, goesOn, allText}
@@ -53,8 +53,8 @@ module _ (text : List ℕ) where
     pub halves : List ℕ
     pub begun : Begun link (2 * length header) (beginning started) (itemsOf ps) halves (plainState text v)
     pub at-is : at ≡ 2 * length header + length halves
-    pub words : plainWords text (v .words) ≡ tablesAfter link started ps
-    pub order : Order link (plainWords text (v .words))
+    pub tables : plainTables text (v .tables) ≡ tablesAfter link started ps
+    pub order : Order link (plainTables text (v .tables))
     pub ahead : Ahead (v .mode) (announced es)
     pub sane : Sane (plainState text v)
     pub forth : (tail : List (E.Event (List ℕ))) → attributeFirst tail ≡ attributeNext es → IsDocument (ps ++ tail) → Tree.Rest (plainState text v) tail
@@ -122,36 +122,36 @@ module _ (text : List ℕ) where
     from-shallow false q f = refl
 
     -- 12: the tables
-    tables-are : tablesAfter link started (upTo text room before e) ≡ chooseFor link (pv .words) pe .words
+    tables-are : tablesAfter link started (upTo text room before e) ≡ chooseFor link (pv .tables) pe .tables
     unfolding tablesAfter
-    tables-are = tables-append link started ps (pe ∷ []) ∙ ap (λ (w : Vocabulary (List ℕ)). chooseFor link w pe .words) (sym (st .words))
+    tables-are = tables-append link started ps (pe ∷ []) ∙ ap (λ (w : Vocabulary (List ℕ)). chooseFor link w pe .tables) (sym (st .tables))
 
-    words-next : plainWords text (wi .state .words) ≡ chooseFor link (pv .words) pe .words
-    words-next = ap (λ (u : State (List ℕ)). u .words) (next-plain link text a v ev) ∙ next-words link a pv pe
+    words-next : plainTables text (wi .state .tables) ≡ chooseFor link (pv .tables) pe .tables
+    words-next = ap (λ (u : State (List ℕ)). u .tables) (next-plain link text a v ev) ∙ next-words link a pv pe
 
-    within-is : within link (chooseFor link (pv .words) pe .words) ≡ within link (wi .state .words)
-    within-is = ap (within link) (sym words-next) ∙ within-plain link text (wi .state .words)
+    within-is : within link (chooseFor link (pv .tables) pe .tables) ≡ within link (wi .state .tables)
+    within-is = ap (within link) (sym words-next) ∙ within-plain link text (wi .state .tables)
 
-    entries-if : within link (wi .state .words) ≡ true → InLimits link (chooseFor link (pv .words) pe .words)
-    entries-if i = fits-of link _ (within-is ∙ i) (rest-for link (pv .words) pe (st .order))
+    entries-if : within link (wi .state .tables) ≡ true → InLimits link (chooseFor link (pv .tables) pe .tables)
+    entries-if i = fits-of link _ (within-is ∙ i) (rest-for link (pv .tables) pe (st .order))
 
-    if-entries : HasEntries text room before e → within link (wi .state .words) ≡ true
+    if-entries : HasEntries text room before e → within link (wi .state .tables) ≡ true
     if-entries i = sym within-is ∙ of-fits link _ (subst (InLimits link) tables-are i)
 
     -- 14: the room
-    items-are : itemsOf (upTo text room before e) ≡ itemsOf ps ++ ((pe by chooseFor link (pv .words) pe .how) ∷ [])
+    items-are : itemsOf (upTo text room before e) ≡ itemsOf ps ++ ((pe by chooseFor link (pv .tables) pe .how) ∷ [])
     unfolding chosen
-    items-are = chosen-append link started ps (pe ∷ []) ∙ ap (λ (w : Vocabulary (List ℕ)). itemsOf ps ++ ((pe by chooseFor link w pe .how) ∷ [])) (sym (st .words))
+    items-are = chosen-append link started ps (pe ∷ []) ∙ ap (λ (w : Vocabulary (List ℕ)). itemsOf ps ++ ((pe by chooseFor link w pe .how) ∷ [])) (sym (st .tables))
 
     -- an event whose other tests are passed
-    module _ (go : goesOn v ev ≡ true) (sd : Said pe) (deep : (opens (v .mode) ev && leb (link .depth) (v .level)) ≡ false) (few : InLimits link (chooseFor link (pv .words) pe .words)) where
-      one : Begun link at pv ((pe by chooseFor link (pv .words) pe .how) ∷ []) hs (plainState text (wi .state))
+    module _ (go : goesOn v ev ≡ true) (sd : Said pe) (deep : (opens (v .mode) ev && leb (link .depth) (v .level)) ≡ false) (few : InLimits link (chooseFor link (pv .tables) pe .tables)) where
+      one : Begun link at pv ((pe by chooseFor link (pv .tables) pe .how) ∷ []) hs (plainState text (wi .state))
       one =
           rw (halves-plain link text a v ev room at, next-plain link text a v ev)
           (front-by link link-few link at a pv pe (st .ahead) (st .order .ranged) sd (Tree.goes-map (octetsOf text) v ev ∙ go) (rw (opens-map (octetsOf text) (v .mode) ev) deep) few)
 
       so-far : Begun link (2 * length header) (beginning started) (itemsOf (upTo text room before e)) (st .halves ++ hs) (plainState text (wi .state))
-      so-far = rw items-are (Begun.begun-more (st .begun) (subst (λ (k : ℕ). Begun link k pv ((pe by chooseFor link (pv .words) pe .how) ∷ []) hs (plainState text (wi .state))) (st .at-is) one))
+      so-far = rw items-are (Begun.begun-more (st .begun) (subst (λ (k : ℕ). Begun link k pv ((pe by chooseFor link (pv .tables) pe .how) ∷ []) hs (plainState text (wi .state))) (st .at-is) one))
 
       at-then : at + length hs ≡ 2 * length header + length (st .halves ++ hs)
       at-then = let l = length-append (st .halves) hs in let k = st .at-is in omega arith
@@ -168,7 +168,7 @@ module _ (text : List ℕ) where
       goes-plain : goesOn pv pe ≡ true
       goes-plain = Tree.goes-map (octetsOf text) v ev ∙ go
 
-      state-then : plainState text (wi .state) ≡ knowing (stepped a pv pe) (chooseFor link (pv .words) pe .words)
+      state-then : plainState text (wi .state) ≡ knowing (stepped a pv pe) (chooseFor link (pv .tables) pe .tables)
       state-then = next-plain link text a v ev ∙ next-by a pv link pe goes-plain (st .order .ranged)
 
       next-stands : Stands (plains text (before ++ (e ∷ []))) (at + length hs) (wi .state) es
@@ -178,8 +178,8 @@ module _ (text : List ℕ) where
             halves = st .halves ++ hs;
             begun = so-far;
             at-is = at-then;
-            words = words-next ∙ sym tables-are;
-            order = rw words-next (record { fit = few; ranged = ranged-for link (pv .words) pe (st .order .ranged) });
+            tables = words-next ∙ sym tables-are;
+            order = rw words-next (record { fit = few; ranged = ranged-for link (pv .tables) pe (st .order .ranged) });
             ahead = subst (λ (u : State (List ℕ)). Ahead (u .mode) (announced es)) (sym state-then) (ahead-next a (announced es) pv pe (announced-on text e es));
             sane = subst Sane (sym state-then) (Tree.sane-on a pv pe (st .sane) goes-plain);
             forth = λ tail f d.
@@ -191,14 +191,14 @@ module _ (text : List ℕ) where
     -- the verdict: the event is right, and the writer goes on behind it; or its first fault
     abbrev Verdict : ℕ → Type 0
     Verdict n = elim n [
-      | zero ↦ Right text room before e × Stands (plains text (before ++ (e ∷ []))) (at + length hs) (wi .state) es × Begun link at pv ((pe by chooseFor link (pv .words) pe .how) ∷ []) hs (plainState text (wi .state))
+      | zero ↦ Right text room before e × Stands (plains text (before ++ (e ∷ []))) (at + length hs) (wi .state) es × Begun link at pv ((pe by chooseFor link (pv .tables) pe .how) ∷ []) hs (plainState text (wi .state))
       | suc k ↦ Fault text room before e (suc k)
     ]
 
     can-say : WellMade text e → Each IsText pe → Said pe
     can-say m t = said pe (made-allowed text m t) (all-short text short ev)
 
-    verdict-from : (b1 b2 b3 b4 b5 : Bool) → (wellMade text (e .kind) e && goesOn v ev) ≡ b1 → allText text ev ≡ b2 → (opens (v .mode) ev && leb (link .depth) (v .level)) ≡ b3 → within link (wi .state .words) ≡ b4
+    verdict-from : (b1 b2 b3 b4 b5 : Bool) → (wellMade text (e .kind) e && goesOn v ev) ≡ b1 → allText text ev ≡ b2 → (opens (v .mode) ev && leb (link .depth) (v .level)) ≡ b3 → within link (wi .state .tables) ≡ b4
         → fits link text room (at + length hs) ≡ b5 → Verdict (pick b1 (pick b2 (pick b3 13 (pick b4 (pick b5 0 14) 12)) 9) 16)
     verdict-from false b2 b3 b4 b5 e1 e2 e3 e4 e5 = not-an-event (λ i. clash (sym e1 ∙ event-is i))
     verdict-from true b2 b3 b4 b5 e1 e2 e3 e4 e5 = said-from b2 b3 b4 b5 e2 e3 e4 e5
@@ -209,7 +209,7 @@ module _ (text : List ℕ) where
         i : IsEvent text room before e
         i = is-event (m .0) (m .1)
 
-        said-from : (b2 b3 b4 b5 : Bool) → allText text ev ≡ b2 → (opens (v .mode) ev && leb (link .depth) (v .level)) ≡ b3 → within link (wi .state .words) ≡ b4 → fits link text room (at + length hs) ≡ b5
+        said-from : (b2 b3 b4 b5 : Bool) → allText text ev ≡ b2 → (opens (v .mode) ev && leb (link .depth) (v .level)) ≡ b3 → within link (wi .state .tables) ≡ b4 → fits link text room (at + length hs) ≡ b5
             → Verdict (pick b2 (pick b3 13 (pick b4 (pick b5 0 14) 12)) 9)
         said-from false b3 b4 b5 e2 e3 e4 e5 = not-text i (λ t. clash (sym e2 ∙ text-all text ev (by-kind IsText pe t)))
         said-from true true b4 b5 e2 e3 e4 e5 = too-deep i (in-order IsText pe (all-text text ev e2)) (λ s. clash (sym (from-shallow (opens (v .mode) ev) refl s) ∙ e3))
@@ -220,7 +220,7 @@ module _ (text : List ℕ) where
             t : Each IsText pe
             t = all-text text ev e2
 
-            few : InLimits link (chooseFor link (pv .words) pe .words)
+            few : InLimits link (chooseFor link (pv .tables) pe .tables)
             few = entries-if e4
 
             room-from : (b5 : Bool) → fits link text room (at + length hs) ≡ b5 → Verdict (pick b5 0 14)
@@ -241,7 +241,7 @@ module _ (text : List ℕ) where
 
     pub verdict : Verdict (judge link text room at v e wi hs)
     unfolding judge
-    verdict = verdict-from (wellMade text (e .kind) e && goesOn v ev) (allText text ev) (opens (v .mode) ev && leb (link .depth) (v .level)) (within link (wi .state .words)) (fits link text room (at + length hs)) refl refl refl refl refl
+    verdict = verdict-from (wellMade text (e .kind) e && goesOn v ev) (allText text ev) (opens (v .mode) ev && leb (link .depth) (v .level)) (within link (wi .state .tables)) (fits link text room (at + length hs)) refl refl refl refl refl
 
   -- ---- a run
   module _ (short : length text ≤ 16384) (room : ℕ) where
@@ -249,7 +249,7 @@ module _ (text : List ℕ) where
     abbrev pub Judged : (before : List Event) (at : ℕ) (v : State Located) (es : List Event) (ks : List (State Located)) → Result → Type 0
     Judged before at v es ks (written items hs z) =
         Knows at (plainState text v) (map (plain text) items) hs (plainState text z) (map (plainState text) ks)
-        × (map (plain text) items ≡ chosen link (plainWords text (v .words)) (plains text es))
+        × (map (plain text) items ≡ chosen link (plainTables text (v .tables)) (plains text es))
         × AllRight text room (before ++ es)
     Judged before at v es ks (refusal n p) = Refused text room (before ++ es) n p
 
@@ -326,7 +326,7 @@ module _ (text : List ℕ) where
       regrouped : (before ++ (e ∷ [])) ++ es ≡ before ++ (e ∷ es)
       regrouped = append-assoc before (e ∷ []) es
 
-      in-front : Begun link at (plainState text v) ((plainOf text e by chooseFor link (plainWords text (v .words)) (plainOf text e) .how) ∷ []) own (plainState text (item .state))
+      in-front : Begun link at (plainState text v) ((plainOf text e by chooseFor link (plainTables text (v .tables)) (plainOf text e) .how) ∷ []) own (plainState text (item .state))
           → (ks : List (State Located)) (r : Result) → Judged (before ++ (e ∷ [])) (at + length own) (item .state) es ks r
           → Judged before at v (e ∷ es) (item .state ∷ ks) (plus (eventOf (e .kind) e by item .choice) own r)
       unfolding chosen

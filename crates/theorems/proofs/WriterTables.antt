@@ -35,10 +35,10 @@ spelled-adds t v x true = adds-string v t x
 spelled-adds t v x false = adds-none
 
 abbrev WroteString : StringTable → Vocabulary Located → Located → Wrote How → Type 0
-WroteString t v x w = Adds v (ofString t x (w .how)) (w .words)
+WroteString t v x w = Adds v (ofString t x (w .how)) (w .tables)
 
 abbrev WrotePart : StringTable → Vocabulary Located → Option Located → Wrote (Option How) → Type 0
-WrotePart t v x w = Adds v (ofOption empty t x (w .how)) (w .words)
+WrotePart t v x w = Adds v (ofOption empty t x (w .how)) (w .tables)
 
 module _ (text : List ℕ) where
   id-adds : (t : StringTable) (v : Vocabulary Located) (x : Located) → WroteString t v x (writeId text t v x)
@@ -53,17 +53,17 @@ module _ (text : List ℕ) where
   part-adds t v (some x) = id-adds t v x
 
   name-adds : (q : NameLayout) (lead : ℕ) (v : Vocabulary Located) (x : Name Located)
-      → Adds v (ofName empty (q .table) x (writeName q lead text v x .how)) (writeName q lead text v x .words)
+      → Adds v (ofName empty (q .table) x (writeName q lead text v x .how)) (writeName q lead text v x .tables)
   unfolding writeName
   name-adds q lead v x =
       let p = writeOptional text PREFIX v (x .prefix) in
-      let n = writeOptional text NAMESPACE-NAME (p .words) (x .namespace) in
-      let l = writeId text LOCAL-NAME (n .words) (x .local) in
-      either (λ (w : Wrote NameHow). Adds v (ofName empty (q .table) x (w .how)) (w .words))
-      (eqb (numberOfTriple (names (l .words) (q .table)) (record { prefix = p .number; namespace = n .number; local = l .number })) 0) _ _
+      let n = writeOptional text NAMESPACE-NAME (p .tables) (x .namespace) in
+      let l = writeId text LOCAL-NAME (n .tables) (x .local) in
+      either (λ (w : Wrote NameHow). Adds v (ofName empty (q .table) x (w .how)) (w .tables))
+      (eqb (numberOfTriple (names (l .tables) (q .table)) (record { prefix = p .number; namespace = n .number; local = l .number })) 0) _ _
       (λ e.
       adds-both (part-adds PREFIX v (x .prefix))
-      (adds-both (part-adds NAMESPACE-NAME (p .words) (x .namespace)) (adds-both (id-adds LOCAL-NAME (n .words) (x .local)) (adds-name (l .words) (q .table) _ x))))
+      (adds-both (part-adds NAMESPACE-NAME (p .tables) (x .namespace)) (adds-both (id-adds LOCAL-NAME (n .tables) (x .local)) (adds-name (l .tables) (q .table) _ x))))
       (λ e. adds-name-number (q .table) _ x)
 
   module _ (L : Limits) where
@@ -78,27 +78,27 @@ module _ (text : List ℕ) where
     value-adds t v x = either (WroteString t v x) (eqb (length (octetsOf text x)) 0) _ _ (λ e. adds-none) (λ e. literal-adds c14 t v x)
 
     -- ---- one event
-    item-adds : (a : Bool) (v : State Located) (e : E.Event Located) → Adds (v .words) (ofItem empty (e by writeItem L text a v e .choice)) (writeItem L text a v e .state .words)
+    item-adds : (a : Bool) (v : State Located) (e : E.Event Located) → Adds (v .tables) (ofItem empty (e by writeItem L text a v e .choice)) (writeItem L text a v e .state .tables)
     unfolding writeItem ofElement ofAttribute
-    item-adds a v (E.Namespace p n) = adds-both (part-adds PREFIX (v .words) p) (part-adds NAMESPACE-NAME (writeOptional text PREFIX (v .words) p .words) n)
-    item-adds a v (E.Start x) = name-adds ofElement (nameLead (v .mode) a) (v .words) x
-    item-adds a v (E.Attribute x y) = adds-both (name-adds ofAttribute 0 (v .words) x) (value-adds ATTRIBUTE-VALUE (writeName ofAttribute 0 text (v .words) x .words) y)
-    item-adds a v (E.Text y) = literal-adds c15 CONTENT-CHARACTER-CHUNK (v .words) y
-    item-adds a v (E.Comment y) = value-adds OTHER-STRING (v .words) y
-    item-adds a v (E.Instruction x y) = adds-both (id-adds OTHER-NCNAME (v .words) x) (value-adds OTHER-STRING (writeId text OTHER-NCNAME (v .words) x .words) y)
+    item-adds a v (E.Namespace p n) = adds-both (part-adds PREFIX (v .tables) p) (part-adds NAMESPACE-NAME (writeOptional text PREFIX (v .tables) p .tables) n)
+    item-adds a v (E.Start x) = name-adds ofElement (nameLead (v .mode) a) (v .tables) x
+    item-adds a v (E.Attribute x y) = adds-both (name-adds ofAttribute 0 (v .tables) x) (value-adds ATTRIBUTE-VALUE (writeName ofAttribute 0 text (v .tables) x .tables) y)
+    item-adds a v (E.Text y) = literal-adds c15 CONTENT-CHARACTER-CHUNK (v .tables) y
+    item-adds a v (E.Comment y) = value-adds OTHER-STRING (v .tables) y
+    item-adds a v (E.Instruction x y) = adds-both (id-adds OTHER-NCNAME (v .tables) x) (value-adds OTHER-STRING (writeId text OTHER-NCNAME (v .tables) x .tables) y)
     item-adds a v E.End = adds-none
 
     -- the end of an attribute list adds nothing
     settled-adds : (a : Bool) (v : State Located) (e : E.Event Located)
-        → Adds (v .words) (ofItem empty (e by writeItem L text a (settled v e) e .choice)) (writeItem L text a (settled v e) e .state .words)
+        → Adds (v .tables) (ofItem empty (e by writeItem L text a (settled v e) e .choice)) (writeItem L text a (settled v e) e .state .tables)
     unfolding settled
     settled-adds a v e =
-        either (λ (u : State Located). Adds (v .words) (ofItem empty (e by writeItem L text a u e .choice)) (writeItem L text a u e .state .words))
+        either (λ (u : State Located). Adds (v .tables) (ofItem empty (e by writeItem L text a u e .choice)) (writeItem L text a u e .state .tables))
         (isListing (v .mode) && not (isAttribute e)) _ _ (λ q. item-adds a _ e) (λ q. item-adds a v e)
 
     -- ---- a run
     abbrev AddsAll : Vocabulary Located → Result → Type 0
-    AddsAll v (written items hs z) = Adds v (acts empty items) (z .words)
+    AddsAll v (written items hs z) = Adds v (acts empty items) (z .tables)
     AddsAll v (refusal n p) = Unit {0}
 
     plus-adds : {v w : Vocabulary Located} (i : Item Located) (hs : List ℕ) → Adds v (ofItem empty i) w → (r : Result) → AddsAll w r → AddsAll v (plus i hs r)
@@ -110,21 +110,21 @@ module _ (text : List ℕ) where
     turn-adds v i r h (suc n) = tt
 
     module _ (room : ℕ) where
-      run-adds : (es : List Event) (at : ℕ) (v : State Located) (i : ℕ) → AddsAll (v .words) (run L text room at v i es)
+      run-adds : (es : List Event) (at : ℕ) (v : State Located) (i : ℕ) → AddsAll (v .tables) (run L text room at v i es)
       unfolding run finish
       run-adds [] at v i =
-          test (AddsAll (v .words)) (refusal 16 i) tt (isContent (v .mode) && (eqb (v .level) 0 && v .root)) _
-          λ t. test (AddsAll (v .words)) (refusal 14 i) tt (fits L text room (suc at)) _ λ f. adds-none
+          test (AddsAll (v .tables)) (refusal 16 i) tt (isContent (v .mode) && (eqb (v .level) 0 && v .root)) _
+          λ t. test (AddsAll (v .tables)) (refusal 14 i) tt (fits L text room (suc at)) _ λ f. adds-none
       run-adds (e ∷ es) at v i =
           let ev = eventOf (e .kind) e in
           let a = announced (e ∷ es) in
           let w = writeItem L text a (settled v ev) ev in
           let hs = halvesOf L text room at v ev w in
-          turn-adds (v .words) i _ (plus-adds (ev by w .choice) hs (settled-adds a v ev) (run L text room (at + length hs) (w .state) (suc i) es) (run-adds es (at + length hs) (w .state) (suc i)))
+          turn-adds (v .tables) i _ (plus-adds (ev by w .choice) hs (settled-adds a v ev) (run L text room (at + length hs) (w .state) (suc i) es) (run-adds es (at + length hs) (w .state) (suc i)))
           (judge L text room at v e w hs)
 
 -- ---- a document
 pub strings-written : (text : List ℕ) (room : ℕ) (es : List Event) (items : List (Item Located)) (hs : List ℕ) (z : State Located) → writing text room es ≡ written items hs z
-    → (t : StringTable) → strings (z .words) t ≡ strings start t ++ madeIn t (acts empty items)
+    → (t : StringTable) → strings (z .tables) t ≡ strings start t ++ madeIn t (acts empty items)
 unfolding writing beginning
 strings-written text room es items hs z e = subst (AddsAll text link start) e (run-adds text link room es (2 * length header) (beginning start) 0) .then

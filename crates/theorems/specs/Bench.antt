@@ -6,7 +6,7 @@ use mathlib.Core.List.{List, [], _∷_, _++_, map}
 use Rattle.format.specs.Events.{Name, Event, Namespace, Start, Attribute, Text, End, Item, eventMap}
 use Rattle.format.specs.Tables.{Triple, Vocabulary, xmlPrefix, xmlNamespace}
 use Rattle.format.specs.Document.{header}
-use Rattle.tables.specs.Located.{Located, octetsOf, plainWords}
+use Rattle.tables.specs.Located.{Located, octetsOf, plainTables}
 use Rattle.events.specs.Records.{recordOf}
 use Rattle.format.specs.Numbers as FNumbers
 use Rattle.format.specs.Text as FText
@@ -43,11 +43,11 @@ pub data Found : Type 0 where
 
 abbrev pub both : List ℕ → List (Item Located) → Vocabulary Located → WWriting.Result → Found
 both s is v (WWriting.written js hs z) =
-    found (map (λ (i : Item Located). eventMap (octetsOf s) (i .event)) is) (plainWords s v) (header ++ WWriting.joined hs) (plainWords s (z .words))
+    found (map (λ (i : Item Located). eventMap (octetsOf s) (i .event)) is) (plainTables s v) (header ++ WWriting.joined hs) (plainTables s (z .tables))
 both s is v (WWriting.refusal n p) = number n p
 
 abbrev pub read : List ℕ → RReading.Result → Found
-read s (RReading.accepted is m) = both s is (m .state .words) (WWriting.writing s 16384 (map (λ (i : Item Located). recordOf (i .event)) is))
+read s (RReading.accepted is m) = both s is (m .state .tables) (WWriting.writing s 16384 (map (λ (i : Item Located). recordOf (i .event)) is))
 read s (RReading.refusal n p) = number n p
 
 abbrev pub finds : Case → Found

@@ -12,8 +12,8 @@ use Rattle.format.specs.Items.{State}
 use Rattle.format.specs.Document.{header, Writes}
 use Rattle.format.specs.Uses.{madeIn, acts, Known, MadeBy}
 use Rattle.format.specs.Allowed.{All}
-use Rattle.tables.specs.Located.{Located, empty, plain, plainWords, plainState, start}
-use Rattle.tables.specs.Counts.{words, entryWords, wordsOf}
+use Rattle.tables.specs.Located.{Located, empty, plain, plainTables, plainState, start}
+use Rattle.tables.specs.Counts.{tableWords, entryWords, wordsOf}
 use Rattle.tables.specs.Told.{toldAccepted, toldRefused, entriesOf, wholeWord}
 use Rattle.events.specs.declared.Event.{Event}
 use Rattle.events.specs.Records.{blank, recordOf}
@@ -66,11 +66,11 @@ pub data WriteWordsAnswer (es : List Event) (r t c : ℕ) (w : WriteWords.Words)
 pub record HandsOut (s : List ℕ) (room : ℕ) (items : List (Item (List ℕ))) (z : State (List ℕ)) (w : Writes items z s) (o : Read.Outcome) : Type 0 where
   pub events : List (Item Located)
   pub tables : Vocabulary Located
-  pub answer : o .told ≡ toldAccepted (length items) (entriesOf (z .words))
+  pub answer : o .told ≡ toldAccepted (length items) (entriesOf (z .tables))
   pub row : o .row ≡ map (λ (i : Item Located). recordOf (i .event)) events ++ replicate (room - length items) blank
-  pub words : o .tables ≡ wordsOf entryWords tables
+  pub table-words : o .tables ≡ wordsOf entryWords tables
   pub events-are : map (plain s) events ≡ items
-  pub tables-are : plainWords s tables ≡ z .words
+  pub tables-are : plainTables s tables ≡ z .tables
   pub well-made : All (λ (i : Item Located). WellMade s (recordOf (i .event))) events
   pub spelled : allSpelled events ≡ spelledIn (w .rule)
   pub earlier : Known empty (strings start) (λ t. []) (acts empty events)
@@ -78,9 +78,9 @@ pub record HandsOut (s : List ℕ) (room : ℕ) (items : List (Item (List ℕ)))
 
 pub record Demand3 (s : List ℕ) (room table : ℕ) (o : Read.Outcome) : Type 0 where
   -- what the rules write is accepted, if there is a record for each event and the right table room, and this is handed out
-  pub accepts : (items : List (Item (List ℕ))) (z : State (List ℕ)) (w : Writes items z s) → length items ≤ room → table ≡ words → HandsOut s room items z w o
+  pub accepts : (items : List (Item (List ℕ))) (z : State (List ℕ)) (w : Writes items z s) → length items ≤ room → table ≡ tableWords → HandsOut s room items z w o
   -- and nothing else is accepted
-  pub only : o .told .number ≡ 0 → (items : List (Item (List ℕ))) × (z : State (List ℕ)) × Writes items z s × (length items ≤ room) × (table ≡ words)
+  pub only : o .told .number ≡ 0 → (items : List (Item (List ℕ))) × (z : State (List ℕ)) × Writes items z s × (length items ≤ room) × (table ≡ tableWords)
   -- there is one such pair
   pub one-pair : (items others : List (Item (List ℕ))) (y z : State (List ℕ)) → Writes items y s → Writes others z s → (items ≡ others) × (y ≡ z)
 
@@ -88,7 +88,7 @@ pub record Demand3 (s : List ℕ) (room table : ℕ) (o : Read.Outcome) : Type 0
 -- 01 gives no number to refuse these records over this text area, with this room; s is the document that the rules write from them, and z what they know at its end.
 pub record Acceptable (es : List Event) (text : List ℕ) (room table : ℕ) (s : List ℕ) (z : State (List ℕ)) : Type 0 where
   pub text-size : length text ≤ 16384
-  pub table-room : table ≡ words
+  pub table-room : table ≡ tableWords
   pub well-made : All (WellMade text) es
   pub writes : Writes (itemsOf (plains text es)) z s
   pub fits : length s ≤ room
@@ -107,10 +107,10 @@ pub record Wrote (es : List Event) (text : List ℕ) (room : ℕ) (s : List ℕ)
 pub record LeavesWritten (es : List Event) (text : List ℕ) (room : ℕ) (s : List ℕ) (z : State (List ℕ)) (o : Write.Outcome) : Type 0 where
   pub items : List (Item Located)
   pub tables : Vocabulary Located
-  pub answer : o .told ≡ toldAccepted (length s) (entriesOf (z .words))
+  pub answer : o .told ≡ toldAccepted (length s) (entriesOf (z .tables))
   pub octets : o .out ≡ s ++ replicate (room - length s) 0
-  pub words : o .tables ≡ wordsOf entryWords tables
-  pub tables-are : plainWords text tables ≡ z .words
+  pub table-words : o .tables ≡ wordsOf entryWords tables
+  pub tables-are : plainTables text tables ≡ z .tables
   pub given : map (λ (i : Item Located). recordOf (i .event)) items ≡ es
   pub chosen : map (plain text) items ≡ itemsOf (plains text es)
   pub strings-made : (t : StringTable) → strings tables t ≡ strings start t ++ madeIn t (acts empty items)
@@ -118,8 +118,8 @@ pub record LeavesWritten (es : List Event) (text : List ℕ) (room : ℕ) (s : L
 -- 01 refuses them so.
 pub data RefusedBy (es : List Event) (text : List ℕ) (room table : ℕ) : (number place : ℕ) → Type 0 where
   text-too-long : 16384 < length text → RefusedBy es text room table SIZE 0
-  wrong-table-room : length text ≤ 16384 → (table ≡ words → ⊥) → RefusedBy es text room table ROOM 0
-  at-events : {n p : ℕ} → length text ≤ 16384 → table ≡ words → Refused text room es n p → RefusedBy es text room table n p
+  wrong-table-room : length text ≤ 16384 → (table ≡ tableWords → ⊥) → RefusedBy es text room table ROOM 0
+  at-events : {n p : ℕ} → length text ≤ 16384 → table ≡ tableWords → Refused text room es n p → RefusedBy es text room table n p
 
 pub record Demand2 (es : List Event) (text : List ℕ) (room table : ℕ) (o : Write.Outcome) : Type 0 where
   -- what 01 gives no number to refuse is accepted, as the rules write it
@@ -128,7 +128,7 @@ pub record Demand2 (es : List Event) (text : List ℕ) (room table : ℕ) (o : W
   pub only : o .told .number ≡ 0 → (s : List ℕ) × (z : State (List ℕ)) × Acceptable es text room table s z
   -- reading it, with a record for each event, hands out the events that were given, and the same tables
   pub back : (s : List ℕ) (z : State (List ℕ)) (a : Acceptable es text room table s z) (records : ℕ) → length es ≤ records
-      → HandsOut s records (itemsOf (plains text es)) z (a .writes) (Read.readOf s records words)
+      → HandsOut s records (itemsOf (plains text es)) z (a .writes) (Read.readOf s records tableWords)
   -- each refusal, its number and its place, is 01's
   pub refuses : (n p : ℕ) → (o .told ≡ toldRefused n p) ↔ RefusedBy es text room table n p
 
@@ -148,10 +148,10 @@ pub record InWriteWords (o : Write.Outcome) (w : WriteWords.Words) : Type 0 wher
 -- What the word calls owe: the same, in words, with 10 words for the counts.
 pub record Demand3Words (s : List ℕ) (r t c : ℕ) (w : ReadWords.Words) : Type 0 where
   -- what the rules write is accepted, if there are 13 words for each event and the right room for tables and counts, and this is handed out
-  pub accepts : (items : List (Item (List ℕ))) (z : State (List ℕ)) (u : Writes items z s) → length items ≤ r / 13 → t ≡ words → c ≡ 10
+  pub accepts : (items : List (Item (List ℕ))) (z : State (List ℕ)) (u : Writes items z s) → length items ≤ r / 13 → t ≡ tableWords → c ≡ 10
       → (o : Read.Outcome) × HandsOut s (r / 13) items z u o × InReadWords r o w
   -- and nothing else is accepted
-  pub only : w .answer % 2 ^ 32 ≡ 0 → (items : List (Item (List ℕ))) × (z : State (List ℕ)) × Writes items z s × (length items ≤ r / 13) × (t ≡ words) × (c ≡ 10)
+  pub only : w .answer % 2 ^ 32 ≡ 0 → (items : List (Item (List ℕ))) × (z : State (List ℕ)) × Writes items z s × (length items ≤ r / 13) × (t ≡ tableWords) × (c ≡ 10)
 
 -- 01 refuses so the records of words: SIZE, then the room of the counts, then as it refuses the records.
 pub data WordsRefusedBy (es : List Event) (text : List ℕ) (r t c : ℕ) : (number place : ℕ) → Type 0 where

@@ -6,7 +6,7 @@ use lib.ListN.{length}
 use Rattle.format.specs.Events.{Name, How, spelled, numbered, NameHow, inParts, byNumber, Choice, forNamespace, forStart, forAttribute, forText, forComment, forInstruction, forEnd, Item}
 use Rattle.format.specs.Tables.{Vocabulary, Limits}
 use Rattle.format.specs.Names.{NameLayout, Named, in-parts, by-number, Declared, declared}
-use Rattle.format.specs.Items.{State, Octets, o-start, o-first-namespace, o-namespace, o-named-start, o-attribute, o-text, o-comment, o-instruction}
+use Rattle.format.specs.Items.{State, ItemWrittenAs, o-start, o-first-namespace, o-namespace, o-named-start, o-attribute, o-text, o-comment, o-instruction}
 use Rattle.format.specs.Document.{aligned, Written, document-end, attributes-end, element-end, item}
 use Rattle.format.specs.Uses.{nameIn, stringIn}
 use Rattle.tables.specs.Located.{Located, empty, stretch}
@@ -61,7 +61,7 @@ module _ {L : Limits} where
   abbrev pub inDeclared : (k : ℕ) {v w : Vocabulary (List ℕ)} {p n : Option (List ℕ)} {hp hn : Option How} {o : List ℕ} → Declared L v p n hp hn o w → List Located
   inDeclared k (declared {p = p} {n = n} {hp = hp} {hn = hn} {op = op} {on = on} up un) = inOption (suc k) hp p op ++ inOption (suc k + length op) hn n on
 
-  abbrev pub inItem : (k : ℕ) {v w : State (List ℕ)} {i : Item (List ℕ)} {o : List ℕ} → Octets L v i o w → List Located
+  abbrev pub inItem : (k : ℕ) {v w : State (List ℕ)} {i : Item (List ℕ)} {o : List ℕ} → ItemWrittenAs L v i o w → List Located
   inItem k (o-start a md may deep u) = inName k u
   inItem k (o-first-namespace md may deep u) = inDeclared (suc k) u
   inItem k (o-namespace md u) = inDeclared k u

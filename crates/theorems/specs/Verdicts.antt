@@ -34,7 +34,7 @@ pub record WrittenAs (items : List (Item (List ℕ))) (tables : Vocabulary (List
   pub octets : List ℕ
   pub last : State (List ℕ)
   pub writes : (depth size : ℕ) → deepest 0 (map (λ (i : Item (List ℕ)). i .event) items) ≤ depth → length octets ≤ size → Document (standard depth size) header started items last octets
-  pub known : last .words ≡ tables
+  pub known : last .tables ≡ tables
 
 -- The rules write these events, with 01's choices, as one document, however deep it is and however long: within every limit on open elements and octets that
 -- it keeps. The limit on the entries of a table is the standard's own.
@@ -42,7 +42,7 @@ pub record WrittenWidely (es : List (E.Event (List ℕ))) : Type 0 where
   pub octets : List ℕ
   pub last : State (List ℕ)
   pub writes : (depth size : ℕ) → deepest 0 es ≤ depth → length octets ≤ size → Document (standard depth size) header started (itemsOf es) last octets
-  pub tables : last .words ≡ tablesAfter link started es
+  pub tables : last .tables ≡ tablesAfter link started es
 
 -- What is written of these events is a document of the link, or it is over one of the link's three limits: nothing else keeps it off the link.
 pub data OrPasses (es : List (E.Event (List ℕ))) (last : State (List ℕ)) (octets : List ℕ) : Type 0 where

@@ -76,15 +76,15 @@ then-optional text t v XmlNamespace n k size held = then-id text t v XmlNamespac
 
 -- ---- a string leaves the other tables as they are
 module _ {A : Type 0} (f : Vocabulary Located → A) (text : List ℕ) (t : StringTable) (v : Vocabulary Located) (keeps : (x : Located) → f (adding v t x) ≡ f v) where
-  id-keeps : (x : Located) → f (writeId text t v x .words) ≡ f v
+  id-keeps : (x : Located) → f (writeId text t v x .tables) ≡ f v
   unfolding writeId
   id-keeps x = by (eqb (numberIn (map (octetsOf text) (strings v t)) (octetsOf text x)) 0) _ _ (keeps x) refl
     where
-      by : (b : Bool) (p q : Wrote How) → f (p .words) ≡ f v → f (q .words) ≡ f v → f (pick b p q .words) ≡ f v
+      by : (b : Bool) (p q : Wrote How) → f (p .tables) ≡ f v → f (q .tables) ≡ f v → f (pick b p q .tables) ≡ f v
       by true p q a b = a
       by false p q a b = b
 
-  optional-keeps : (x : Option Located) → f (writeOptional text t v x .words) ≡ f v
+  optional-keeps : (x : Option Located) → f (writeOptional text t v x .tables) ≡ f v
   unfolding writeOptional
   optional-keeps none = refl
   optional-keeps (some x) = id-keeps x
@@ -98,14 +98,14 @@ held-by text t u v XmlPrefix e = rw e
 held-by text t u v XmlNamespace e = rw e
 
 module _ (text : List ℕ) (v : Vocabulary Located) where
-  namespaces-kept : (p : Option Located) → strings (writeOptional text PREFIX v p .words) NAMESPACE-NAME ≡ strings v NAMESPACE-NAME
+  namespaces-kept : (p : Option Located) → strings (writeOptional text PREFIX v p .tables) NAMESPACE-NAME ≡ strings v NAMESPACE-NAME
   unfolding adding strings place
   namespaces-kept = optional-keeps (λ (u : Vocabulary Located). strings u NAMESPACE-NAME) text PREFIX v (λ x. refl)
 
-  locals-kept : (p n : Option Located) → strings (writeOptional text NAMESPACE-NAME (writeOptional text PREFIX v p .words) n .words) LOCAL-NAME ≡ strings v LOCAL-NAME
+  locals-kept : (p n : Option Located) → strings (writeOptional text NAMESPACE-NAME (writeOptional text PREFIX v p .tables) n .tables) LOCAL-NAME ≡ strings v LOCAL-NAME
   unfolding adding strings place
   locals-kept p n =
-      optional-keeps (λ (u : Vocabulary Located). strings u LOCAL-NAME) text NAMESPACE-NAME (writeOptional text PREFIX v p .words) (λ x. refl) n
+      optional-keeps (λ (u : Vocabulary Located). strings u LOCAL-NAME) text NAMESPACE-NAME (writeOptional text PREFIX v p .tables) (λ x. refl) n
       ∙ optional-keeps (λ (u : Vocabulary Located). strings u LOCAL-NAME) text PREFIX v (λ x. refl) p
 
 names-adding : (v : Vocabulary Located) (t : StringTable) (q : NameTable) (x : Located) → names (adding v t x) q ≡ names v q
@@ -114,10 +114,10 @@ names-adding v t ELEMENT-NAME x = refl
 names-adding v t ATTRIBUTE-NAME x = refl
 
 pub names-kept : (text : List ℕ) (v : Vocabulary Located) (q : NameTable) (p n : Option Located) (l : Located)
-    → names (writeId text LOCAL-NAME (writeOptional text NAMESPACE-NAME (writeOptional text PREFIX v p .words) n .words) l .words) q ≡ names v q
+    → names (writeId text LOCAL-NAME (writeOptional text NAMESPACE-NAME (writeOptional text PREFIX v p .tables) n .tables) l .tables) q ≡ names v q
 names-kept text v q p n l =
-    id-keeps (λ (u : Vocabulary Located). names u q) text LOCAL-NAME (writeOptional text NAMESPACE-NAME (writeOptional text PREFIX v p .words) n .words) (names-adding _ _ q) l
-    ∙ optional-keeps (λ (u : Vocabulary Located). names u q) text NAMESPACE-NAME (writeOptional text PREFIX v p .words) (names-adding _ _ q) n
+    id-keeps (λ (u : Vocabulary Located). names u q) text LOCAL-NAME (writeOptional text NAMESPACE-NAME (writeOptional text PREFIX v p .tables) n .tables) (names-adding _ _ q) l
+    ∙ optional-keeps (λ (u : Vocabulary Located). names u q) text NAMESPACE-NAME (writeOptional text PREFIX v p .tables) (names-adding _ _ q) n
     ∙ optional-keeps (λ (u : Vocabulary Located). names u q) text PREFIX v (names-adding _ _ q) p
 
 -- ---- a name's number
@@ -135,8 +135,8 @@ module _ (text w : List ℕ) (c : Counts) (x : Parts) (k : Row) (held : Held tex
   unfolding tripleFor tableOf
   triple-is =
       let v = vocabulary c w in
-      let v₁ = writeOptional text PREFIX v (optionalOf (x .prefix)) .words in
-      let v₂ = writeOptional text NAMESPACE-NAME v₁ (optionalOf (x .namespace)) .words in
+      let v₁ = writeOptional text PREFIX v (optionalOf (x .prefix)) .tables in
+      let v₂ = writeOptional text NAMESPACE-NAME v₁ (optionalOf (x .namespace)) .tables in
       let k₁ = namespaces-kept text v (optionalOf (x .prefix)) in
       let k₂ = locals-kept text v (optionalOf (x .prefix)) (optionalOf (x .namespace)) in
       let p = then-optional text PREFIX v (x .prefix) _ _ (length-strings c w 0 (omega arith)) (held .prefix) in
@@ -168,7 +168,7 @@ name-few text w c t order n m x low high em is =
 
 -- ---- what a name is written as
 module _ (q : NameLayout) (lead : ℕ) (text : List ℕ) (v : Vocabulary Located) (x : Name Located) where
-  number-is : numberOfTriple (names (writeId text LOCAL-NAME (writeOptional text NAMESPACE-NAME (writeOptional text PREFIX v (x .prefix) .words) (x .namespace) .words) (x .local) .words) (q .table))
+  number-is : numberOfTriple (names (writeId text LOCAL-NAME (writeOptional text NAMESPACE-NAME (writeOptional text PREFIX v (x .prefix) .tables) (x .namespace) .tables) (x .local) .tables) (q .table))
       (tripleFor text v x)
       ≡ nameHeldAs q text v x
   unfolding nameHeldAs
@@ -179,37 +179,37 @@ module _ (q : NameLayout) (lead : ℕ) (text : List ℕ) (v : Vocabulary Located
     unfolding writeName tripleFor
     numbered-octets = let z = number-is in rw (z, ← is, ne-eqb k 0 n)
 
-    numbered-words : writeName q lead text v x .words ≡ v
+    numbered-words : writeName q lead text v x .tables ≡ v
     unfolding writeName tripleFor
     numbered-words = let z = number-is in rw (z, ← is, ne-eqb k 0 n)
 
   module _ (new : 0 ≡ nameHeldAs q text v x) (b : ℕ) where
     parts-octets : b ≡ lead + q .inPartsBits + 2 * has (x .prefix) + has (x .namespace)
         → writeName q lead text v x .octets
-        ≡ pairBehind b text v (x .prefix) (x .namespace) .octets ++ writeId text LOCAL-NAME (pairBehind b text v (x .prefix) (x .namespace) .words) (x .local) .octets
+        ≡ pairBehind b text v (x .prefix) (x .namespace) .octets ++ writeId text LOCAL-NAME (pairBehind b text v (x .prefix) (x .namespace) .tables) (x .local) .octets
     unfolding writeName pairBehind tripleFor
     parts-octets e = let z = number-is in rw (z, ← new, e, append-assoc)
 
-    parts-words : writeName q lead text v x .words ≡ addingName (writeId text LOCAL-NAME (pairBehind b text v (x .prefix) (x .namespace) .words) (x .local) .words) (q .table) (tripleFor text v x)
+    parts-words : writeName q lead text v x .tables ≡ addingName (writeId text LOCAL-NAME (pairBehind b text v (x .prefix) (x .namespace) .tables) (x .local) .tables) (q .table) (tripleFor text v x)
     unfolding writeName pairBehind tripleFor
     parts-words = let z = number-is in rw (z, ← new)
 
 pub name-numbered : (text w : List ℕ) (c : Counts) (t lead : ℕ) (order : InOrder text c w) (x : Parts) (n : ℕ) → n ≡ nameHeldAs (layoutOf t) text (vocabulary c w) (namedOf x) → (n ≡ 0 → ⊥)
     → {out out′ : List ℕ} {at r : ℕ} → Puts out at r out′ (spell (layoutOf t .numberForms) lead (n - 1)) × (r ≤ at + 4)
     → Stands text out at 49168 (record { at = r; counts = c }) out′ w (writeName (layoutOf t) lead text (vocabulary c w) (namedOf x) .octets)
-    (writeName (layoutOf t) lead text (vocabulary c w) (namedOf x) .words)
+    (writeName (layoutOf t) lead text (vocabulary c w) (namedOf x) .tables)
 name-numbered text w c t lead order x n is ne p =
     rw (numbered-octets (layoutOf t) lead text (vocabulary c w) (namedOf x) n is ne, numbered-words (layoutOf t) lead text (vocabulary c w) (namedOf x) n is ne)
     (stands-put text w c order (p .0) (let l = p .1 in omega arith))
 
 -- ---- a prefix and a namespace behind an octet
 module _ (text : List ℕ) (v : Vocabulary Located) (b : ℕ) (p n : Option Located) where
-  pub pair-full : within link (writeOptional text (tableOf 0) v p .words) ≡ false → within link (pairBehind b text v p n .words) ≡ false
+  pub pair-full : within link (writeOptional text (tableOf 0) v p .tables) ≡ false → within link (pairBehind b text v p n .tables) ≡ false
   unfolding pairBehind tableOf
   pair-full e = within-grown (grows-optional text NAMESPACE-NAME _ n) e
 
   pub pair-behind : (out : List ℕ) (at : ℕ) {out₁ out₂ w₁ : List ℕ} → out₁ ≡ set out at b → (h : Here)
-      → Stands text out₁ (at + 1) 16389 h out₂ w₁ (writeOptional text (tableOf 0) v p .octets) (writeOptional text (tableOf 0) v p .words)
+      → Stands text out₁ (at + 1) 16389 h out₂ w₁ (writeOptional text (tableOf 0) v p .octets) (writeOptional text (tableOf 0) v p .tables)
       → (r : W.Wrote) (out₃ w₂ : List ℕ) → Meets text out₂ (h .at) 16389 r out₃ w₂ (writeOptional text (tableOf 1) (vocabulary (h .counts) w₁) n)
       → Meets text out at 32779 r out₃ w₂ (pairBehind b text v p n)
   unfolding pairBehind tableOf
@@ -220,10 +220,10 @@ module _ (text : List ℕ) (v : Vocabulary Located) (b : ℕ) (p n : Option Loca
       let q = rw (s .tables) at m in
       record { puts = puts-octet e (puts-append (s .puts) (q .puts)); few = omega arith; tables = q .tables; order = q .order }
 
-pub pair-held : (text w : List ℕ) (c : Counts) (v : Vocabulary Located) (p : Option Located) (n : Text) (k : ℕ) → vocabulary c w ≡ writeOptional text (tableOf 0) v p .words
+pub pair-held : (text w : List ℕ) (c : Counts) (v : Vocabulary Located) (p : Option Located) (n : Text) (k : ℕ) → vocabulary c w ≡ writeOptional text (tableOf 0) v p .tables
     → k ≡ heldAs text NAMESPACE-NAME v n → k ≡ heldAs text (tableOf 1) (vocabulary c w) n
 unfolding tableOf
-pair-held text w c v p n k is held = rw is (held ∙ sym (held-by text NAMESPACE-NAME (writeOptional text PREFIX v p .words) v n (namespaces-kept text v p)))
+pair-held text w c v p n k is held = rw is (held ∙ sym (held-by text NAMESPACE-NAME (writeOptional text PREFIX v p .tables) v n (namespaces-kept text v p)))
 
 pub declared-is : (text : List ℕ) (v : Vocabulary Located) (p n : Option Located) {a b : ℕ} → a ≡ has p → b ≡ has n → declaredBy text v p n ≡ pairBehind (0xCC + 2 * a + b) text v p n
 unfolding declaredBy
@@ -233,29 +233,29 @@ declared-is text v p n a b = rw (a, b)
 abbrev begun : ℕ → List ℕ → Vocabulary Located → Parts → Wrote Choice
 begun b text v x = pairBehind b text v (optionalOf (x .prefix)) (optionalOf (x .namespace))
 
-pub local-held : (text w : List ℕ) (c : Counts) (v : Vocabulary Located) (b : ℕ) (p n : Option Located) (l : Text) (k : ℕ) → vocabulary c w ≡ pairBehind b text v p n .words
+pub local-held : (text w : List ℕ) (c : Counts) (v : Vocabulary Located) (b : ℕ) (p n : Option Located) (l : Text) (k : ℕ) → vocabulary c w ≡ pairBehind b text v p n .tables
     → k ≡ heldAs text LOCAL-NAME v l → k ≡ heldAs text (tableOf 2) (vocabulary c w) l
 unfolding tableOf pairBehind
 local-held text w c v b p n l k is held =
-    rw is (held ∙ sym (held-by text LOCAL-NAME (writeOptional text NAMESPACE-NAME (writeOptional text PREFIX v p .words) n .words) v l (locals-kept text v p n)))
+    rw is (held ∙ sym (held-by text LOCAL-NAME (writeOptional text NAMESPACE-NAME (writeOptional text PREFIX v p .tables) n .tables) v l (locals-kept text v p n)))
 
 module _ (text : List ℕ) (v : Vocabulary Located) (t lead b : ℕ) (x : Parts) (new : 0 ≡ nameHeldAs (layoutOf t) text v (namedOf x)) where
-  words-are : writeName (layoutOf t) lead text v (namedOf x) .words
-      ≡ addingName (writeId text LOCAL-NAME (begun b text v x .words) (locatedOf (x .local)) .words) (nameTableOf t) (tripleFor text v (namedOf x))
+  words-are : writeName (layoutOf t) lead text v (namedOf x) .tables
+      ≡ addingName (writeId text LOCAL-NAME (begun b text v x .tables) (locatedOf (x .local)) .tables) (nameTableOf t) (tripleFor text v (namedOf x))
   words-are = rw (← layout-table t) (parts-words (layoutOf t) lead text v (namedOf x) new b)
 
-  pub parts-full : within link (begun b text v x .words) ≡ false → within link (writeName (layoutOf t) lead text v (namedOf x) .words) ≡ false
+  pub parts-full : within link (begun b text v x .tables) ≡ false → within link (writeName (layoutOf t) lead text v (namedOf x) .tables) ≡ false
   parts-full e = rw words-are (within-grown (grows-on (grows-id text LOCAL-NAME _ (locatedOf (x .local))) (grows-name _ (nameTableOf t) _)) e)
 
-  module _ {out : List ℕ} {at : ℕ} (h : Here) {out₁ w₁ : List ℕ} (stands : Stands text out at 32779 h out₁ w₁ (begun b text v x .octets) (begun b text v x .words)) where
-    pub local-full : within link (writeId text (tableOf 2) (vocabulary (h .counts) w₁) (locatedOf (x .local)) .words) ≡ false
-        → within link (writeName (layoutOf t) lead text v (namedOf x) .words) ≡ false
+  module _ {out : List ℕ} {at : ℕ} (h : Here) {out₁ w₁ : List ℕ} (stands : Stands text out at 32779 h out₁ w₁ (begun b text v x .octets) (begun b text v x .tables)) where
+    pub local-full : within link (writeId text (tableOf 2) (vocabulary (h .counts) w₁) (locatedOf (x .local)) .tables) ≡ false
+        → within link (writeName (layoutOf t) lead text v (namedOf x) .tables) ≡ false
     unfolding tableOf
     local-full e = rw words-are (within-grown (grows-name _ (nameTableOf t) _) (rw (stands .tables) at e))
 
     pub parts-behind : b ≡ lead + layoutOf t .inPartsBits + 2 * has (optionalOf (x .prefix)) + has (optionalOf (x .namespace)) → 8 ≤ t → t < 10 → (l : Here) (out₂ w₂ : List ℕ)
         → Stands text out₁ (h .at) 16389 l out₂ w₂ (writeId text (tableOf 2) (vocabulary (h .counts) w₁) (locatedOf (x .local)) .octets)
-        (writeId text (tableOf 2) (vocabulary (h .counts) w₁) (locatedOf (x .local)) .words)
+        (writeId text (tableOf 2) (vocabulary (h .counts) w₁) (locatedOf (x .local)) .tables)
         → (y : Row) → tripleOf y ≡ tripleFor text v (namedOf x) → (r : W.Wrote) (w₃ : List ℕ) → Tripled l w₂ t y r w₃
         → Meets text out at 49168 r out₂ w₃ (writeName (layoutOf t) lead text v (namedOf x))
     unfolding tableOf

@@ -15,7 +15,7 @@ use Rattle.format.specs.Tables.{StringTable, PREFIX, NAMESPACE-NAME, LOCAL-NAME
 use Rattle.tables.specs.declared.Counts.{Counts}
 use Rattle.tables.specs.Located.{Located, stretch, builtInPrefix, builtInNamespace, octetsOf, start}
 use Rattle.tables.specs.Search.{numberIn}
-use Rattle.tables.specs.Counts.{countsOf, words}
+use Rattle.tables.specs.Counts.{countsOf, tableWords}
 use Rattle.tables.specs.Rows.{tableOf, vocabulary}
 use Rattle.tables.specs.Kept.{nameTableOf, countOf, oneMore, stored}
 use Rattle.tables.proofs.Laws.{length-strings, length-names, counted-start, counted-more, string-added, name-added, clean-start, clean-string, clean-name, inside-start, inside-string, inside-name, vocabulary-start}
@@ -135,15 +135,15 @@ grows-name v ELEMENT-NAME x =
 grows-name v ATTRIBUTE-NAME x =
     record { prefixes = omega arith; namespaces = omega arith; locals = omega arith; ncnames = omega arith; elements = omega arith; attributes = longer true (v .attributes) x }
 
-pub grows-id : (text : List ℕ) (t : StringTable) (v : Vocabulary Located) (x : Located) → Grows v (writeId text t v x .words)
+pub grows-id : (text : List ℕ) (t : StringTable) (v : Vocabulary Located) (x : Located) → Grows v (writeId text t v x .tables)
 unfolding writeId
 grows-id text t v x = by (eqb (numberIn (map (octetsOf text) (strings v t)) (octetsOf text x)) 0) _ _ (grows-string v t x) (grows-same v)
   where
-    by : (c : Bool) (a b : Wrote How) → Grows v (a .words) → Grows v (b .words) → Grows v (pick c a b .words)
+    by : (c : Bool) (a b : Wrote How) → Grows v (a .tables) → Grows v (b .tables) → Grows v (pick c a b .tables)
     by true a b p q = p
     by false a b p q = q
 
-pub grows-optional : (text : List ℕ) (t : StringTable) (v : Vocabulary Located) (x : Option Located) → Grows v (writeOptional text t v x .words)
+pub grows-optional : (text : List ℕ) (t : StringTable) (v : Vocabulary Located) (x : Option Located) → Grows v (writeOptional text t v x .tables)
 unfolding writeOptional
 grows-optional text t v none = grows-same v
 grows-optional text t v (some x) = grows-id text t v x

@@ -176,11 +176,11 @@ module _ (text w : List ℕ) (c : Counts) (order : InOrder text c w) {out out′
 
 -- ---- an identifying string: k is its number
 module _ (text : List ℕ) (t : StringTable) (v : Vocabulary Located) (x : Located) (k : ℕ) (is : k ≡ numberIn (map (octetsOf text) (strings v t)) (octetsOf text x)) where
-  numbered-is : (k ≡ 0 → ⊥) → writeId text t v x ≡ record { octets = spell c25 0x80 (k - 1); how = numbered k; number = k; words = v }
+  numbered-is : (k ≡ 0 → ⊥) → writeId text t v x ≡ record { octets = spell c25 0x80 (k - 1); how = numbered k; number = k; tables = v }
   unfolding writeId
   numbered-is n = rw (← is, ne-eqb k 0 n)
 
-  spelled-is : k ≡ 0 → writeId text t v x ≡ record { octets = withLength (lengths 2) 0 (octetsOf text x); how = spelled true; number = suc (length (strings v t)); words = adding v t x }
+  spelled-is : k ≡ 0 → writeId text t v x ≡ record { octets = withLength (lengths 2) 0 (octetsOf text x); how = spelled true; number = suc (length (strings v t)); tables = adding v t x }
   unfolding writeId
   spelled-is z = rw (← is, z)
 
@@ -190,10 +190,10 @@ module _ (text w : List ℕ) (c : Counts) (t : ℕ) (order : InOrder text c w) (
   held-number = held ∙ held-is text (tableOf t) (vocabulary c w) x there
 
   pub id-numbered : (k ≡ 0 → ⊥) → {out out′ : List ℕ} {at r : ℕ} → Puts out at r out′ (spell c25 0x80 (k - 1)) × (r ≤ at + 3)
-      → Stands text out at 16389 (record { at = r; counts = c }) out′ w (writeId text (tableOf t) (vocabulary c w) (locatedOf x) .octets) (writeId text (tableOf t) (vocabulary c w) (locatedOf x) .words)
+      → Stands text out at 16389 (record { at = r; counts = c }) out′ w (writeId text (tableOf t) (vocabulary c w) (locatedOf x) .octets) (writeId text (tableOf t) (vocabulary c w) (locatedOf x) .tables)
   id-numbered n p = rw (numbered-is text (tableOf t) (vocabulary c w) (locatedOf x) k held-number n) (stands-put text w c order (p .0) (let l = p .1 in omega arith))
 
-  pub id-full : k ≡ 0 → t < 4 → 256 ≤ countOf c t → within link (writeId text (tableOf t) (vocabulary c w) (locatedOf x) .words) ≡ false
+  pub id-full : k ≡ 0 → t < 4 → 256 ≤ countOf c t → within link (writeId text (tableOf t) (vocabulary c w) (locatedOf x) .tables) ≡ false
   id-full z small full =
       let l = length-strings c w t (omega arith) in
       rw (spelled-is text (tableOf t) (vocabulary c w) (locatedOf x) k held-number z) (full-string (vocabulary c w) t (locatedOf x) small (omega arith))
@@ -204,7 +204,7 @@ module _ (text w : List ℕ) (c : Counts) (t : ℕ) (order : InOrder text c w) (
   pub id-added : k ≡ 0 → t < 8 → countOf c t < 256 → (p n : ℕ) → p ≡ textPlace x → n ≡ textSize x → (h : Here) (v : List ℕ) {out out′ : List ℕ} {at r : ℕ}
       → (h ≡ record { at = r; counts = oneMore c t }) × (v ≡ stored w t (countOf c t) p n 0)
       → Puts out at r out′ (withLength (lengths 2) 0 (octetsOf text (stretch p n))) × (r ≤ at + 16389)
-      → Stands text out at 16389 h out′ v (writeId text (tableOf t) (vocabulary c w) (locatedOf x) .octets) (writeId text (tableOf t) (vocabulary c w) (locatedOf x) .words)
+      → Stands text out at 16389 h out′ v (writeId text (tableOf t) (vocabulary c w) (locatedOf x) .octets) (writeId text (tableOf t) (vocabulary c w) (locatedOf x) .tables)
   id-added z small room p n ep en h v e q =
       let f = new-stretch text w c t order x suits there (sym z ∙ held) in
       let y : locatedOf x ≡ stretch p n = ap locatedOf (f .0) ∙ rw (ep, en) in
@@ -214,7 +214,7 @@ module _ (text w : List ℕ) (c : Counts) (t : ℕ) (order : InOrder text c w) (
 -- ---- one that may be absent
 module _ (text w : List ℕ) (c : Counts) (t : ℕ) (order : InOrder text c w) (x : Text) where
   pub optional-absent : textTag x ≡ 0 → (h : Here) (out : List ℕ) → h .counts ≡ c
-      → Stands text out (h .at) 16389 h out w (writeOptional text (tableOf t) (vocabulary c w) (optionalOf x) .octets) (writeOptional text (tableOf t) (vocabulary c w) (optionalOf x) .words)
+      → Stands text out (h .at) 16389 h out w (writeOptional text (tableOf t) (vocabulary c w) (optionalOf x) .octets) (writeOptional text (tableOf t) (vocabulary c w) (optionalOf x) .tables)
   unfolding writeOptional
   optional-absent e h out ec =
       rw (absent x e) (record { puts = puts-nothing refl; few = omega arith; tables = ap (λ (d : Counts). vocabulary d w) ec; order = rw ec order })
@@ -302,14 +302,14 @@ module _ (text w : List ℕ) (c : Counts) (t : ℕ) (order : InOrder text c w) (
 
     literal-numbered : (k ≡ 0 → ⊥) → {out out′ : List ℕ} {at r : ℕ} → Puts out at r out′ (spell (q .numberForms) (q .numberedBits) (k - 1)) → r ≤ at + 16389
         → Stands text out at 16389 (record { at = r; counts = c }) out′ w (writeLiteral link q text (tableOf t) (vocabulary c w) (locatedOf x) .octets)
-        (writeLiteral link q text (tableOf t) (vocabulary c w) (locatedOf x) .words)
+        (writeLiteral link q text (tableOf t) (vocabulary c w) (locatedOf x) .tables)
     unfolding writeLiteral
     literal-numbered n p l = rw (← number-is, ne-eqb k 0 n) (stands-put text w c order p l)
 
     literal-spelled : k ≡ 0 → {out out′ v : List ℕ} {at : ℕ} (h : Here)
         → Stands text out at 16389 h out′ v (spelledOctets (q .lengthBit) (q .spelledBits) (q .addBit) text (strings (vocabulary c w) (tableOf t)) (locatedOf x))
         (spelledWords text (tableOf t) (vocabulary c w) (locatedOf x))
-        → Stands text out at 16389 h out′ v (writeLiteral link q text (tableOf t) (vocabulary c w) (locatedOf x) .octets) (writeLiteral link q text (tableOf t) (vocabulary c w) (locatedOf x) .words)
+        → Stands text out at 16389 h out′ v (writeLiteral link q text (tableOf t) (vocabulary c w) (locatedOf x) .octets) (writeLiteral link q text (tableOf t) (vocabulary c w) (locatedOf x) .tables)
     unfolding writeLiteral spelledOctets spelledWords
     literal-spelled z h p = rw (← number-is, z) p
 
@@ -323,32 +323,32 @@ module _ (text w : List ℕ) (c : Counts) (t : ℕ) (order : InOrder text c w) (
 
     pub value-numbered : (textSize x ≡ 0 → ⊥) → (k ≡ 0 → ⊥) → {out out′ : List ℕ} {at r : ℕ} → Puts out at r out′ (spell c25 0x80 (k - 1)) × (r ≤ at + 3)
         → Stands text out at 16389 (record { at = r; counts = c }) out′ w (writeValue link text (tableOf t) (vocabulary c w) (locatedOf x) .octets)
-        (writeValue link text (tableOf t) (vocabulary c w) (locatedOf x) .words)
+        (writeValue link text (tableOf t) (vocabulary c w) (locatedOf x) .tables)
     unfolding c14
     value-numbered n m p = rw (value-is n) (literal-numbered (fills-spells text x fills n) c14 m (p .0) (let l = p .1 in omega arith))
 
     pub value-spelled : (textSize x ≡ 0 → ⊥) → k ≡ 0 → {out out′ v : List ℕ} {at : ℕ} (h : Here)
         → Stands text out at 16389 h out′ v (spelledOctets 5 0 0x40 text (strings (vocabulary c w) (tableOf t)) (locatedOf x)) (spelledWords text (tableOf t) (vocabulary c w) (locatedOf x))
-        → Stands text out at 16389 h out′ v (writeValue link text (tableOf t) (vocabulary c w) (locatedOf x) .octets) (writeValue link text (tableOf t) (vocabulary c w) (locatedOf x) .words)
+        → Stands text out at 16389 h out′ v (writeValue link text (tableOf t) (vocabulary c w) (locatedOf x) .octets) (writeValue link text (tableOf t) (vocabulary c w) (locatedOf x) .tables)
     unfolding c14
     value-spelled n z h p = rw (value-is n) (literal-spelled (fills-spells text x fills n) c14 z h p)
 
 pub value-empty : (text w : List ℕ) (c : Counts) (t : ℕ) (order : InOrder text c w) (x : Text) (fills : Fills text x) → textSize x ≡ 0 → {out out′ : List ℕ} {at : ℕ} → out′ ≡ set out at 0xFF
     → Stands text out at 16389 (record { at = at + 1; counts = c }) out′ w (writeValue link text (tableOf t) (vocabulary c w) (locatedOf x) .octets)
-    (writeValue link text (tableOf t) (vocabulary c w) (locatedOf x) .words)
+    (writeValue link text (tableOf t) (vocabulary c w) (locatedOf x) .tables)
 unfolding writeValue octetsOf
 value-empty text w c t order x fills z e = rw (fills-empty text x fills z) (stands-put text w c order (puts-one e) (omega arith))
 
 module _ (text w : List ℕ) (c : Counts) (order : InOrder text c w) (x : Text) (spells : Spells text x) (k : ℕ) (held : k ≡ heldAs text (tableOf 6) (vocabulary c w) x) where
   pub chunk-numbered : (k ≡ 0 → ⊥) → {out out′ : List ℕ} {at r : ℕ} → Puts out at r out′ (spell (numbers 4) 0xA0 (k - 1)) × (r ≤ at + 4)
       → Stands text out at 16389 (record { at = r; counts = c }) out′ w (writeLiteral link c15 text CONTENT-CHARACTER-CHUNK (vocabulary c w) (locatedOf x) .octets)
-      (writeLiteral link c15 text CONTENT-CHARACTER-CHUNK (vocabulary c w) (locatedOf x) .words)
+      (writeLiteral link c15 text CONTENT-CHARACTER-CHUNK (vocabulary c w) (locatedOf x) .tables)
   unfolding c15 tableOf
   chunk-numbered n p = literal-numbered text w c 6 order x k held spells c15 n (p .0) (let l = p .1 in omega arith)
 
   pub chunk-spelled : k ≡ 0 → {out out′ v : List ℕ} {at : ℕ} (h : Here)
       → Stands text out at 16389 h out′ v (spelledOctets 7 0x80 0x10 text (strings (vocabulary c w) (tableOf 6)) (locatedOf x)) (spelledWords text (tableOf 6) (vocabulary c w) (locatedOf x))
       → Stands text out at 16389 h out′ v (writeLiteral link c15 text CONTENT-CHARACTER-CHUNK (vocabulary c w) (locatedOf x) .octets)
-      (writeLiteral link c15 text CONTENT-CHARACTER-CHUNK (vocabulary c w) (locatedOf x) .words)
+      (writeLiteral link c15 text CONTENT-CHARACTER-CHUNK (vocabulary c w) (locatedOf x) .tables)
   unfolding c15 tableOf
   chunk-spelled z h p = literal-spelled text w c 6 order x k held spells c15 z h p

@@ -18,38 +18,38 @@ pub record Wrote (H : Type 0) : Type 0 where
   pub octets : List ℕ
   pub how : H
   pub number : ℕ
-  pub words : Vocabulary Located
+  pub tables : Vocabulary Located
 
 -- An identifying string (C.13): numbered if its table holds it, else spelled and added.
 unfoldable pub writeId : List ℕ → StringTable → Vocabulary Located → Located → Wrote How
 writeId text t v x =
     let k : ℕ = numberIn (map (octetsOf text) (strings v t)) (octetsOf text x) in
     pick (eqb k 0)
-    (record { octets = withLength (lengths 2) 0 (octetsOf text x); how = spelled true; number = suc (length (strings v t)); words = adding v t x })
-    (record { octets = spell c25 0x80 (k - 1); how = numbered k; number = k; words = v })
+    (record { octets = withLength (lengths 2) 0 (octetsOf text x); how = spelled true; number = suc (length (strings v t)); tables = adding v t x })
+    (record { octets = spell c25 0x80 (k - 1); how = numbered k; number = k; tables = v })
 
 unfoldable pub writeOptional : List ℕ → StringTable → Vocabulary Located → Option Located → Wrote (Option How)
-writeOptional text t v none = record { octets = []; how = none; number = 0; words = v }
+writeOptional text t v none = record { octets = []; how = none; number = 0; tables = v }
 writeOptional text t v (some x) =
     let w : Wrote How = writeId text t v x in
-    record { octets = w .octets; how = some (w .how); number = w .number; words = w .words }
+    record { octets = w .octets; how = some (w .how); number = w .number; tables = w .tables }
 
 -- A name (C.17, C.18), behind the bits `lead`: by number if its table holds the triple, else in parts and added.
 unfoldable pub writeName : NameLayout → ℕ → List ℕ → Vocabulary Located → Name Located → Wrote NameHow
 writeName q lead text v x =
     let p : Wrote (Option How) = writeOptional text PREFIX v (x .prefix) in
-    let n : Wrote (Option How) = writeOptional text NAMESPACE-NAME (p .words) (x .namespace) in
-    let l : Wrote How = writeId text LOCAL-NAME (n .words) (x .local) in
+    let n : Wrote (Option How) = writeOptional text NAMESPACE-NAME (p .tables) (x .namespace) in
+    let l : Wrote How = writeId text LOCAL-NAME (n .tables) (x .local) in
     let triple : Triple = record { prefix = p .number; namespace = n .number; local = l .number } in
-    let k : ℕ = numberOfTriple (names (l .words) (q .table)) triple in
+    let k : ℕ = numberOfTriple (names (l .tables) (q .table)) triple in
     pick (eqb k 0)
     (record {
       octets = (lead + q .inPartsBits + 2 * has (x .prefix) + has (x .namespace)) ∷ (p .octets ++ (n .octets ++ l .octets));
       how = inParts (p .how) (n .how) (l .how);
-      number = suc (length (names (l .words) (q .table)));
-      words = addingName (l .words) (q .table) triple;
+      number = suc (length (names (l .tables) (q .table)));
+      tables = addingName (l .tables) (q .table) triple;
     })
-    (record { octets = spell (q .numberForms) lead (k - 1); how = byNumber k; number = k; words = v })
+    (record { octets = spell (q .numberForms) lead (k - 1); how = byNumber k; number = k; tables = v })
 
 module _ (L : Limits) where
   -- A string of 1 to 5 octets is added where its table has room.
@@ -63,13 +63,13 @@ module _ (L : Limits) where
       let k : ℕ = numberIn (map (octetsOf text) (strings v t)) o in
       let added : Bool = worthAdding (strings v t) o in
       pick (eqb k 0)
-      (record { octets = withLength (lengths (q .lengthBit)) (q .spelledBits + q .addBit * bit added) o; how = spelled added; number = 0; words = keeping added v t x })
-      (record { octets = spell (q .numberForms) (q .numberedBits) (k - 1); how = numbered k; number = k; words = v })
+      (record { octets = withLength (lengths (q .lengthBit)) (q .spelledBits + q .addBit * bit added) o; how = spelled added; number = 0; tables = keeping added v t x })
+      (record { octets = spell (q .numberForms) (q .numberedBits) (k - 1); how = numbered k; number = k; tables = v })
 
   -- A value, comment or content: FF for the empty string.
   unfoldable pub writeValue : List ℕ → StringTable → Vocabulary Located → Located → Wrote How
   writeValue text t v x =
-      pick (eqb (length (octetsOf text x)) 0) (record { octets = 0xFF ∷ []; how = numbered 0; number = 0; words = v }) (writeLiteral c14 text t v x)
+      pick (eqb (length (octetsOf text x)) 0) (record { octets = 0xFF ∷ []; how = numbered 0; number = 0; tables = v }) (writeLiteral c14 text t v x)
 
 -- No table has an entry too many (12).
 unfoldable pub within : {S : Type 0} → Limits → Vocabulary S → Bool

@@ -18,33 +18,33 @@ use Rattle.write_names.specs.Choices.{worthAdding}
 pub record Chose (H : Type 0) : Type 0 where
   pub how : H
   pub number : ℕ
-  pub words : Vocabulary (List ℕ)
+  pub tables : Vocabulary (List ℕ)
 
 -- An identifying string: the lowest number where its table holds it; else spelled, and added.
 unfoldable pub chooseId : StringTable → Vocabulary (List ℕ) → List ℕ → Chose How
 chooseId t v x =
     let k : ℕ = numberIn (strings v t) x in
     pick (eqb k 0)
-    (record { how = spelled true; number = suc (length (strings v t)); words = adding v t x })
-    (record { how = numbered k; number = k; words = v })
+    (record { how = spelled true; number = suc (length (strings v t)); tables = adding v t x })
+    (record { how = numbered k; number = k; tables = v })
 
 unfoldable pub chooseOptional : StringTable → Vocabulary (List ℕ) → Option (List ℕ) → Chose (Option How)
-chooseOptional t v none = record { how = none; number = 0; words = v }
+chooseOptional t v none = record { how = none; number = 0; tables = v }
 chooseOptional t v (some x) =
     let c : Chose How = chooseId t v x in
-    record { how = some (c .how); number = c .number; words = c .words }
+    record { how = some (c .how); number = c .number; tables = c .tables }
 
 -- A name: its own lowest number where its table holds its triple; else by its parts, and added.
 unfoldable pub chooseName : NameTable → Vocabulary (List ℕ) → Name (List ℕ) → Chose NameHow
 chooseName t v x =
     let p : Chose (Option How) = chooseOptional PREFIX v (x .prefix) in
-    let n : Chose (Option How) = chooseOptional NAMESPACE-NAME (p .words) (x .namespace) in
-    let l : Chose How = chooseId LOCAL-NAME (n .words) (x .local) in
+    let n : Chose (Option How) = chooseOptional NAMESPACE-NAME (p .tables) (x .namespace) in
+    let l : Chose How = chooseId LOCAL-NAME (n .tables) (x .local) in
     let triple : Triple = record { prefix = p .number; namespace = n .number; local = l .number } in
-    let k : ℕ = numberOfTriple (names (l .words) t) triple in
+    let k : ℕ = numberOfTriple (names (l .tables) t) triple in
     pick (eqb k 0)
-    (record { how = inParts (p .how) (n .how) (l .how); number = suc (length (names (l .words) t)); words = addingName (l .words) t triple })
-    (record { how = byNumber k; number = k; words = v })
+    (record { how = inParts (p .how) (n .how) (l .how); number = suc (length (names (l .tables) t)); tables = addingName (l .tables) t triple })
+    (record { how = byNumber k; number = k; tables = v })
 
 module _ (L : Limits) where
   -- A chunk, value, comment or content: the lowest number where its table holds it; else spelled, and added if it is short and its table has room.
@@ -53,42 +53,42 @@ module _ (L : Limits) where
       let k : ℕ = numberIn (strings v t) x in
       let added : Bool = worthAdding L (strings v t) x in
       pick (eqb k 0)
-      (record { how = spelled added; number = 0; words = keeping added v t x })
-      (record { how = numbered k; number = k; words = v })
+      (record { how = spelled added; number = 0; tables = keeping added v t x })
+      (record { how = numbered k; number = k; tables = v })
 
   -- A value, comment or content may be empty: number 0.
   unfoldable pub chooseValue : StringTable → Vocabulary (List ℕ) → List ℕ → Chose How
-  chooseValue t v x = pick (eqb (length x) 0) (record { how = numbered 0; number = 0; words = v }) (chooseLiteral t v x)
+  chooseValue t v x = pick (eqb (length x) 0) (record { how = numbered 0; number = 0; tables = v }) (chooseLiteral t v x)
 
   unfoldable pub chooseFor : Vocabulary (List ℕ) → Event (List ℕ) → Chose Choice
   chooseFor v (Namespace p n) =
       let a : Chose (Option How) = chooseOptional PREFIX v p in
-      let b : Chose (Option How) = chooseOptional NAMESPACE-NAME (a .words) n in
-      record { how = forNamespace (a .how) (b .how); number = 0; words = b .words }
+      let b : Chose (Option How) = chooseOptional NAMESPACE-NAME (a .tables) n in
+      record { how = forNamespace (a .how) (b .how); number = 0; tables = b .tables }
   chooseFor v (Start x) =
       let a : Chose NameHow = chooseName ELEMENT-NAME v x in
-      record { how = forStart (a .how); number = 0; words = a .words }
+      record { how = forStart (a .how); number = 0; tables = a .tables }
   chooseFor v (Attribute x y) =
       let a : Chose NameHow = chooseName ATTRIBUTE-NAME v x in
-      let b : Chose How = chooseValue ATTRIBUTE-VALUE (a .words) y in
-      record { how = forAttribute (a .how) (b .how); number = 0; words = b .words }
+      let b : Chose How = chooseValue ATTRIBUTE-VALUE (a .tables) y in
+      record { how = forAttribute (a .how) (b .how); number = 0; tables = b .tables }
   chooseFor v (Text y) =
       let a : Chose How = chooseLiteral CONTENT-CHARACTER-CHUNK v y in
-      record { how = forText (a .how); number = 0; words = a .words }
+      record { how = forText (a .how); number = 0; tables = a .tables }
   chooseFor v (Comment y) =
       let a : Chose How = chooseValue OTHER-STRING v y in
-      record { how = forComment (a .how); number = 0; words = a .words }
+      record { how = forComment (a .how); number = 0; tables = a .tables }
   chooseFor v (Instruction x y) =
       let a : Chose How = chooseId OTHER-NCNAME v x in
-      let b : Chose How = chooseValue OTHER-STRING (a .words) y in
-      record { how = forInstruction (a .how) (b .how); number = 0; words = b .words }
-  chooseFor v End = record { how = forEnd; number = 0; words = v }
+      let b : Chose How = chooseValue OTHER-STRING (a .tables) y in
+      record { how = forInstruction (a .how) (b .how); number = 0; tables = b .tables }
+  chooseFor v End = record { how = forEnd; number = 0; tables = v }
 
   -- The events with 01's choices, and the tables behind them.
   unfoldable pub chosen : Vocabulary (List ℕ) → List (Event (List ℕ)) → List (Item (List ℕ))
   chosen v [] = []
-  chosen v (e ∷ es) = (e by chooseFor v e .how) ∷ chosen (chooseFor v e .words) es
+  chosen v (e ∷ es) = (e by chooseFor v e .how) ∷ chosen (chooseFor v e .tables) es
 
   unfoldable pub tablesAfter : Vocabulary (List ℕ) → List (Event (List ℕ)) → Vocabulary (List ℕ)
   tablesAfter v [] = v
-  tablesAfter v (e ∷ es) = tablesAfter (chooseFor v e .words) es
+  tablesAfter v (e ∷ es) = tablesAfter (chooseFor v e .tables) es

@@ -15,7 +15,7 @@ use Rattle.fields.specs.Put.{Puts}
 use Rattle.tables.specs.declared.Counts.{Counts}
 use Rattle.tables.specs.declared.Row.{Row}
 use Rattle.tables.specs.Located.{Located, builtInPrefix, builtInNamespace, octetsOf}
-use Rattle.tables.specs.Counts.{words}
+use Rattle.tables.specs.Counts.{tableWords}
 use Rattle.tables.specs.Search.{numberIn, numberOfTriple}
 use Rattle.tables.specs.Rows.{vocabulary}
 use Rattle.tables.specs.Kept.{countOf, oneMore, stored, Counted, Clean, AllInside}
@@ -37,7 +37,7 @@ Begins x (y ∷ ys) = y ≡ x
 -- The tables of a text area in lent words are in order.
 pub record InOrder (text : List ℕ) (c : Counts) (w : List ℕ) : Type 0 where
   pub size : length text ≤ 16384
-  pub room : length w ≡ words
+  pub room : length w ≡ tableWords
   pub counted : Counted c
   pub clean : Clean c w
   pub inside : AllInside text (vocabulary c w)
@@ -102,8 +102,8 @@ numberThen n x k = pick (eqb k 0) (pick (eqb (textTag x) 0) 0 (suc n)) k
 unfoldable pub tripleFor : List ℕ → Vocabulary Located → Name Located → Triple
 tripleFor text v x =
     let p = writeOptional text PREFIX v (x .prefix) in
-    let n = writeOptional text NAMESPACE-NAME (p .words) (x .namespace) in
-    record { prefix = p .number; namespace = n .number; local = writeId text LOCAL-NAME (n .words) (x .local) .number }
+    let n = writeOptional text NAMESPACE-NAME (p .tables) (x .namespace) in
+    record { prefix = p .number; namespace = n .number; local = writeId text LOCAL-NAME (n .tables) (x .local) .number }
 
 unfoldable pub nameHeldAs : NameLayout → List ℕ → Vocabulary Located → Name Located → ℕ
 nameHeldAs q text v x = numberOfTriple (names v (q .table)) (tripleFor text v x)
@@ -119,8 +119,8 @@ Tripled h w table x Full w′ = 256 ≤ countOf (h .counts) table
 unfoldable pub pairBehind : (first : ℕ) → List ℕ → Vocabulary Located → (prefix namespace : Option Located) → Wrote Choice
 pairBehind first text v p n =
     let x : Wrote (Option How) = writeOptional text PREFIX v p in
-    let y : Wrote (Option How) = writeOptional text NAMESPACE-NAME (x .words) n in
-    record { octets = first ∷ (x .octets ++ y .octets); how = forNamespace (x .how) (y .how); number = 0; words = y .words }
+    let y : Wrote (Option How) = writeOptional text NAMESPACE-NAME (x .tables) n in
+    record { octets = first ∷ (x .octets ++ y .octets); how = forNamespace (x .how) (y .how); number = 0; tables = y .tables }
 
 unfoldable pub declaredBy : List ℕ → Vocabulary Located → (prefix namespace : Option Located) → Wrote Choice
 declaredBy text v p n = pairBehind (0xCC + 2 * has p + has n) text v p n
@@ -134,5 +134,5 @@ pub record Stands (text out : List ℕ) (at most : ℕ) (h : Here) (out′ w : L
 
 -- Or a table is full, and the definition's has an entry too many.
 abbrev pub Meets : {H : Type 0} → List ℕ → List ℕ → (at most : ℕ) → W.Wrote → List ℕ → List ℕ → Wrote H → Type 0
-Meets text out at most (Put h) out′ w d = Stands text out at most h out′ w (d .octets) (d .words)
-Meets text out at most Full out′ w d = within link (d .words) ≡ false
+Meets text out at most (Put h) out′ w d = Stands text out at most h out′ w (d .octets) (d .tables)
+Meets text out at most Full out′ w d = within link (d .tables) ≡ false

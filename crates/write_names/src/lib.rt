@@ -10,7 +10,7 @@ ghost use Rattle.format.specs.Tables.{strings, link, CONTENT-CHARACTER-CHUNK};
 ghost use Rattle.format.specs.Strings.{withLength, c15};
 ghost use Rattle.format.specs.Names.{has};
 ghost use Rattle.fields.specs.Put.{Puts};
-ghost use Rattle.tables.specs.Counts.{words};
+ghost use Rattle.tables.specs.Counts.{tableWords};
 ghost use Rattle.tables.specs.Located.{stretch, octetsOf};
 ghost use Rattle.tables.specs.Rows.{tableOf, vocabulary};
 ghost use Rattle.tables.specs.Kept.{countOf, oneMore, stored, layoutOf};
@@ -132,7 +132,7 @@ fn put_name_number(out: &mut [u8], at: usize, table: usize, lead: u8, n: u32) ->
 impl Here {
     // The string at a place becomes an entry of its table.
     fn added(mut self, t: &mut [u32], table: usize, place: u32, size: u32) -> Here
-        requires { ⌜ (length (now t) ≡ words) × (table < 8) × (countOf (self .counts) table < 256) ⌝ }
+        requires { ⌜ (length (now t) ≡ tableWords) × (table < 8) × (countOf (self .counts) table < 256) ⌝ }
         ensures { λ r. ⌜ (r ≡ record { at = self .at; counts = oneMore (self .counts) table }) × (now (t .exit) ≡ stored (now (t .entry)) table (countOf (self .counts) table) place size 0) ⌝ }
     {
         tables::add(t, table, self.counts.of(table), place, size, 0);
@@ -240,7 +240,7 @@ impl Here {
         x: Text,
     ) -> Here
         requires { ⌜ (InOrder (now text) (self .counts) (now t)) × (self .at ≤ 900000) × (table < 8) × (Fills (now text) x) ⌝ }
-        ensures { λ r. ⌜ Stands (now (text .entry)) (now (out .entry)) (self .at) 16389 r (now (out .exit)) (now (t .exit)) (writeValue link (now (text .entry)) (tableOf table) (vocabulary (self .counts) (now (t .entry))) (locatedOf x) .octets) (writeValue link (now (text .entry)) (tableOf table) (vocabulary (self .counts) (now (t .entry))) (locatedOf x) .words) ⌝ }
+        ensures { λ r. ⌜ Stands (now (text .entry)) (now (out .entry)) (self .at) 16389 r (now (out .exit)) (now (t .exit)) (writeValue link (now (text .entry)) (tableOf table) (vocabulary (self .counts) (now (t .entry))) (locatedOf x) .octets) (writeValue link (now (text .entry)) (tableOf table) (vocabulary (self .counts) (now (t .entry))) (locatedOf x) .tables) ⌝ }
     {
         if x.size() == 0 {
             put(out, self.at, 0xFF);
@@ -258,7 +258,7 @@ impl Here {
     // C.15: a chunk.
     pub fn chunk(mut self, text: &[u8], t: &mut [u32], out: &mut [u8], x: Text) -> Here
         requires { ⌜ (InOrder (now text) (self .counts) (now t)) × (self .at ≤ 900000) × (Spells (now text) x) ⌝ }
-        ensures { λ r. ⌜ Stands (now (text .entry)) (now (out .entry)) (self .at) 16389 r (now (out .exit)) (now (t .exit)) (writeLiteral link c15 (now (text .entry)) CONTENT-CHARACTER-CHUNK (vocabulary (self .counts) (now (t .entry))) (locatedOf x) .octets) (writeLiteral link c15 (now (text .entry)) CONTENT-CHARACTER-CHUNK (vocabulary (self .counts) (now (t .entry))) (locatedOf x) .words) ⌝ }
+        ensures { λ r. ⌜ Stands (now (text .entry)) (now (out .entry)) (self .at) 16389 r (now (out .exit)) (now (t .exit)) (writeLiteral link c15 (now (text .entry)) CONTENT-CHARACTER-CHUNK (vocabulary (self .counts) (now (t .entry))) (locatedOf x) .octets) (writeLiteral link c15 (now (text .entry)) CONTENT-CHARACTER-CHUNK (vocabulary (self .counts) (now (t .entry))) (locatedOf x) .tables) ⌝ }
     {
         let k = number_of(text, t, self.counts, CHUNKS, x);
         if k != 0 {

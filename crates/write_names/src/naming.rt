@@ -3,7 +3,7 @@ ghost use mathlib.Core.Path.{_≡_};
 ghost use Prim.Native.Nat.{_<_, _≤_};
 ghost use lib.ListN.{length};
 ghost use Rattle.format.specs.Tables.{PREFIX, NAMESPACE-NAME};
-ghost use Rattle.tables.specs.Counts.{words};
+ghost use Rattle.tables.specs.Counts.{tableWords};
 ghost use Rattle.tables.specs.Rows.{vocabulary};
 ghost use Rattle.tables.specs.Kept.{countOf, layoutOf, tripleOf};
 ghost use Rattle.events.specs.Records.{optionalOf};
@@ -42,7 +42,7 @@ fn number_then(c: Counts, table: usize, x: Text, k: u32) -> u32
 impl Here {
     // The name becomes an entry of its table, unless that is full.
     fn triple(mut self, t: &mut [u32], table: usize, x: Row) -> Wrote
-        requires { ⌜ (length (now t) ≡ words) × (table < 10) ⌝ }
+        requires { ⌜ (length (now t) ≡ tableWords) × (table < 10) ⌝ }
         ensures { λ r. ⌜ Tripled self (now (t .entry)) table x r (now (t .exit)) ⌝ }
     {
         let n = self.counts.of(table);

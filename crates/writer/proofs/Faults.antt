@@ -68,7 +68,7 @@ module _ (text : List ℕ) (v : State Located) (e : Event) where
     judge-fault n h =
         tests-fault (wellMade text (e .kind) e) (goesOn v (eventOf (e .kind) e)) (allText text (eventOf (e .kind) e)) (opens (v .mode) (eventOf (e .kind) e) && leb (link .depth) (v .level)) _ n h
 
-    pub judge-none : faultOf text v e ≡ 0 → judge link text room at v e w hs ≡ pick (within link (w .state .words)) (pick (fits link text room (at + length hs)) 0 14) 12
+    pub judge-none : faultOf text v e ≡ 0 → judge link text room at v e w hs ≡ pick (within link (w .state .tables)) (pick (fits link text room (at + length hs)) 0 14) 12
     unfolding judge
     judge-none h = let f = fault-none h in rw (f .made, f .goes, f .texts, f .shallow)
 

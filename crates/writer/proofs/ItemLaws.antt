@@ -127,10 +127,10 @@ stands-behind k p l s = let f = s .few in record { puts = puts-append p (s .puts
 
 -- ---- the state behind an item
 abbrev asWrote : WroteItem → Wrote Choice
-asWrote d = record { octets = d .octets; how = d .choice; number = 0; words = d .state .words }
+asWrote d = record { octets = d .octets; how = d .choice; number = 0; tables = d .state .tables }
 
 module _ (text : List ℕ) (a : Bool) (st : State) (out w : List ℕ) (e : E.Event Located) (item : isEnd e ≡ false) (next : State)
-    (state : stateOf next (writeItem link text a (known st w) e .state .words) ≡ writeItem link text a (known st w) e .state)
+    (state : stateOf next (writeItem link text a (known st w) e .state .tables) ≡ writeItem link text a (known st w) e .state)
     (shallow : next .level + coming (next .mode) ≤ 32) where
   lands : (most : ℕ) (r : W.Wrote) (out′ w′ : List ℕ) → 1 ≤ length (writeItem link text a (known st w) e .octets)
       → Meets text out (aligned (st .at) / 2) most r out′ w′ (asWrote (writeItem link text a (known st w) e)) → Near r → Lands text a st out w e (landing next r) out′ w′
@@ -141,7 +141,7 @@ module _ (text : List ℕ) (a : Bool) (st : State) (out w : List ℕ) (e : E.Eve
 
   -- octets stand before what was put last
   lands-behind : {H : Type 0} (d : Wrote H) {xs out₁ : List ℕ} {at : ℕ} (most : ℕ) → Puts out (aligned (st .at) / 2) at out₁ xs → at ≤ aligned (st .at) / 2 + 1
-      → writeItem link text a (known st w) e .octets ≡ xs ++ d .octets → writeItem link text a (known st w) e .state .words ≡ d .words → (r : W.Wrote) (out′ w′ : List ℕ)
+      → writeItem link text a (known st w) e .octets ≡ xs ++ d .octets → writeItem link text a (known st w) e .state .tables ≡ d .tables → (r : W.Wrote) (out′ w′ : List ℕ)
       → 1 ≤ length (writeItem link text a (known st w) e .octets) → Meets text out₁ at most r out′ w′ d → Near r → Lands text a st out w e (landing next r) out′ w′
   lands-behind d most p l o s (Put h) out′ w′ some m n = lands (1 + most) (Put h) out′ w′ some (rw (o, s) (stands-behind 1 p l m)) n
   lands-behind d most p l o s Full out′ w′ some m n = (refl, rw s m)
@@ -188,8 +188,8 @@ sizes-name t = by (eqb t 8)
 abbrev numberThen : NameLayout → List ℕ → Vocabulary Located → E.Name Located → ℕ
 numberThen q text v x =
     let p = writeOptional text PREFIX v (x .prefix) in
-    let n = writeOptional text NAMESPACE-NAME (p .words) (x .namespace) in
-    numberOfTriple (names (writeId text LOCAL-NAME (n .words) (x .local) .words) (q .table)) (tripleFor text v x)
+    let n = writeOptional text NAMESPACE-NAME (p .tables) (x .namespace) in
+    numberOfTriple (names (writeId text LOCAL-NAME (n .tables) (x .local) .tables) (q .table)) (tripleFor text v x)
 
 module _ (q : NameLayout) (lead : ℕ) (text : List ℕ) (v : Vocabulary Located) (x : E.Name Located) (wide : 256 ≤ sizes (q .numberForms)) (few : length (names v (q .table)) ≤ 256) where
   name-by : (b : Bool) → eqb (numberThen q text v x) 0 ≡ b → 1 ≤ length (writeName q lead text v x .octets)
@@ -207,18 +207,18 @@ module _ (text : List ℕ) (t : StringTable) (v : Vocabulary Located) (x : Locat
   within-kept false = refl
 
   value-by : (b c : Bool) → eqb (length (octetsOf text x)) 0 ≡ b → eqb (numberIn (map (octetsOf text) (strings v t)) (octetsOf text x)) 0 ≡ c
-      → within link (writeValue link text t v x .words) ≡ within link v
+      → within link (writeValue link text t v x .tables) ≡ within link v
   unfolding writeValue writeLiteral
   value-by true c p q = rw p
   value-by false true p q = rw (p, q) (within-kept (worthAdding link (strings v t) (octetsOf text x)))
   value-by false false p q = rw (p, q)
 
-  value-within : within link (writeValue link text t v x .words) ≡ within link v
+  value-within : within link (writeValue link text t v x .tables) ≡ within link v
   value-within = value-by _ _ refl refl
 
 value-behind : {text out out₁ out₂ w₁ w₂ xs : List ℕ} {v : Vocabulary Located} {at m : ℕ} {h g : Here} (t : StringTable) (y : Located) → Stands text out at m h out₁ w₁ xs v
-    → Stands text out₁ (h .at) 16389 g out₂ w₂ (writeValue link text t (vocabulary (h .counts) w₁) y .octets) (writeValue link text t (vocabulary (h .counts) w₁) y .words)
-    → Stands text out at (m + 16389) g out₂ w₂ (xs ++ writeValue link text t v y .octets) (writeValue link text t v y .words)
+    → Stands text out₁ (h .at) 16389 g out₂ w₂ (writeValue link text t (vocabulary (h .counts) w₁) y .octets) (writeValue link text t (vocabulary (h .counts) w₁) y .tables)
+    → Stands text out at (m + 16389) g out₂ w₂ (xs ++ writeValue link text t v y .octets) (writeValue link text t v y .tables)
 value-behind {m = m} t y s r = stands-behind m (s .puts) (s .few) (rw (s .tables) at r)
 
 -- ---- a kind that was found out
@@ -244,7 +244,7 @@ coming-behind-start false = refl
 module _ (text : List ℕ) (a : Bool) (st : State) (w : List ℕ) (e : Event) where
   pub chunk-lands : Fit text st w Chunk e → {at : ℕ} → (at ≡ aligned (st .at) / 2) × (at ≤ 16385) → {out out′ w′ : List ℕ} {h : Here}
       → Stands text out at 16389 h out′ w′ (writeLiteral link c15 text CONTENT-CHARACTER-CHUNK (vocabulary (st .counts) w) (locatedOf (e .value)) .octets)
-      (writeLiteral link c15 text CONTENT-CHARACTER-CHUNK (vocabulary (st .counts) w) (locatedOf (e .value)) .words)
+      (writeLiteral link c15 text CONTENT-CHARACTER-CHUNK (vocabulary (st .counts) w) (locatedOf (e .value)) .tables)
       → Lands text a st out w (eventOf Chunk e) (landing st (Put h)) out′ w′
   unfolding eventOf writeItem tableOf
   chunk-lands fit q {out′ = out′} {w′ = w′} {h = h} s =
@@ -255,23 +255,23 @@ module _ (text : List ℕ) (a : Bool) (st : State) (w : List ℕ) (e : Event) wh
 
   pub comment-lands : Fit text st w Comment e → {at : ℕ} → (at ≡ aligned (st .at) / 2) × (at ≤ 16385) → {out out₁ out′ w′ : List ℕ} {h : Here} → out₁ ≡ set out at 0xE2
       → Stands text out₁ (at + 1) 16389 h out′ w′ (writeValue link text (tableOf 7) (vocabulary (st .counts) w) (locatedOf (e .value)) .octets)
-      (writeValue link text (tableOf 7) (vocabulary (st .counts) w) (locatedOf (e .value)) .words)
+      (writeValue link text (tableOf 7) (vocabulary (st .counts) w) (locatedOf (e .value)) .tables)
       → Lands text a st out w (eventOf Comment e) (landing st (Put h)) out′ w′
   unfolding eventOf writeItem tableOf
   comment-lands fit q {out′ = out′} {w′ = w′} {h = h} p s =
       lands text a st _ w (eventOf Comment e) refl st refl (fit .shallow) 16390 (Put h) out′ w′ (omega arith) (rw (← (q .0)) (stands-behind 1 (puts-one p) (omega arith) s))
       (let b = q .1 in let f = s .few in omega arith)
 
-  pub instruction-full : within link (writeId text (tableOf 3) (vocabulary (st .counts) w) (locatedOf (e .name)) .words) ≡ false
-      → within link (writeItem link text a (known st w) (eventOf Instruction e) .state .words) ≡ false
+  pub instruction-full : within link (writeId text (tableOf 3) (vocabulary (st .counts) w) (locatedOf (e .name)) .tables) ≡ false
+      → within link (writeItem link text a (known st w) (eventOf Instruction e) .state .tables) ≡ false
   unfolding eventOf writeItem tableOf adding place within
   instruction-full f = value-within text OTHER-STRING _ (locatedOf (e .value)) refl ∙ f
 
   pub instruction-lands : Fit text st w Instruction e → {at : ℕ} → (at ≡ aligned (st .at) / 2) × (at ≤ 16385) → {out out₁ out₂ out′ w₁ w′ : List ℕ} {h g : Here} → out₁ ≡ set out at 0xE1
       → Stands text out₁ (at + 1) 16389 h out₂ w₁ (writeId text (tableOf 3) (vocabulary (st .counts) w) (locatedOf (e .name)) .octets)
-      (writeId text (tableOf 3) (vocabulary (st .counts) w) (locatedOf (e .name)) .words)
+      (writeId text (tableOf 3) (vocabulary (st .counts) w) (locatedOf (e .name)) .tables)
       → Stands text out₂ (h .at) 16389 g out′ w′ (writeValue link text (tableOf 7) (vocabulary (h .counts) w₁) (locatedOf (e .value)) .octets)
-      (writeValue link text (tableOf 7) (vocabulary (h .counts) w₁) (locatedOf (e .value)) .words)
+      (writeValue link text (tableOf 7) (vocabulary (h .counts) w₁) (locatedOf (e .value)) .tables)
       → Lands text a st out w (eventOf Instruction e) (landing st (Put g)) out′ w′
   unfolding eventOf writeItem tableOf
   instruction-lands fit q {out′ = out′} {w′ = w′} {g = g} p s r =
@@ -324,16 +324,16 @@ module _ (text : List ℕ) (a : Bool) (st : State) (w : List ℕ) (e : Event) wh
         let o = name-by (layoutOf 9) 0 text (vocabulary (st .counts) w) (nameOf e) (sizes-name 9) (omega arith) _ refl in
         simp length-append (omega arith)
 
-    pub attribute-full : within link (writeName (layoutOf 9) 0 text (vocabulary (st .counts) w) (namedOf name) .words) ≡ false
-        → within link (writeItem link text a (known st w) (eventOf Attribute e) .state .words) ≡ false
+    pub attribute-full : within link (writeName (layoutOf 9) 0 text (vocabulary (st .counts) w) (namedOf name) .tables) ≡ false
+        → within link (writeItem link text a (known st w) (eventOf Attribute e) .state .tables) ≡ false
     unfolding eventOf writeItem layoutOf adding place within
     attribute-full f = value-within text ATTRIBUTE-VALUE _ (locatedOf (e .value)) refl ∙ rw is at f
 
     pub attribute-lands : {at : ℕ} → (at ≡ aligned (st .at) / 2) × (at ≤ 16385) → {out out₁ out′ w₁ w′ : List ℕ} {h g : Here}
         → Stands text out at 49168 h out₁ w₁ (writeName (layoutOf 9) 0 text (vocabulary (st .counts) w) (namedOf name) .octets)
-        (writeName (layoutOf 9) 0 text (vocabulary (st .counts) w) (namedOf name) .words)
+        (writeName (layoutOf 9) 0 text (vocabulary (st .counts) w) (namedOf name) .tables)
         → Stands text out₁ (h .at) 16389 g out′ w′ (writeValue link text (tableOf 5) (vocabulary (h .counts) w₁) (locatedOf (e .value)) .octets)
-        (writeValue link text (tableOf 5) (vocabulary (h .counts) w₁) (locatedOf (e .value)) .words)
+        (writeValue link text (tableOf 5) (vocabulary (h .counts) w₁) (locatedOf (e .value)) .tables)
         → Lands text a st out w (eventOf Attribute e) (landing (movedTo st (Listing true)) (Put g)) out′ w′
     unfolding eventOf writeItem layoutOf tableOf
     attribute-lands q {out′ = out′} {w′ = w′} {g = g} s r =

@@ -7,7 +7,7 @@ use Prim.Native.Nat.{ℕ, _+_, _≤_, _<_}
 use borrow.Author.Tests.{eq-eqb, ne-eqb, le-leb, lt-leb, ltb-true, ltb-false}
 use lib.ListN.{length, getD, drop, replicate}
 use lib.Seq.{drop-cons}
-use Rattle.tables.specs.Counts.{words}
+use Rattle.tables.specs.Counts.{tableWords}
 use Rattle.events.specs.declared.Event.{Event}
 use Rattle.events.specs.Records.{blank}
 use Rattle.writer.specs.declared.Answer.{Answer}
@@ -33,12 +33,12 @@ module _ (es : List Event) (text : List ℕ) (room table : ℕ) where
   going-size l = rw (lt-leb _ _ l)
 
   module _ (size : length text ≤ 16384) where
-    pub going-room : (table ≡ words → ⊥) → refusing 14 0 room table ≡ writeOf es text room table
+    pub going-room : (table ≡ tableWords → ⊥) → refusing 14 0 room table ≡ writeOf es text room table
     unfolding writeOf
     going-room n = rw (le-leb _ _ size, ne-eqb _ _ n)
 
-    module _ (all : table ≡ words) where
-      pub going-start : {p : State} {out w : List ℕ} → p ≡ fresh → Holds room [] 10 out → w ≡ replicate words 0 → Going es text room table 0 (Onward p) out w
+    module _ (all : table ≡ tableWords) where
+      pub going-start : {p : State} {out w : List ℕ} → p ≡ fresh → Holds room [] 10 out → w ≡ replicate tableWords 0 → Going es text room table 0 (Onward p) out w
       going-start q h e = (size, all, rw q (underway-start text room es size h e))
 
       -- what the run leaves is left by the call

@@ -16,7 +16,7 @@ use Rattle.format.specs.Events.{Item, _by_}
 use Rattle.format.specs.Items as F
 use Rattle.format.specs.Document.{aligned, header, beginning}
 use Rattle.tables.specs.Located.{Located, start}
-use Rattle.tables.specs.Counts.{words}
+use Rattle.tables.specs.Counts.{tableWords}
 use Rattle.tables.specs.Rows.{vocabulary}
 use Rattle.tables.specs.Kept.{listed, Clean}
 use Rattle.tables.specs.Told.{toldAccepted}
@@ -47,7 +47,7 @@ bit-started true b = tt
 bit-started false b = tt
 
 bit-settled : (w : Vocabulary Located) (l : ℕ) (r : Bool) (m : F.Mode) (x : E.Event Located) (b : Bool) → isAttribute x ≡ false → amongChildren m ≡ true
-    → Foretold (settled (record { words = w; level = l; root = r; mode = m }) x .mode) b
+    → Foretold (settled (record { tables = w; level = l; root = r; mode = m }) x .mode) b
 unfolding settled
 bit-settled w l r F.content x b f h = tt
 bit-settled w l r (F.declaring a) x b f h = absurd (true≢false (sym h))
@@ -113,11 +113,11 @@ held-room q h = rw q at h
 
 -- ---- a run of the events es, with `room` octets of output
 module _ (text : List ℕ) (room : ℕ) (es : List Event) where
-  start-known : (w : List ℕ) → w ≡ replicate words 0 → known fresh w ≡ beginning start
+  start-known : (w : List ℕ) → w ≡ replicate tableWords 0 → known fresh w ≡ beginning start
   unfolding beginning
-  start-known w e = rw (e, vocabulary-start (replicate words 0) (getD-replicate {A = ℕ} words 1 0 0 (lit< tt)) (getD-replicate {A = ℕ} words 769 0 0 (lit< tt)))
+  start-known w e = rw (e, vocabulary-start (replicate tableWords 0) (getD-replicate {A = ℕ} tableWords 1 0 0 (lit< tt)) (getD-replicate {A = ℕ} tableWords 769 0 0 (lit< tt)))
 
-  pub underway-start : length text ≤ 16384 → {out w : List ℕ} → Holds room [] 10 out → w ≡ replicate words 0 → Underway text room es 0 fresh out w
+  pub underway-start : length text ≤ 16384 → {out w : List ℕ} → Holds room [] 10 out → w ≡ replicate tableWords 0 → Underway text room es 0 fresh out w
   unfolding writing header
   underway-start h {out} {w} o e =
       record {
@@ -158,13 +158,13 @@ module _ {text : List ℕ} {room : ℕ} {es : List Event} {i : ℕ} {st : State}
           leads = rw (g .state, grown .place, add-one i) (sym (behind-on text room (st .at) (known st w) e (drop (suc i) es) i (u .hs) (g .judged)) ∙ leads-here);
         }
 
-    pub run-refused : {n : ℕ} → r ≡ Stop n → refusing n i room words ≡ outcome (writing text room es) room
+    pub run-refused : {n : ℕ} → r ≡ Stop n → refusing n i room tableWords ≡ outcome (writing text room es) room
     run-refused {n} q =
         let g = rw q at stepped in
         sym (ap (λ (x : Result). behind (u .hs) x room) (run-stop text room (st .at) (known st w) e (drop (suc i) es) i n (g .0) (g .1))) ∙ leads-here
 
   -- the end behind the last event
-  pub run-finished : length es ≤ i → (r : Answer) (out′ : List ℕ) → Finishes room st out i r out′ → remains room words r out′ w ≡ outcome (writing text room es) room
+  pub run-finished : length es ≤ i → (r : Answer) (out′ : List ℕ) → Finishes room st out i r out′ → remains room tableWords r out′ w ≡ outcome (writing text room es) room
   unfolding run
   run-finished l r out′ f = f text w (u .hs) (u .ready) (u .holds) ∙ (rw (drop-of-length-le es l) at (u .leads))
 

@@ -125,7 +125,7 @@ module _ (text : List ℕ) (st : State) (w : List ℕ) (e : Event) where
 
     module _ (f : faultOf text (known st w) e ≡ 0) where
       -- a table is full
-      full-by : (b : Bool) (o : owes st e ≡ b) (room : ℕ) → within link (writeItem link text a (known (listEnded b st) w) (eventOf (e .kind) e) .state .words) ≡ false
+      full-by : (b : Bool) (o : owes st e ≡ b) (room : ℕ) → within link (writeItem link text a (known (listEnded b st) w) (eventOf (e .kind) e) .state .tables) ≡ false
           → verdict text room a (st .at) (known st w) e ≡ 12
       unfolding verdict
       full-by b o room h = judge-none text (known st w) e room (st .at) _ _ f ∙ rw (← (item-by b o), h)
@@ -162,7 +162,7 @@ module _ (text : List ℕ) (st : State) (w : List ℕ) (e : Event) where
         steps-by false q = (fits-by false q, omega arith, omega arith)
 
       module _ (room : ℕ) (st₁ : State) (out out₁ : List ℕ) (ended : (st₁ ≡ listEnded (owes st e) st) × (out₁ ≡ endPut (owes st e) out (st .at))) where
-        pub step-full : (n : ℕ) → (n ≡ 12) × (within link (writeItem link text a (known st₁ w) (eventOf (e .kind) e) .state .words) ≡ false)
+        pub step-full : (n : ℕ) → (n ≡ 12) × (within link (writeItem link text a (known st₁ w) (eventOf (e .kind) e) .state .tables) ≡ false)
             → (verdict text room a (st .at) (known st w) e ≡ n) × (1 ≤ n) × (n ≤ 16)
         step-full n h = rw (h .0) (full-by (owes st e) refl room (rw (ended .0) at (h .1)), omega arith, omega arith)
 

@@ -25,7 +25,7 @@ modeOf (Listing any) = F.listing any
 
 -- The state holds how many entries the tables have; the tables themselves are in lent words, which the code that judges does not look at.
 abbrev pub stateOf : State → Vocabulary Located → F.State Located
-stateOf st v = record { words = v; level = st .level; root = st .root; mode = modeOf (st .mode) }
+stateOf st v = record { tables = v; level = st .level; root = st .root; mode = modeOf (st .mode) }
 
 -- A string that is a stretch is not empty and lies in the text area.
 abbrev pub Lies : List ℕ → Text → Type 0

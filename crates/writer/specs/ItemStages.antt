@@ -91,7 +91,7 @@ pub record Landed (text : List ℕ) (a : Bool) (st : State) (out w : List ℕ) (
 -- Or a table is full, and the definition's has an entry too many.
 abbrev pub Lands : List ℕ → Bool → State → List ℕ → List ℕ → E.Event Located → Step → List ℕ → List ℕ → Type 0
 Lands text a st out w e (On next) out′ w′ = Landed text a st out w e next out′ w′
-Lands text a st out w e (Stop n) out′ w′ = (n ≡ FULL) × (within link (writeItem link text a (known st w) e .state .words) ≡ false)
+Lands text a st out w e (Stop n) out′ w′ = (n ≡ FULL) × (within link (writeItem link text a (known st w) e .state .tables) ≡ false)
 
 -- The state, if what is written up to it fits; else the refusal 14.
 unfoldable pub holding : List ℕ → (room : ℕ) → State → Step

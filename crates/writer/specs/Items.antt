@@ -39,28 +39,28 @@ module _ (L : Limits) (text : List ℕ) where
   -- The end of an attribute list is behind us: the mode is content or declaring or, for an attribute, listing. An End has no octets of its own.
   unfoldable pub writeItem : Bool → State Located → E.Event Located → WroteItem
   writeItem a v (E.Namespace p n) =
-      let x : Wrote (Option How) = writeOptional text PREFIX (v .words) p in
-      let y : Wrote (Option How) = writeOptional text NAMESPACE-NAME (x .words) n in
+      let x : Wrote (Option How) = writeOptional text PREFIX (v .tables) p in
+      let y : Wrote (Option How) = writeOptional text NAMESPACE-NAME (x .tables) n in
       record {
         octets = beforeDeclaration (v .mode) a ++ ((0xCC + 2 * has p + has n) ∷ (x .octets ++ y .octets));
         choice = forNamespace (x .how) (y .how);
-        state = moved v (y .words) (declaring a);
+        state = moved v (y .tables) (declaring a);
       }
   writeItem a v (E.Start x) =
-      let w : Wrote NameHow = writeName ofElement (nameLead (v .mode) a) text (v .words) x in
-      record { octets = beforeName (v .mode) ++ w .octets; choice = forStart (w .how); state = opened v (w .words) a }
+      let w : Wrote NameHow = writeName ofElement (nameLead (v .mode) a) text (v .tables) x in
+      record { octets = beforeName (v .mode) ++ w .octets; choice = forStart (w .how); state = opened v (w .tables) a }
   writeItem a v (E.Attribute x y) =
-      let w : Wrote NameHow = writeName ofAttribute 0 text (v .words) x in
-      let z : Wrote How = writeValue L text ATTRIBUTE-VALUE (w .words) y in
-      record { octets = w .octets ++ z .octets; choice = forAttribute (w .how) (z .how); state = moved v (z .words) (listing true) }
+      let w : Wrote NameHow = writeName ofAttribute 0 text (v .tables) x in
+      let z : Wrote How = writeValue L text ATTRIBUTE-VALUE (w .tables) y in
+      record { octets = w .octets ++ z .octets; choice = forAttribute (w .how) (z .how); state = moved v (z .tables) (listing true) }
   writeItem a v (E.Text y) =
-      let w : Wrote How = writeLiteral L c15 text CONTENT-CHARACTER-CHUNK (v .words) y in
-      record { octets = w .octets; choice = forText (w .how); state = knowing v (w .words) }
+      let w : Wrote How = writeLiteral L c15 text CONTENT-CHARACTER-CHUNK (v .tables) y in
+      record { octets = w .octets; choice = forText (w .how); state = knowing v (w .tables) }
   writeItem a v (E.Comment y) =
-      let w : Wrote How = writeValue L text OTHER-STRING (v .words) y in
-      record { octets = 0xE2 ∷ w .octets; choice = forComment (w .how); state = knowing v (w .words) }
+      let w : Wrote How = writeValue L text OTHER-STRING (v .tables) y in
+      record { octets = 0xE2 ∷ w .octets; choice = forComment (w .how); state = knowing v (w .tables) }
   writeItem a v (E.Instruction x y) =
-      let w : Wrote How = writeId text OTHER-NCNAME (v .words) x in
-      let z : Wrote How = writeValue L text OTHER-STRING (w .words) y in
-      record { octets = 0xE1 ∷ (w .octets ++ z .octets); choice = forInstruction (w .how) (z .how); state = knowing v (z .words) }
+      let w : Wrote How = writeId text OTHER-NCNAME (v .tables) x in
+      let z : Wrote How = writeValue L text OTHER-STRING (w .tables) y in
+      record { octets = 0xE1 ∷ (w .octets ++ z .octets); choice = forInstruction (w .how) (z .how); state = knowing v (z .tables) }
   writeItem a v E.End = record { octets = []; choice = forEnd; state = closed v }

@@ -9,7 +9,7 @@ use Rattle.format.specs.Tables.{link}
 use Rattle.format.specs.Items.{Mode, content, declaring, listing}
 use Rattle.format.specs.Document.{header}
 use Rattle.tables.specs.Located.{start}
-use Rattle.tables.specs.Counts.{countsOf, words}
+use Rattle.tables.specs.Counts.{countsOf, tableWords}
 use Rattle.events.specs.declared.Event.{Event}
 use Rattle.writer.specs.declared.Answer.{Answer}
 use Rattle.writer.specs.declared.Answer.the-variants.{Accepted, Refused}
@@ -35,8 +35,8 @@ Foretold (listing any) b = Unit {0}
 
 -- What a call leaves whose run wrote the halves hs and then comes out so.
 abbrev pub behind : List ℕ → Result → (room : ℕ) → Outcome
-behind hs (written is ks z) room = accepting (header ++ joined (hs ++ ks)) (z .words) room
-behind hs (refusal n p) room = refusing n p room words
+behind hs (written is ks z) room = accepting (header ++ joined (hs ++ ks)) (z .tables) room
+behind hs (refusal n p) room = refusing n p room tableWords
 
 -- What a run's answer leaves in `room` octets and `table` words: on a refusal, nothing.
 abbrev pub remains : (room table : ℕ) → Answer → (out tables : List ℕ) → Outcome
@@ -55,7 +55,7 @@ pub record Underway (text : List ℕ) (room : ℕ) (es : List Event) (i : ℕ) (
 -- The document's end behind i events came out as the definition says; out and out′ are the output before and then.
 abbrev pub Finishes : (room : ℕ) → State → List ℕ → ℕ → Answer → List ℕ → Type 0
 Finishes room st out i r out′ =
-    (text w hs : List ℕ) → Ready text st w → Holds room hs (st .at) out → remains room words r out′ w ≡ behind hs (finish link text room (st .at) (known st w) i) room
+    (text w hs : List ℕ) → Ready text st w → Holds room hs (st .at) out → remains room tableWords r out′ w ≡ behind hs (finish link text room (st .at) (known st w) i) room
 
 -- ---- phases: where a run stands between two records
 -- There is a further record, number i of n, and it is to be written.
@@ -80,7 +80,7 @@ bitOf (Listing any) a = a
 
 -- Behind i of the events es, with `room` octets of output and `table` table words lent, which are out and w.
 abbrev pub Going : List Event → List ℕ → (room table i : ℕ) → Phase → (out w : List ℕ) → Type 0
-Going es text room table i (Onward st) out w = (length text ≤ 16384) × (table ≡ words) × Underway text room es i st out w
+Going es text room table i (Onward st) out w = (length text ≤ 16384) × (table ≡ tableWords) × Underway text room es i st out w
 Going es text room table i (Halted k p) out w = refusing k p room table ≡ writeOf es text room table
 
 -- What the step with event i asks, and the end behind i events.

@@ -12,7 +12,7 @@ use Rattle.format.specs.Tables.{Vocabulary, Limits, link}
 use Rattle.format.specs.Items.{Mode, content, State, moved}
 use Rattle.format.specs.Document.{halves, pad, aligned, beginning, header}
 use Rattle.format.specs.Refusals.{SIZE, TEXT, FULL, DEPTH, ROOM, EVENT}
-use Rattle.tables.specs.Counts.{countsOf, words, entryWords, wordsOf}
+use Rattle.tables.specs.Counts.{countsOf, tableWords, entryWords, wordsOf}
 use Rattle.tables.specs.Kept.{listed}
 use Rattle.tables.specs.Told.{Told, toldAccepted, toldRefused, entriesOf}
 use Rattle.events.specs.declared.Kind.the-variants.{Blank, Namespace, Start, Attribute, Chunk, Comment, Instruction, End}
@@ -76,7 +76,7 @@ unfoldable pub owed : {S : Type 0} → Mode → E.Event S → List ℕ
 owed m e = pick (isListing m && not (isAttribute e)) (15 ∷ []) []
 
 unfoldable pub settled : {S : Type 0} → State S → E.Event S → State S
-settled v e = pick (isListing (v .mode) && not (isAttribute e)) (moved v (v .words) content) v
+settled v e = pick (isListing (v .mode) && not (isAttribute e)) (moved v (v .tables) content) v
 
 module _ (L : Limits) (text : List ℕ) (room : ℕ) where
   -- So many halves, in whole octets, fit the output lent and the limit of a document.
@@ -93,7 +93,7 @@ module _ (L : Limits) (text : List ℕ) (room : ℕ) where
       pick (wellMade text (e .kind) e && goesOn v (eventOf (e .kind) e))
       (pick (allText text (eventOf (e .kind) e))
       (pick (opens (v .mode) (eventOf (e .kind) e) && leb (L .depth) (v .level)) DEPTH
-      (pick (within L (w .state .words)) (pick (fits (at + length hs)) 0 ROOM) FULL))
+      (pick (within L (w .state .tables)) (pick (fits (at + length hs)) 0 ROOM) FULL))
       TEXT)
       EVENT
 
@@ -162,8 +162,8 @@ accepting s v room =
     }
 
 abbrev pub outcome : Result → ℕ → Outcome
-outcome (written is hs z) room = accepting (header ++ joined hs) (z .words) room
-outcome (refusal n p) room = refusing n p room words
+outcome (written is hs z) room = accepting (header ++ joined hs) (z .tables) room
+outcome (refusal n p) room = refusing n p room tableWords
 
 -- On the link, from these events over this text area, with so much output lent: the header is event 0's.
 unfoldable pub writing : List ℕ → ℕ → List Event → Result
@@ -177,5 +177,5 @@ knownWriting text room es = trace link text room (2 * length header) (beginning 
 unfoldable pub writeOf : List Event → List ℕ → (room table : ℕ) → Outcome
 writeOf es text room table =
     pick (leb (length text) 16384)
-    (pick (eqb table words) (outcome (writing text room es) room) (refusing ROOM 0 room table))
+    (pick (eqb table tableWords) (outcome (writing text room es) room) (refusing ROOM 0 room table))
     (refusing SIZE 0 room table)

@@ -59,7 +59,7 @@ use Rattle.walk.specs.Walk.{skipping, armOf, armsOf, full, free}
 use Rattle.format.specs.Tables.{link}
 use Rattle.tables.specs.declared.Counts.{Counts}
 use Rattle.tables.specs.Located.{start}
-use Rattle.tables.specs.Counts.{words, countsOf}
+use Rattle.tables.specs.Counts.{tableWords, countsOf}
 use Rattle.tables.proofs.Counts as T
 use Rattle.tables.proofs.Counts.Laws as T′
 use Rattle.tables.proofs.Counts.start as start′
@@ -152,7 +152,7 @@ module _ {M : Type 1} (𝓤 : URA M) (H : Heap 𝓤) (A : Atoms 𝓤) (at-mem : 
   finish-of r n c w = exE 𝓤 _ (λ ws. snd∗ 𝓤 (sem 𝓤 H A (lasts finish′.ended tt (r, (n, (c, tt))) ws)) (fact 𝓤 (w ≡ finished r n c)))
 
 module _ {M : Type 1} (𝓤 : URA M) (H : Heap 𝓤) (A : Atoms 𝓤) (W : Given 𝓤 H A) (at-mem : Memory → SProp 𝓤) (run : Routine → Fun 𝓤) (κ₀ κ₁ κ₂ : Lft) (q₀ q₁ q₂ : Share) (b₀ o₀ : ℕ) (γ₀ : GName) (ss : List ℕ) (b o : ℕ) (γ : GName) (ys : List Event) (b₂ o₂ : ℕ) (γ₂ : GName) (ts : List ℕ)
-    (room-s : Room u8 (length ss)) (room-e : Room E.the-row (length ys)) (room-t : Room u32 (length ts)) (ready : (5 ≤ length ss) × (length ss ≤ 16384) × (ys ≡ replicate (length ys) blank) × (ts ≡ replicate words 0)) where
+    (room-s : Room u8 (length ss)) (room-e : Room E.the-row (length ys)) (room-t : Room u32 (length ts)) (ready : (5 ≤ length ss) × (length ss ≤ 16384) × (ys ≡ replicate (length ys) blank) × (ts ≡ replicate tableWords 0)) where
   abbrev doc : RefT (List ℕ)
   doc = record { ptr = (b₀, o₀); name = γ₀; now = ss }
 
@@ -207,7 +207,7 @@ module _ {M : Type 1} (𝓤 : URA M) (H : Heap 𝓤) (A : Atoms 𝓤) (W : Given
   abbrev Left : List Event → List ℕ → List (Item 𝓤)
   Left zs us = ‵ (Slice E.the-row κ₁ γ b o (length ys) zs) ∷ ‵ (flft κ₁ q₁) ∷ Doc ∷ Tab us ∷ []
 
-  exits : (zs : List Event) (us : List ℕ) (w : Answer) → length zs ≡ length ys → length us ≡ length ts → IsR w → settled (length ys) words w zs us ≡ target → ent 𝓤 (⋆ 𝓤 H A (Left zs us)) (Post (valR w))
+  exits : (zs : List Event) (us : List ℕ) (w : Answer) → length zs ≡ length ys → length us ≡ length ts → IsR w → settled (length ys) tableWords w zs us ≡ target → ent 𝓤 (⋆ 𝓤 H A (Left zs us)) (Post (valR w))
   exits zs us w long long′ is e =
       qed W (Left zs us) ∵ suffices ! _ (ends-at 𝓤 H A fill′.ended stayed (fill′.clauses 𝓤 H A at-mem run) W (((κ₀, (κ₁, (κ₂, tt))), (q₀, (q₁, (q₂, tt))), tt, a, at), tt) (valR w) w (tt, (zs, (us, tt))) (tt, (long, (long′, tt)))) $
       says ! e $ move ! (2 ∷ []) $ split ! $ drop ! $ move ! (3 ∷ []) $ split ! $
@@ -390,7 +390,7 @@ module _ {M : Type 1} (𝓤 : URA M) (H : Heap 𝓤) (A : Atoms 𝓤) (W : Given
         returns ! (look ! 40 refl) $ move ! (40 ∷ 41 ∷ 38 ∷ 39 ∷ 36 ∷ 37 ∷ 34 ∷ 35 ∷ 4 ∷ 33 ∷ 31 ∷ 32 ∷ 29 ∷ 30 ∷ 27 ∷ 28 ∷ 25 ∷ 26 ∷ 23 ∷ 24 ∷ 21 ∷ 22 ∷ 19 ∷ 20 ∷ 17 ∷ 18 ∷ 15 ∷ 16 ∷ 13 ∷ 14 ∷ 11 ∷ 12 ∷ 9 ∷ 10 ∷ 7 ∷ 8 ∷ 5 ∷ 6 ∷ []) $
         forget ! 0 refl $ free1 ! $ forget ! 0 refl $ free1 ! $ forget ! 0 refl $ free1 ! $ forget ! 0 refl $ free1 ! $ forget ! 0 refl $ free1 ! $ forget ! 0 refl $ free1 ! $ forget ! 0 refl $ free1 ! $ forget ! 0 refl $ free1 ! $
         free1 ! $ free1 ! $ forget ! 0 refl $ free1 ! $ free1 ! $ free1 ! $ free1 ! $ free1 ! $ free1 ! $ free1 ! $ free1 ! $ free1 ! $ free0 ! $
-        by ! (exits (t .zs) ws w (t .long) long′ (subst (Is R.the-row w) (LE.tells R.the-type R′.the-laws w _ isw) isw) (ap (λ (k : Answer). settled (length ys) words k (t .zs) ws) ew ∙ filled ss (length ys) (t .p) (t .c) (t .us) (t .zs) (t .n) (t .filling) d ws r it over))))))
+        by ! (exits (t .zs) ws w (t .long) long′ (subst (Is R.the-row w) (LE.tells R.the-type R′.the-laws w _ isw) isw) (ap (λ (k : Answer). settled (length ys) tableWords k (t .zs) ws) ew ∙ filled ss (length ys) (t .p) (t .c) (t .us) (t .zs) (t .n) (t .filling) d ws r it over))))))
 
     matched : (t : State) (d : Counts) (ws : List ℕ) → IsC d → length ws ≡ length ts → (r : Next) → IsN r → Reaches ss (t .p) (t .c) (t .us) r d ws
         → Sq W (Cx₁ (t .zs) ws d (t .p) (t .n) (valN r)) (runs (𝓣 .C) (𝓣 .Λ) En matching (anyQ (Turned t)))
@@ -520,7 +520,7 @@ fill-spec 𝓤 H 𝓜 𝓖 𝓡 =
     by-walk 𝓤 H 𝓜 𝓖 𝓡 code.env #reader·read·fill code.function (code.unfolded 𝓤 H 𝓜 𝓡) fill′.ended stayed
     (goes-dropped 𝓤 H (𝓖 .A) W 3 (shrSliceOf (0 ∷ []) tt (plain (λ _. u8))) yes (λ κs x f. refl), (goes-slice 𝓤 H (𝓖 .A) W 3 1 tt (plain (λ _. E.the-row)), (goes-slice 𝓤 H (𝓖 .A) W 3 2 tt (plain (λ _. u32)), tt)))
     (fill′.clauses 𝓤 H (𝓖 .A) (𝓜 .mem) (𝓡 .run)) (λ κs. (slice-vals, (slice-vals, (slice-vals, tt)))) (λ κs. (shr-slice-tells (named 0) (κs .0) u8, (mut-slice-tells (named 1) (κs .1 .0) E.the-row, (mut-slice-tells (named 2) (κs .1 .1 .0) u32, tt))))
-    (λ κs qs bounds a g are. needs 𝓤 ((5 ≤ length (a .0 .now)) × (length (a .0 .now) ≤ 16384) × (a .1 .0 .now ≡ replicate (length (a .1 .0 .now)) blank) × (a .1 .1 .0 .now ≡ replicate words 0)) _ (λ ready.
+    (λ κs qs bounds a g are. needs 𝓤 ((5 ≤ length (a .0 .now)) × (length (a .0 .now) ≤ 16384) × (a .1 .0 .now ≡ replicate (length (a .1 .0 .now)) blank) × (a .1 .1 .0 .now ≡ replicate tableWords 0)) _ (λ ready.
     walk 𝓤 H (𝓖 .A) W (𝓜 .mem) (𝓡 .run) (κs .0) (κs .1 .0) (κs .1 .1 .0) (qs .0) (qs .1 .0) (qs .1 .1 .0) (a .0 .ptr .0) (a .0 .ptr .1) (a .0 .name) (a .0 .now) (a .1 .0 .ptr .0) (a .1 .0 .ptr .1) (a .1 .0 .name) (a .1 .0 .now)
     (a .1 .1 .0 .ptr .0) (a .1 .1 .0 .ptr .1) (a .1 .1 .0 .name) (a .1 .1 .0 .now) (are .0 .0 .1) (are .1 .0 .0 .1) (are .1 .1 .0 .0 .1) ready (tablesOf 𝓤 H 𝓜 (tables 𝓤 H 𝓜 𝓡 code.env))
     (cited 𝓤 H (Start 𝓤 H (𝓖 .A) (𝓜 .mem) (𝓡 .run)) 𝓜 𝓡 code.env #tables·Counts·start start-def.routine code.calls-tables·Counts·start (start-thm.met 𝓤 H 𝓜 𝓖 𝓡))

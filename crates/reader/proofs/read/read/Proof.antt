@@ -46,7 +46,7 @@ use Rattle.walk.specs.Close.{by-walk}
 use Rattle.walk.specs.Walk.{heading, skipping, armOf, armsOf, full, free}
 use Rattle.format.specs.Tables.{link}
 use Rattle.tables.specs.Located.{start}
-use Rattle.tables.specs.Counts.{words}
+use Rattle.tables.specs.Counts.{tableWords}
 use Rattle.events.specs.declared.Event.{Event}
 use Rattle.events.specs.Records.{blank}
 use Rattle.events.proofs.Event as E
@@ -290,7 +290,7 @@ module _ {M : Type 1} (𝓤 : URA M) (H : Heap 𝓤) (A : Atoms 𝓤) (W : Given
       qed W [] ∵ says ! l $ nothing ! $ owned ! usize (Is usize) (uint-makes 𝓤 H A W w64) p _ isp $ fjoin ! $ owned ! u32 (Is u32) (uint-makes 𝓤 H A W w32) k _ isk $ fjoin ! $ nothing ! $ join ! $ done !
 
   -- ---- fill, of the blank row and the tables that are 0
-  module _ (ready : (length ts ≡ words) × (5 ≤ length ss) × (length ss ≤ 16384)) (comes : outcome (Reading.run link ss (fuelOf ss) (length ys) (origin start)) (length ys) ≡ target) where
+  module _ (ready : (length ts ≡ tableWords) × (5 ≤ length ss) × (length ss ≤ 16384)) (comes : outcome (Reading.run link ss (fuelOf ss) (length ys) (origin start)) (length ys) ≡ target) where
     abbrev fill-args : Loans → Arg
     fill-args g = (doc, (x (g .0 .1) blanks, (tab (g .1 .1) zeros, tt)))
 
@@ -350,12 +350,12 @@ module _ {M : Type 1} (𝓤 : URA M) (H : Heap 𝓤) (A : Atoms 𝓤) (W : Given
     Lasts = Unit {0} × (List Event × (List ℕ × Unit {0}))
 
     abbrev Filled : Answer → Lasts → Type 0
-    Filled w ws = settled (length blanks) words w (ws .1 .0) (ws .1 .1 .0) ≡ outcome (Reading.run link ss (fuelOf ss) (length blanks) (origin start)) (length blanks)
+    Filled w ws = settled (length blanks) tableWords w (ws .1 .0) (ws .1 .1 .0) ≡ outcome (Reading.run link ss (fuelOf ss) (length blanks) (origin start)) (length blanks)
 
     settles-so : (w : Answer) (ws : Lasts) → Filled w ws → Settled (ws .1 .0) (ws .1 .1 .0) w
     settles-so w ws e =
         ap (λ (m : ℕ). settled (length ys) m w (ws .1 .0) (ws .1 .1 .0)) (ready .0)
-        ∙ subst (λ (n : ℕ). settled n words w (ws .1 .0) (ws .1 .1 .0) ≡ outcome (Reading.run link ss (fuelOf ss) n (origin start)) n) long-blanks e
+        ∙ subst (λ (n : ℕ). settled n tableWords w (ws .1 .0) (ws .1 .1 .0) ≡ outcome (Reading.run link ss (fuelOf ss) n (origin start)) n) long-blanks e
         ∙ comes
 
     fill-back : (g : Loans) (v : Val) → ent 𝓤 (sep 𝓤 (Fill 𝓤 H A at-mem run .post (to-fill g) v) (held-of g)) (H .⇛ (ex 𝓤 (came-of v)))
@@ -456,7 +456,7 @@ module _ {M : Type 1} (𝓤 : URA M) (H : Heap 𝓤) (A : Atoms 𝓤) (W : Given
           forget ! 13 refl $ forget ! 15 refl $ forget ! 17 refl $ forget ! 19 refl $
           settles (k .1 .0) (k .1 .1) (valO Onward) (it .1) (it .2) (k .0) (subst (Is R.the-row (k .0)) (LE.tells R.the-type R′.the-laws (k .0) _ (it .0)) (it .0)) (it .3)))))
         where
-          ready : (length ts ≡ words) × (5 ≤ length ss) × (length ss ≤ 16384)
+          ready : (length ts ≡ tableWords) × (5 ≤ length ss) × (length ss ≤ 16384)
           ready = admits ss (length ts) onward e
 
           comes : outcome (Reading.run link ss (fuelOf ss) (length ys) (origin start)) (length ys) ≡ target
