@@ -9,14 +9,14 @@ use native.Mathlib.Nat.{add-assoc}
 use lib.Dec.{leb}
 use lib.ListN.{length, getD, drop, length-append}
 use lib.Seq.{drop-cons, getD-append-add}
-use Rattle.events.specs.declared.Text.{Text}
-use Rattle.events.specs.declared.Text.the-variants.{Absent, Empty, Stretch, XmlPrefix, XmlNamespace}
+use Rattle.events.specs.declared.EventString.{EventString}
+use Rattle.events.specs.declared.EventString.the-variants.{Absent, Empty, Stretch, XmlPrefix, XmlNamespace}
 use Rattle.events.specs.declared.Kind.{Kind}
 use Rattle.events.specs.declared.Kind.the-variants.{Blank, Namespace, Start, Attribute, Chunk, Comment, Instruction, End}
 use Rattle.events.specs.declared.Event.{Event}
 use Rattle.events.specs.declared.words.Told.the-variants.{Said}
 use Rattle.events.specs.Records.{blank}
-use Rattle.events.specs.Words.{kindNumber, textTag, textPlace, textSize, recordWords, rowWords}
+use Rattle.events.specs.Words.{kindNumber, stringTag, stringPlace, stringSize, recordWords, rowWords}
 use Rattle.events.specs.FromWords.{kindOf, toldByTag, toldBy, recordAt, recordsFrom, recordsOf, AllKinded}
 
 -- ---- records by number
@@ -54,7 +54,7 @@ from-past xs w at zero = refl
 from-past xs w at (suc n) = ap₂ _∷_ (record-past xs w at) (rw add-assoc (from-past xs w (at + 13) n))
 
 -- ---- the round trip
-text-back : (t : Text) → toldBy (textTag t) (textPlace t) (textSize t) ≡ Said t
+text-back : (t : EventString) → toldBy (stringTag t) (stringPlace t) (stringSize t) ≡ Said t
 unfolding toldBy toldByTag
 text-back Absent = refl
 text-back Empty = refl

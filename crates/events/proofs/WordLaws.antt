@@ -5,7 +5,7 @@ use Prim.Native.Nat.{ℕ, _+_, _≤_, _<_}
 use mathlib.Core.List.{List}
 use borrow.Author.Tests.{eq-eqb, ne-eqb, le-leb, lt-leb}
 use lib.ListN.{getD, List·getD-eq-default}
-use Rattle.events.specs.declared.Text.the-variants.{Stretch}
+use Rattle.events.specs.declared.EventString.the-variants.{Stretch}
 use Rattle.events.specs.declared.Kind.the-variants.{Blank}
 use Rattle.events.specs.declared.words.Told.the-variants.{Said, Not}
 use Rattle.events.specs.Records.{blank}

@@ -2,8 +2,8 @@
 use mathlib.Core.Option.{Option, none, some}
 use Rattle.format.specs.Events as E
 use Rattle.tables.specs.Located.{Located, empty, stretch, builtInPrefix, builtInNamespace}
-use Rattle.events.specs.declared.Text.{Text}
-use Rattle.events.specs.declared.Text.the-variants.{Absent, Empty, Stretch, XmlPrefix, XmlNamespace}
+use Rattle.events.specs.declared.EventString.{EventString}
+use Rattle.events.specs.declared.EventString.the-variants.{Absent, Empty, Stretch, XmlPrefix, XmlNamespace}
 use Rattle.events.specs.declared.Kind.the-variants.{Blank, Namespace, Start, Attribute, Chunk, Comment, Instruction, End}
 use Rattle.events.specs.declared.Event.{Event}
 
@@ -12,46 +12,46 @@ abbrev pub blank : Event
 blank = record { kind = Blank; prefix = Absent; namespace = Absent; name = Absent; value = Absent }
 
 -- The record of each kind, from its strings.
-abbrev pub namespaceRecord : Text → Text → Event
+abbrev pub namespaceRecord : EventString → EventString → Event
 namespaceRecord p n = record { kind = Namespace; prefix = p; namespace = n; name = Absent; value = Absent }
 
-abbrev pub startRecord : Text → Text → Text → Event
+abbrev pub startRecord : EventString → EventString → EventString → Event
 startRecord p n l = record { kind = Start; prefix = p; namespace = n; name = l; value = Absent }
 
-abbrev pub attributeRecord : Text → Text → Text → Text → Event
+abbrev pub attributeRecord : EventString → EventString → EventString → EventString → Event
 attributeRecord p n l v = record { kind = Attribute; prefix = p; namespace = n; name = l; value = v }
 
-abbrev pub chunkRecord : Text → Event
+abbrev pub chunkRecord : EventString → Event
 chunkRecord v = record { kind = Chunk; prefix = Absent; namespace = Absent; name = Absent; value = v }
 
-abbrev pub commentRecord : Text → Event
+abbrev pub commentRecord : EventString → Event
 commentRecord v = record { kind = Comment; prefix = Absent; namespace = Absent; name = Absent; value = v }
 
-abbrev pub instructionRecord : Text → Text → Event
+abbrev pub instructionRecord : EventString → EventString → Event
 instructionRecord t v = record { kind = Instruction; prefix = Absent; namespace = Absent; name = t; value = v }
 
 abbrev pub endRecord : Event
 endRecord = record { kind = End; prefix = Absent; namespace = Absent; name = Absent; value = Absent }
 
-abbrev pub textOf : Located → Text
-textOf empty = Empty
-textOf (stretch place size) = Stretch place size
-textOf builtInPrefix = XmlPrefix
-textOf builtInNamespace = XmlNamespace
+abbrev pub eventString : Located → EventString
+eventString empty = Empty
+eventString (stretch place size) = Stretch place size
+eventString builtInPrefix = XmlPrefix
+eventString builtInNamespace = XmlNamespace
 
-abbrev pub optionalText : Option Located → Text
-optionalText none = Absent
-optionalText (some x) = textOf x
+abbrev pub optionalEventString : Option Located → EventString
+optionalEventString none = Absent
+optionalEventString (some x) = eventString x
 
 -- Which string a record's text says; what one that is absent gives does not matter, but where it may be absent.
-abbrev pub locatedOf : Text → Located
+abbrev pub locatedOf : EventString → Located
 locatedOf Absent = empty
 locatedOf Empty = empty
 locatedOf (Stretch p n) = stretch p n
 locatedOf XmlPrefix = builtInPrefix
 locatedOf XmlNamespace = builtInNamespace
 
-abbrev pub optionalOf : Text → Option Located
+abbrev pub optionalOf : EventString → Option Located
 optionalOf Absent = none
 optionalOf Empty = some empty
 optionalOf (Stretch p n) = some (stretch p n)
@@ -59,10 +59,10 @@ optionalOf XmlPrefix = some builtInPrefix
 optionalOf XmlNamespace = some builtInNamespace
 
 unfoldable pub recordOf : E.Event Located → Event
-recordOf (E.Namespace p n) = namespaceRecord (optionalText p) (optionalText n)
-recordOf (E.Start x) = startRecord (optionalText (x .prefix)) (optionalText (x .namespace)) (textOf (x .local))
-recordOf (E.Attribute x y) = attributeRecord (optionalText (x .prefix)) (optionalText (x .namespace)) (textOf (x .local)) (textOf y)
-recordOf (E.Text y) = chunkRecord (textOf y)
-recordOf (E.Comment y) = commentRecord (textOf y)
-recordOf (E.Instruction x y) = instructionRecord (textOf x) (textOf y)
+recordOf (E.Namespace p n) = namespaceRecord (optionalEventString p) (optionalEventString n)
+recordOf (E.Start x) = startRecord (optionalEventString (x .prefix)) (optionalEventString (x .namespace)) (eventString (x .local))
+recordOf (E.Attribute x y) = attributeRecord (optionalEventString (x .prefix)) (optionalEventString (x .namespace)) (eventString (x .local)) (eventString y)
+recordOf (E.Text y) = chunkRecord (eventString y)
+recordOf (E.Comment y) = commentRecord (eventString y)
+recordOf (E.Instruction x y) = instructionRecord (eventString x) (eventString y)
 recordOf E.End = endRecord

@@ -7,11 +7,11 @@ ghost use Prim.Native.Nat.{_<_, _-_};
 ghost use mathlib.Core.List.{_++_};
 ghost use lib.ListN.{length, set, getD, take, replicate};
 ghost use Rattle.events.specs.Records.{blank, namespaceRecord, startRecord, attributeRecord, chunkRecord, commentRecord, instructionRecord, endRecord};
-ghost use Rattle.events.specs.Words.{kindNumber, textTag, textPlace, textSize};
+ghost use Rattle.events.specs.Words.{kindNumber, stringTag, stringPlace, stringSize};
 pub use words::from_words;
 
 // A string of an event: none; the empty one; octets of the document or text area by place and length; one of the two built-in strings.
-pub enum Text {
+pub enum EventString {
     Absent,
     Empty,
     Stretch(u32, u32),
@@ -33,10 +33,10 @@ pub enum Kind {
 // `name` is a local name or a target; `value` a value, chunk, comment or content. What a kind does not have is absent.
 pub struct Event {
     pub kind: Kind,
-    pub prefix: Text,
-    pub namespace: Text,
-    pub name: Text,
-    pub value: Text,
+    pub prefix: EventString,
+    pub namespace: EventString,
+    pub name: EventString,
+    pub value: EventString,
 }
 
 // The word that stands for a kind where a record is words, and the three that stand for a string.
@@ -57,43 +57,43 @@ impl Kind {
     }
 }
 
-impl Text {
+impl EventString {
     // Which of the five the string is.
     pub fn tag(self) -> u32
-        ensures { λ r. ⌜ r ≡ textTag self ⌝ }
+        ensures { λ r. ⌜ r ≡ stringTag self ⌝ }
     {
         match self {
-            Text::Absent => 0,
-            Text::Empty => 1,
-            Text::Stretch(_, _) => 2,
-            Text::XmlPrefix => 3,
-            Text::XmlNamespace => 4,
+            EventString::Absent => 0,
+            EventString::Empty => 1,
+            EventString::Stretch(_, _) => 2,
+            EventString::XmlPrefix => 3,
+            EventString::XmlNamespace => 4,
         }
     }
 
     // 0 unless the string is a stretch.
     pub fn place(self) -> u32
-        ensures { λ r. ⌜ r ≡ textPlace self ⌝ }
+        ensures { λ r. ⌜ r ≡ stringPlace self ⌝ }
     {
         match self {
-            Text::Absent => 0,
-            Text::Empty => 0,
-            Text::Stretch(place, _) => place,
-            Text::XmlPrefix => 0,
-            Text::XmlNamespace => 0,
+            EventString::Absent => 0,
+            EventString::Empty => 0,
+            EventString::Stretch(place, _) => place,
+            EventString::XmlPrefix => 0,
+            EventString::XmlNamespace => 0,
         }
     }
 
     // 0 unless the string is a stretch.
     pub fn size(self) -> u32
-        ensures { λ r. ⌜ r ≡ textSize self ⌝ }
+        ensures { λ r. ⌜ r ≡ stringSize self ⌝ }
     {
         match self {
-            Text::Absent => 0,
-            Text::Empty => 0,
-            Text::Stretch(_, size) => size,
-            Text::XmlPrefix => 0,
-            Text::XmlNamespace => 0,
+            EventString::Absent => 0,
+            EventString::Empty => 0,
+            EventString::Stretch(_, size) => size,
+            EventString::XmlPrefix => 0,
+            EventString::XmlNamespace => 0,
         }
     }
 }
@@ -104,26 +104,26 @@ pub fn blank() -> Event
 {
     Event {
         kind: Kind::Blank,
-        prefix: Text::Absent,
-        namespace: Text::Absent,
-        name: Text::Absent,
-        value: Text::Absent,
+        prefix: EventString::Absent,
+        namespace: EventString::Absent,
+        name: EventString::Absent,
+        value: EventString::Absent,
     }
 }
 
-pub fn namespace(prefix: Text, namespace: Text) -> Event
+pub fn namespace(prefix: EventString, namespace: EventString) -> Event
     ensures { λ r. ⌜ r ≡ namespaceRecord prefix namespace ⌝ }
 {
     Event {
         kind: Kind::Namespace,
         prefix,
         namespace,
-        name: Text::Absent,
-        value: Text::Absent,
+        name: EventString::Absent,
+        value: EventString::Absent,
     }
 }
 
-pub fn start(prefix: Text, namespace: Text, name: Text) -> Event
+pub fn start(prefix: EventString, namespace: EventString, name: EventString) -> Event
     ensures { λ r. ⌜ r ≡ startRecord prefix namespace name ⌝ }
 {
     Event {
@@ -131,11 +131,16 @@ pub fn start(prefix: Text, namespace: Text, name: Text) -> Event
         prefix,
         namespace,
         name,
-        value: Text::Absent,
+        value: EventString::Absent,
     }
 }
 
-pub fn attribute(prefix: Text, namespace: Text, name: Text, value: Text) -> Event
+pub fn attribute(
+    prefix: EventString,
+    namespace: EventString,
+    name: EventString,
+    value: EventString,
+) -> Event
     ensures { λ r. ⌜ r ≡ attributeRecord prefix namespace name value ⌝ }
 {
     Event {
@@ -147,37 +152,37 @@ pub fn attribute(prefix: Text, namespace: Text, name: Text, value: Text) -> Even
     }
 }
 
-pub fn chunk(value: Text) -> Event
+pub fn chunk(value: EventString) -> Event
     ensures { λ r. ⌜ r ≡ chunkRecord value ⌝ }
 {
     Event {
         kind: Kind::Chunk,
-        prefix: Text::Absent,
-        namespace: Text::Absent,
-        name: Text::Absent,
+        prefix: EventString::Absent,
+        namespace: EventString::Absent,
+        name: EventString::Absent,
         value,
     }
 }
 
-pub fn comment(value: Text) -> Event
+pub fn comment(value: EventString) -> Event
     ensures { λ r. ⌜ r ≡ commentRecord value ⌝ }
 {
     Event {
         kind: Kind::Comment,
-        prefix: Text::Absent,
-        namespace: Text::Absent,
-        name: Text::Absent,
+        prefix: EventString::Absent,
+        namespace: EventString::Absent,
+        name: EventString::Absent,
         value,
     }
 }
 
-pub fn instruction(name: Text, value: Text) -> Event
+pub fn instruction(name: EventString, value: EventString) -> Event
     ensures { λ r. ⌜ r ≡ instructionRecord name value ⌝ }
 {
     Event {
         kind: Kind::Instruction,
-        prefix: Text::Absent,
-        namespace: Text::Absent,
+        prefix: EventString::Absent,
+        namespace: EventString::Absent,
         name,
         value,
     }
@@ -188,10 +193,10 @@ pub fn end() -> Event
 {
     Event {
         kind: Kind::End,
-        prefix: Text::Absent,
-        namespace: Text::Absent,
-        name: Text::Absent,
-        value: Text::Absent,
+        prefix: EventString::Absent,
+        namespace: EventString::Absent,
+        name: EventString::Absent,
+        value: EventString::Absent,
     }
 }
 

@@ -4,12 +4,12 @@ ghost use Prim.Native.Nat.{_+_, _*_, _≤_};
 ghost use lib.ListN.{length};
 ghost use Rattle.events.specs.FromWords.{kindOf, toldByTag, toldBy, toldAt, framed, recordAt};
 use crate::Event;
+use crate::EventString;
 use crate::Kind;
-use crate::Text;
 
 // What three words say: a string, or none where they are not well formed.
 enum Told {
-    Said(Text),
+    Said(EventString),
     Not,
 }
 
@@ -35,11 +35,11 @@ fn told_by_tag(tag: u32) -> Told
     ensures { λ r. ⌜ r ≡ toldByTag tag ⌝ }
 {
     match tag {
-        0 => Told::Said(Text::Absent),
-        1 => Told::Said(Text::Empty),
+        0 => Told::Said(EventString::Absent),
+        1 => Told::Said(EventString::Empty),
         2 => Told::Not,
-        3 => Told::Said(Text::XmlPrefix),
-        4 => Told::Said(Text::XmlNamespace),
+        3 => Told::Said(EventString::XmlPrefix),
+        4 => Told::Said(EventString::XmlNamespace),
         _ => Told::Not,
     }
 }
@@ -48,7 +48,7 @@ fn told_by(tag: u32, place: u32, size: u32) -> Told
     ensures { λ r. ⌜ r ≡ toldBy tag place size ⌝ }
 {
     if tag == 2 {
-        return Told::Said(Text::Stretch(place, size));
+        return Told::Said(EventString::Stretch(place, size));
     }
     if place != 0 || size != 0 {
         return Told::Not;

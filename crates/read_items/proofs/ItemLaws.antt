@@ -21,9 +21,9 @@ use Rattle.format.specs.Items.{content, mayStart}
 use Rattle.tables.specs.Located.{Located}
 use Rattle.tables.specs.Counts.{tableWords}
 use Rattle.tables.specs.Rows.{vocabulary}
-use Rattle.events.specs.declared.Text.{Text}
-use Rattle.events.specs.declared.Text.the-variants.{Absent}
-use Rattle.events.specs.Records.{textOf, optionalText, recordOf, namespaceRecord, attributeRecord, chunkRecord, commentRecord, instructionRecord, endRecord}
+use Rattle.events.specs.declared.EventString.{EventString}
+use Rattle.events.specs.declared.EventString.the-variants.{Absent}
+use Rattle.events.specs.Records.{eventString, optionalEventString, recordOf, namespaceRecord, attributeRecord, chunkRecord, commentRecord, instructionRecord, endRecord}
 use Rattle.read_names.specs.declared.Here.{Here}
 use Rattle.read_names.specs.declared.Field.{Field}
 use Rattle.read_names.specs.declared.Field.the-variants.{Got, Refused}
@@ -158,16 +158,16 @@ refused-is f (S.got b k u) n p e = absurd (let z : _≡_ {A = ℕ} 0 1 = cc in o
 refused-is f (S.refused m q) n p e = cc
 
 abbrev asId : IdRead → Seen
-asId b = record { text = textOf (b .string); number = b .number }
+asId b = record { text = eventString (b .string); number = b .number }
 
 abbrev asString : StringRead → Seen
-asString b = record { text = textOf (b .string); number = 0 }
+asString b = record { text = eventString (b .string); number = 0 }
 
 abbrev asName : NameRead → Parts
-asName b = record { prefix = optionalText (b .name .prefix); namespace = optionalText (b .name .namespace); local = textOf (b .name .local) }
+asName b = record { prefix = optionalEventString (b .name .prefix); namespace = optionalEventString (b .name .namespace); local = eventString (b .name .local) }
 
 abbrev asDeclared : DeclaredRead → Parts
-asDeclared b = record { prefix = optionalText (b .prefix); namespace = optionalText (b .namespace); local = Absent }
+asDeclared b = record { prefix = optionalEventString (b .prefix); namespace = optionalEventString (b .namespace); local = Absent }
 
 id-seen : (a : S.Got IdRead) → idSeen a ≡ seenBy asId a
 id-seen (S.got b next v) = refl
@@ -209,22 +209,22 @@ moved-good : {s w : List ℕ} (st : State) (h : Here) (m : Mode) → Tidy s (h .
 moved-good st h m t l d = record { tidy = t; at = omega arith; shallow = d }
 
 -- ---- chunks, comments, instructions
-id-is : (a : S.Got IdRead) (w : List ℕ) {r : Field} {x : Text} {n : ℕ} {h : Here} → r ≡ Got x n h → seenField r w ≡ idSeen a
+id-is : (a : S.Got IdRead) (w : List ℕ) {r : Field} {x : EventString} {n : ℕ} {h : Here} → r ≡ Got x n h → seenField r w ≡ idSeen a
     → Is asId a (record { text = x; number = n }) (h .at) (vocabulary (h .counts) w)
 id-is a w e q = got-is asId a _ _ _ (rw e at q ∙ id-seen a)
 
-string-is : (a : S.Got StringRead) (w : List ℕ) {r : Field} {x : Text} {n : ℕ} {h : Here} → r ≡ Got x n h → seenField r w ≡ stringSeen a
+string-is : (a : S.Got StringRead) (w : List ℕ) {r : Field} {x : EventString} {n : ℕ} {h : Here} → r ≡ Got x n h → seenField r w ≡ stringSeen a
     → Is asString a (record { text = x; number = n }) (h .at) (vocabulary (h .counts) w)
 string-is a w e q = got-is asString a _ _ _ (rw e at q ∙ string-seen a)
 
 text-is : {B : Type 0} {f : B → Seen} {a : S.Got B} {x : Seen} {next : ℕ} {v : Vocabulary Located} (i : Is f a x next v) → f (i .what) .text ≡ x .text
 text-is i = ap (λ (z : Seen). z .text) (i .seen)
 
-field-good : {s w : List ℕ} (st : State) (m : Mode) {r : Field} {x : Text} {n : ℕ} {h : Here} → r ≡ Got x n h → FieldTidy s r w → st .level + coming m ≤ 32
+field-good : {s w : List ℕ} (st : State) (m : Mode) {r : Field} {x : EventString} {n : ℕ} {h : Here} → r ≡ Got x n h → FieldTidy s r w → st .level + coming m ≤ 32
     → Good s (movedTo st h m) w
 field-good st m {h = h} e y d = let f = rw e at y in moved-good st h m (f .0) (f .1) d
 
-pub field-within : (s w : List ℕ) {r : Field} {x : Text} {n : ℕ} {h : Here} → length s ≤ 16384 → r ≡ Got x n h → FieldTidy s r w → h .at ≤ 16384
+pub field-within : (s w : List ℕ) {r : Field} {x : EventString} {n : ℕ} {h : Here} → length s ≤ 16384 → r ≡ Got x n h → FieldTidy s r w → h .at ≤ 16384
 field-within s w l e y = let f = rw e at y in let z = f .1 in omega arith
 
 module _ (s W w : List ℕ) (st : State) (k : ℕ) (r : Field) (n p : ℕ) (e : r ≡ Refused n p) (y : FieldTidy s r w) where
@@ -243,7 +243,7 @@ module _ (s W w : List ℕ) (st : State) (k : ℕ) (r : Field) (n p : ℕ) (e : 
   unfolding instructionAt
   target-refused q = field-refuse e y (rw (id-not (idAt link s OTHER-NCNAME (suc k) (vocabulary (st .counts) W)) w e (rw add-one at q)))
 
-module _ (s W w : List ℕ) (st : State) (g : Good s st W) (k : ℕ) (r : Field) (x : Text) (n : ℕ) (h : Here) (e : r ≡ Got x n h) (y : FieldTidy s r w) where
+module _ (s W w : List ℕ) (st : State) (g : Good s st W) (k : ℕ) (r : Field) (x : EventString) (n : ℕ) (h : Here) (e : r ≡ Got x n h) (y : FieldTidy s r w) where
   pub chunk-more : seenField r w ≡ stringSeen (literalAt link c15 s CONTENT-CHARACTER-CHUNK k (vocabulary (st .counts) W))
       → Meets s W (More (movedTo st h (st .mode)) k (chunkRecord x)) w (chunkAt link s k (standOf st W .state))
   unfolding chunkAt recordOf
@@ -258,7 +258,7 @@ module _ (s W w : List ℕ) (st : State) (g : Good s st W) (k : ℕ) (r : Field)
       let i = string-is (valueAt link s OTHER-STRING (suc k) (vocabulary (st .counts) W)) w e (rw add-one at q) in
       record { is = rw (i .is, text-is i); good = field-good st (st .mode) e y (g .shallow) }
 
-module _ (s W w₁ w : List ℕ) (st : State) (g : Good s st W) (k : ℕ) (r : Field) (x : Text) (n : ℕ) (h : Here) (e : r ≡ Got x n h)
+module _ (s W w₁ w : List ℕ) (st : State) (g : Good s st W) (k : ℕ) (r : Field) (x : EventString) (n : ℕ) (h : Here) (e : r ≡ Got x n h)
     (q : seenField r w₁ ≡ idSeen (idAt link s OTHER-NCNAME (k + 1) (vocabulary (st .counts) W)))
     (v : Field) (z : FieldTidy s v w) (u : seenField v w ≡ stringSeen (valueAt link s OTHER-STRING (h .at) (vocabulary (h .counts) w₁))) where
   target : Is asId (idAt link s OTHER-NCNAME (suc k) (vocabulary (st .counts) W)) (record { text = x; number = n }) (h .at) (vocabulary (h .counts) w₁)
@@ -270,7 +270,7 @@ module _ (s W w₁ w : List ℕ) (st : State) (g : Good s st W) (k : ℕ) (r : F
       let i = target in
       field-refuse f z (rw (i .is, string-not (valueAt link s OTHER-STRING (h .at) (vocabulary (h .counts) w₁)) w f u))
 
-  pub instruction-more : (y : Text) (m : ℕ) (h₂ : Here) → v ≡ Got y m h₂
+  pub instruction-more : (y : EventString) (m : ℕ) (h₂ : Here) → v ≡ Got y m h₂
       → Meets s W (More (movedTo st h₂ (st .mode)) k (instructionRecord x y)) w (instructionAt link s k (standOf st W .state))
   unfolding instructionAt recordOf
   instruction-more y m h₂ f =
@@ -517,7 +517,7 @@ module _ (s W : List ℕ) (st : State) (g : Good s st W) (k : ℕ) where
             let i = called in
             field-refuse f z (rw (lt-ltb _ _ h, low, few, i .is, string-not (valueAt link s ATTRIBUTE-VALUE (h₁ .at) (vocabulary (h₁ .counts) w₁)) w f u))
 
-        pub attribute-more : (y : Text) (n : ℕ) (h₂ : Here) → v ≡ Got y n h₂
+        pub attribute-more : (y : EventString) (n : ℕ) (h₂ : Here) → v ≡ Got y n h₂
             → Meets s W (More (movedTo st h₂ (Listing true)) k (attributeRecord (x .prefix) (x .namespace) (x .local) y)) w (attributeAt link s k (standOf st W .state))
         unfolding attributeAt recordOf
         attribute-more y n h₂ f =

@@ -17,7 +17,7 @@ use crate::State;
 use crate::Step;
 use crate::ends::pads_at;
 use events::Event;
-use events::Text;
+use events::EventString;
 use fields::CODE;
 use fields::PADDING;
 use fields::TRUNCATED;
@@ -81,7 +81,7 @@ fn start_event(x: Parts) -> Event
     events::start(prefix, namespace, local)
 }
 
-fn attribute_event(x: Parts, value: Text) -> Event
+fn attribute_event(x: Parts, value: EventString) -> Event
     ensures { λ r. ⌜ r ≡ attributeRecord (x .prefix) (x .namespace) (x .local) value ⌝ }
 {
     let prefix = x.prefix;

@@ -31,9 +31,9 @@ use Rattle.tables.specs.Rows.{tableOf, stringAt, tripleAt, entries, vocabulary}
 use Rattle.tables.specs.Kept.{nameTableOf, countOf, oneMore, Counted, rowAt, stored, layoutOf, tripleOf}
 use Rattle.tables.proofs.ByNumber.{eight-nine}
 use Rattle.tables.proofs.Laws.{strings-adding, names-are, length-strings, length-names, string-nth, name-nth, counted-more, name-added, clean-name, holds-name-number, inside-name}
-use Rattle.events.specs.declared.Text.{Text}
-use Rattle.events.specs.declared.Text.the-variants.{Absent}
-use Rattle.events.specs.Records.{textOf, optionalText}
+use Rattle.events.specs.declared.EventString.{EventString}
+use Rattle.events.specs.declared.EventString.the-variants.{Absent}
+use Rattle.events.specs.Records.{eventString, optionalEventString}
 use Rattle.tables.proofs.Rooms.{stored-length}
 use Rattle.read_names.specs.declared.Field.{Field}
 use Rattle.read_names.specs.declared.Field.the-variants.{Refused}
@@ -43,7 +43,7 @@ use Rattle.read_names.specs.Strings as S
 use Rattle.read_names.specs.Strings.{IdRead, OptionalRead, idAt, optionalAt, spelling}
 use Rattle.read_names.specs.Names.{NameRead, prefixBit, namespaceBit, nameBit, partsAt, numberedAt, nameAt, declaredAt}
 use Rattle.read_names.specs.Code.{Ranged, Tidy, Seen, idSeen, optionalSeen, seenName, NameTidy, nameSeen, declaredSeen}
-use Rattle.read_names.specs.NameStages.{stringFault, numberFault, textAt, textsAt, newName}
+use Rattle.read_names.specs.NameStages.{stringFault, numberFault, eventStringAt, eventStringsAt, newName}
 use Rattle.read_names.proofs.StringLaws.{tests, ranged-kept}
 
 -- ---- a table's layout
@@ -70,22 +70,22 @@ unfolding layoutOf nameTableOf ofElement ofAttribute
 layout-table = eight-nine (λ (t : ℕ). layoutOf t .table ≡ nameTableOf t) refl refl
 
 -- ---- the string behind a number
-pub text-none : (w : List ℕ) (t n : ℕ) → n ≡ 0 → Absent ≡ textAt w t n
-unfolding textAt
+pub text-none : (w : List ℕ) (t n : ℕ) → n ≡ 0 → Absent ≡ eventStringAt w t n
+unfolding eventStringAt
 text-none w t n e = rw e
 
-pub text-there : (w : List ℕ) (t n : ℕ) (x : Text) → 1 ≤ n → x ≡ textOf (stringAt (tableOf t) w (768 * t + 3 * (n - 1))) → x ≡ textAt w t n
-unfolding textAt
-text-there w t n x h e = let z : suc (n - 1) ≡ n = omega arith in e ∙ ap (textAt w t) z
+pub text-there : (w : List ℕ) (t n : ℕ) (x : EventString) → 1 ≤ n → x ≡ eventString (stringAt (tableOf t) w (768 * t + 3 * (n - 1))) → x ≡ eventStringAt w t n
+unfolding eventStringAt
+text-there w t n x h e = let z : suc (n - 1) ≡ n = omega arith in e ∙ ap (eventStringAt w t) z
 
-text-is : (c : Counts) (w : List ℕ) (t n : ℕ) → t < 8 → n ≤ countOf c t → textAt w t n ≡ optionalText (partOf (strings (vocabulary c w) (tableOf t)) empty n)
-unfolding textAt
+text-is : (c : Counts) (w : List ℕ) (t n : ℕ) → t < 8 → n ≤ countOf c t → eventStringAt w t n ≡ optionalEventString (partOf (strings (vocabulary c w) (tableOf t)) empty n)
+unfolding eventStringAt
 text-is c w t zero h l = refl
-text-is c w t (suc k) h l = ap textOf (sym (string-nth c w t k empty h l))
+text-is c w t (suc k) h l = ap eventString (sym (string-nth c w t k empty h l))
 
-pub texts-are : (w : List ℕ) (x : Triple) (p n l : Text) → p ≡ textAt w 0 (x .prefix) → n ≡ textAt w 1 (x .namespace) → l ≡ textAt w 2 (x .local)
-    → record { prefix = p; namespace = n; local = l } ≡ textsAt w x
-unfolding textsAt
+pub texts-are : (w : List ℕ) (x : Triple) (p n l : EventString) → p ≡ eventStringAt w 0 (x .prefix) → n ≡ eventStringAt w 1 (x .namespace) → l ≡ eventStringAt w 2 (x .local)
+    → record { prefix = p; namespace = n; local = l } ≡ eventStringsAt w x
+unfolding eventStringsAt
 texts-are w x p n l ep en el = rw (ep, en, el)
 
 -- ---- names by number
@@ -99,9 +99,9 @@ ranged-at c (x ∷ l) zero r h = (r .0, r .1, r .2, r .3)
 ranged-at c (x ∷ l) (suc k) r h = ranged-at c l k (r .4) (omega arith)
 
 name-is : (c : Counts) (w : List ℕ) (x : Triple) → InRange c x
-    → textsAt w x
-    ≡ record { prefix = optionalText (nameOf (vocabulary c w) empty x .prefix); namespace = optionalText (nameOf (vocabulary c w) empty x .namespace); local = textOf (nameOf (vocabulary c w) empty x .local) }
-unfolding textsAt nameOf strings tableOf countOf
+    → eventStringsAt w x
+    ≡ record { prefix = optionalEventString (nameOf (vocabulary c w) empty x .prefix); namespace = optionalEventString (nameOf (vocabulary c w) empty x .namespace); local = eventString (nameOf (vocabulary c w) empty x .local) }
+unfolding eventStringsAt nameOf strings tableOf countOf
 name-is c w x r =
     λ i. record {
       prefix = text-is c w 0 (x .prefix) (omega arith) (r .0) i;
@@ -109,7 +109,7 @@ name-is c w x r =
       local = (text-is c w 2 (x .local) (omega arith) (r .3) ∙ some-text (x .local) (r .2)) i;
     }
   where
-    some-text : (n : ℕ) → 1 ≤ n → optionalText (partOf (vocabulary c w .locals) empty n) ≡ textOf (getD (vocabulary c w .locals) (n - 1) empty)
+    some-text : (n : ℕ) → 1 ≤ n → optionalEventString (partOf (vocabulary c w .locals) empty n) ≡ eventString (getD (vocabulary c w .locals) (n - 1) empty)
     some-text zero h = absurd (omega arith)
     some-text (suc k) h = let z : suc k - 1 ≡ k = omega arith in rw z
 
@@ -149,7 +149,7 @@ module _ (s w : List ℕ) (c : Counts) (k t : ℕ) (low : 8 ≤ t) (high : t < 1
         let l = tidy .counted 2 in
         (omega arith, omega arith, omega arith)
 
-    pub number-read : (y : Parts) → y ≡ textsAt w (tripleOf x) → S.got y (next .at) (vocabulary c w) ≡ nameSeen (numberedAt link (layoutOf t) s k (vocabulary c w))
+    pub number-read : (y : Parts) → y ≡ eventStringsAt w (tripleOf x) → S.got y (next .at) (vocabulary c w) ≡ nameSeen (numberedAt link (layoutOf t) s k (vocabulary c w))
     unfolding numberedAt
     number-read y ey =
         rw (← e, d, layout-table t low high, length-names c w t low high, le-leb _ _ h, row-is, ey)
@@ -287,13 +287,13 @@ strings-ranged s p n k k₁ k₂ k₃ v v₁ v₂ c w x₁ x₂ x₃ e₁ e₂ e
 -- ---- what is seen of a name's strings
 module _ {C : Type 0} (z : S.Got C → S.Got Parts) (refusal : (n p : ℕ) → z (S.refused n p) ≡ S.refused n p) (h : Seen → ℕ → Vocabulary Located → S.Got Parts) where
   seen-optional : (g : S.Got OptionalRead) (f : OptionalRead → ℕ → Vocabulary Located → S.Got C)
-      → ((x : OptionalRead) (k : ℕ) (v : Vocabulary Located) → z (f x k v) ≡ h (record { text = optionalText (x .string); number = x .number }) k v)
+      → ((x : OptionalRead) (k : ℕ) (v : Vocabulary Located) → z (f x k v) ≡ h (record { text = optionalEventString (x .string); number = x .number }) k v)
       → z (S.then g f) ≡ S.then (optionalSeen g) h
   seen-optional (S.got x k v) f e = e x k v
   seen-optional (S.refused n p) f e = refusal n p
 
   seen-id : (g : S.Got IdRead) (f : IdRead → ℕ → Vocabulary Located → S.Got C)
-      → ((x : IdRead) (k : ℕ) (v : Vocabulary Located) → z (f x k v) ≡ h (record { text = textOf (x .string); number = x .number }) k v)
+      → ((x : IdRead) (k : ℕ) (v : Vocabulary Located) → z (f x k v) ≡ h (record { text = eventString (x .string); number = x .number }) k v)
       → z (S.then g f) ≡ S.then (idSeen g) h
   seen-id (S.got x k v) f e = e x k v
   seen-id (S.refused n p) f e = refusal n p
@@ -340,8 +340,8 @@ module _ (q : NameLayout) (s : List ℕ) (b k : ℕ) where
   parts-seen v h =
       rw (ne-eqb (b % 4) 2 h)
       (seen-optional nameSeen (λ n p. refl) behindPrefix (optionalAt link (prefixBit b) s PREFIX (suc k) v) _
-      λ p k₁ v₁. seen-optional nameSeen (λ n p. refl) (behindNamespace (record { text = optionalText (p .string); number = p .number })) (optionalAt link (namespaceBit b) s NAMESPACE-NAME k₁ v₁) _
-      λ n k₂ v₂. seen-id nameSeen (λ n p. refl) (behindLocal (record { text = optionalText (p .string); number = p .number }) (record { text = optionalText (n .string); number = n .number })) (idAt link s LOCAL-NAME k₂ v₂) _
+      λ p k₁ v₁. seen-optional nameSeen (λ n p. refl) (behindNamespace (record { text = optionalEventString (p .string); number = p .number })) (optionalAt link (namespaceBit b) s NAMESPACE-NAME k₁ v₁) _
+      λ n k₂ v₂. seen-id nameSeen (λ n p. refl) (behindLocal (record { text = optionalEventString (p .string); number = p .number }) (record { text = optionalEventString (n .string); number = n .number })) (idAt link s LOCAL-NAME k₂ v₂) _
       λ l k₃ v₃.
       let x : Triple = record { prefix = p .number; namespace = n .number; local = l .number } in
       seen-new (holdsName (names v₃ (q .table)) x) (ltb (length (names v₃ (q .table))) (link .entries)) _ k k₃ (addingName v₃ (q .table) x))

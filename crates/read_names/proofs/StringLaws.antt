@@ -29,9 +29,9 @@ use Rattle.tables.specs.Search.{numberIn}
 use Rattle.tables.specs.Rows.{tableOf, builtIn, stringAt, entries, vocabulary}
 use Rattle.tables.specs.Kept.{listed, countOf, oneMore, stored, rowAt}
 use Rattle.tables.proofs.Laws.{names-adding, strings-are, length-strings, string-nth, counted-more, string-added, clean-string, holds-number, inside-string}
-use Rattle.events.specs.declared.Text.{Text}
-use Rattle.events.specs.declared.Text.the-variants.{Absent, Empty, Stretch, XmlPrefix, XmlNamespace}
-use Rattle.events.specs.Records.{textOf}
+use Rattle.events.specs.declared.EventString.{EventString}
+use Rattle.events.specs.declared.EventString.the-variants.{Absent, Empty, Stretch, XmlPrefix, XmlNamespace}
+use Rattle.events.specs.Records.{eventString}
 use Rattle.read_names.specs.declared.Here.{Here}
 use Rattle.read_names.specs.declared.Field.{Field}
 use Rattle.read_names.specs.declared.Field.the-variants.{Got, Refused}
@@ -70,28 +70,28 @@ module _ (s : List ℕ) (k : ℕ) (m f : Number) (is : m ≡ f) where
 
 -- ---- an entry as a string of an event
 module _ (t at : ℕ) (w : List ℕ) (e : Row) (is : e ≡ rowAt w at) where
-  pub entry-octets : (e .b ≡ 0 → ⊥) → Stretch (e .a) (e .b) ≡ textOf (stringAt (tableOf t) w at)
+  pub entry-octets : (e .b ≡ 0 → ⊥) → Stretch (e .a) (e .b) ≡ eventString (stringAt (tableOf t) w at)
   unfolding stringAt rowAt
   entry-octets h =
       let a : getD w at 0 ≡ e .a = ap (λ (r : Row). r .a) (sym is) in
       let b : getD w (at + 1) 0 ≡ e .b = ap (λ (r : Row). r .b) (sym is) in
       rw (a, b, ne-eqb _ _ h)
 
-  pub entry-built-in : (x : Text) → e .b ≡ 0 → x ≡ textOf (builtIn (tableOf t)) → x ≡ textOf (stringAt (tableOf t) w at)
+  pub entry-built-in : (x : EventString) → e .b ≡ 0 → x ≡ eventString (builtIn (tableOf t)) → x ≡ eventString (stringAt (tableOf t) w at)
   unfolding stringAt rowAt
   entry-built-in x h q =
       let b : getD w (at + 1) 0 ≡ e .b = ap (λ (r : Row). r .b) (sym is) in
       rw (b, h) q
 
-pub built-in-prefix : (t : ℕ) → t ≡ 0 → XmlPrefix ≡ textOf (builtIn (tableOf t))
+pub built-in-prefix : (t : ℕ) → t ≡ 0 → XmlPrefix ≡ eventString (builtIn (tableOf t))
 unfolding builtIn tableOf
 built-in-prefix t e = rw e
 
-pub built-in-namespace : (t : ℕ) → t ≡ 1 → XmlNamespace ≡ textOf (builtIn (tableOf t))
+pub built-in-namespace : (t : ℕ) → t ≡ 1 → XmlNamespace ≡ eventString (builtIn (tableOf t))
 unfolding builtIn tableOf
 built-in-namespace t e = rw e
 
-pub built-in-none : (t : ℕ) → t < 8 → (t ≡ 0 → ⊥) → (t ≡ 1 → ⊥) → Empty ≡ textOf (builtIn (tableOf t))
+pub built-in-none : (t : ℕ) → t < 8 → (t ≡ 0 → ⊥) → (t ≡ 1 → ⊥) → Empty ≡ eventString (builtIn (tableOf t))
 unfolding builtIn tableOf
 built-in-none zero h a b = absurd (a refl)
 built-in-none (suc zero) h a b = absurd (b refl)
@@ -121,7 +121,7 @@ module _ (w : List ℕ) (h : Here) (t : ℕ) (r : Number) where
     unfolding heldOf
     held-beyond l = rw (e, lt-leb _ _ l)
 
-    pub held-entry : (x : Text) → n ≤ countOf (h .counts) t → x ≡ textOf (stringAt (tableOf t) w (768 * t + 3 * (n - 1)))
+    pub held-entry : (x : EventString) → n ≤ countOf (h .counts) t → x ≡ eventString (stringAt (tableOf t) w (768 * t + 3 * (n - 1)))
         → Got x n (record { at = c .at; counts = h .counts }) ≡ heldOf w h t r
     unfolding heldOf
     held-entry x l q = rw (e, le-leb _ _ l, q)
@@ -230,7 +230,7 @@ module _ (s w : List ℕ) (h : Here) (t : ℕ) (tidy : Tidy s (h .counts) w) (sm
 
   -- a number and the entry behind it
   abbrev entryOf : ℕ → ℕ → S.Got Seen
-  entryOf n next = pick (leb n (length table)) (got (record { text = textOf (getD table (n - 1) empty); number = n }) next here) (refused 10 (h .at))
+  entryOf n next = pick (leb n (length table)) (got (record { text = eventString (getD table (n - 1) empty); number = n }) next here) (refused 10 (h .at))
 
   -- octets that become an entry
   abbrev more : ℕ → ℕ → S.Got Seen

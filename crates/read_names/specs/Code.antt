@@ -8,9 +8,9 @@ use Rattle.tables.specs.declared.Counts.{Counts}
 use Rattle.tables.specs.Counts.{tableWords}
 use Rattle.tables.specs.Rows.{vocabulary}
 use Rattle.tables.specs.Kept.{Counted, Clean, AllInside}
-use Rattle.events.specs.declared.Text.{Text}
-use Rattle.events.specs.declared.Text.the-variants.{Absent}
-use Rattle.events.specs.Records.{textOf, optionalText}
+use Rattle.events.specs.declared.EventString.{EventString}
+use Rattle.events.specs.declared.EventString.the-variants.{Absent}
+use Rattle.events.specs.Records.{eventString, optionalEventString}
 use Rattle.read_names.specs.declared.Field.{Field}
 use Rattle.read_names.specs.declared.Field.the-variants.{Got, Refused}
 use Rattle.read_names.specs.declared.Parts.{Parts}
@@ -36,7 +36,7 @@ pub record Tidy (s : List ℕ) (c : Counts) (w : List ℕ) : Type 0 where
 
 -- ---- a string
 pub record Seen : Type 0 where
-  pub text : Text
+  pub text : EventString
   pub number : ℕ
 
 abbrev pub seenField : Field → List ℕ → S.Got Seen
@@ -48,16 +48,16 @@ FieldTidy s (Got x n h) w = Tidy s (h .counts) w × (h .at ≤ length s)
 FieldTidy s (Refused n p) w = length w ≡ tableWords
 
 abbrev pub idSeen : S.Got IdRead → S.Got Seen
-idSeen (S.got b next v) = S.got (record { text = textOf (b .string); number = b .number }) next v
+idSeen (S.got b next v) = S.got (record { text = eventString (b .string); number = b .number }) next v
 idSeen (S.refused n p) = S.refused n p
 
 abbrev pub optionalSeen : S.Got OptionalRead → S.Got Seen
-optionalSeen (S.got b next v) = S.got (record { text = optionalText (b .string); number = b .number }) next v
+optionalSeen (S.got b next v) = S.got (record { text = optionalEventString (b .string); number = b .number }) next v
 optionalSeen (S.refused n p) = S.refused n p
 
 -- a string that has no number of its own
 abbrev pub stringSeen : S.Got StringRead → S.Got Seen
-stringSeen (S.got b next v) = S.got (record { text = textOf (b .string); number = 0 }) next v
+stringSeen (S.got b next v) = S.got (record { text = eventString (b .string); number = 0 }) next v
 stringSeen (S.refused n p) = S.refused n p
 
 -- ---- a name, a declaration (which has no local name)
@@ -70,9 +70,9 @@ NameTidy s (Read x h) w = Tidy s (h .counts) w × (h .at ≤ length s)
 NameTidy s (Faulty n p) w = length w ≡ tableWords
 
 abbrev pub nameSeen : S.Got NameRead → S.Got Parts
-nameSeen (S.got b next v) = S.got (record { prefix = optionalText (b .name .prefix); namespace = optionalText (b .name .namespace); local = textOf (b .name .local) }) next v
+nameSeen (S.got b next v) = S.got (record { prefix = optionalEventString (b .name .prefix); namespace = optionalEventString (b .name .namespace); local = eventString (b .name .local) }) next v
 nameSeen (S.refused n p) = S.refused n p
 
 abbrev pub declaredSeen : S.Got DeclaredRead → S.Got Parts
-declaredSeen (S.got b next v) = S.got (record { prefix = optionalText (b .prefix); namespace = optionalText (b .namespace); local = Absent }) next v
+declaredSeen (S.got b next v) = S.got (record { prefix = optionalEventString (b .prefix); namespace = optionalEventString (b .namespace); local = Absent }) next v
 declaredSeen (S.refused n p) = S.refused n p

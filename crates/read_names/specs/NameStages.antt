@@ -10,9 +10,9 @@ use Rattle.fields.specs.declared.Number.{Number}
 use Rattle.fields.specs.declared.Number.the-variants.{Got as Num, Refused as NoNum}
 use Rattle.tables.specs.Located.{Located}
 use Rattle.tables.specs.Rows.{tableOf, stringAt}
-use Rattle.events.specs.declared.Text.{Text}
-use Rattle.events.specs.declared.Text.the-variants.{Absent}
-use Rattle.events.specs.Records.{textOf}
+use Rattle.events.specs.declared.EventString.{EventString}
+use Rattle.events.specs.declared.EventString.the-variants.{Absent}
+use Rattle.events.specs.Records.{eventString}
 use Rattle.read_names.specs.declared.Here.{Here}
 use Rattle.read_names.specs.declared.Field.{Field}
 use Rattle.read_names.specs.declared.Field.the-variants.{Got, Refused}
@@ -32,13 +32,13 @@ numberFault (Num n c) = Faulty 0 (c .at)
 numberFault (NoNum n p) = Faulty n p
 
 -- The string behind a number of a table in lent words; 0 is none.
-unfoldable pub textAt : List ℕ → (table number : ℕ) → Text
-textAt w table zero = Absent
-textAt w table (suc k) = textOf (stringAt (tableOf table) w (768 * table + 3 * k))
+unfoldable pub eventStringAt : List ℕ → (table number : ℕ) → EventString
+eventStringAt w table zero = Absent
+eventStringAt w table (suc k) = eventString (stringAt (tableOf table) w (768 * table + 3 * k))
 
 -- The strings behind a name's numbers.
-unfoldable pub textsAt : List ℕ → Triple → Parts
-textsAt w x = record { prefix = textAt w 0 (x .prefix); namespace = textAt w 1 (x .namespace); local = textAt w 2 (x .local) }
+unfoldable pub eventStringsAt : List ℕ → Triple → Parts
+eventStringsAt w x = record { prefix = eventStringAt w 0 (x .prefix); namespace = eventStringAt w 1 (x .namespace); local = eventStringAt w 2 (x .local) }
 
 -- A name in parts whose strings end before `next`: its triple is there already (11), no room in the table (12), both at k.
 unfoldable pub newName : Limits → NameTable → Triple → Parts → (k next : ℕ) → Vocabulary Located → S.Got Parts

@@ -13,8 +13,8 @@ use Rattle.tables.specs.declared.Counts.{Counts}
 use Rattle.tables.specs.Counts.{perTable}
 use Rattle.tables.specs.Rows.{tableOf, stringAt}
 use Rattle.tables.specs.Kept.{countOf, oneMore, stored}
-use Rattle.events.specs.declared.Text.the-variants.{Stretch}
-use Rattle.events.specs.Records.{textOf}
+use Rattle.events.specs.declared.EventString.the-variants.{Stretch}
+use Rattle.events.specs.Records.{eventString}
 use Rattle.read_names.specs.declared.Here.{Here}
 use Rattle.read_names.specs.declared.Field.{Field}
 use Rattle.read_names.specs.declared.Field.the-variants.{Got, Refused}
@@ -38,7 +38,7 @@ Positive (NoNum n p) = Unit {0}
 unfoldable pub heldOf : List ℕ → Here → ℕ → Number → Field
 heldOf w h table (Num n c) =
     pick (leb n (countOf (h .counts) table))
-    (Got (textOf (stringAt (tableOf table) w (768 * table + 3 * (n - 1)))) n (record { at = c .at; counts = h .counts }))
+    (Got (eventString (stringAt (tableOf table) w (768 * table + 3 * (n - 1)))) n (record { at = c .at; counts = h .counts }))
     (Refused INDEX (h .at))
 heldOf w h table (NoNum n p) = Refused n p
 

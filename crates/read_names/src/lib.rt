@@ -3,7 +3,7 @@
 mod names;
 mod strings;
 
-use events::Text;
+use events::EventString;
 pub use strings::octet;
 use tables::Counts;
 
@@ -28,15 +28,15 @@ pub struct Here {
 
 // A string, its number in its table (0 where it has none), and where the next field starts; or the refusal and its place.
 pub enum Field {
-    Got(Text, u32, Here),
+    Got(EventString, u32, Here),
     Refused(u32, usize),
 }
 
 // A name's strings; those of a declaration, without a local name.
 pub struct Parts {
-    pub prefix: Text,
-    pub namespace: Text,
-    pub local: Text,
+    pub prefix: EventString,
+    pub namespace: EventString,
+    pub local: EventString,
 }
 
 pub enum Named {

@@ -11,7 +11,7 @@ ghost use Rattle.tables.specs.Rows.{vocabulary};
 ghost use Rattle.tables.specs.Kept.{nameTableOf, Counted, layoutOf, tripleOf};
 ghost use Rattle.read_names.specs.Names.{nameBit, partsAt, numberedAt, nameAt, declaredAt};
 ghost use Rattle.read_names.specs.Code.{Ranged, Tidy, seenName, NameTidy, nameSeen, declaredSeen};
-ghost use Rattle.read_names.specs.NameStages.{stringFault, numberFault, textAt, textsAt, newName, KeepsTidy};
+ghost use Rattle.read_names.specs.NameStages.{stringFault, numberFault, eventStringAt, eventStringsAt, newName, KeepsTidy};
 use crate::FULL;
 use crate::Field;
 use crate::Here;
@@ -21,7 +21,7 @@ use crate::Parts;
 use crate::REPEAT;
 use crate::STRUCTURE;
 use crate::strings::text_of;
-use events::Text;
+use events::EventString;
 use fields::CODE;
 use fields::Cursor;
 use fields::Number;
@@ -81,12 +81,12 @@ fn number(s: &[u8], at: usize, table: usize) -> Number
 }
 
 // The string behind a number of a table; 0 is none.
-fn text(t: &[u32], table: usize, number: u32) -> Text
+fn text(t: &[u32], table: usize, number: u32) -> EventString
     requires { ⌜ (length (now t) ≡ tableWords) × (table < 8) × (number ≤ 256) ⌝ }
-    ensures { λ r. ⌜ r ≡ textAt (now (t .entry)) table number ⌝ }
+    ensures { λ r. ⌜ r ≡ eventStringAt (now (t .entry)) table number ⌝ }
 {
     if number == 0 {
-        return Text::Absent;
+        return EventString::Absent;
     }
     text_of(t, table, number - 1)
 }
@@ -94,7 +94,7 @@ fn text(t: &[u32], table: usize, number: u32) -> Text
 // The strings behind the numbers of a name.
 fn texts(t: &[u32], x: Row) -> Parts
     requires { ⌜ (length (now t) ≡ tableWords) × (x .a ≤ 256) × (x .b ≤ 256) × (x .c ≤ 256) ⌝ }
-    ensures { λ r. ⌜ r ≡ textsAt (now (t .entry)) (tripleOf x) ⌝ }
+    ensures { λ r. ⌜ r ≡ eventStringsAt (now (t .entry)) (tripleOf x) ⌝ }
 {
     Parts {
         prefix: text(t, PREFIX, x.a),
@@ -211,7 +211,7 @@ impl Here {
         let strings = Parts {
             prefix,
             namespace,
-            local: Text::Absent,
+            local: EventString::Absent,
         };
         Named::Read(strings, next)
     }

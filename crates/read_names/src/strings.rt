@@ -9,7 +9,7 @@ ghost use Rattle.fields.specs.Fields.{fieldAt, noTop};
 ghost use Rattle.tables.specs.Counts.{tableWords};
 ghost use Rattle.tables.specs.Rows.{tableOf, stringAt, vocabulary};
 ghost use Rattle.tables.specs.Kept.{countOf};
-ghost use Rattle.events.specs.Records.{textOf};
+ghost use Rattle.events.specs.Records.{eventString};
 ghost use Rattle.read_names.specs.Strings.{idAt, optionalAt, spelledAt, literalAt, valueAt};
 ghost use Rattle.read_names.specs.Code.{Tidy, seenField, FieldTidy, idSeen, optionalSeen, stringSeen};
 ghost use Rattle.read_names.specs.Stages.{refusalOf, stretchOf, Positive, heldOf, addedOf, addedWords, unnumberedOf, lengthFrom};
@@ -20,7 +20,7 @@ use crate::Here;
 use crate::INDEX;
 use crate::REPEAT;
 use crate::TEXT;
-use events::Text;
+use events::EventString;
 use fields::Cursor;
 use fields::Number;
 use fields::bits;
@@ -79,18 +79,18 @@ fn stretch(s: &[u8], at: usize, bit: u32) -> Number
 }
 
 // Entry i of a table, from 0. One without octets is built in.
-pub fn text_of(t: &[u32], table: usize, i: u32) -> Text
+pub fn text_of(t: &[u32], table: usize, i: u32) -> EventString
     requires { ⌜ (length (now t) ≡ tableWords) × (table < 8) × (i < 256) ⌝ }
-    ensures { λ r. ⌜ r ≡ textOf (stringAt (tableOf table) (now (t .entry)) (768 * table + 3 * i)) ⌝ }
+    ensures { λ r. ⌜ r ≡ eventString (stringAt (tableOf table) (now (t .entry)) (768 * table + 3 * i)) ⌝ }
 {
     let e = tables::entry(t, table, i);
     if e.b != 0 {
-        return Text::Stretch(e.a, e.b);
+        return EventString::Stretch(e.a, e.b);
     }
     match table {
-        0 => Text::XmlPrefix,
-        1 => Text::XmlNamespace,
-        _ => Text::Empty,
+        0 => EventString::XmlPrefix,
+        1 => EventString::XmlNamespace,
+        _ => EventString::Empty,
     }
 }
 
@@ -134,7 +134,7 @@ impl Here {
         let len = narrow(size);
         tables::add(t, table, count, first, len, 0);
         Field::Got(
-            Text::Stretch(first, len),
+            EventString::Stretch(first, len),
             count + 1,
             Here {
                 at: place + size,
@@ -158,7 +158,7 @@ impl Here {
             return unnumbered(self.added(t, table, place, size));
         }
         self.at = place + size;
-        Field::Got(Text::Stretch(narrow(place), narrow(size)), 0, self)
+        Field::Got(EventString::Stretch(narrow(place), narrow(size)), 0, self)
     }
 
     // C.13, spelled: octets that are no entry yet, and become one.
@@ -200,7 +200,7 @@ impl Here {
         if there {
             return self.id(s, t, table);
         }
-        Field::Got(Text::Absent, 0, self)
+        Field::Got(EventString::Absent, 0, self)
     }
 
     // C.14: a value, comment or content. FF is the empty string.
@@ -212,7 +212,7 @@ impl Here {
         let o = octet(s, at);
         if o == 0xFF {
             self.at = at + 1;
-            return Field::Got(Text::Empty, 0, self);
+            return Field::Got(EventString::Empty, 0, self);
         }
         if bits(o, 1, 1) == 1 {
             let c = Cursor { at };

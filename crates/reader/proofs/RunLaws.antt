@@ -19,7 +19,7 @@ use Rattle.tables.specs.Rows.{vocabulary}
 use Rattle.tables.proofs.Laws.{vocabulary-start, counted-start, clean-start, inside-start}
 use Rattle.events.specs.declared.Event.{Event}
 use Rattle.events.specs.Records.{recordOf}
-use Rattle.events.specs.Words.{kindNumber, textWords, recordWords}
+use Rattle.events.specs.Words.{kindNumber, stringWords, recordWords}
 use Rattle.tables.proofs.Found.{both-true}
 use Rattle.reader.specs.declared.Answer.{Answer}
 use Rattle.reader.specs.declared.Answer.the-variants.{Accepted, Refused}
@@ -112,8 +112,8 @@ module _ (w : List ℕ) (n : ℕ) (e : Event) where
   kept-not h = rw (le-ltb _ _ h)
 
   -- the kind, then the four strings, one behind the other
-  pub kept-all : (k : ℕ) (w₁ w₂ w₃ w₄ : List ℕ) → n < length w / 13 → k ≡ kindNumber (e .kind) → w₁ ≡ sets (set w (13 * n) k) (13 * n + 1) (textWords (e .prefix))
-      → w₂ ≡ sets w₁ (13 * n + 4) (textWords (e .namespace)) → w₃ ≡ sets w₂ (13 * n + 7) (textWords (e .name)) → w₄ ≡ sets w₃ (13 * n + 10) (textWords (e .value)) → w₄ ≡ kept w n e
+  pub kept-all : (k : ℕ) (w₁ w₂ w₃ w₄ : List ℕ) → n < length w / 13 → k ≡ kindNumber (e .kind) → w₁ ≡ sets (set w (13 * n) k) (13 * n + 1) (stringWords (e .prefix))
+      → w₂ ≡ sets w₁ (13 * n + 4) (stringWords (e .namespace)) → w₃ ≡ sets w₂ (13 * n + 7) (stringWords (e .name)) → w₄ ≡ sets w₃ (13 * n + 10) (stringWords (e .value)) → w₄ ≡ kept w n e
   unfolding kept
   kept-all k w₁ w₂ w₃ w₄ h a b c d f =
       let z : 13 * n + 1 ≡ suc (13 * n) = add-one (13 * n) in

@@ -7,13 +7,13 @@ ghost use Rattle.format.specs.Tables.{link, same};
 ghost use Rattle.format.specs.Document.{header};
 ghost use Rattle.tables.specs.Located.{start};
 ghost use Rattle.tables.specs.Counts.{tableWords};
-ghost use Rattle.events.specs.Words.{textWords};
+ghost use Rattle.events.specs.Words.{stringWords};
 ghost use Rattle.reader.specs.Reading.{sized, opening, run, origin, fuelOf, reading, checkOf};
 ghost use Rattle.reader.specs.RunStages.{openingOf, fresh, kept, Ran, Small, answerNumber};
 ghost use Rattle.reader.specs.Words.{leaving, readWords};
 use crate::Answer;
 use events::Event;
-use events::Text;
+use events::EventString;
 use read_items::Mode;
 use read_items::State;
 use read_items::Step;
@@ -107,9 +107,9 @@ pub fn begin() -> State
 }
 
 // The three words of a string.
-fn put_text(w: &mut [u32], at: usize, x: Text)
+fn put_text(w: &mut [u32], at: usize, x: EventString)
     requires { ⌜ at + 3 ≤ length (now w) ⌝ }
-    ensures { λ _. ⌜ now (w .exit) ≡ sets (now (w .entry)) at (textWords x) ⌝ }
+    ensures { λ _. ⌜ now (w .exit) ≡ sets (now (w .entry)) at (stringWords x) ⌝ }
 {
     w[at] = x.tag();
     w[at + 1] = x.place();

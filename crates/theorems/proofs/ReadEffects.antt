@@ -22,7 +22,7 @@ use Rattle.fields.specs.declared.Number.the-variants.{Got as Num, Refused as No
 use Rattle.fields.specs.Fields.{fieldAt, noTop}
 use Rattle.fields.proofs.Bounds.{field-got}
 use Rattle.tables.specs.Located.{Located, empty, stretch, octetsOf, start}
-use Rattle.events.specs.Records.{textOf}
+use Rattle.events.specs.Records.{eventString}
 use Rattle.events.specs.WellMade.{IsStretch, inside}
 use Rattle.read_names.specs.Strings.{Got, got, refused, then, number, spelling, IdRead, OptionalRead, StringRead, idAt, optionalAt, spelledAt, literalAt, valueAt, numberBit}
 use Rattle.read_names.specs.Names.{NameRead, DeclaredRead, prefixBit, namespaceBit, lonePrefix, partsAt, numberedAt, nameAt, declaredAt, nameBit}
@@ -36,7 +36,7 @@ use Rattle.theorems.proofs.Effects.{ItemDone, done-namespace, done-star
 
 -- What is spelled is a stretch of the document.
 abbrev pub Lies : List ℕ → Located → Type 0
-Lies s x = IsStretch s (textOf x)
+Lies s x = IsStretch s (eventString x)
 
 -- number suc k names entry k
 entry-of : {A : Type 0} (l : List A) (d : A) (k : ℕ) → suc k ≤ length l → Entry l k d (getD l (suc k - 1) d)

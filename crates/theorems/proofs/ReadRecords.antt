@@ -10,8 +10,8 @@ use Rattle.format.specs.Tables.{StringTable, PREFIX, NAMESPACE-NAME, place}
 use Rattle.format.specs.Names.{has}
 use Rattle.format.specs.Allowed.{All}
 use Rattle.tables.specs.Located.{Located, empty, stretch, builtInPrefix, builtInNamespace, start}
-use Rattle.events.specs.declared.Text.the-variants.{Absent}
-use Rattle.events.specs.Records.{textOf, optionalText, recordOf}
+use Rattle.events.specs.declared.EventString.the-variants.{Absent}
+use Rattle.events.specs.Records.{eventString, optionalEventString, recordOf}
 use Rattle.events.specs.WellMade as W
 use Rattle.events.specs.WellMade.{IsStretch, IsPrefix, IsNamespace, IsValue, IsName, WellMade}
 use Rattle.read_items.specs.Items.{Stand}
@@ -26,39 +26,39 @@ module _ (s : List ℕ) where
     the-prefix : Stands PREFIX builtInPrefix
     the-namespace : Stands NAMESPACE-NAME builtInNamespace
 
-  as-prefix : (x : Option Located) → IfAny Stands empty PREFIX x → IsPrefix s (optionalText x)
+  as-prefix : (x : Option Located) → IfAny Stands empty PREFIX x → IsPrefix s (optionalEventString x)
   as-prefix none a = W.no-prefix
   as-prefix (some x) (spelled-here l) = W.a-prefix l
   as-prefix (some x) the-prefix = W.xml-prefix
 
-  as-namespace : (x : Option Located) → IfAny Stands empty NAMESPACE-NAME x → IsNamespace s (optionalText x)
+  as-namespace : (x : Option Located) → IfAny Stands empty NAMESPACE-NAME x → IsNamespace s (optionalEventString x)
   as-namespace none a = W.no-namespace
   as-namespace (some x) (spelled-here l) = W.a-namespace l
   as-namespace (some x) the-namespace = W.xml-namespace
 
   -- nothing is built into the tables behind the first two
-  as-stretch : {t : StringTable} {x : Located} → 2 ≤ place t → Stands t x → IsStretch s (textOf x)
+  as-stretch : {t : StringTable} {x : Located} → 2 ≤ place t → Stands t x → IsStretch s (eventString x)
   unfolding place
   as-stretch h (spelled-here l) = l
   as-stretch h the-prefix = absurd (omega arith)
   as-stretch h the-namespace = absurd (omega arith)
 
-  as-value : {t : StringTable} {x : Located} → 2 ≤ place t → OrEmpty Stands empty t x → IsValue s (textOf x)
+  as-value : {t : StringTable} {x : Located} → 2 ≤ place t → OrEmpty Stands empty t x → IsValue s (eventString x)
   as-value h is-empty = W.no-octets
   as-value h (not-empty a) = W.some-octets (as-stretch h a)
 
-  not-absent : (x : Located) → textOf x ≡ Absent → ⊥
+  not-absent : (x : Located) → eventString x ≡ Absent → ⊥
   not-absent empty e = let y : _≡_ {A = ℕ} 0 1 = cc in omega arith
   not-absent (stretch p n) e = let y : _≡_ {A = ℕ} 0 1 = cc in omega arith
   not-absent builtInPrefix e = let y : _≡_ {A = ℕ} 0 1 = cc in omega arith
   not-absent builtInNamespace e = let y : _≡_ {A = ℕ} 0 1 = cc in omega arith
 
-  paired : (p n : Option Located) → has p ≤ has n → optionalText n ≡ Absent → optionalText p ≡ Absent
+  paired : (p n : Option Located) → has p ≤ has n → optionalEventString n ≡ Absent → optionalEventString p ≡ Absent
   paired none n h e = refl
   paired (some x) none h e = absurd (omega arith)
   paired (some x) (some y) h e = absurd (not-absent y e)
 
-  as-name : (x : Name Located) → Parts Stands empty x → IsName s (optionalText (x .prefix)) (optionalText (x .namespace)) (textOf (x .local))
+  as-name : (x : Name Located) → Parts Stands empty x → IsName s (optionalEventString (x .prefix)) (optionalEventString (x .namespace)) (eventString (x .local))
   unfolding place
   as-name x a =
       record {

@@ -18,12 +18,12 @@ use Rattle.format.specs.Strings.{Spelling}
 use Rattle.format.specs.Names.{has}
 use Rattle.format.specs.Allowed as A
 use Rattle.format.specs.Allowed.{All, SaidIfAny, AllowedName, Allowed}
-use Rattle.events.specs.declared.Text.{Text}
-use Rattle.events.specs.declared.Text.the-variants.{Absent, Empty, Stretch, XmlPrefix, XmlNamespace}
+use Rattle.events.specs.declared.EventString.{EventString}
+use Rattle.events.specs.declared.EventString.the-variants.{Absent, Empty, Stretch, XmlPrefix, XmlNamespace}
 use Rattle.events.specs.declared.Kind.{Kind}
 use Rattle.events.specs.declared.Kind.the-variants.{Blank, Namespace, Start, Attribute, Chunk, Comment, Instruction, End}
 use Rattle.events.specs.declared.Event.{Event}
-use Rattle.events.specs.Records.{textOf, optionalText as textIfAny, recordOf, namespaceRecord, startRecord, attributeRecord, chunkRecord, commentRecord, instructionRecord}
+use Rattle.events.specs.Records.{eventString, optionalEventString as stringIfAny, recordOf, namespaceRecord, startRecord, attributeRecord, chunkRecord, commentRecord, instructionRecord}
 use Rattle.events.specs.WellMade.{IsStretch, inside, IsPrefix, no-prefix, xml-prefix, a-prefix, IsNamespace, no-namespace, xml-namespace, a-namespace, IsValue, no-octets, some-octets, IsName, WellMade, a-declaration, a-start, an-attribute, a-chunk, a-comment, an-instruction, an-end}
 use Rattle.tables.specs.Located.{Located, empty, stretch, builtInPrefix, builtInNamespace, octetsOf}
 use Rattle.writer.specs.Events.{isAbsent, isStretch, isPrefix, isNamespace, isValue, isName, noName, wellMade, locatedOf, optionalOf, eventOf, optionalText, nameText, allText}
@@ -36,7 +36,7 @@ use Rattle.theorems.proofs.Produced.{Said}
 both : {a b : Bool} → a ≡ true → b ≡ true → (a && b) ≡ true
 both p q = ap₂ (λ (x y : Bool). x && y) p q
 
-absent-is : (x : Text) → isAbsent x ≡ true → Absent ≡ x
+absent-is : (x : EventString) → isAbsent x ≡ true → Absent ≡ x
 absent-is Absent e = refl
 absent-is Empty e = clash e
 absent-is (Stretch p n) e = clash e
@@ -45,60 +45,60 @@ absent-is XmlNamespace e = clash e
 
 -- ---- the writer's test of a record, and what 01 says of it
 module _ (s : List ℕ) where
-  stretch-is : (x : Text) → isStretch s x ≡ true → IsStretch s x
+  stretch-is : (x : EventString) → isStretch s x ≡ true → IsStretch s x
   stretch-is Absent e = clash e
   stretch-is Empty e = clash e
   stretch-is (Stretch p n) e = let a = both-true (ltb 0 n) (leb (p + n) (length s)) e in inside (ltb-true 0 n (a .0)) (leb-true (p + n) (length s) (a .1))
   stretch-is XmlPrefix e = clash e
   stretch-is XmlNamespace e = clash e
 
-  is-stretch : {x : Text} → IsStretch s x → isStretch s x ≡ true
+  is-stretch : {x : EventString} → IsStretch s x → isStretch s x ≡ true
   is-stretch (inside h k) = both (lt-ltb _ _ h) (le-leb _ _ k)
 
-  prefix-is : (x : Text) → isPrefix s x ≡ true → IsPrefix s x
+  prefix-is : (x : EventString) → isPrefix s x ≡ true → IsPrefix s x
   prefix-is Absent e = no-prefix
   prefix-is Empty e = clash e
   prefix-is (Stretch p n) e = a-prefix (stretch-is (Stretch p n) e)
   prefix-is XmlPrefix e = xml-prefix
   prefix-is XmlNamespace e = clash e
 
-  is-prefix : {x : Text} → IsPrefix s x → isPrefix s x ≡ true
+  is-prefix : {x : EventString} → IsPrefix s x → isPrefix s x ≡ true
   is-prefix no-prefix = refl
   is-prefix xml-prefix = refl
   is-prefix (a-prefix (inside h k)) = is-stretch (inside h k)
 
-  namespace-is : (x : Text) → isNamespace s x ≡ true → IsNamespace s x
+  namespace-is : (x : EventString) → isNamespace s x ≡ true → IsNamespace s x
   namespace-is Absent e = no-namespace
   namespace-is Empty e = clash e
   namespace-is (Stretch p n) e = a-namespace (stretch-is (Stretch p n) e)
   namespace-is XmlPrefix e = clash e
   namespace-is XmlNamespace e = xml-namespace
 
-  is-namespace : {x : Text} → IsNamespace s x → isNamespace s x ≡ true
+  is-namespace : {x : EventString} → IsNamespace s x → isNamespace s x ≡ true
   is-namespace no-namespace = refl
   is-namespace xml-namespace = refl
   is-namespace (a-namespace (inside h k)) = is-stretch (inside h k)
 
-  value-is : (x : Text) → isValue s x ≡ true → IsValue s x
+  value-is : (x : EventString) → isValue s x ≡ true → IsValue s x
   value-is Absent e = clash e
   value-is Empty e = no-octets
   value-is (Stretch p n) e = some-octets (stretch-is (Stretch p n) e)
   value-is XmlPrefix e = clash e
   value-is XmlNamespace e = clash e
 
-  is-value : {x : Text} → IsValue s x → isValue s x ≡ true
+  is-value : {x : EventString} → IsValue s x → isValue s x ≡ true
   is-value no-octets = refl
   is-value (some-octets (inside h k)) = is-stretch (inside h k)
 
   -- a prefix only with a namespace
-  alone-is : (p n : Text) → (isAbsent p || not (isAbsent n)) ≡ true → n ≡ Absent → p ≡ Absent
+  alone-is : (p n : EventString) → (isAbsent p || not (isAbsent n)) ≡ true → n ≡ Absent → p ≡ Absent
   alone-is Absent n e q = refl
   alone-is Empty n e q = clash (rw q at e)
   alone-is (Stretch a b) n e q = clash (rw q at e)
   alone-is XmlPrefix n e q = clash (rw q at e)
   alone-is XmlNamespace n e q = clash (rw q at e)
 
-  is-alone : (p n : Text) → (n ≡ Absent → p ≡ Absent) → (isAbsent p || not (isAbsent n)) ≡ true
+  is-alone : (p n : EventString) → (n ≡ Absent → p ≡ Absent) → (isAbsent p || not (isAbsent n)) ≡ true
   is-alone p Absent f = rw (f refl)
   is-alone p Empty f = or-true (isAbsent p)
   is-alone p (Stretch a b) f = or-true (isAbsent p)
@@ -117,7 +117,7 @@ module _ (s : List ℕ) where
   unfolding isName
   is-name e m = both (is-prefix (m .a-prefix)) (both (is-namespace (m .a-namespace)) (both (is-stretch (m .a-local)) (is-alone (e .prefix) (e .namespace) (m .not-alone))))
 
-  rebuilt : (e : Event) (k : Kind) (p n l v : Text) → k ≡ e .kind → p ≡ e .prefix → n ≡ e .namespace → l ≡ e .name → v ≡ e .value → record { kind = k; prefix = p; namespace = n; name = l; value = v } ≡ e
+  rebuilt : (e : Event) (k : Kind) (p n l v : EventString) → k ≡ e .kind → p ≡ e .prefix → n ≡ e .namespace → l ≡ e .name → v ≡ e .value → record { kind = k; prefix = p; namespace = n; name = l; value = v } ≡ e
   rebuilt e k p n l v a b c d f = λ i. record { kind = a i; prefix = b i; namespace = c i; name = d i; value = f i }
 
   pub made-is : (e : Event) (k : Kind) → e .kind ≡ k → wellMade s k e ≡ true → WellMade s e
@@ -166,17 +166,17 @@ module _ (s : List ℕ) where
   is-made an-end = refl
 
   -- ---- a record that is well made is that of its event
-  optional-back : (x : Text) → textIfAny (optionalOf x) ≡ x
+  optional-back : (x : EventString) → stringIfAny (optionalOf x) ≡ x
   optional-back Absent = refl
   optional-back Empty = refl
   optional-back (Stretch p n) = refl
   optional-back XmlPrefix = refl
   optional-back XmlNamespace = refl
 
-  stretch-back : {x : Text} → IsStretch s x → textOf (locatedOf x) ≡ x
+  stretch-back : {x : EventString} → IsStretch s x → eventString (locatedOf x) ≡ x
   stretch-back (inside h k) = refl
 
-  value-back : {x : Text} → IsValue s x → textOf (locatedOf x) ≡ x
+  value-back : {x : EventString} → IsValue s x → eventString (locatedOf x) ≡ x
   value-back no-octets = refl
   value-back (some-octets (inside h k)) = refl
 
@@ -370,20 +370,20 @@ module _ (text : List ℕ) where
     all-short E.End = tt
 
   -- a record that is well made, its strings text, is an event as 01 allows it
-  stretch-said : {x : Text} → IsStretch text x → IsText (f (locatedOf x)) → A.Said (f (locatedOf x))
+  stretch-said : {x : EventString} → IsStretch text x → IsText (f (locatedOf x)) → A.Said (f (locatedOf x))
   unfolding octetsOf
   stretch-said (inside {place = p} {size = n} h k) t =
       let d = length-drop p text in
       let l = length-take-le n (drop p text) (omega arith) in
       (omega arith, t)
 
-  prefix-said : {x : Text} → IsPrefix text x → IfAny IsText (Option·map f (optionalOf x)) → SaidIfAny (Option·map f (optionalOf x))
+  prefix-said : {x : EventString} → IsPrefix text x → IfAny IsText (Option·map f (optionalOf x)) → SaidIfAny (Option·map f (optionalOf x))
   unfolding octetsOf xmlPrefix
   prefix-said no-prefix t = tt
   prefix-said xml-prefix t = (omega arith, t)
   prefix-said (a-prefix (inside h k)) t = stretch-said (inside h k) t
 
-  namespace-said : {x : Text} → IsNamespace text x → IfAny IsText (Option·map f (optionalOf x)) → SaidIfAny (Option·map f (optionalOf x))
+  namespace-said : {x : EventString} → IsNamespace text x → IfAny IsText (Option·map f (optionalOf x)) → SaidIfAny (Option·map f (optionalOf x))
   unfolding octetsOf xmlNamespace
   namespace-said no-namespace t = tt
   namespace-said xml-namespace t = (omega arith, t)
@@ -393,14 +393,14 @@ module _ (text : List ℕ) where
   one-or-none none = omega arith
   one-or-none (some x) = omega arith
 
-  paired : (p n : Text) → (n ≡ Absent → p ≡ Absent) → has (Option·map f (optionalOf p)) ≤ has (Option·map f (optionalOf n))
+  paired : (p n : EventString) → (n ≡ Absent → p ≡ Absent) → has (Option·map f (optionalOf p)) ≤ has (Option·map f (optionalOf n))
   paired p Absent c = rw (c refl) (omega arith)
   paired p Empty c = one-or-none (Option·map f (optionalOf p))
   paired p (Stretch a b) c = one-or-none (Option·map f (optionalOf p))
   paired p XmlPrefix c = one-or-none (Option·map f (optionalOf p))
   paired p XmlNamespace c = one-or-none (Option·map f (optionalOf p))
 
-  name-allowed : {p n l : Text} → IsName text p n l → EachOfName IsText (nameMap f (record { prefix = optionalOf p; namespace = optionalOf n; local = locatedOf l }))
+  name-allowed : {p n l : EventString} → IsName text p n l → EachOfName IsText (nameMap f (record { prefix = optionalOf p; namespace = optionalOf n; local = locatedOf l }))
       → AllowedName (nameMap f (record { prefix = optionalOf p; namespace = optionalOf n; local = locatedOf l }))
   name-allowed {p} {n} m t =
       record { prefix = prefix-said (m .a-prefix) (t .0); namespace = namespace-said (m .a-namespace) (t .1); local = stretch-said (m .a-local) (t .2); not-alone = paired p n (m .not-alone) }

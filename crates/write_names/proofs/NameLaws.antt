@@ -22,10 +22,10 @@ use Rattle.tables.specs.Search.{numberIn, numberOfTriple}
 use Rattle.tables.specs.Rows.{tableOf, tripleAt, entries, vocabulary}
 use Rattle.tables.specs.Kept.{nameTableOf, countOf, layoutOf, tripleOf}
 use Rattle.tables.proofs.Laws.{length-strings, length-names, names-are, name-number-within}
-use Rattle.events.specs.declared.Text.{Text}
-use Rattle.events.specs.declared.Text.the-variants.{Absent, Empty, Stretch, XmlPrefix, XmlNamespace}
+use Rattle.events.specs.declared.EventString.{EventString}
+use Rattle.events.specs.declared.EventString.the-variants.{Absent, Empty, Stretch, XmlPrefix, XmlNamespace}
 use Rattle.events.specs.Records.{locatedOf, optionalOf}
-use Rattle.events.specs.Words.{textTag}
+use Rattle.events.specs.Words.{stringTag}
 use Rattle.write_names.specs.declared.Here.{Here}
 use Rattle.write_names.specs.declared.Parts.{Parts}
 use Rattle.write_names.specs.declared.Wrote as W
@@ -36,18 +36,18 @@ use Rattle.write_names.proofs.Order.{name-more, order-name, grows-on, g
 use Rattle.write_names.proofs.StringLaws.{held-is, stands-put}
 
 -- ---- a string's number once it is written
-module _ (n : ℕ) (x : Text) (k : ℕ) where
+module _ (n : ℕ) (x : EventString) (k : ℕ) where
   pub then-held : (k ≡ 0 → ⊥) → k ≡ numberThen n x k
   unfolding numberThen
   then-held h = rw (ne-eqb k 0 h)
 
-  pub then-absent : k ≡ 0 → textTag x ≡ 0 → 0 ≡ numberThen n x k
+  pub then-absent : k ≡ 0 → stringTag x ≡ 0 → 0 ≡ numberThen n x k
   unfolding numberThen
-  then-absent z e = rw (z, eq-eqb (textTag x) 0 e)
+  then-absent z e = rw (z, eq-eqb (stringTag x) 0 e)
 
-  pub then-next : k ≡ 0 → (textTag x ≡ 0 → ⊥) → n + 1 ≡ numberThen n x k
+  pub then-next : k ≡ 0 → (stringTag x ≡ 0 → ⊥) → n + 1 ≡ numberThen n x k
   unfolding numberThen
-  then-next z e = rw (z, ne-eqb (textTag x) 0 e) (omega arith)
+  then-next z e = rw (z, ne-eqb (stringTag x) 0 e) (omega arith)
 
 id-number : (text : List ℕ) (t : StringTable) (v : Vocabulary Located) (x : Located) (k : ℕ) → k ≡ numberIn (map (octetsOf text) (strings v t)) (octetsOf text x)
     → writeId text t v x .number ≡ pick (eqb k 0) (suc (length (strings v t))) k
@@ -58,14 +58,14 @@ id-number text t v x k e = rw (← e) (by (eqb k 0) _ _)
     by true p q = refl
     by false p q = refl
 
-module _ (text : List ℕ) (t : StringTable) (v : Vocabulary Located) (x : Text) (n k : ℕ) (size : length (strings v t) ≡ n) (held : k ≡ heldAs text t v x) where
-  then-id : 1 ≤ textTag x → numberThen n x k ≡ writeId text t v (locatedOf x) .number
+module _ (text : List ℕ) (t : StringTable) (v : Vocabulary Located) (x : EventString) (n k : ℕ) (size : length (strings v t) ≡ n) (held : k ≡ heldAs text t v x) where
+  then-id : 1 ≤ stringTag x → numberThen n x k ≡ writeId text t v (locatedOf x) .number
   unfolding numberThen
   then-id h =
-      let z : textTag x ≡ 0 → ⊥ = omega arith in
-      rw (ne-eqb (textTag x) 0 z, id-number text t v (locatedOf x) k (held ∙ held-is text t v x h), size)
+      let z : stringTag x ≡ 0 → ⊥ = omega arith in
+      rw (ne-eqb (stringTag x) 0 z, id-number text t v (locatedOf x) k (held ∙ held-is text t v x h), size)
 
-then-optional : (text : List ℕ) (t : StringTable) (v : Vocabulary Located) (x : Text) (n k : ℕ) → length (strings v t) ≡ n → k ≡ heldAs text t v x
+then-optional : (text : List ℕ) (t : StringTable) (v : Vocabulary Located) (x : EventString) (n k : ℕ) → length (strings v t) ≡ n → k ≡ heldAs text t v x
     → numberThen n x k ≡ writeOptional text t v (optionalOf x) .number
 unfolding writeOptional numberThen heldAs
 then-optional text t v Absent n k size held = rw held
@@ -89,7 +89,7 @@ module _ {A : Type 0} (f : Vocabulary Located → A) (text : List ℕ) (t : Stri
   optional-keeps none = refl
   optional-keeps (some x) = id-keeps x
 
-held-by : (text : List ℕ) (t : StringTable) (u v : Vocabulary Located) (x : Text) → strings u t ≡ strings v t → heldAs text t u x ≡ heldAs text t v x
+held-by : (text : List ℕ) (t : StringTable) (u v : Vocabulary Located) (x : EventString) → strings u t ≡ strings v t → heldAs text t u x ≡ heldAs text t v x
 unfolding heldAs
 held-by text t u v Absent e = refl
 held-by text t u v Empty e = rw e
@@ -129,7 +129,7 @@ layout-table t = by (eqb t 8)
     by true = refl
     by false = refl
 
-module _ (text w : List ℕ) (c : Counts) (x : Parts) (k : Row) (held : Held text (vocabulary c w) x k) (is : 1 ≤ textTag (x .local)) {a b d : ℕ}
+module _ (text w : List ℕ) (c : Counts) (x : Parts) (k : Row) (held : Held text (vocabulary c w) x k) (is : 1 ≤ stringTag (x .local)) {a b d : ℕ}
     (prefix : a ≡ numberThen (countOf c 0) (x .prefix) (k .a)) (namespace : b ≡ numberThen (countOf c 1) (x .namespace) (k .b)) (local : d ≡ numberThen (countOf c 2) (x .local) (k .c)) where
   triple-is : record { prefix = a; namespace = b; local = d } ≡ tripleFor text (vocabulary c w) (namedOf x)
   unfolding tripleFor tableOf
@@ -145,7 +145,7 @@ module _ (text w : List ℕ) (c : Counts) (x : Parts) (k : Row) (held : Held tex
       rw (prefix, namespace, local, p, n, l)
 
 -- what is found of a name: its strings' numbers k, those that they have then, and its own
-pub name-found : (text w : List ℕ) (c : Counts) (x : Parts) {k₁ k₂ k₃ a b d : ℕ} → 1 ≤ textTag (x .local) → (k₁ ≡ heldAs text (tableOf 0) (vocabulary c w) (x .prefix)) × (k₁ ≤ 256)
+pub name-found : (text w : List ℕ) (c : Counts) (x : Parts) {k₁ k₂ k₃ a b d : ℕ} → 1 ≤ stringTag (x .local) → (k₁ ≡ heldAs text (tableOf 0) (vocabulary c w) (x .prefix)) × (k₁ ≤ 256)
     → (k₂ ≡ heldAs text (tableOf 1) (vocabulary c w) (x .namespace)) × (k₂ ≤ 256) → (k₃ ≡ heldAs text (tableOf 2) (vocabulary c w) (x .local)) × (k₃ ≤ 256)
     → a ≡ numberThen (countOf c 0) (x .prefix) k₁ → b ≡ numberThen (countOf c 1) (x .namespace) k₂ → d ≡ numberThen (countOf c 2) (x .local) k₃ → (t n m : ℕ) → 8 ≤ t → t < 10
     → m ≡ countOf c t → n ≡ numberOfTriple (entries (tripleAt w) (768 * t) m) (record { prefix = a; namespace = b; local = d })
@@ -220,7 +220,7 @@ module _ (text : List ℕ) (v : Vocabulary Located) (b : ℕ) (p n : Option Loca
       let q = rw (s .tables) at m in
       record { puts = puts-octet e (puts-append (s .puts) (q .puts)); few = omega arith; tables = q .tables; order = q .order }
 
-pub pair-held : (text w : List ℕ) (c : Counts) (v : Vocabulary Located) (p : Option Located) (n : Text) (k : ℕ) → vocabulary c w ≡ writeOptional text (tableOf 0) v p .tables
+pub pair-held : (text w : List ℕ) (c : Counts) (v : Vocabulary Located) (p : Option Located) (n : EventString) (k : ℕ) → vocabulary c w ≡ writeOptional text (tableOf 0) v p .tables
     → k ≡ heldAs text NAMESPACE-NAME v n → k ≡ heldAs text (tableOf 1) (vocabulary c w) n
 unfolding tableOf
 pair-held text w c v p n k is held = rw is (held ∙ sym (held-by text NAMESPACE-NAME (writeOptional text PREFIX v p .tables) v n (namespaces-kept text v p)))
@@ -233,7 +233,7 @@ declared-is text v p n a b = rw (a, b)
 abbrev begun : ℕ → List ℕ → Vocabulary Located → Parts → Wrote Choice
 begun b text v x = pairBehind b text v (optionalOf (x .prefix)) (optionalOf (x .namespace))
 
-pub local-held : (text w : List ℕ) (c : Counts) (v : Vocabulary Located) (b : ℕ) (p n : Option Located) (l : Text) (k : ℕ) → vocabulary c w ≡ pairBehind b text v p n .tables
+pub local-held : (text w : List ℕ) (c : Counts) (v : Vocabulary Located) (b : ℕ) (p n : Option Located) (l : EventString) (k : ℕ) → vocabulary c w ≡ pairBehind b text v p n .tables
     → k ≡ heldAs text LOCAL-NAME v l → k ≡ heldAs text (tableOf 2) (vocabulary c w) l
 unfolding tableOf pairBehind
 local-held text w c v b p n l k is held =

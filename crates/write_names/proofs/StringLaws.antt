@@ -22,10 +22,10 @@ use Rattle.tables.specs.Search.{lowest, numberIn}
 use Rattle.tables.specs.Rows.{tableOf, stringAt, entries, vocabulary}
 use Rattle.tables.specs.Kept.{countOf, oneMore, stored, Inside, layoutOf}
 use Rattle.tables.proofs.Laws.{strings-are, length-strings, number-within, inside-table}
-use Rattle.events.specs.declared.Text.{Text}
-use Rattle.events.specs.declared.Text.the-variants.{Absent, Empty, Stretch, XmlPrefix, XmlNamespace}
+use Rattle.events.specs.declared.EventString.{EventString}
+use Rattle.events.specs.declared.EventString.the-variants.{Absent, Empty, Stretch, XmlPrefix, XmlNamespace}
 use Rattle.events.specs.Records.{locatedOf, optionalOf}
-use Rattle.events.specs.Words.{textTag, textPlace, textSize}
+use Rattle.events.specs.Words.{stringTag, stringPlace, stringSize}
 use Rattle.tables.proofs.Found.{same-refl}
 use Rattle.write_names.specs.declared.Here.{Here}
 use Rattle.write_names.specs.declared.Wrote as W
@@ -35,28 +35,28 @@ use Rattle.write_names.specs.Code.{Begins, InOrder, Suits, Fills, Spells
 use Rattle.write_names.proofs.Order.{string-more, order-string, full-string}
 
 -- ---- a string of an event
-pub has-none : (x : Text) → textTag x ≡ 0 → (0 ≡ has (optionalOf x)) × (0 ≤ 1)
+pub has-none : (x : EventString) → stringTag x ≡ 0 → (0 ≡ has (optionalOf x)) × (0 ≤ 1)
 has-none Absent e = (refl, omega arith)
 has-none Empty e = absurd (omega arith)
 has-none (Stretch p n) e = absurd (omega arith)
 has-none XmlPrefix e = absurd (omega arith)
 has-none XmlNamespace e = absurd (omega arith)
 
-pub has-one : (x : Text) → (textTag x ≡ 0 → ⊥) → (1 ≡ has (optionalOf x)) × (1 ≤ 1)
+pub has-one : (x : EventString) → (stringTag x ≡ 0 → ⊥) → (1 ≡ has (optionalOf x)) × (1 ≤ 1)
 has-one Absent e = absurd (e refl)
 has-one Empty e = (refl, omega arith)
 has-one (Stretch p n) e = (refl, omega arith)
 has-one XmlPrefix e = (refl, omega arith)
 has-one XmlNamespace e = (refl, omega arith)
 
-there : (x : Text) → 1 ≤ textTag x → optionalOf x ≡ some (locatedOf x)
+there : (x : EventString) → 1 ≤ stringTag x → optionalOf x ≡ some (locatedOf x)
 there Absent h = absurd (omega arith)
 there Empty h = refl
 there (Stretch p n) h = refl
 there XmlPrefix h = refl
 there XmlNamespace h = refl
 
-absent : (x : Text) → textTag x ≡ 0 → x ≡ Absent
+absent : (x : EventString) → stringTag x ≡ 0 → x ≡ Absent
 absent Absent e = refl
 absent Empty e = absurd (omega arith)
 absent (Stretch p n) e = absurd (omega arith)
@@ -88,7 +88,7 @@ unfolding numberIn lowest
 first-is text x [] h = absurd h
 first-is text x (y ∷ l) h = rw (h, same-refl (octetsOf text x))
 
-module _ (text w : List ℕ) (c : Counts) (t : ℕ) (order : InOrder text c w) (x : Text) where
+module _ (text w : List ℕ) (c : Counts) (t : ℕ) (order : InOrder text c w) (x : EventString) where
   pub held-absent : x ≡ Absent → (0 ≡ heldAs text (tableOf t) (vocabulary c w) x) × (0 ≤ 256)
   unfolding heldAs
   held-absent e = rw e (refl, omega arith)
@@ -121,7 +121,7 @@ module _ (text w : List ℕ) (c : Counts) (t : ℕ) (order : InOrder text c w) (
       (rw (e, z) (first-is text builtInNamespace (vocabulary c w .namespaces) (order .namespace)), omega arith)
 
 -- what `find` asks
-pub find-ready : (text w : List ℕ) (c : Counts) (t : ℕ) → InOrder text c w → t < 8 → (x : Text) (p n m : ℕ) → x ≡ Stretch p n → Suits text t x → m ≡ countOf c t
+pub find-ready : (text w : List ℕ) (c : Counts) (t : ℕ) → InOrder text c w → t < 8 → (x : EventString) (p n m : ℕ) → x ≡ Stretch p n → Suits text t x → m ≡ countOf c t
     → (length w ≡ 7680) × (t < 8) × (m ≤ 256) × (p + n ≤ length text) × Inside text (entries (stringAt (tableOf t) w) (768 * t) m)
 find-ready text w c t order small x p n m e s em =
     let q : (0 < n) × (p + n ≤ length text) = rw e at s in
@@ -130,15 +130,15 @@ find-ready text w c t order small x p n m e s em =
 
 -- a string that has no number is a stretch
 module _ (text w : List ℕ) (c : Counts) (t : ℕ) (order : InOrder text c w) where
-  pub new-stretch : (x : Text) → Suits text t x → 1 ≤ textTag x → 0 ≡ heldAs text (tableOf t) (vocabulary c w) x
-      → (x ≡ Stretch (textPlace x) (textSize x)) × (0 < textSize x) × (textPlace x + textSize x ≤ length text)
+  pub new-stretch : (x : EventString) → Suits text t x → 1 ≤ stringTag x → 0 ≡ heldAs text (tableOf t) (vocabulary c w) x
+      → (x ≡ Stretch (stringPlace x) (stringSize x)) × (0 < stringSize x) × (stringPlace x + stringSize x ≤ length text)
   new-stretch Absent s h e = absurd (omega arith)
   new-stretch Empty s h e = absurd s
   new-stretch (Stretch p n) s h e = (refl, s .0, s .1)
   new-stretch XmlPrefix s h e = let q = held-prefix text w c t order XmlPrefix refl s .0 in absurd (omega arith)
   new-stretch XmlNamespace s h e = let q = held-namespace text w c t order XmlNamespace refl s .0 in absurd (omega arith)
 
-pub held-is : (text : List ℕ) (t : StringTable) (v : Vocabulary Located) (x : Text) → 1 ≤ textTag x → heldAs text t v x ≡ numberIn (map (octetsOf text) (strings v t)) (octetsOf text (locatedOf x))
+pub held-is : (text : List ℕ) (t : StringTable) (v : Vocabulary Located) (x : EventString) → 1 ≤ stringTag x → heldAs text t v x ≡ numberIn (map (octetsOf text) (strings v t)) (octetsOf text (locatedOf x))
 unfolding heldAs octetsOf
 held-is text t v Absent h = absurd (omega arith)
 held-is text t v Empty h = refl
@@ -184,7 +184,7 @@ module _ (text : List ℕ) (t : StringTable) (v : Vocabulary Located) (x : Locat
   unfolding writeId
   spelled-is z = rw (← is, z)
 
-module _ (text w : List ℕ) (c : Counts) (t : ℕ) (order : InOrder text c w) (x : Text) (k : ℕ) (there : 1 ≤ textTag x) (suits : Suits text t x)
+module _ (text w : List ℕ) (c : Counts) (t : ℕ) (order : InOrder text c w) (x : EventString) (k : ℕ) (there : 1 ≤ stringTag x) (suits : Suits text t x)
     (held : k ≡ heldAs text (tableOf t) (vocabulary c w) x) where
   held-number : k ≡ numberIn (map (octetsOf text) (strings (vocabulary c w) (tableOf t))) (octetsOf text (locatedOf x))
   held-number = held ∙ held-is text (tableOf t) (vocabulary c w) x there
@@ -198,10 +198,10 @@ module _ (text w : List ℕ) (c : Counts) (t : ℕ) (order : InOrder text c w) (
       let l = length-strings c w t (omega arith) in
       rw (spelled-is text (tableOf t) (vocabulary c w) (locatedOf x) k held-number z) (full-string (vocabulary c w) t (locatedOf x) small (omega arith))
 
-  pub id-stretch : k ≡ 0 → (0 < textSize x) × (textPlace x + textSize x ≤ length text)
+  pub id-stretch : k ≡ 0 → (0 < stringSize x) × (stringPlace x + stringSize x ≤ length text)
   id-stretch z = let f = new-stretch text w c t order x suits there (sym z ∙ held) in (f .1, f .2)
 
-  pub id-added : k ≡ 0 → t < 8 → countOf c t < 256 → (p n : ℕ) → p ≡ textPlace x → n ≡ textSize x → (h : Here) (v : List ℕ) {out out′ : List ℕ} {at r : ℕ}
+  pub id-added : k ≡ 0 → t < 8 → countOf c t < 256 → (p n : ℕ) → p ≡ stringPlace x → n ≡ stringSize x → (h : Here) (v : List ℕ) {out out′ : List ℕ} {at r : ℕ}
       → (h ≡ record { at = r; counts = oneMore c t }) × (v ≡ stored w t (countOf c t) p n 0)
       → Puts out at r out′ (withLength (lengths 2) 0 (octetsOf text (stretch p n))) × (r ≤ at + 16389)
       → Stands text out at 16389 h out′ v (writeId text (tableOf t) (vocabulary c w) (locatedOf x) .octets) (writeId text (tableOf t) (vocabulary c w) (locatedOf x) .tables)
@@ -212,50 +212,50 @@ module _ (text w : List ℕ) (c : Counts) (t : ℕ) (order : InOrder text c w) (
       (stands-added text w c order t p n small room (let a = f .1 in omega arith) (let a = f .2 in omega arith) h v e (q .0) (q .1))
 
 -- ---- one that may be absent
-module _ (text w : List ℕ) (c : Counts) (t : ℕ) (order : InOrder text c w) (x : Text) where
-  pub optional-absent : textTag x ≡ 0 → (h : Here) (out : List ℕ) → h .counts ≡ c
+module _ (text w : List ℕ) (c : Counts) (t : ℕ) (order : InOrder text c w) (x : EventString) where
+  pub optional-absent : stringTag x ≡ 0 → (h : Here) (out : List ℕ) → h .counts ≡ c
       → Stands text out (h .at) 16389 h out w (writeOptional text (tableOf t) (vocabulary c w) (optionalOf x) .octets) (writeOptional text (tableOf t) (vocabulary c w) (optionalOf x) .tables)
   unfolding writeOptional
   optional-absent e h out ec =
       rw (absent x e) (record { puts = puts-nothing refl; few = omega arith; tables = ap (λ (d : Counts). vocabulary d w) ec; order = rw ec order })
 
-  pub optional-there : (textTag x ≡ 0 → ⊥) → (r : W.Wrote) (out out′ v : List ℕ) (at : ℕ) → Meets text out at 16389 r out′ v (writeId text (tableOf t) (vocabulary c w) (locatedOf x))
+  pub optional-there : (stringTag x ≡ 0 → ⊥) → (r : W.Wrote) (out out′ v : List ℕ) (at : ℕ) → Meets text out at 16389 r out′ v (writeId text (tableOf t) (vocabulary c w) (locatedOf x))
       → Meets text out at 16389 r out′ v (writeOptional text (tableOf t) (vocabulary c w) (optionalOf x))
   unfolding writeOptional
   optional-there n (Put h) out out′ v at m = rw (there x (omega arith)) m
   optional-there n Full out out′ v at m = rw (there x (omega arith)) m
 
 -- ---- a value, comment, content or chunk
-pub fills-empty : (text : List ℕ) (x : Text) → Fills text x → textSize x ≡ 0 → x ≡ Empty
+pub fills-empty : (text : List ℕ) (x : EventString) → Fills text x → stringSize x ≡ 0 → x ≡ Empty
 fills-empty text Absent f e = absurd f
 fills-empty text Empty f e = refl
 fills-empty text (Stretch p n) f e = let l = f .0 in absurd (omega arith)
 fills-empty text XmlPrefix f e = absurd f
 fills-empty text XmlNamespace f e = absurd f
 
-pub fills-spells : (text : List ℕ) (x : Text) → Fills text x → (textSize x ≡ 0 → ⊥) → Spells text x
+pub fills-spells : (text : List ℕ) (x : EventString) → Fills text x → (stringSize x ≡ 0 → ⊥) → Spells text x
 fills-spells text Absent f n = f
 fills-spells text Empty f n = absurd (n refl)
 fills-spells text (Stretch p m) f n = f
 fills-spells text XmlPrefix f n = f
 fills-spells text XmlNamespace f n = f
 
-pub spells-suits : (text : List ℕ) (t : ℕ) (x : Text) → Spells text x → Suits text t x
+pub spells-suits : (text : List ℕ) (t : ℕ) (x : EventString) → Spells text x → Suits text t x
 spells-suits text t Absent f = absurd f
 spells-suits text t Empty f = f
 spells-suits text t (Stretch p m) f = f
 spells-suits text t XmlPrefix f = absurd f
 spells-suits text t XmlNamespace f = absurd f
 
-pub spells-stretch : (text : List ℕ) (x : Text) → Spells text x → (locatedOf x ≡ stretch (textPlace x) (textSize x)) × (0 < textSize x) × (textPlace x + textSize x ≤ length text) × (1 ≤ textTag x)
+pub spells-stretch : (text : List ℕ) (x : EventString) → Spells text x → (locatedOf x ≡ stretch (stringPlace x) (stringSize x)) × (0 < stringSize x) × (stringPlace x + stringSize x ≤ length text) × (1 ≤ stringTag x)
 spells-stretch text Absent f = absurd f
 spells-stretch text Empty f = absurd f
 spells-stretch text (Stretch p m) f = (refl, f .0, f .1, omega arith)
 spells-stretch text XmlPrefix f = absurd f
 spells-stretch text XmlNamespace f = absurd f
 
-module _ (text w : List ℕ) (c : Counts) (t : ℕ) (order : InOrder text c w) (x : Text) (spells : Spells text x) (small : t < 8) (bit lead add : ℕ)
-    (p n : ℕ) (ep : p ≡ textPlace x) (en : n ≡ textSize x) where
+module _ (text w : List ℕ) (c : Counts) (t : ℕ) (order : InOrder text c w) (x : EventString) (spells : Spells text x) (small : t < 8) (bit lead add : ℕ)
+    (p n : ℕ) (ep : p ≡ stringPlace x) (en : n ≡ stringSize x) where
   located : locatedOf x ≡ stretch p n
   located = spells-stretch text x spells .0 ∙ rw (ep, en)
 
@@ -295,7 +295,7 @@ module _ (text w : List ℕ) (c : Counts) (t : ℕ) (order : InOrder text c w) (
       (stands-added text w c order t p n small room (let a = f .1 in omega arith) (let a = f .2 in omega arith) h v e (q .0) (q .1))
 
 -- k is the number that the table has for it
-module _ (text w : List ℕ) (c : Counts) (t : ℕ) (order : InOrder text c w) (x : Text) (k : ℕ) (held : k ≡ heldAs text (tableOf t) (vocabulary c w) x) where
+module _ (text w : List ℕ) (c : Counts) (t : ℕ) (order : InOrder text c w) (x : EventString) (k : ℕ) (held : k ≡ heldAs text (tableOf t) (vocabulary c w) x) where
   module _ (spells : Spells text x) (q : Layout) where
     number-is : k ≡ numberIn (map (octetsOf text) (strings (vocabulary c w) (tableOf t))) (octetsOf text (locatedOf x))
     number-is = held ∙ held-is text (tableOf t) (vocabulary c w) x (spells-stretch text x spells .3)
@@ -314,32 +314,32 @@ module _ (text w : List ℕ) (c : Counts) (t : ℕ) (order : InOrder text c w) (
     literal-spelled z h p = rw (← number-is, z) p
 
   module _ (fills : Fills text x) where
-    value-is : (textSize x ≡ 0 → ⊥) → writeValue link text (tableOf t) (vocabulary c w) (locatedOf x) ≡ writeLiteral link c14 text (tableOf t) (vocabulary c w) (locatedOf x)
+    value-is : (stringSize x ≡ 0 → ⊥) → writeValue link text (tableOf t) (vocabulary c w) (locatedOf x) ≡ writeLiteral link c14 text (tableOf t) (vocabulary c w) (locatedOf x)
     unfolding writeValue octetsOf
     value-is n =
         let f = spells-stretch text x (fills-spells text x fills n) in
         let l = f .1 in
-        rw (f .0, part-length text (textPlace x) (textSize x) (f .2), ne-eqb (textSize x) 0 n)
+        rw (f .0, part-length text (stringPlace x) (stringSize x) (f .2), ne-eqb (stringSize x) 0 n)
 
-    pub value-numbered : (textSize x ≡ 0 → ⊥) → (k ≡ 0 → ⊥) → {out out′ : List ℕ} {at r : ℕ} → Puts out at r out′ (spell c25 0x80 (k - 1)) × (r ≤ at + 3)
+    pub value-numbered : (stringSize x ≡ 0 → ⊥) → (k ≡ 0 → ⊥) → {out out′ : List ℕ} {at r : ℕ} → Puts out at r out′ (spell c25 0x80 (k - 1)) × (r ≤ at + 3)
         → Stands text out at 16389 (record { at = r; counts = c }) out′ w (writeValue link text (tableOf t) (vocabulary c w) (locatedOf x) .octets)
         (writeValue link text (tableOf t) (vocabulary c w) (locatedOf x) .tables)
     unfolding c14
     value-numbered n m p = rw (value-is n) (literal-numbered (fills-spells text x fills n) c14 m (p .0) (let l = p .1 in omega arith))
 
-    pub value-spelled : (textSize x ≡ 0 → ⊥) → k ≡ 0 → {out out′ v : List ℕ} {at : ℕ} (h : Here)
+    pub value-spelled : (stringSize x ≡ 0 → ⊥) → k ≡ 0 → {out out′ v : List ℕ} {at : ℕ} (h : Here)
         → Stands text out at 16389 h out′ v (spelledOctets 5 0 0x40 text (strings (vocabulary c w) (tableOf t)) (locatedOf x)) (spelledWords text (tableOf t) (vocabulary c w) (locatedOf x))
         → Stands text out at 16389 h out′ v (writeValue link text (tableOf t) (vocabulary c w) (locatedOf x) .octets) (writeValue link text (tableOf t) (vocabulary c w) (locatedOf x) .tables)
     unfolding c14
     value-spelled n z h p = rw (value-is n) (literal-spelled (fills-spells text x fills n) c14 z h p)
 
-pub value-empty : (text w : List ℕ) (c : Counts) (t : ℕ) (order : InOrder text c w) (x : Text) (fills : Fills text x) → textSize x ≡ 0 → {out out′ : List ℕ} {at : ℕ} → out′ ≡ set out at 0xFF
+pub value-empty : (text w : List ℕ) (c : Counts) (t : ℕ) (order : InOrder text c w) (x : EventString) (fills : Fills text x) → stringSize x ≡ 0 → {out out′ : List ℕ} {at : ℕ} → out′ ≡ set out at 0xFF
     → Stands text out at 16389 (record { at = at + 1; counts = c }) out′ w (writeValue link text (tableOf t) (vocabulary c w) (locatedOf x) .octets)
     (writeValue link text (tableOf t) (vocabulary c w) (locatedOf x) .tables)
 unfolding writeValue octetsOf
 value-empty text w c t order x fills z e = rw (fills-empty text x fills z) (stands-put text w c order (puts-one e) (omega arith))
 
-module _ (text w : List ℕ) (c : Counts) (order : InOrder text c w) (x : Text) (spells : Spells text x) (k : ℕ) (held : k ≡ heldAs text (tableOf 6) (vocabulary c w) x) where
+module _ (text w : List ℕ) (c : Counts) (order : InOrder text c w) (x : EventString) (spells : Spells text x) (k : ℕ) (held : k ≡ heldAs text (tableOf 6) (vocabulary c w) x) where
   pub chunk-numbered : (k ≡ 0 → ⊥) → {out out′ : List ℕ} {at r : ℕ} → Puts out at r out′ (spell (numbers 4) 0xA0 (k - 1)) × (r ≤ at + 4)
       → Stands text out at 16389 (record { at = r; counts = c }) out′ w (writeLiteral link c15 text CONTENT-CHARACTER-CHUNK (vocabulary c w) (locatedOf x) .octets)
       (writeLiteral link c15 text CONTENT-CHARACTER-CHUNK (vocabulary c w) (locatedOf x) .tables)

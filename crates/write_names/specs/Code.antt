@@ -19,10 +19,10 @@ use Rattle.tables.specs.Counts.{tableWords}
 use Rattle.tables.specs.Search.{numberIn, numberOfTriple}
 use Rattle.tables.specs.Rows.{vocabulary}
 use Rattle.tables.specs.Kept.{countOf, oneMore, stored, Counted, Clean, AllInside}
-use Rattle.events.specs.declared.Text.{Text}
-use Rattle.events.specs.declared.Text.the-variants.{Absent, Empty, Stretch, XmlPrefix, XmlNamespace}
+use Rattle.events.specs.declared.EventString.{EventString}
+use Rattle.events.specs.declared.EventString.the-variants.{Absent, Empty, Stretch, XmlPrefix, XmlNamespace}
 use Rattle.events.specs.Records.{locatedOf, optionalOf}
-use Rattle.events.specs.Words.{textTag}
+use Rattle.events.specs.Words.{stringTag}
 use Rattle.write_names.specs.declared.Here.{Here}
 use Rattle.write_names.specs.declared.Wrote as W
 use Rattle.write_names.specs.declared.Wrote.the-variants.{Put, Full}
@@ -45,7 +45,7 @@ pub record InOrder (text : List ℕ) (c : Counts) (w : List ℕ) : Type 0 where
   pub namespace : Begins builtInNamespace (vocabulary c w .namespaces)
 
 -- The string of an event is one that a table of identifying strings may hold: a stretch that is not empty and lies in the text area, or the table's built-in one.
-abbrev pub Suits : List ℕ → ℕ → Text → Type 0
+abbrev pub Suits : List ℕ → ℕ → EventString → Type 0
 Suits text table Absent = Unit {0}
 Suits text table Empty = ⊥
 Suits text table (Stretch p n) = (0 < n) × (p + n ≤ length text)
@@ -53,7 +53,7 @@ Suits text table XmlPrefix = table ≡ 0
 Suits text table XmlNamespace = table ≡ 1
 
 -- The string may be a value, a comment or a content: empty, or a stretch as above.
-abbrev pub Fills : List ℕ → Text → Type 0
+abbrev pub Fills : List ℕ → EventString → Type 0
 Fills text Absent = ⊥
 Fills text Empty = Unit {0}
 Fills text (Stretch p n) = (0 < n) × (p + n ≤ length text)
@@ -61,7 +61,7 @@ Fills text XmlPrefix = ⊥
 Fills text XmlNamespace = ⊥
 
 -- The same for a string that may not be empty.
-abbrev pub Spells : List ℕ → Text → Type 0
+abbrev pub Spells : List ℕ → EventString → Type 0
 Spells text Absent = ⊥
 Spells text Empty = ⊥
 Spells text (Stretch p n) = (0 < n) × (p + n ≤ length text)
@@ -69,7 +69,7 @@ Spells text XmlPrefix = ⊥
 Spells text XmlNamespace = ⊥
 
 -- A string's number in its table; 0 where it has none, or there is no string.
-unfoldable pub heldAs : List ℕ → StringTable → Vocabulary Located → Text → ℕ
+unfoldable pub heldAs : List ℕ → StringTable → Vocabulary Located → EventString → ℕ
 heldAs text t v Absent = 0
 heldAs text t v Empty = numberIn (map (octetsOf text) (strings v t)) []
 heldAs text t v (Stretch p n) = numberIn (map (octetsOf text) (strings v t)) (octetsOf text (locatedOf (Stretch p n)))
@@ -95,8 +95,8 @@ pub record Held (text : List ℕ) (v : Vocabulary Located) (x : Parts) (k : Row)
   pub few : (k .a ≤ 256) × (k .b ≤ 256) × (k .c ≤ 256)
 
 -- A string's number once it is written, from the number that it has and its table's n entries.
-unfoldable pub numberThen : (n : ℕ) → Text → (k : ℕ) → ℕ
-numberThen n x k = pick (eqb k 0) (pick (eqb (textTag x) 0) 0 (suc n)) k
+unfoldable pub numberThen : (n : ℕ) → EventString → (k : ℕ) → ℕ
+numberThen n x k = pick (eqb k 0) (pick (eqb (stringTag x) 0) 0 (suc n)) k
 
 -- The numbers that a name's strings have once they are written; and the name's own number, 0 if it has none.
 unfoldable pub tripleFor : List ℕ → Vocabulary Located → Name Located → Triple

@@ -15,10 +15,10 @@ ghost use Rattle.tables.specs.Located.{stretch, octetsOf};
 ghost use Rattle.tables.specs.Rows.{tableOf, vocabulary};
 ghost use Rattle.tables.specs.Kept.{countOf, oneMore, stored, layoutOf};
 ghost use Rattle.events.specs.Records.{locatedOf, optionalOf};
-ghost use Rattle.events.specs.Words.{textTag};
+ghost use Rattle.events.specs.Words.{stringTag};
 ghost use Rattle.write_names.specs.Choices.{writeId, writeOptional, writeLiteral, writeValue};
 ghost use Rattle.write_names.specs.Code.{InOrder, Suits, Fills, heldAs, Spells, spelledOctets, spelledWords, Stands, Meets};
-use events::Text;
+use events::EventString;
 use fields::put::put;
 use fields::put::put_length;
 use fields::put::put_number;
@@ -54,20 +54,20 @@ pub enum Wrote {
 
 // A name's strings.
 pub struct Parts {
-    pub prefix: Text,
-    pub namespace: Text,
-    pub local: Text,
+    pub prefix: EventString,
+    pub namespace: EventString,
+    pub local: EventString,
 }
 
 // The number of a string in its table; 0 where it has none, or there is no string.
-fn number_of(text: &[u8], t: &[u32], c: Counts, table: usize, x: Text) -> u32
+fn number_of(text: &[u8], t: &[u32], c: Counts, table: usize, x: EventString) -> u32
     requires { ⌜ (InOrder (now text) c (now t)) × (table < 8) × Suits (now text) table x ⌝ }
     ensures { λ r. ⌜ (r ≡ heldAs (now (text .entry)) (tableOf table) (vocabulary c (now (t .entry))) x) × (r ≤ 256) ⌝ }
 {
     match x {
-        Text::Absent => 0,
-        Text::Empty => 0,
-        Text::Stretch(place, size) => tables::find(
+        EventString::Absent => 0,
+        EventString::Empty => 0,
+        EventString::Stretch(place, size) => tables::find(
             text,
             t,
             table,
@@ -75,8 +75,8 @@ fn number_of(text: &[u8], t: &[u32], c: Counts, table: usize, x: Text) -> u32
             place as usize,
             size as usize,
         ),
-        Text::XmlPrefix => 1,
-        Text::XmlNamespace => 1,
+        EventString::XmlPrefix => 1,
+        EventString::XmlNamespace => 1,
     }
 }
 
@@ -99,7 +99,7 @@ fn spelled(
 }
 
 // 1 where there is a string.
-fn has(x: Text) -> u8
+fn has(x: EventString) -> u8
     ensures { λ r. ⌜ (r ≡ has (optionalOf x)) × (r ≤ 1) ⌝ }
 {
     if x.tag() == 0 {
@@ -147,10 +147,10 @@ impl Here {
         t: &mut [u32],
         out: &mut [u8],
         table: usize,
-        x: Text,
+        x: EventString,
         k: u32,
     ) -> Wrote
-        requires { ⌜ (InOrder (now text) (self .counts) (now t)) × (self .at ≤ 900000) × (table < 4) × Suits (now text) table x × (1 ≤ textTag x) × (k ≡ heldAs (now text) (tableOf table) (vocabulary (self .counts) (now t)) x) × (k ≤ 256) ⌝ }
+        requires { ⌜ (InOrder (now text) (self .counts) (now t)) × (self .at ≤ 900000) × (table < 4) × Suits (now text) table x × (1 ≤ stringTag x) × (k ≡ heldAs (now text) (tableOf table) (vocabulary (self .counts) (now t)) x) × (k ≤ 256) ⌝ }
         ensures { λ r. ⌜ Meets (now (text .entry)) (now (out .entry)) (self .at) 16389 r (now (out .exit)) (now (t .exit)) (writeId (now (text .entry)) (tableOf table) (vocabulary (self .counts) (now (t .entry))) (locatedOf x)) ⌝ }
     {
         if k != 0 {
@@ -173,7 +173,7 @@ impl Here {
         t: &mut [u32],
         out: &mut [u8],
         table: usize,
-        x: Text,
+        x: EventString,
         k: u32,
     ) -> Wrote
         requires { ⌜ (InOrder (now text) (self .counts) (now t)) × (self .at ≤ 900000) × (table < 4) × Suits (now text) table x × (k ≡ heldAs (now text) (tableOf table) (vocabulary (self .counts) (now t)) x) × (k ≤ 256) ⌝ }
@@ -192,9 +192,9 @@ impl Here {
         t: &mut [u32],
         out: &mut [u8],
         table: usize,
-        x: Text,
+        x: EventString,
     ) -> Wrote
-        requires { ⌜ (InOrder (now text) (self .counts) (now t)) × (self .at ≤ 900000) × (table < 4) × Suits (now text) table x × (1 ≤ textTag x) ⌝ }
+        requires { ⌜ (InOrder (now text) (self .counts) (now t)) × (self .at ≤ 900000) × (table < 4) × Suits (now text) table x × (1 ≤ stringTag x) ⌝ }
         ensures { λ r. ⌜ Meets (now (text .entry)) (now (out .entry)) (self .at) 16389 r (now (out .exit)) (now (t .exit)) (writeId (now (text .entry)) (tableOf table) (vocabulary (self .counts) (now (t .entry))) (locatedOf x)) ⌝ }
     {
         let k = number_of(text, t, self.counts, table, x);
@@ -211,7 +211,7 @@ impl Here {
         bit: u32,
         lead: u8,
         add: u8,
-        x: Text,
+        x: EventString,
     ) -> Here
         requires { ⌜ (InOrder (now text) (self .counts) (now t)) × (self .at ≤ 900000) × (table < 8) × (Spells (now text) x) × (1 ≤ bit) × (bit ≤ 7) × (lead + add + 2 ^ (9 - bit) ≤ 256) ⌝ }
         ensures { λ r. ⌜ Stands (now (text .entry)) (now (out .entry)) (self .at) 16389 r (now (out .exit)) (now (t .exit)) (spelledOctets bit lead add (now (text .entry)) (strings (vocabulary (self .counts) (now (t .entry))) (tableOf table)) (locatedOf x)) (spelledWords (now (text .entry)) (tableOf table) (vocabulary (self .counts) (now (t .entry))) (locatedOf x)) ⌝ }
@@ -237,7 +237,7 @@ impl Here {
         t: &mut [u32],
         out: &mut [u8],
         table: usize,
-        x: Text,
+        x: EventString,
     ) -> Here
         requires { ⌜ (InOrder (now text) (self .counts) (now t)) × (self .at ≤ 900000) × (table < 8) × (Fills (now text) x) ⌝ }
         ensures { λ r. ⌜ Stands (now (text .entry)) (now (out .entry)) (self .at) 16389 r (now (out .exit)) (now (t .exit)) (writeValue link (now (text .entry)) (tableOf table) (vocabulary (self .counts) (now (t .entry))) (locatedOf x) .octets) (writeValue link (now (text .entry)) (tableOf table) (vocabulary (self .counts) (now (t .entry))) (locatedOf x) .tables) ⌝ }
@@ -256,7 +256,7 @@ impl Here {
     }
 
     // C.15: a chunk.
-    pub fn chunk(mut self, text: &[u8], t: &mut [u32], out: &mut [u8], x: Text) -> Here
+    pub fn chunk(mut self, text: &[u8], t: &mut [u32], out: &mut [u8], x: EventString) -> Here
         requires { ⌜ (InOrder (now text) (self .counts) (now t)) × (self .at ≤ 900000) × (Spells (now text) x) ⌝ }
         ensures { λ r. ⌜ Stands (now (text .entry)) (now (out .entry)) (self .at) 16389 r (now (out .exit)) (now (t .exit)) (writeLiteral link c15 (now (text .entry)) CONTENT-CHARACTER-CHUNK (vocabulary (self .counts) (now (t .entry))) (locatedOf x) .octets) (writeLiteral link c15 (now (text .entry)) CONTENT-CHARACTER-CHUNK (vocabulary (self .counts) (now (t .entry))) (locatedOf x) .tables) ⌝ }
     {

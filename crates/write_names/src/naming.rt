@@ -7,7 +7,7 @@ ghost use Rattle.tables.specs.Counts.{tableWords};
 ghost use Rattle.tables.specs.Rows.{vocabulary};
 ghost use Rattle.tables.specs.Kept.{countOf, layoutOf, tripleOf};
 ghost use Rattle.events.specs.Records.{optionalOf};
-ghost use Rattle.events.specs.Words.{textTag};
+ghost use Rattle.events.specs.Words.{stringTag};
 ghost use Rattle.write_names.specs.Choices.{writeName};
 ghost use Rattle.write_names.specs.Code.{InOrder, Suits, heldAs, Held, namedOf, tripleFor, nameHeldAs, numberThen, Tripled, pairBehind, declaredBy, Meets};
 use crate::Here;
@@ -20,13 +20,13 @@ use crate::has;
 use crate::in_parts;
 use crate::number_of;
 use crate::put_name_number;
-use events::Text;
+use events::EventString;
 use fields::put::put;
 use tables::Counts;
 use tables::Row;
 
 // A string's number once it is written: k, or the next of its table; 0 where there is no string.
-fn number_then(c: Counts, table: usize, x: Text, k: u32) -> u32
+fn number_then(c: Counts, table: usize, x: EventString, k: u32) -> u32
     requires { ⌜ (table < 10) × (countOf c table ≤ 256) ⌝ }
     ensures { λ r. ⌜ r ≡ numberThen (countOf c table) x k ⌝ }
 {
@@ -61,8 +61,8 @@ impl Here {
         t: &mut [u32],
         out: &mut [u8],
         first: u8,
-        prefix: Text,
-        namespace: Text,
+        prefix: EventString,
+        namespace: EventString,
         k: u32,
         n: u32,
     ) -> Wrote
@@ -89,7 +89,7 @@ impl Here {
         k: Row,
         x: Row,
     ) -> Wrote
-        requires { ⌜ (InOrder (now text) (self .counts) (now t)) × (self .at ≤ 800000) × (8 ≤ table) × (table < 10) × (lead ≤ 0x80) × Suits (now text) 0 (name .prefix) × Suits (now text) 1 (name .namespace) × Suits (now text) 2 (name .local) × (1 ≤ textTag (name .local)) × Held (now text) (vocabulary (self .counts) (now t)) name k × (tripleOf x ≡ tripleFor (now text) (vocabulary (self .counts) (now t)) (namedOf name)) × (0 ≡ nameHeldAs (layoutOf table) (now text) (vocabulary (self .counts) (now t)) (namedOf name)) ⌝ }
+        requires { ⌜ (InOrder (now text) (self .counts) (now t)) × (self .at ≤ 800000) × (8 ≤ table) × (table < 10) × (lead ≤ 0x80) × Suits (now text) 0 (name .prefix) × Suits (now text) 1 (name .namespace) × Suits (now text) 2 (name .local) × (1 ≤ stringTag (name .local)) × Held (now text) (vocabulary (self .counts) (now t)) name k × (tripleOf x ≡ tripleFor (now text) (vocabulary (self .counts) (now t)) (namedOf name)) × (0 ≡ nameHeldAs (layoutOf table) (now text) (vocabulary (self .counts) (now t)) (namedOf name)) ⌝ }
         ensures { λ r. ⌜ Meets (now (text .entry)) (now (out .entry)) (self .at) 49168 r (now (out .exit)) (now (t .exit)) (writeName (layoutOf table) lead (now (text .entry)) (vocabulary (self .counts) (now (t .entry))) (namedOf name)) ⌝ }
     {
         let prefix = name.prefix;
@@ -115,7 +115,7 @@ impl Here {
         lead: u8,
         name: Parts,
     ) -> Wrote
-        requires { ⌜ (InOrder (now text) (self .counts) (now t)) × (self .at ≤ 800000) × (8 ≤ table) × (table < 10) × (lead ≤ 0x80) × Suits (now text) 0 (name .prefix) × Suits (now text) 1 (name .namespace) × Suits (now text) 2 (name .local) × (1 ≤ textTag (name .local)) ⌝ }
+        requires { ⌜ (InOrder (now text) (self .counts) (now t)) × (self .at ≤ 800000) × (8 ≤ table) × (table < 10) × (lead ≤ 0x80) × Suits (now text) 0 (name .prefix) × Suits (now text) 1 (name .namespace) × Suits (now text) 2 (name .local) × (1 ≤ stringTag (name .local)) ⌝ }
         ensures { λ r. ⌜ Meets (now (text .entry)) (now (out .entry)) (self .at) 49168 r (now (out .exit)) (now (t .exit)) (writeName (layoutOf table) lead (now (text .entry)) (vocabulary (self .counts) (now (t .entry))) (namedOf name)) ⌝ }
     {
         let prefix = name.prefix;
@@ -146,8 +146,8 @@ impl Here {
         text: &[u8],
         t: &mut [u32],
         out: &mut [u8],
-        prefix: Text,
-        namespace: Text,
+        prefix: EventString,
+        namespace: EventString,
     ) -> Wrote
         requires { ⌜ (InOrder (now text) (self .counts) (now t)) × (self .at ≤ 800000) × Suits (now text) 0 prefix × Suits (now text) 1 namespace ⌝ }
         ensures { λ r. ⌜ Meets (now (text .entry)) (now (out .entry)) (self .at) 32779 r (now (out .exit)) (now (t .exit)) (declaredBy (now (text .entry)) (vocabulary (self .counts) (now (t .entry))) (optionalOf prefix) (optionalOf namespace)) ⌝ }

@@ -26,13 +26,13 @@ use Rattle.tables.specs.Search.{numberIn, numberOfTriple}
 use Rattle.tables.specs.Rows.{tableOf, vocabulary}
 use Rattle.tables.specs.Kept.{nameTableOf, layoutOf}
 use Rattle.tables.proofs.Laws.{length-strings, length-names, number-within, name-number-within}
-use Rattle.events.specs.declared.Text.{Text}
-use Rattle.events.specs.declared.Text.the-variants.{Absent, Empty, Stretch, XmlPrefix, XmlNamespace}
+use Rattle.events.specs.declared.EventString.{EventString}
+use Rattle.events.specs.declared.EventString.the-variants.{Absent, Empty, Stretch, XmlPrefix, XmlNamespace}
 use Rattle.events.specs.declared.Kind.{Kind}
 use Rattle.events.specs.declared.Kind.the-variants.{Namespace, Start, Attribute, Chunk, Comment, Instruction, End}
 use Rattle.events.specs.declared.Event.{Event}
 use Rattle.events.specs.Records.{locatedOf, optionalOf}
-use Rattle.events.specs.Words.{textTag, textPlace, textSize}
+use Rattle.events.specs.Words.{stringTag, stringPlace, stringSize}
 use Rattle.write_names.specs.declared.Here.{Here}
 use Rattle.write_names.specs.declared.Wrote as W
 use Rattle.write_names.specs.declared.Wrote.the-variants.{Put, Full}
@@ -57,28 +57,28 @@ use Rattle.writer.proofs.WellMade.{stretch-lies, Named, by-kind}
 
 -- ---- the strings of a record that is well made
 module _ (text : List ℕ) where
-  pub prefix-suits : (x : Text) → isPrefix text x ≡ true → Suits text 0 x
+  pub prefix-suits : (x : EventString) → isPrefix text x ≡ true → Suits text 0 x
   prefix-suits Absent e = tt
   prefix-suits Empty e = clash e
   prefix-suits (Stretch p n) e = stretch-lies text (Stretch p n) e
   prefix-suits XmlPrefix e = refl
   prefix-suits XmlNamespace e = clash e
 
-  pub namespace-suits : (x : Text) → isNamespace text x ≡ true → Suits text 1 x
+  pub namespace-suits : (x : EventString) → isNamespace text x ≡ true → Suits text 1 x
   namespace-suits Absent e = tt
   namespace-suits Empty e = clash e
   namespace-suits (Stretch p n) e = stretch-lies text (Stretch p n) e
   namespace-suits XmlPrefix e = clash e
   namespace-suits XmlNamespace e = refl
 
-  pub stretch-spells : (x : Text) → isStretch text x ≡ true → Spells text x
+  pub stretch-spells : (x : EventString) → isStretch text x ≡ true → Spells text x
   stretch-spells Absent e = clash e
   stretch-spells Empty e = clash e
   stretch-spells (Stretch p n) e = stretch-lies text (Stretch p n) e
   stretch-spells XmlPrefix e = clash e
   stretch-spells XmlNamespace e = clash e
 
-  pub value-fills : (x : Text) → isValue text x ≡ true → Fills text x
+  pub value-fills : (x : EventString) → isValue text x ≡ true → Fills text x
   value-fills Absent e = clash e
   value-fills Empty e = tt
   value-fills (Stretch p n) e = stretch-lies text (Stretch p n) e
@@ -86,7 +86,7 @@ module _ (text : List ℕ) where
   value-fills XmlNamespace e = clash e
 
   pub name-ready : (e : Event) (name : Parts) → name ≡ record { prefix = e .prefix; namespace = e .namespace; local = e .name } → Named text e
-      → Suits text 0 (name .prefix) × Suits text 1 (name .namespace) × Suits text 2 (name .local) × (1 ≤ textTag (name .local))
+      → Suits text 0 (name .prefix) × Suits text 1 (name .namespace) × Suits text 2 (name .local) × (1 ≤ stringTag (name .local))
   name-ready e name is n =
       let s = stretch-spells (e .name) (n .local) in
       rw is (prefix-suits (e .prefix) (n .prefix), namespace-suits (e .namespace) (n .namespace), spells-suits text 2 (e .name) s, spells-stretch text (e .name) s .3)
@@ -161,9 +161,9 @@ sizes-4 : 256 ≤ sizes (numbers 4)
 unfolding sizes numbers coded
 sizes-4 = omega arith
 
-spelled-some : (text : List ℕ) (x : Text) → Spells text x → 1 ≤ length (octetsOf text (locatedOf x))
+spelled-some : (text : List ℕ) (x : EventString) → Spells text x → 1 ≤ length (octetsOf text (locatedOf x))
 unfolding octetsOf
-spelled-some text x s = let f = spells-stretch text x s in let n = f .1 in rw (f .0, part-length text (textPlace x) (textSize x) (f .2)) (omega arith)
+spelled-some text x s = let f = spells-stretch text x s in let n = f .1 in rw (f .0, part-length text (stringPlace x) (stringSize x) (f .2)) (omega arith)
 
 module _ (text : List ℕ) (v : Vocabulary Located) (x : Located) (some : 1 ≤ length (octetsOf text x)) (few : length (strings v CONTENT-CHARACTER-CHUNK) ≤ 256) where
   chunk-by : (b : Bool) → eqb (numberIn (map (octetsOf text) (strings v CONTENT-CHARACTER-CHUNK)) (octetsOf text x)) 0 ≡ b

@@ -12,8 +12,8 @@ use lib.ListN.{take, drop}
 use Rattle.format.specs.Text.{isText, after, next, first, rows, between}
 use Rattle.format.specs.Tables.{xmlPrefix, xmlNamespace}
 use Rattle.tables.specs.Located.{stretch, octetsOf}
-use Rattle.events.specs.declared.Text.{Text}
-use Rattle.events.specs.declared.Text.the-variants.{Absent, Empty, Stretch, XmlPrefix, XmlNamespace}
+use Rattle.events.specs.declared.EventString.{EventString}
+use Rattle.events.specs.declared.EventString.the-variants.{Absent, Empty, Stretch, XmlPrefix, XmlNamespace}
 use Rattle.events.specs.declared.Kind.the-variants.{Namespace}
 use Rattle.events.specs.declared.Event.{Event}
 use Rattle.writer.specs.Events.{locatedOf, optionalOf, nameOf, eventOf, optionalText, nameText, allText}
@@ -55,7 +55,7 @@ module _ (text : List ℕ) where
   stretch-text p n = let q : p + n - p ≡ n = omega arith in rw q
 
   -- a string that is not there is text as the empty one is
-  optional-text : (x : Text) → optionalText text (optionalOf x) ≡ isText (octetsOf text (locatedOf x))
+  optional-text : (x : EventString) → optionalText text (optionalOf x) ≡ isText (octetsOf text (locatedOf x))
   optional-text Absent = absent-text
   optional-text Empty = refl
   optional-text (Stretch p n) = refl

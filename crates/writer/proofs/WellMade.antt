@@ -7,8 +7,8 @@ use Prim.Native.Nat.{ℕ, _+_}
 use borrow.Author.Tests.{ltb-true, leb-true}
 use lib.Dec.{ltb, leb}
 use lib.ListN.{length}
-use Rattle.events.specs.declared.Text.{Text}
-use Rattle.events.specs.declared.Text.the-variants.{Absent, Empty, Stretch, XmlPrefix, XmlNamespace}
+use Rattle.events.specs.declared.EventString.{EventString}
+use Rattle.events.specs.declared.EventString.the-variants.{Absent, Empty, Stretch, XmlPrefix, XmlNamespace}
 use Rattle.events.specs.declared.Kind.{Kind}
 use Rattle.events.specs.declared.Kind.the-variants.{Blank, Namespace, Start, Attribute, Chunk, Comment, Instruction, End}
 use Rattle.events.specs.declared.Event.{Event}
@@ -18,27 +18,27 @@ use Rattle.writer.specs.Code.{Lies, Placed}
 
 -- ---- strings
 module _ (text : List ℕ) where
-  lies-by : (x : Text) → ((p n : ℕ) → x ≡ Stretch p n → isStretch text (Stretch p n) ≡ true) → Lies text x
+  lies-by : (x : EventString) → ((p n : ℕ) → x ≡ Stretch p n → isStretch text (Stretch p n) ≡ true) → Lies text x
   lies-by Absent f = tt
   lies-by Empty f = tt
   lies-by (Stretch p n) f = let b = both-true (ltb 0 n) (leb (p + n) (length text)) (f p n refl) in (ltb-true _ _ (b .0), leb-true _ _ (b .1))
   lies-by XmlPrefix f = tt
   lies-by XmlNamespace f = tt
 
-  absent-lies : (x : Text) → isAbsent x ≡ true → Lies text x
-  absent-lies x e = lies-by x λ p n q. clash (subst (λ (y : Text). isAbsent y ≡ true) q e)
+  absent-lies : (x : EventString) → isAbsent x ≡ true → Lies text x
+  absent-lies x e = lies-by x λ p n q. clash (subst (λ (y : EventString). isAbsent y ≡ true) q e)
 
-  pub stretch-lies : (x : Text) → isStretch text x ≡ true → Lies text x
-  stretch-lies x e = lies-by x λ p n q. subst (λ (y : Text). isStretch text y ≡ true) q e
+  pub stretch-lies : (x : EventString) → isStretch text x ≡ true → Lies text x
+  stretch-lies x e = lies-by x λ p n q. subst (λ (y : EventString). isStretch text y ≡ true) q e
 
-  pub prefix-lies : (x : Text) → isPrefix text x ≡ true → Lies text x
-  prefix-lies x e = lies-by x λ p n q. subst (λ (y : Text). isPrefix text y ≡ true) q e
+  pub prefix-lies : (x : EventString) → isPrefix text x ≡ true → Lies text x
+  prefix-lies x e = lies-by x λ p n q. subst (λ (y : EventString). isPrefix text y ≡ true) q e
 
-  pub namespace-lies : (x : Text) → isNamespace text x ≡ true → Lies text x
-  namespace-lies x e = lies-by x λ p n q. subst (λ (y : Text). isNamespace text y ≡ true) q e
+  pub namespace-lies : (x : EventString) → isNamespace text x ≡ true → Lies text x
+  namespace-lies x e = lies-by x λ p n q. subst (λ (y : EventString). isNamespace text y ≡ true) q e
 
-  pub value-lies : (x : Text) → isValue text x ≡ true → Lies text x
-  value-lies x e = lies-by x λ p n q. subst (λ (y : Text). isValue text y ≡ true) q e
+  pub value-lies : (x : EventString) → isValue text x ≡ true → Lies text x
+  value-lies x e = lies-by x λ p n q. subst (λ (y : EventString). isValue text y ≡ true) q e
 
 -- ---- records
 pub record Named (text : List ℕ) (e : Event) : Type 0 where

@@ -9,8 +9,8 @@ use Rattle.format.specs.Tables.{Vocabulary, link}
 use Rattle.format.specs.Items as F
 use Rattle.format.specs.Refusals.{TEXT, DEPTH, EVENT}
 use Rattle.tables.specs.Located.{Located}
-use Rattle.events.specs.declared.Text.{Text}
-use Rattle.events.specs.declared.Text.the-variants.{Absent, Empty, Stretch, XmlPrefix, XmlNamespace}
+use Rattle.events.specs.declared.EventString.{EventString}
+use Rattle.events.specs.declared.EventString.the-variants.{Absent, Empty, Stretch, XmlPrefix, XmlNamespace}
 use Rattle.events.specs.declared.Event.{Event}
 use Rattle.writer.specs.declared.Mode.{Mode}
 use Rattle.writer.specs.declared.Mode.the-variants.{Content, Declaring, Listing}
@@ -28,7 +28,7 @@ abbrev pub stateOf : State → Vocabulary Located → F.State Located
 stateOf st v = record { tables = v; level = st .level; root = st .root; mode = modeOf (st .mode) }
 
 -- A string that is a stretch is not empty and lies in the text area.
-abbrev pub Lies : List ℕ → Text → Type 0
+abbrev pub Lies : List ℕ → EventString → Type 0
 Lies text Absent = Unit {0}
 Lies text Empty = Unit {0}
 Lies text (Stretch p n) = (0 < n) × (p + n ≤ length text)

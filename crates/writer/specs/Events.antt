@@ -10,13 +10,13 @@ use Rattle.format.specs.Events as E
 use Rattle.format.specs.Items.{Mode, content, declaring, listing, State, mayStart}
 use Rattle.tables.specs.Located.{Located, octetsOf}
 pub use Rattle.events.specs.Records.{locatedOf, optionalOf}
-use Rattle.events.specs.declared.Text.{Text}
-use Rattle.events.specs.declared.Text.the-variants.{Absent, Empty, Stretch, XmlPrefix, XmlNamespace}
+use Rattle.events.specs.declared.EventString.{EventString}
+use Rattle.events.specs.declared.EventString.the-variants.{Absent, Empty, Stretch, XmlPrefix, XmlNamespace}
 use Rattle.events.specs.declared.Kind.{Kind}
 use Rattle.events.specs.declared.Kind.the-variants.{Blank, Namespace, Start, Attribute, Chunk, Comment, Instruction, End}
 use Rattle.events.specs.declared.Event.{Event}
 
-abbrev pub isAbsent : Text → Bool
+abbrev pub isAbsent : EventString → Bool
 isAbsent Absent = true
 isAbsent Empty = false
 isAbsent (Stretch p n) = false
@@ -24,21 +24,21 @@ isAbsent XmlPrefix = false
 isAbsent XmlNamespace = false
 
 -- A stretch is not empty and lies in the text area.
-abbrev pub isStretch : List ℕ → Text → Bool
+abbrev pub isStretch : List ℕ → EventString → Bool
 isStretch text Absent = false
 isStretch text Empty = false
 isStretch text (Stretch p n) = ltb 0 n && leb (p + n) (length text)
 isStretch text XmlPrefix = false
 isStretch text XmlNamespace = false
 
-abbrev pub isPrefix : List ℕ → Text → Bool
+abbrev pub isPrefix : List ℕ → EventString → Bool
 isPrefix text Absent = true
 isPrefix text Empty = false
 isPrefix text (Stretch p n) = isStretch text (Stretch p n)
 isPrefix text XmlPrefix = true
 isPrefix text XmlNamespace = false
 
-abbrev pub isNamespace : List ℕ → Text → Bool
+abbrev pub isNamespace : List ℕ → EventString → Bool
 isNamespace text Absent = true
 isNamespace text Empty = false
 isNamespace text (Stretch p n) = isStretch text (Stretch p n)
@@ -46,7 +46,7 @@ isNamespace text XmlPrefix = false
 isNamespace text XmlNamespace = true
 
 -- A value, comment or content may be empty.
-abbrev pub isValue : List ℕ → Text → Bool
+abbrev pub isValue : List ℕ → EventString → Bool
 isValue text Absent = false
 isValue text Empty = true
 isValue text (Stretch p n) = isStretch text (Stretch p n)

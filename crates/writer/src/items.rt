@@ -21,12 +21,12 @@ use crate::Mode;
 use crate::State;
 use crate::Step;
 use crate::output::put_end;
-use write_names::Here;
-use write_names::Parts;
-use write_names::Wrote;
 use events::Event;
 use events::Kind;
 use fields::put::put;
+use write_names::Here;
+use write_names::Parts;
+use write_names::Wrote;
 
 // Refusals.
 const FULL: u32 = 12;

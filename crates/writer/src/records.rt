@@ -15,8 +15,8 @@ ghost use Rattle.writer.specs.Code.{modeOf, stateOf, Lies, Placed, fault
 use crate::Mode;
 use crate::State;
 use events::Event;
+use events::EventString;
 use events::Kind;
-use events::Text;
 use fields::is_text;
 
 // Refusals.
@@ -29,15 +29,15 @@ const EVENT: u32 = 16;
 // Open elements, at most.
 const DEEPEST: u32 = 32;
 
-fn is_absent(x: Text) -> bool
+fn is_absent(x: EventString) -> bool
     ensures { λ r. ⌜ r ≡ isAbsent x ⌝ }
 {
     match x {
-        Text::Absent => true,
-        Text::Empty => false,
-        Text::Stretch(_, _) => false,
-        Text::XmlPrefix => false,
-        Text::XmlNamespace => false,
+        EventString::Absent => true,
+        EventString::Empty => false,
+        EventString::Stretch(_, _) => false,
+        EventString::XmlPrefix => false,
+        EventString::XmlNamespace => false,
     }
 }
 
@@ -55,51 +55,51 @@ fn lies_in(text: &[u8], place: u32, size: u32) -> bool
     place as usize <= text.len() - n
 }
 
-fn is_stretch(text: &[u8], x: Text) -> bool
+fn is_stretch(text: &[u8], x: EventString) -> bool
     ensures { λ r. ⌜ r ≡ isStretch (now (text .entry)) x ⌝ }
 {
     match x {
-        Text::Absent => false,
-        Text::Empty => false,
-        Text::Stretch(place, size) => lies_in(text, place, size),
-        Text::XmlPrefix => false,
-        Text::XmlNamespace => false,
+        EventString::Absent => false,
+        EventString::Empty => false,
+        EventString::Stretch(place, size) => lies_in(text, place, size),
+        EventString::XmlPrefix => false,
+        EventString::XmlNamespace => false,
     }
 }
 
-fn is_prefix(text: &[u8], x: Text) -> bool
+fn is_prefix(text: &[u8], x: EventString) -> bool
     ensures { λ r. ⌜ r ≡ isPrefix (now (text .entry)) x ⌝ }
 {
     match x {
-        Text::Absent => true,
-        Text::Empty => false,
-        Text::Stretch(place, size) => lies_in(text, place, size),
-        Text::XmlPrefix => true,
-        Text::XmlNamespace => false,
+        EventString::Absent => true,
+        EventString::Empty => false,
+        EventString::Stretch(place, size) => lies_in(text, place, size),
+        EventString::XmlPrefix => true,
+        EventString::XmlNamespace => false,
     }
 }
 
-fn is_namespace(text: &[u8], x: Text) -> bool
+fn is_namespace(text: &[u8], x: EventString) -> bool
     ensures { λ r. ⌜ r ≡ isNamespace (now (text .entry)) x ⌝ }
 {
     match x {
-        Text::Absent => true,
-        Text::Empty => false,
-        Text::Stretch(place, size) => lies_in(text, place, size),
-        Text::XmlPrefix => false,
-        Text::XmlNamespace => true,
+        EventString::Absent => true,
+        EventString::Empty => false,
+        EventString::Stretch(place, size) => lies_in(text, place, size),
+        EventString::XmlPrefix => false,
+        EventString::XmlNamespace => true,
     }
 }
 
-fn is_value(text: &[u8], x: Text) -> bool
+fn is_value(text: &[u8], x: EventString) -> bool
     ensures { λ r. ⌜ r ≡ isValue (now (text .entry)) x ⌝ }
 {
     match x {
-        Text::Absent => false,
-        Text::Empty => true,
-        Text::Stretch(place, size) => lies_in(text, place, size),
-        Text::XmlPrefix => false,
-        Text::XmlNamespace => false,
+        EventString::Absent => false,
+        EventString::Empty => true,
+        EventString::Stretch(place, size) => lies_in(text, place, size),
+        EventString::XmlPrefix => false,
+        EventString::XmlNamespace => false,
     }
 }
 
@@ -148,19 +148,19 @@ fn well_made(text: &[u8], e: Event) -> bool
 }
 
 // The string is text; only a stretch has to be looked at.
-fn is_text_string(text: &[u8], x: Text) -> bool
+fn is_text_string(text: &[u8], x: EventString) -> bool
     requires { ⌜ Lies (now text) x ⌝ }
     ensures { λ r. ⌜ r ≡ isText (octetsOf (now (text .entry)) (locatedOf x)) ⌝ }
 {
     match x {
-        Text::Absent => true,
-        Text::Empty => true,
-        Text::Stretch(place, size) => {
+        EventString::Absent => true,
+        EventString::Empty => true,
+        EventString::Stretch(place, size) => {
             let from = place as usize;
             is_text(text, from, from + size as usize)
         }
-        Text::XmlPrefix => true,
-        Text::XmlNamespace => true,
+        EventString::XmlPrefix => true,
+        EventString::XmlNamespace => true,
     }
 }
 
