@@ -11,7 +11,7 @@ use lib.ListN.{length, getD, take, drop, set, length-append, length-drop, take-a
 use lib.Pow.{pow-add}
 use lib.Seq.{sets, length-sets, set-out, take-suc, take-all, length-take-le, getD-take, getD-drop}
 use Rattle.format.specs.Numbers.{octets}
-use Rattle.fields.specs.Put.{Puts}
+use Rattle.fields.specs.PutContracts.{Puts}
 
 sets-append : (xs ys out : List ℕ) (at : ℕ) → sets out at (xs ++ ys) ≡ sets (sets out at xs) (at + length xs) ys
 sets-append [] ys out at = let z : at + 0 ≡ at = omega arith in rw z

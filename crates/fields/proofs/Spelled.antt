@@ -7,7 +7,7 @@ use native.Mathlib.Omega.{arith}
 use borrow.Author.Tests.{lt-ltb, le-ltb}
 use lib.ListN.{length, take, drop}
 use Rattle.format.specs.Numbers.{Form, form, octets, spell, sizes}
-use Rattle.fields.specs.Put.{Puts}
+use Rattle.fields.specs.PutContracts.{Puts}
 use Rattle.fields.proofs.Laws.{case, rooms, octets-length}
 use Rattle.fields.proofs.FirstOctet.{doubled}
 use Rattle.fields.proofs.Lengths.{half}

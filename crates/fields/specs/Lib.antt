@@ -1,3 +1,3 @@
 pub mod Fields
-pub mod Put
+pub mod PutContracts
 pub mod Text

@@ -4,7 +4,7 @@ ghost use mathlib.Core.List.{_∷_};
 ghost use Prim.Native.Nat.{_+_, _-_, _/_, _^_, _<_, _≤_, min};
 ghost use lib.ListN.{length, take, drop, set};
 ghost use Rattle.format.specs.Numbers.{lengths, numbers, c25, top, octets, spell};
-ghost use Rattle.fields.specs.Put.{Puts};
+ghost use Rattle.fields.specs.PutContracts.{Puts};
 use crate::values;
 use crate::wide;
 

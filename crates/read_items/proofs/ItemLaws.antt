@@ -41,9 +41,9 @@ use Rattle.read_names.specs.Names.{NameRead, DeclaredRead, partsAt, numberedAt,
 use Rattle.read_items.specs.Items as I
 use Rattle.read_items.specs.Items.{namePadding, startOf, namespaceAt, elementAt, namedAt, attributeAt, chunkAt, commentAt, instructionAt, otherAt, childAt, declaringAt, itemAt}
 use Rattle.read_items.specs.Steps.{halfAt, endsAt, padsAt, documentEnd, endAt, byHalves, step}
-use Rattle.read_names.specs.Code.{Tidy, Seen, seenField, FieldTidy, idSeen, stringSeen, seenName, NameTidy, nameSeen, declaredSeen}
-use Rattle.read_items.specs.Code.{stop, Good, standOf, modeOf, coming, stepSeen}
-use Rattle.read_items.specs.ItemStages.{Meets, movedTo, afterEnd, afterStart, refusedBy, faultyBy, nextOf, startBy, numberedStart}
+use Rattle.read_names.specs.Contracts.{Tidy, Seen, seenField, FieldTidy, idSeen, stringSeen, seenName, NameTidy, nameSeen, declaredSeen}
+use Rattle.read_items.specs.Contracts.{stop, Good, standOf, modeOf, coming, stepSeen}
+use Rattle.read_items.specs.ItemContracts.{Meets, movedTo, afterEnd, afterStart, refusedBy, faultyBy, nextOf, startBy, numberedStart}
 
 -- ---- halves
 module _ (s : List ℕ) (at : ℕ) where

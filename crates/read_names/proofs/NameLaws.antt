@@ -42,8 +42,8 @@ use Rattle.read_names.specs.declared.Named.{Named}
 use Rattle.read_names.specs.Strings as S
 use Rattle.read_names.specs.Strings.{IdRead, OptionalRead, idAt, optionalAt, spelling}
 use Rattle.read_names.specs.Names.{NameRead, prefixBit, namespaceBit, nameBit, partsAt, numberedAt, nameAt, declaredAt}
-use Rattle.read_names.specs.Code.{Ranged, Tidy, Seen, idSeen, optionalSeen, seenName, NameTidy, nameSeen, declaredSeen}
-use Rattle.read_names.specs.NameStages.{stringFault, numberFault, eventStringAt, eventStringsAt, newName}
+use Rattle.read_names.specs.Contracts.{Ranged, Tidy, Seen, idSeen, optionalSeen, seenName, NameTidy, nameSeen, declaredSeen}
+use Rattle.read_names.specs.NameContracts.{stringFault, numberFault, eventStringAt, eventStringsAt, newName}
 use Rattle.read_names.proofs.StringLaws.{tests, ranged-kept}
 
 -- ---- a table's layout

@@ -37,8 +37,8 @@ use Rattle.read_names.specs.declared.Field.{Field}
 use Rattle.read_names.specs.declared.Field.the-variants.{Got, Refused}
 use Rattle.read_names.specs.Strings as S
 use Rattle.read_names.specs.Strings.{got, refused, then, number, spelling, IdRead, StringRead, idAt, optionalAt, numberBit, spelledAt, literalAt, valueAt}
-use Rattle.read_names.specs.Code.{Ranged, Tidy, Seen, seenField, FieldTidy, idSeen, optionalSeen, stringSeen}
-use Rattle.read_names.specs.Stages.{refusalOf, stretchOf, Positive, heldOf, addedOf, addedWords, unnumberedOf, lengthFrom}
+use Rattle.read_names.specs.Contracts.{Ranged, Tidy, Seen, seenField, FieldTidy, idSeen, optionalSeen, stringSeen}
+use Rattle.read_names.specs.StringContracts.{refusalOf, stretchOf, Positive, heldOf, addedOf, addedWords, unnumberedOf, lengthFrom}
 
 -- a test of a definition, taken apart
 pub tests : {A : Type 0} (P : A → Type 0) (t : Bool) (a b : A) → (t ≡ true → P a) → (t ≡ false → P b) → P (pick t a b)

@@ -33,8 +33,8 @@ use Rattle.read_items.specs.Items as I
 use Rattle.read_items.specs.Items.{Stand}
 use Rattle.read_items.specs.Steps.{step}
 use Rattle.reader.specs.Reading.{Opening, onward, halt, sized, opening, Result, accepted, refusal, plus, turn, run, origin, fuelOf, told, Outcome, refusing, accepting, outcome, resultFrom, reading, readOf}
-use Rattle.read_items.specs.Code.{standOf, seenStep, stepSeen, Good, StepGood}
-use Rattle.reader.specs.ReadStages.{stateOf, placeOf, first, standAt, Reached, found, ended, fault, reach, nextOf, seenNext, Reaches, finished, Small, settled, admission}
+use Rattle.read_items.specs.Contracts.{standOf, seenStep, stepSeen, Good, StepGood}
+use Rattle.reader.specs.ReadContracts.{stateOf, placeOf, first, standAt, Reached, found, ended, fault, reach, nextOf, seenNext, Reaches, finished, Small, settled, admission}
 use Rattle.read_names.proofs.StringLaws.{tests}
 use Rattle.read_items.proofs.Places.{step-placed}
 use Rattle.reader.proofs.RunLaws.{PlacedSeen, placed-seen, opens, start-is, underway-start}

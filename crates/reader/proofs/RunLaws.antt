@@ -30,9 +30,9 @@ use Rattle.read_items.specs.Items as I
 use Rattle.read_items.specs.Items.{Stand}
 use Rattle.read_items.specs.Steps.{step}
 use Rattle.reader.specs.Reading.{Opening, onward, halt, sized, opening, Result, accepted, refusal, plus, turn, run, origin, fuelOf, reading, numberOf, checkOf}
-use Rattle.read_names.specs.Code.{Ranged}
-use Rattle.read_items.specs.Code.{standOf, SeenStep, more, quiet, done, stop, seenStep, stepSeen, Good, StepGood}
-use Rattle.reader.specs.RunStages.{fresh, Ending, ended, faulty, endingOf, seenEnding, itemWords, kept, keptFrom, Small, answerNumber, Ran}
+use Rattle.read_names.specs.Contracts.{Ranged}
+use Rattle.read_items.specs.Contracts.{standOf, SeenStep, more, quiet, done, stop, seenStep, stepSeen, Good, StepGood}
+use Rattle.reader.specs.RunContracts.{fresh, Ending, ended, faulty, endingOf, seenEnding, itemWords, kept, keptFrom, Small, answerNumber, Ran}
 use Rattle.read_names.proofs.StringLaws.{tests}
 use Rattle.read_items.proofs.Places.{Placed, step-placed}
 

@@ -25,7 +25,7 @@ use Rattle.reader.specs.declared.Answer.{Answer}
 use Rattle.reader.specs.declared.Answer.the-variants.{Accepted, Refused}
 use Rattle.reader.specs.Reading.{Result, accepted, refusal, sized, reading, outcome, readOf}
 use Rattle.reader.specs.Words.{leaving, nothing, inWords, readWords}
-use Rattle.reader.specs.RunStages.{ended, faulty, endingOf, itemWords, keptFrom, answerNumber, Ran}
+use Rattle.reader.specs.RunContracts.{ended, faulty, endingOf, itemWords, keptFrom, answerNumber, Ran}
 
 -- ---- what a run's end comes to in words
 drop-zeros : (r k : ℕ) → k ≤ r → drop k (replicate {A = ℕ} r 0) ≡ replicate (r - k) 0

@@ -9,7 +9,7 @@ ghost use Rattle.tables.specs.Located.{start};
 ghost use Rattle.tables.specs.Counts.{tableWords};
 ghost use Rattle.events.specs.Words.{stringWords};
 ghost use Rattle.reader.specs.Reading.{sized, opening, run, origin, fuelOf, reading, checkOf};
-ghost use Rattle.reader.specs.RunStages.{openingOf, fresh, kept, Ran, Small, answerNumber};
+ghost use Rattle.reader.specs.RunContracts.{openingOf, fresh, kept, Ran, Small, answerNumber};
 ghost use Rattle.reader.specs.Words.{leaving, readWords};
 use crate::Answer;
 use events::Event;

@@ -13,7 +13,7 @@ use Rattle.format.specs.Numbers.{pick, spell}
 use Rattle.format.specs.Events.{Name, How, Choice}
 use Rattle.format.specs.Tables.{StringTable, PREFIX, NAMESPACE-NAME, LOCAL-NAME, NameTable, ELEMENT-NAME, ATTRIBUTE-NAME, Triple, Vocabulary, strings, names, adding, addingName, place, link}
 use Rattle.format.specs.Names.{has, NameLayout, ofElement, ofAttribute}
-use Rattle.fields.specs.Put.{Puts}
+use Rattle.fields.specs.PutContracts.{Puts}
 use Rattle.fields.proofs.Puts.{puts-append, puts-octet}
 use Rattle.tables.specs.declared.Counts.{Counts}
 use Rattle.tables.specs.declared.Row.{Row}
@@ -31,7 +31,7 @@ use Rattle.write_names.specs.declared.Parts.{Parts}
 use Rattle.write_names.specs.declared.Wrote as W
 use Rattle.write_names.specs.declared.Wrote.the-variants.{Put, Full}
 use Rattle.write_names.specs.Choices.{Wrote, writeId, writeOptional, writeName, within}
-use Rattle.write_names.specs.Code.{InOrder, heldAs, namedOf, Held, numberThen, tripleFor, nameHeldAs, Tripled, pairBehind, declaredBy, Stands, Meets}
+use Rattle.write_names.specs.Contracts.{InOrder, heldAs, namedOf, Held, numberThen, tripleFor, nameHeldAs, Tripled, pairBehind, declaredBy, Stands, Meets}
 use Rattle.write_names.proofs.Order.{name-more, order-name, grows-on, grows-id, grows-optional, grows-name, within-grown, full-name}
 use Rattle.write_names.proofs.StringLaws.{held-is, stands-put}
 

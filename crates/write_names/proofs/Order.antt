@@ -22,7 +22,7 @@ use Rattle.tables.proofs.Laws.{length-strings, length-names, counted-start, cou
 use Rattle.tables.proofs.Found.{both-true}
 use Rattle.tables.proofs.Rooms.{stored-length}
 use Rattle.write_names.specs.Choices.{Wrote, writeId, writeOptional, within}
-use Rattle.write_names.specs.Code.{Begins, InOrder}
+use Rattle.write_names.specs.Contracts.{Begins, InOrder}
 
 -- ---- in order
 begins-extended : (b : Bool) (x y : Located) (l : List Located) → Begins x l → Begins x (extended b l y)

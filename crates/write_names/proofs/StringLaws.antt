@@ -13,7 +13,7 @@ use Rattle.format.specs.Events.{spelled, numbered}
 use Rattle.format.specs.Tables.{StringTable, CONTENT-CHARACTER-CHUNK, Vocabulary, strings, adding, link}
 use Rattle.format.specs.Strings.{withLength, Layout, c14, c15}
 use Rattle.format.specs.Names.{has, ofElement, ofAttribute}
-use Rattle.fields.specs.Put.{Puts}
+use Rattle.fields.specs.PutContracts.{Puts}
 use Rattle.fields.proofs.Laws.{case}
 use Rattle.fields.proofs.Puts.{puts-nothing, puts-one, puts-append, part-length}
 use Rattle.tables.specs.declared.Counts.{Counts}
@@ -31,7 +31,7 @@ use Rattle.write_names.specs.declared.Here.{Here}
 use Rattle.write_names.specs.declared.Wrote as W
 use Rattle.write_names.specs.declared.Wrote.the-variants.{Put, Full}
 use Rattle.write_names.specs.Choices.{Wrote, writeId, writeOptional, writeLiteral, writeValue, worthAdding, within}
-use Rattle.write_names.specs.Code.{Begins, InOrder, Suits, Fills, Spells, heldAs, spelledOctets, spelledWords, Stands, Meets}
+use Rattle.write_names.specs.Contracts.{Begins, InOrder, Suits, Fills, Spells, heldAs, spelledOctets, spelledWords, Stands, Meets}
 use Rattle.write_names.proofs.Order.{string-more, order-string, full-string}
 
 -- ---- a string of an event

@@ -9,7 +9,7 @@ ghost use Rattle.tables.specs.Kept.{countOf, layoutOf, tripleOf};
 ghost use Rattle.events.specs.Records.{optionalOf};
 ghost use Rattle.events.specs.Words.{stringTag};
 ghost use Rattle.write_names.specs.Choices.{writeName};
-ghost use Rattle.write_names.specs.Code.{InOrder, Suits, heldAs, Held, namedOf, tripleFor, nameHeldAs, numberThen, Tripled, pairBehind, declaredBy, Meets};
+ghost use Rattle.write_names.specs.Contracts.{InOrder, Suits, heldAs, Held, namedOf, tripleFor, nameHeldAs, numberThen, Tripled, pairBehind, declaredBy, Meets};
 use crate::Here;
 use crate::LOCAL_NAME;
 use crate::NAMESPACE_NAME;

@@ -12,7 +12,7 @@ use Rattle.events.specs.declared.Event.{Event}
 use Rattle.writer.specs.declared.ahead.Look.{Look}
 use Rattle.writer.specs.declared.ahead.Look.the-variants.{Before, Behind, Known}
 use Rattle.writer.specs.Writing.{announced}
-use Rattle.writer.specs.Ahead.{decided, onward}
+use Rattle.writer.specs.AheadContracts.{decided, onward}
 
 module _ (e : Event) (es : List Event) where
   pub announced-on : e .kind ≡ Namespace → announced (e ∷ es) ≡ announced es

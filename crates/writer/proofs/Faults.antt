@@ -17,7 +17,7 @@ use Rattle.writer.specs.Events.{wellMade, eventOf, goesOn, allText}
 use Rattle.write_names.specs.Choices.{within}
 use Rattle.writer.specs.Items.{WroteItem}
 use Rattle.writer.specs.Writing.{opens, fits, judge}
-use Rattle.writer.specs.Code.{faultOf}
+use Rattle.writer.specs.Contracts.{faultOf}
 
 -- ---- the four tests, and what is judged behind them
 abbrev passing : (made goes texts deep : Bool) → ℕ → ℕ

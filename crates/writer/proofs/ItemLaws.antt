@@ -18,7 +18,7 @@ use Rattle.format.specs.Strings.{c15, keeping}
 use Rattle.format.specs.Names.{NameLayout, ofElement, ofAttribute}
 use Rattle.format.specs.Items as F
 use Rattle.format.specs.Document.{aligned}
-use Rattle.fields.specs.Put.{Puts}
+use Rattle.fields.specs.PutContracts.{Puts}
 use Rattle.fields.proofs.Laws.{case}
 use Rattle.fields.proofs.Puts.{puts-one, puts-append, part-length}
 use Rattle.tables.specs.Located.{Located, octetsOf}
@@ -38,7 +38,7 @@ use Rattle.write_names.specs.declared.Wrote as W
 use Rattle.write_names.specs.declared.Wrote.the-variants.{Put, Full}
 use Rattle.write_names.specs.declared.Parts.{Parts}
 use Rattle.write_names.specs.Choices.{Wrote, writeId, writeOptional, writeName, writeLiteral, writeValue, worthAdding, within}
-use Rattle.write_names.specs.Code.{InOrder, Suits, Fills, Spells, namedOf, tripleFor, pairBehind, declaredBy, Stands, Meets}
+use Rattle.write_names.specs.Contracts.{InOrder, Suits, Fills, Spells, namedOf, tripleFor, pairBehind, declaredBy, Stands, Meets}
 use Rattle.write_names.proofs.NameLaws.{names-kept}
 use Rattle.write_names.proofs.StringLaws.{spells-suits, spells-stretch}
 use Rattle.tables.proofs.Found.{clash}
@@ -49,10 +49,10 @@ use Rattle.writer.specs.declared.Step.the-variants.{On, Stop}
 use Rattle.writer.specs.Events.{isStretch, isPrefix, isNamespace, isValue, nameOf, eventOf, isDeclaring, isListing}
 use Rattle.writer.specs.Items.{WroteItem, beforeDeclaration, beforeName, nameLead, writeItem}
 use Rattle.writer.specs.Writing.{isAttribute, isEnd, fits}
-use Rattle.writer.specs.Output.{endOctet}
-use Rattle.writer.specs.Code.{modeOf, stateOf}
-use Rattle.writer.specs.Steps.{coming, known}
-use Rattle.writer.specs.ItemStages.{owes, listEnded, endPut, Fit, movedTo, modeBehindStart, openedTo, closedTo, landing, Near, Lands, holding}
+use Rattle.writer.specs.OutputContracts.{endOctet}
+use Rattle.writer.specs.Contracts.{modeOf, stateOf}
+use Rattle.writer.specs.StepContracts.{coming, known}
+use Rattle.writer.specs.ItemContracts.{owes, listEnded, endPut, Fit, movedTo, modeBehindStart, openedTo, closedTo, landing, Near, Lands, holding}
 use Rattle.writer.proofs.WellMade.{stretch-lies, Named, by-kind}
 
 -- ---- the strings of a record that is well made

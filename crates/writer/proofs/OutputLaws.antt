@@ -15,13 +15,13 @@ use Rattle.format.specs.Events as E
 use Rattle.format.specs.Tables.{link}
 use Rattle.format.specs.Items.{State}
 use Rattle.format.specs.Document.{halves, pad, aligned, header}
-use Rattle.fields.specs.Put.{Puts}
+use Rattle.fields.specs.PutContracts.{Puts}
 use Rattle.fields.proofs.Puts.{puts-nothing, puts-one, puts-append}
 use Rattle.tables.specs.Located.{Located}
 use Rattle.writer.specs.Events.{isListing}
 use Rattle.writer.specs.Items.{WroteItem}
 use Rattle.writer.specs.Writing.{isAttribute, isEnd, owed, halvesOf, joined}
-use Rattle.writer.specs.Output.{Holds, Grown, endOctet}
+use Rattle.writer.specs.OutputContracts.{Holds, Grown, endOctet}
 
 -- ---- halves and the octets that they are joined to
 

@@ -20,10 +20,10 @@ use Rattle.writer.specs.declared.Step.the-variants.{On, Stop}
 use Rattle.writer.specs.declared.run.Phase.{Phase}
 use Rattle.writer.specs.declared.run.Phase.the-variants.{Onward, Halted}
 use Rattle.writer.specs.Writing.{announced, writing, outcome, refusing, Leaves, writeOf}
-use Rattle.writer.specs.Output.{Holds}
-use Rattle.writer.specs.Code.{modeOf}
-use Rattle.writer.specs.Steps.{Steps}
-use Rattle.writer.specs.RunStages.{fresh, Foretold, remains, Finishes, goesOn, fromMode, lookFrom, bitOf, Going, Steady, Bounded, Turns, Ends, Settles}
+use Rattle.writer.specs.OutputContracts.{Holds}
+use Rattle.writer.specs.Contracts.{modeOf}
+use Rattle.writer.specs.StepContracts.{Steps}
+use Rattle.writer.specs.RunContracts.{fresh, Foretold, remains, Finishes, goesOn, fromMode, lookFrom, bitOf, Going, Steady, Bounded, Turns, Ends, Settles}
 use Rattle.writer.proofs.RunLaws.{underway-start, underway-number, underway-on, run-refused, run-finished}
 
 -- ---- before the first record

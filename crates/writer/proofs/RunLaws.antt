@@ -34,10 +34,10 @@ use Rattle.writer.specs.declared.Step.the-variants.{On, Stop}
 use Rattle.writer.specs.Events.{eventOf, isContent, amongChildren, goesOn, wellMade}
 use Rattle.writer.specs.Items.{writeItem}
 use Rattle.writer.specs.Writing.{announced, isAttribute, Result, written, refusal, plus, fits, judge, settled, finish, run, writing, outcome, refusing}
-use Rattle.writer.specs.Output.{Holds, endOctet}
-use Rattle.writer.specs.Code.{modeOf}
-use Rattle.writer.specs.Steps.{known, itemOf, halvesFor, verdict, Steps}
-use Rattle.writer.specs.RunStages.{fresh, Foretold, behind, remains, Underway, Finishes}
+use Rattle.writer.specs.OutputContracts.{Holds, endOctet}
+use Rattle.writer.specs.Contracts.{modeOf}
+use Rattle.writer.specs.StepContracts.{known, itemOf, halvesFor, verdict, Steps}
+use Rattle.writer.specs.RunContracts.{fresh, Foretold, behind, remains, Underway, Finishes}
 use Rattle.writer.proofs.OutputLaws.{held-length, held-whole, document-end-held}
 use Rattle.writer.proofs.AheadLaws.{announced-on}
 

@@ -24,10 +24,10 @@ use Rattle.writer.specs.declared.Step.the-variants.{On, Stop}
 use Rattle.writer.specs.Events.{eventOf, goesOn, amongChildren, isListing}
 use Rattle.writer.specs.Items.{WroteItem, writeItem}
 use Rattle.writer.specs.Writing.{isAttribute, isEnd, opens, owed, settled, fits, halvesOf}
-use Rattle.writer.specs.Output.{Holds, Grown}
-use Rattle.writer.specs.Code.{modeOf, faultOf}
-use Rattle.writer.specs.Steps.{Ready, known, itemOf, halvesFor, verdict, Went, Steps}
-use Rattle.writer.specs.ItemStages.{owes, listEnded, endPut, Fit, Laid, Landed, holding}
+use Rattle.writer.specs.OutputContracts.{Holds, Grown}
+use Rattle.writer.specs.Contracts.{modeOf, faultOf}
+use Rattle.writer.specs.StepContracts.{Ready, known, itemOf, halvesFor, verdict, Went, Steps}
+use Rattle.writer.specs.ItemContracts.{owes, listEnded, endPut, Fit, Laid, Landed, holding}
 use Rattle.writer.proofs.Faults.{Faultless, fault-none, fault-most, judge-fault, judge-none}
 use Rattle.writer.proofs.OutputLaws.{length-pad, length-halves, end-written, item-written, end-written-behind-list, item-written-behind-list}
 

@@ -14,7 +14,7 @@ use Rattle.events.specs.declared.Kind.the-variants.{Blank, Namespace, Start, At
 use Rattle.events.specs.declared.Event.{Event}
 use Rattle.tables.proofs.Found.{clash, both-true}
 use Rattle.writer.specs.Events.{isAbsent, isStretch, isPrefix, isNamespace, isValue, isName, noName, wellMade}
-use Rattle.writer.specs.Code.{Lies, Placed}
+use Rattle.writer.specs.Contracts.{Lies, Placed}
 
 -- ---- strings
 module _ (text : List ℕ) where

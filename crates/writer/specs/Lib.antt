@@ -4,9 +4,9 @@ pub mod Events
 pub mod Items
 pub mod Writing
 pub mod Words
-pub mod Output
-pub mod Code
-pub mod Ahead
-pub mod Steps
-pub mod ItemStages
-pub mod RunStages
+pub mod OutputContracts
+pub mod Contracts
+pub mod AheadContracts
+pub mod StepContracts
+pub mod ItemContracts
+pub mod RunContracts

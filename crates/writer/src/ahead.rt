@@ -5,7 +5,7 @@ ghost use lib.ListN.{drop};
 ghost use Rattle.events.specs.declared.Event.{Event};
 ghost use Rattle.events.specs.FromWords.{recordsOf};
 ghost use Rattle.writer.specs.Writing.{attributeNext, announced};
-ghost use Rattle.writer.specs.Ahead.{decided, onward};
+ghost use Rattle.writer.specs.AheadContracts.{decided, onward};
 use events::Event;
 use events::Kind;
 use events::from_words;

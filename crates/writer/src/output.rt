@@ -3,7 +3,7 @@ ghost use mathlib.Core.Path.{_≡_};
 ghost use mathlib.Core.List.{[]};
 ghost use Prim.Native.Nat.{_/_};
 ghost use lib.ListN.{length, replicate, set};
-ghost use Rattle.writer.specs.Output.{Holds, endOctet};
+ghost use Rattle.writer.specs.OutputContracts.{Holds, endOctet};
 use fields::put::put;
 
 // Every octet is 0.

@@ -11,7 +11,7 @@ ghost use Rattle.tables.specs.Located.{Located, octetsOf};
 ghost use Rattle.events.specs.declared.Event.{Event};
 ghost use Rattle.writer.specs.Events.{isAbsent, isStretch, isPrefix, isNamespace, isValue, isName, noName, wellMade, locatedOf, nameOf, eventOf, amongChildren, isDeclaring, isListing, goesOn, nameText, allText};
 ghost use Rattle.writer.specs.Writing.{opens};
-ghost use Rattle.writer.specs.Code.{modeOf, stateOf, Lies, Placed, faultOf};
+ghost use Rattle.writer.specs.Contracts.{modeOf, stateOf, Lies, Placed, faultOf};
 use crate::Mode;
 use crate::State;
 use events::Event;

@@ -6,7 +6,7 @@ use native.Mathlib.Omega.{arith}
 use borrow.Author.Needs.{needs}
 use lib.ListN.{take}
 use Rattle.format.specs.Numbers.{octets}
-use Rattle.fields.specs.Put.{Puts}
+use Rattle.fields.specs.PutContracts.{Puts}
 use Rattle.fields.proofs.Laws.{octets-length}
 use Rattle.fields.proofs.Puts.{puts-nothing, puts-kept, puts-next, puts-all, octet-at}
 use Rattle.fields.proofs.put.put_octets.Statement.{statement}

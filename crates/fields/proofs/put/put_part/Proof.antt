@@ -5,7 +5,7 @@ use Prim.Native.Nat.{_+_, _-_, _≤_, min}
 use native.Mathlib.Omega.{arith}
 use borrow.Author.Needs.{needs}
 use lib.ListN.{length, take, drop}
-use Rattle.fields.specs.Put.{Puts}
+use Rattle.fields.specs.PutContracts.{Puts}
 use Rattle.fields.proofs.Puts.{puts-nothing, puts-kept, puts-next, puts-fitting, part-length, part-at}
 use Rattle.fields.proofs.put.put_part.Statement.{statement}
 use Rattle.fields.proofs.put.put_part.Tie as tie

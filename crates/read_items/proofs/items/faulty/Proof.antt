@@ -2,7 +2,7 @@
 -- Assumes nothing.
 use mathlib.Core.Path.{sym, ap}
 use borrow.Author.Needs.{needs}
-use Rattle.read_items.specs.ItemStages.{faultyBy}
+use Rattle.read_items.specs.ItemContracts.{faultyBy}
 use Rattle.read_items.proofs.items.faulty.Statement.{statement}
 use Rattle.read_items.proofs.items.faulty.Tie as tie
 

@@ -2,7 +2,7 @@
 -- Assumes nothing.
 use mathlib.Core.Path.{sym, ap}
 use borrow.Author.Needs.{needs}
-use Rattle.read_items.specs.ItemStages.{refusedBy}
+use Rattle.read_items.specs.ItemContracts.{refusedBy}
 use Rattle.read_items.proofs.items.refused.Statement.{statement}
 use Rattle.read_items.proofs.items.refused.Tie as tie
 

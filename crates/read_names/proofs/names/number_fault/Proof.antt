@@ -2,7 +2,7 @@
 -- Assumes nothing.
 use mathlib.Core.Path.{sym, ap}
 use borrow.Author.Needs.{needs}
-use Rattle.read_names.specs.NameStages.{numberFault}
+use Rattle.read_names.specs.NameContracts.{numberFault}
 use Rattle.read_names.proofs.names.number_fault.Statement.{statement}
 use Rattle.read_names.proofs.names.number_fault.Tie as tie
 

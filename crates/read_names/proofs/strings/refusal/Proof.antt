@@ -2,7 +2,7 @@
 -- Assumes nothing.
 use mathlib.Core.Path.{sym, ap}
 use borrow.Author.Needs.{needs}
-use Rattle.read_names.specs.Stages.{refusalOf}
+use Rattle.read_names.specs.StringContracts.{refusalOf}
 use Rattle.read_names.proofs.strings.refusal.Statement.{statement}
 use Rattle.read_names.proofs.strings.refusal.Tie as tie
 

@@ -2,7 +2,7 @@
 -- Assumes nothing.
 use mathlib.Core.Path.{sym, ap}
 use borrow.Author.Needs.{needs}
-use Rattle.read_names.specs.Stages.{unnumberedOf}
+use Rattle.read_names.specs.StringContracts.{unnumberedOf}
 use Rattle.read_names.proofs.strings.unnumbered.Statement.{statement}
 use Rattle.read_names.proofs.strings.unnumbered.Tie as tie
 

@@ -4,7 +4,7 @@ use mathlib.Core.Path.{_∙_, ap}
 use Prim.Native.Nat.{_+_, _*_}
 use borrow.Author.Needs.{needs}
 use Rattle.read_items.specs.declared.State.{State}
-use Rattle.reader.specs.ReadStages.{placeOf}
+use Rattle.reader.specs.ReadContracts.{placeOf}
 use Rattle.reader.proofs.read.begin.Statement.{statement}
 use Rattle.reader.proofs.read.begin.Tie as tie
 

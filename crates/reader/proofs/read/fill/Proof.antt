@@ -75,10 +75,10 @@ use Rattle.reader.specs.declared.Answer.{Answer}
 use Rattle.reader.specs.declared.read.Place.{Place}
 use Rattle.reader.specs.declared.read.Next.{Next}
 use Rattle.reader.specs.declared.read.Next.the-variants.{Found, Finished, Refused}
-use Rattle.read_items.specs.Code.{Good}
+use Rattle.read_items.specs.Contracts.{Good}
 use Rattle.reader.specs.Reading as Reading
 use Rattle.reader.specs.Reading.{Outcome, outcome, origin, fuelOf}
-use Rattle.reader.specs.ReadStages.{first, stateOf, Reaches, finished, Small, settled}
+use Rattle.reader.specs.ReadContracts.{first, stateOf, Reaches, finished, Small, settled}
 use Rattle.reader.proofs.ReadLaws.{Over, Filling, filling-start, filling-found, filled, small}
 use Rattle.reader.proofs.ReadValues.{docTy, elemTy, numTy, valC, IsC, typedC, valP, IsP, typedP, valN, IsN, typedN, valR, IsR}
 use Rattle.reader.proofs.Answer as R

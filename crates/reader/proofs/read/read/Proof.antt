@@ -56,8 +56,8 @@ use Rattle.reader.specs.declared.run.Opening.{Opening}
 use Rattle.reader.specs.declared.run.Opening.the-variants.{Onward, Halt}
 use Rattle.reader.specs.Reading as Reading
 use Rattle.reader.specs.Reading.{told, Outcome, outcome, origin, fuelOf, onward, halt, readOf}
-use Rattle.reader.specs.RunStages.{openingOf}
-use Rattle.reader.specs.ReadStages.{settled, admission}
+use Rattle.reader.specs.RunContracts.{openingOf}
+use Rattle.reader.specs.ReadContracts.{settled, admission}
 use Rattle.reader.proofs.ReadLaws.{admits, reads}
 use Rattle.reader.proofs.ReadValues.{docTy, elemTy, numTy, valR, IsR, typedR, valO, IsO}
 use Rattle.reader.proofs.Answer as R

@@ -3,7 +3,7 @@
 use mathlib.Core.Path.{sym, ap}
 use native.Mathlib.Omega.{arith}
 use borrow.Author.Needs.{needs}
-use Rattle.reader.specs.RunStages.{answerNumber}
+use Rattle.reader.specs.RunContracts.{answerNumber}
 use Rattle.reader.proofs.RunLaws.{small-refused}
 use Rattle.reader.proofs.run.number.Statement.{statement}
 use Rattle.reader.proofs.run.number.Tie as tie

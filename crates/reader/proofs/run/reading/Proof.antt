@@ -2,7 +2,7 @@
 -- Assumes nothing.
 use mathlib.Core.Path.{sym, ap, _∙_}
 use borrow.Author.Needs.{needs}
-use Rattle.reader.specs.RunStages.{openingOf}
+use Rattle.reader.specs.RunContracts.{openingOf}
 use Rattle.reader.proofs.RunLaws.{opens, ran-halt, ran-onward}
 use Rattle.reader.proofs.run.reading.Statement.{statement}
 use Rattle.reader.proofs.run.reading.Tie as tie

@@ -63,7 +63,7 @@ use Rattle.events.proofs.load.Met as load-thm
 use Rattle.writer.specs.declared.ahead.Look.{Look}
 use Rattle.writer.specs.declared.ahead.Look.the-variants.{Before}
 use Rattle.writer.specs.Writing.{announced}
-use Rattle.writer.specs.Ahead.{decided, onward}
+use Rattle.writer.specs.AheadContracts.{decided, onward}
 use Rattle.writer.proofs.AheadLaws.{look-inside, look-past, look-over}
 use Rattle.writer.proofs.ahead.Look as K
 use Rattle.writer.proofs.ahead.Look.Laws as K′

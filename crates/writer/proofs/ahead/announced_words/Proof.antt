@@ -8,7 +8,7 @@ use lib.ListN.{drop}
 use Rattle.events.specs.FromWords.{recordsOf}
 use Rattle.events.proofs.FromWords.{records-length, records-drop}
 use Rattle.writer.specs.Writing.{announced}
-use Rattle.writer.specs.Ahead.{decided}
+use Rattle.writer.specs.AheadContracts.{decided}
 use Rattle.writer.proofs.AheadLaws.{look-inside, look-past, look-over}
 use Rattle.writer.proofs.ahead.announced_words.Statement.{statement}
 use Rattle.writer.proofs.ahead.announced_words.Tie as tie

@@ -7,7 +7,7 @@ use Prim.Native.Nat.{_-_, _/_}
 use lib.ListN.{length}
 use Rattle.events.specs.FromWords.{recordsOf}
 use Rattle.events.proofs.FromWords.{records-length, record-nth}
-use Rattle.writer.specs.RunStages.{Going}
+use Rattle.writer.specs.RunContracts.{Going}
 use Rattle.writer.proofs.PhaseLaws.{going-small, going-steady, going-bounded, going-turned, going-settled, going-room-is, inside}
 use Rattle.writer.proofs.run.written.Statement.{statement}
 use Rattle.writer.proofs.run.written.Tie as tie

@@ -65,7 +65,7 @@ use Rattle.events.proofs.load.Met as load-thm
 use Rattle.writer.specs.declared.Answer.{Answer}
 use Rattle.writer.specs.declared.run.Phase.{Phase}
 use Rattle.writer.specs.Writing.{announced, Leaves, writeOf}
-use Rattle.writer.specs.RunStages.{goesOn, lookFrom, Going, Steady, Bounded, Turns, Settles}
+use Rattle.writer.specs.RunContracts.{goesOn, lookFrom, Going, Steady, Bounded, Turns, Settles}
 use Rattle.writer.proofs.PhaseLaws.{inside, going-steady, going-bounded, going-turned, going-settled}
 use Rattle.writer.proofs.Answer as R
 use Rattle.writer.proofs.Answer.Laws as R′

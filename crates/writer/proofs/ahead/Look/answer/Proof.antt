@@ -2,7 +2,7 @@
 -- Assumes nothing.
 use borrow.Author.Needs.{needs}
 use Rattle.writer.specs.Writing.{announced}
-use Rattle.writer.specs.Ahead.{decided}
+use Rattle.writer.specs.AheadContracts.{decided}
 use Rattle.writer.proofs.ahead.Look.answer.Statement.{statement}
 use Rattle.writer.proofs.ahead.Look.answer.Tie as tie
 

@@ -1,7 +1,7 @@
 -- `Look::goes_on` meets its contract, by what is known.
 -- Assumes nothing.
 use borrow.Author.Needs.{needs}
-use Rattle.writer.specs.Ahead.{onward}
+use Rattle.writer.specs.AheadContracts.{onward}
 use Rattle.writer.proofs.ahead.Look.goes_on.Statement.{statement}
 use Rattle.writer.proofs.ahead.Look.goes_on.Tie as tie
 

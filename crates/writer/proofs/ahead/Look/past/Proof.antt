@@ -1,7 +1,7 @@
 -- `Look::past` meets its contract, by what is known.
 -- Assumes nothing.
 use borrow.Author.Needs.{needs}
-use Rattle.writer.specs.Ahead.{decided}
+use Rattle.writer.specs.AheadContracts.{decided}
 use Rattle.writer.proofs.ahead.Look.past.Statement.{statement}
 use Rattle.writer.proofs.ahead.Look.past.Tie as tie
 

@@ -1,4 +1,4 @@
--- What the code of a step hands on: where it stands behind a field, and what an answer has to meet.
+-- Contracts of the code, not definitions to be believed. What the functions of a step hand on: where it stands behind a field, and what an answer has to meet.
 use Prim.Native.Nat.{ℕ, _+_, _*_}
 use mathlib.Core.Path.{_≡_}
 use mathlib.Core.Bool.{Bool, true, false}
@@ -25,7 +25,7 @@ use Rattle.read_items.specs.declared.Step.the-variants.{More, Stop}
 use Rattle.read_names.specs.Names.{numberedAt}
 use Rattle.read_items.specs.Items as I
 use Rattle.read_items.specs.Items.{Stand}
-use Rattle.read_items.specs.Code.{Good, standOf, seenStep, stepSeen, StepGood}
+use Rattle.read_items.specs.Contracts.{Good, standOf, seenStep, stepSeen, StepGood}
 
 -- An answer stands for the definition's, and what it leaves is in order; v were the table words before it.
 pub record Meets (s v : List ℕ) (r : Step) (w : List ℕ) (d : I.Step) : Type 0 where

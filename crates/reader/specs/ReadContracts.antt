@@ -1,4 +1,4 @@
--- How the lent step, and reading into lent room, stand for the reading definition.
+-- Contracts of the code, not definitions to be believed. How the lent step, and reading into lent room, stand for the reading definition.
 use Prim.Native.Nat.{ℕ, zero, suc, _+_, _*_, _/_, _≤_, _<_}
 use mathlib.Core.Path.{_≡_}
 use mathlib.Core.List.{List}
@@ -20,9 +20,9 @@ use Rattle.reader.specs.declared.read.Place.{Place}
 use Rattle.reader.specs.declared.read.Next.{Next}
 use Rattle.reader.specs.declared.read.Next.the-variants.{Found, Finished, Refused as Faulty}
 use Rattle.read_items.specs.Items.{Stand}
-use Rattle.read_names.specs.Code.{Tidy}
-use Rattle.read_items.specs.Code.{SeenStep, more, quiet, done, stop, stepSeen, Good, standOf}
-use Rattle.reader.specs.RunStages.{fresh}
+use Rattle.read_names.specs.Contracts.{Tidy}
+use Rattle.read_items.specs.Contracts.{SeenStep, more, quiet, done, stop, stepSeen, Good, standOf}
+use Rattle.reader.specs.RunContracts.{fresh}
 use Rattle.read_items.specs.Steps.{step}
 use Rattle.reader.specs.Reading.{Opening, halt, opening, sized, told, Outcome, refusing}
 

@@ -1,4 +1,4 @@
--- What a look at an element's records, one after the other, comes to with those that are left.
+-- Contracts of the code, not definitions to be believed. What a look at an element's records, one after the other, comes to with those that are left.
 use Prim.Native.Nat.{ℕ}
 use mathlib.Core.Bool.{Bool, false}
 use mathlib.Core.List.{List}

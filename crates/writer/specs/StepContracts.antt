@@ -1,4 +1,4 @@
--- How a step of the code stands for the writer's definition: one event, judged and written.
+-- Contracts of the code, not definitions to be believed. How a step of the code stands for the writer's definition: one event, judged and written.
 use Prim.Native.Nat.{ℕ, _+_, _<_, _≤_}
 use mathlib.Core.Path.{_≡_}
 use mathlib.Core.Bool.{Bool}
@@ -8,7 +8,7 @@ use Rattle.format.specs.Items as F
 use Rattle.tables.specs.Located.{Located}
 use Rattle.tables.specs.Rows.{vocabulary}
 use Rattle.events.specs.declared.Event.{Event}
-use Rattle.write_names.specs.Code.{InOrder}
+use Rattle.write_names.specs.Contracts.{InOrder}
 use Rattle.writer.specs.declared.Mode.{Mode}
 use Rattle.writer.specs.declared.Mode.the-variants.{Content, Declaring, Listing}
 use Rattle.writer.specs.declared.State.{State}
@@ -17,8 +17,8 @@ use Rattle.writer.specs.declared.Step.the-variants.{On, Stop}
 use Rattle.writer.specs.Events.{eventOf}
 use Rattle.writer.specs.Items.{WroteItem, writeItem}
 use Rattle.writer.specs.Writing.{settled, halvesOf, judge}
-use Rattle.writer.specs.Output.{Holds, Grown}
-use Rattle.writer.specs.Code.{stateOf}
+use Rattle.writer.specs.OutputContracts.{Holds, Grown}
+use Rattle.writer.specs.Contracts.{stateOf}
 
 -- An element whose declarations are written is not open yet, but will be.
 abbrev pub coming : Mode → ℕ

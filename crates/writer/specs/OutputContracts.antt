@@ -1,4 +1,4 @@
--- What the lent output holds while a document is written: the code clears it first and leaves out what it has no room for.
+-- Contracts of the code, not definitions to be believed. What the lent output holds while a document is written: the code clears it first and leaves out what it has no room for.
 use Prim.Native.Nat.{ℕ, _+_, _%_}
 use mathlib.Core.Path.{_≡_}
 use mathlib.Core.List.{List, [], _∷_, _++_}

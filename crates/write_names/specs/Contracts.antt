@@ -1,4 +1,4 @@
--- How the code's answers stand for the choices' definition: tables in lent words are the vocabulary that they hold.
+-- Contracts of the code, not definitions to be believed. How the code's answers stand for the choices' definition: tables in lent words are the vocabulary that they hold.
 use Prim.Native.Nat.{ℕ, suc, _+_, _*_, _<_, _≤_}
 use mathlib.Core.Path.{_≡_}
 use mathlib.Core.Bool.{false}
@@ -11,7 +11,7 @@ use Rattle.format.specs.Events.{Name, How, Choice, forNamespace}
 use Rattle.format.specs.Tables.{StringTable, PREFIX, NAMESPACE-NAME, LOCAL-NAME, Triple, Vocabulary, strings, names, link}
 use Rattle.format.specs.Strings.{withLength, bit, keeping}
 use Rattle.format.specs.Names.{has, NameLayout}
-use Rattle.fields.specs.Put.{Puts}
+use Rattle.fields.specs.PutContracts.{Puts}
 use Rattle.tables.specs.declared.Counts.{Counts}
 use Rattle.tables.specs.declared.Row.{Row}
 use Rattle.tables.specs.Located.{Located, builtInPrefix, builtInNamespace, octetsOf}

@@ -1,4 +1,4 @@
--- How a run's answers stand for the reading definition's, and what it keeps in lent words.
+-- Contracts of the code, not definitions to be believed. How a run's answers stand for the reading definition, and what it keeps in lent words.
 use Prim.Native.Nat.{ℕ, _+_, _*_, _/_, _≤_}
 use mathlib.Core.Path.{_≡_}
 use mathlib.Core.Bool.{false}

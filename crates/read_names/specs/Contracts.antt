@@ -1,4 +1,4 @@
--- How the code's answers stand for the definition's: the choices that were found are left out, and tables in lent words are the vocabulary that they hold.
+-- Contracts of the code, not definitions to be believed. How the code's answers stand for the reading definition: the choices that were found are left out, and tables in lent words are the vocabulary that they hold.
 use Prim.Native.Nat.{ℕ, _≤_}
 use mathlib.Core.Path.{_≡_}
 use mathlib.Core.List.{List, [], _∷_}

@@ -1,4 +1,4 @@
--- How the code's state stands for the definition's, and what it judges of an event before anything is written.
+-- Contracts of the code, not definitions to be believed. How the code's state stands for the writer's definition, and what it judges of an event before anything is written.
 use Prim.Native.Nat.{ℕ, _+_, _<_, _≤_}
 use mathlib.Core.Bool.{_&&_}
 use mathlib.Core.List.{List}

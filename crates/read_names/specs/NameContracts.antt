@@ -1,4 +1,4 @@
--- How the code takes the reading of a name apart: a refusal handed on, the string behind a number in lent words, and the name behind its strings.
+-- Contracts of the code, not definitions to be believed. What each function that reads a part of a name answers: a refusal handed on, the string behind a number in lent words, the name behind its strings.
 use Prim.Native.Nat.{ℕ, zero, suc, _+_, _*_, _≤_}
 use mathlib.Core.List.{List}
 use lib.ListN.{length}
@@ -20,7 +20,7 @@ use Rattle.read_names.specs.declared.Parts.{Parts}
 use Rattle.read_names.specs.declared.Named.{Named}
 use Rattle.read_names.specs.declared.Named.the-variants.{Faulty}
 use Rattle.read_names.specs.Strings as S
-use Rattle.read_names.specs.Code.{Tidy, NameTidy}
+use Rattle.read_names.specs.Contracts.{Tidy, NameTidy}
 
 -- What a string or a number refuses, the name does.
 abbrev pub stringFault : Field → Named

@@ -1,4 +1,4 @@
--- How a step's answer stands for the definition's, and what the reader keeps in order from step to step.
+-- Contracts of the code, not definitions to be believed. How a step's answer stands for the reading definition, and what the reader keeps in order from step to step.
 use Prim.Native.Nat.{ℕ, _+_, _*_, _≤_}
 use mathlib.Core.Path.{_≡_}
 use mathlib.Core.List.{List}
@@ -13,7 +13,7 @@ use Rattle.read_items.specs.declared.Mode.the-variants.{Content, Declari
 use Rattle.read_items.specs.declared.State.{State}
 use Rattle.read_items.specs.declared.Step.{Step}
 use Rattle.read_items.specs.declared.Step.the-variants.{More, Quiet, Done, Stop}
-use Rattle.read_names.specs.Code.{Tidy}
+use Rattle.read_names.specs.Contracts.{Tidy}
 use Rattle.read_items.specs.Items as I
 use Rattle.read_items.specs.Items.{Stand}
 

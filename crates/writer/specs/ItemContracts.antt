@@ -1,4 +1,4 @@
--- The stages of a step: the end that an attribute list owes, the item behind it, and whether all of it fits. Each stage's code stands for one of these.
+-- Contracts of the code, not definitions to be believed. What each function of a step writes: the end that an attribute list owes, the item behind it, and whether all of it fits.
 use Prim.Native.Nat.{ℕ, _+_, _-_, _*_, _/_, _<_, _≤_}
 use mathlib.Core.Path.{_≡_}
 use mathlib.Core.Bool.{Bool, true, false, not, _&&_}
@@ -10,14 +10,14 @@ use Rattle.format.specs.Events as E
 use Rattle.format.specs.Tables.{link}
 use Rattle.format.specs.Document.{aligned}
 use Rattle.format.specs.Refusals.{FULL, ROOM}
-use Rattle.fields.specs.Put.{Puts}
+use Rattle.fields.specs.PutContracts.{Puts}
 use Rattle.tables.specs.Located.{Located}
 use Rattle.events.specs.declared.Kind.{Kind}
 use Rattle.events.specs.declared.Event.{Event}
 use Rattle.write_names.specs.declared.Wrote.{Wrote}
 use Rattle.write_names.specs.declared.Wrote.the-variants.{Put, Full}
 use Rattle.write_names.specs.Choices.{within}
-use Rattle.write_names.specs.Code.{InOrder}
+use Rattle.write_names.specs.Contracts.{InOrder}
 use Rattle.writer.specs.declared.Mode.{Mode}
 use Rattle.writer.specs.declared.Mode.the-variants.{Content, Listing}
 use Rattle.writer.specs.declared.State.{State}
@@ -26,9 +26,9 @@ use Rattle.writer.specs.declared.Step.the-variants.{On, Stop}
 use Rattle.writer.specs.Events.{wellMade, eventOf, isListing}
 use Rattle.writer.specs.Items.{writeItem}
 use Rattle.writer.specs.Writing.{isAttribute, isEnd, opens, fits}
-use Rattle.writer.specs.Output.{endOctet}
-use Rattle.writer.specs.Code.{modeOf}
-use Rattle.writer.specs.Steps.{coming, known}
+use Rattle.writer.specs.OutputContracts.{endOctet}
+use Rattle.writer.specs.Contracts.{modeOf}
+use Rattle.writer.specs.StepContracts.{coming, known}
 
 -- The end of an attribute list is owed; the state and the output behind it, where it is.
 unfoldable pub owes : State → Event → Bool

@@ -1,4 +1,4 @@
--- What putting octets into the output leaves.
+-- Contracts of the code, not definitions to be believed. What putting octets into the output leaves.
 use Prim.Native.Nat.{ℕ, _+_}
 use mathlib.Core.Path.{_≡_}
 use mathlib.Core.List.{List}

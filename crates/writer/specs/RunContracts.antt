@@ -1,4 +1,4 @@
--- How a run of the writer stands for its definition: what is still to be written, behind what is, leaves what the definition says; and the phases of a run.
+-- Contracts of the code, not definitions to be believed. How a run of the writer stands for its definition: what is still to be written, behind what is, leaves what the definition says; and the phases of a run.
 use Prim.Native.Nat.{ℕ, suc, _+_, _≤_}
 use mathlib.Core.Path.{_≡_}
 use mathlib.Core.Bool.{Bool, false}
@@ -19,9 +19,9 @@ use Rattle.writer.specs.declared.State.{State}
 use Rattle.writer.specs.declared.run.Phase.{Phase}
 use Rattle.writer.specs.declared.run.Phase.the-variants.{Onward, Halted}
 use Rattle.writer.specs.Writing.{announced, Result, written, refusal, finish, run, joined, told, Outcome, refusing, accepting, outcome, writing, Leaves, writeOf}
-use Rattle.writer.specs.Output.{Holds}
-use Rattle.writer.specs.Code.{modeOf}
-use Rattle.writer.specs.Steps.{Ready, known}
+use Rattle.writer.specs.OutputContracts.{Holds}
+use Rattle.writer.specs.Contracts.{modeOf}
+use Rattle.writer.specs.StepContracts.{Ready, known}
 
 -- The writer before the first event.
 abbrev pub fresh : State

@@ -1,4 +1,4 @@
--- Stages of reading a string, cut where the code is cut.
+-- Contracts of the code, not definitions to be believed. What each function that reads a part of a string answers.
 use Prim.Native.Nat.{ℕ, _+_, _-_, _*_, _≤_}
 use mathlib.Core.List.{List, []}
 use lib.ListN.{length, take, drop}
