@@ -5,6 +5,7 @@ use mathlib.Core.Bool.{_&&_}
 use mathlib.Core.List.{List, [], _∷_}
 use lib.Dec.{leb, eqb}
 use lib.ListN.{length, getD}
+use Rattle.format.specs.Octets.{Words}
 use Rattle.format.specs.Numbers.{pick}
 use Rattle.events.specs.declared.EventString.the-variants.{Absent, Empty, Stretch, XmlPrefix, XmlNamespace}
 use Rattle.events.specs.declared.Kind.{Kind}
@@ -34,7 +35,7 @@ unfoldable pub toldBy : (tag place size : ℕ) → Told
 toldBy tag place size = pick (eqb tag 2) (Said (Stretch place size)) (pick (eqb place 0 && eqb size 0) (toldByTag tag) Not)
 
 -- The string of the three words from `at` on.
-abbrev pub toldAt : List ℕ → (at : ℕ) → Told
+abbrev pub toldAt : Words → (at : ℕ) → Told
 toldAt w at = toldBy (getD w at 0) (getD w (at + 1) 0) (getD w (at + 2) 0)
 
 -- The record of a kind and its four strings, blank where one is not said.
@@ -46,19 +47,19 @@ framed k (Said p) (Said n) (Said l) Not = blank
 framed k (Said p) (Said n) (Said l) (Said v) = record { kind = k; prefix = p; namespace = n; name = l; value = v }
 
 -- The record of the 13 words from `at` on: blank unless its kind's number is 1 to 7 and it has all four strings.
-unfoldable pub recordAt : List ℕ → (at : ℕ) → Event
+unfoldable pub recordAt : Words → (at : ℕ) → Event
 recordAt w at =
     pick (leb 1 (getD w at 0) && leb (getD w at 0) 7)
     (framed (kindOf (getD w at 0)) (toldAt w (at + 1)) (toldAt w (at + 4)) (toldAt w (at + 7)) (toldAt w (at + 10)))
     blank
 
 -- n records, the first at word `at`.
-unfoldable pub recordsFrom : List ℕ → (at n : ℕ) → List Event
+unfoldable pub recordsFrom : Words → (at n : ℕ) → List Event
 recordsFrom w at zero = []
 recordsFrom w at (suc n) = recordAt w at ∷ recordsFrom w (at + 13) n
 
 -- The records of all whole groups of 13 words, in order; the words behind them say nothing.
-unfoldable pub recordsOf : List ℕ → List Event
+unfoldable pub recordsOf : Words → List Event
 recordsOf w = recordsFrom w 0 (length w / 13)
 
 -- No record is of kind Blank.

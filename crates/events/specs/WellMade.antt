@@ -1,42 +1,42 @@
 -- Which records are events as 01 has them ("Events"), over the octets that their stretches lie in: the document's for a reader, the text area's for a writer.
 use Prim.Native.Nat.{ℕ, _+_, _≤_, _<_}
 use mathlib.Core.Path.{_≡_}
-use mathlib.Core.List.{List}
 use lib.ListN.{length}
+use Rattle.format.specs.Octets.{Octets}
 use Rattle.events.specs.declared.EventString.{EventString}
 use Rattle.events.specs.declared.EventString.the-variants.{Absent, Empty, Stretch, XmlPrefix, XmlNamespace}
 use Rattle.events.specs.declared.Event.{Event}
 use Rattle.events.specs.Records.{namespaceRecord, startRecord, attributeRecord, chunkRecord, commentRecord, instructionRecord, endRecord}
 
 -- A stretch: its length is never 0, and it ends within the octets.
-pub data IsStretch (s : List ℕ) : EventString → Type 0 where
+pub data IsStretch (s : Octets) : EventString → Type 0 where
   inside : {place size : ℕ} → 0 < size → place + size ≤ length s → IsStretch s (Stretch place size)
 
 -- A prefix: absent, built in, or a stretch; a namespace likewise.
-pub data IsPrefix (s : List ℕ) : EventString → Type 0 where
+pub data IsPrefix (s : Octets) : EventString → Type 0 where
   no-prefix : IsPrefix s Absent
   xml-prefix : IsPrefix s XmlPrefix
   a-prefix : {x : EventString} → IsStretch s x → IsPrefix s x
 
-pub data IsNamespace (s : List ℕ) : EventString → Type 0 where
+pub data IsNamespace (s : Octets) : EventString → Type 0 where
   no-namespace : IsNamespace s Absent
   xml-namespace : IsNamespace s XmlNamespace
   a-namespace : {x : EventString} → IsStretch s x → IsNamespace s x
 
 -- A value, comment or content: empty, or a stretch.
-pub data IsValue (s : List ℕ) : EventString → Type 0 where
+pub data IsValue (s : Octets) : EventString → Type 0 where
   no-octets : IsValue s Empty
   some-octets : {x : EventString} → IsStretch s x → IsValue s x
 
 -- The strings of a name: a prefix only with a namespace.
-pub record IsName (s : List ℕ) (prefix namespace local : EventString) : Type 0 where
+pub record IsName (s : Octets) (prefix namespace local : EventString) : Type 0 where
   pub a-prefix : IsPrefix s prefix
   pub a-namespace : IsNamespace s namespace
   pub a-local : IsStretch s local
   pub not-alone : namespace ≡ Absent → prefix ≡ Absent
 
 -- A record of each kind; its other strings are absent.
-pub data WellMade (s : List ℕ) : Event → Type 0 where
+pub data WellMade (s : Octets) : Event → Type 0 where
   a-declaration : {p n : EventString} → IsPrefix s p → IsNamespace s n → WellMade s (namespaceRecord p n)
   a-start : {p n l : EventString} → IsName s p n l → WellMade s (startRecord p n l)
   an-attribute : {p n l v : EventString} → IsName s p n l → IsValue s v → WellMade s (attributeRecord p n l v)

@@ -1,6 +1,7 @@
 -- Event records as words, for callers that have no enums: 13 words for a record, the kind's number and three words for each string.
 use Prim.Native.Nat.{ℕ}
 use mathlib.Core.List.{List, [], _∷_, _++_}
+use Rattle.format.specs.Octets.{Words}
 use Rattle.events.specs.declared.EventString.{EventString}
 use Rattle.events.specs.declared.EventString.the-variants.{Absent, Empty, Stretch, XmlPrefix, XmlNamespace}
 use Rattle.events.specs.declared.Kind.{Kind}
@@ -40,14 +41,14 @@ stringSize XmlPrefix = 0
 stringSize XmlNamespace = 0
 
 -- Tag, place, length.
-abbrev pub stringWords : EventString → List ℕ
+abbrev pub stringWords : EventString → Words
 stringWords t = stringTag t ∷ stringPlace t ∷ stringSize t ∷ []
 
 -- The kind, then prefix, namespace, name and value.
-abbrev pub recordWords : Event → List ℕ
+abbrev pub recordWords : Event → Words
 recordWords e = kindNumber (e .kind) ∷ stringWords (e .prefix) ++ stringWords (e .namespace) ++ stringWords (e .name) ++ stringWords (e .value)
 
 -- The words of records, one after the other.
-unfoldable pub rowWords : List Event → List ℕ
+unfoldable pub rowWords : List Event → Words
 rowWords [] = []
 rowWords (e ∷ es) = recordWords e ++ rowWords es

@@ -12,7 +12,8 @@ use borrow.Author.Tests.{lt-ltb, le-ltb, le-leb, ltb-true, ltb-false, leb-true}
 use lib.Dec.{ltb, leb, lit<}
 use lib.ListN.{length, getD, take, drop, length-append}
 use lib.Seq.{getD-append-seam, append-snoc, drop-cons}
-use Rattle.format.specs.Numbers.{pick, AreOctets, Form, form, octets, spell, sizes}
+use Rattle.format.specs.Octets.{AreOctets}
+use Rattle.format.specs.Numbers.{pick, Form, form, octets, spell, sizes}
 use Rattle.fields.specs.declared.Cursor.{Cursor}
 use Rattle.fields.specs.declared.Number.{Number}
 use Rattle.fields.specs.declared.Number.the-variants.{Got, Refused}

@@ -3,6 +3,7 @@ use Prim.Native.Nat.{ℕ, zero, suc, _+_, _-_, _*_, _/_, _%_, _^_}
 use mathlib.Core.List.{List, [], _∷_}
 use lib.ListN.{length, getD}
 use lib.Dec.{ltb, leb}
+use Rattle.format.specs.Octets.{Octets}
 use Rattle.format.specs.Numbers.{pick, Form, form}
 use Rattle.format.specs.Refusals.{TRUNCATED, CODE, PADDING, RANGE}
 use Rattle.fields.specs.declared.Number.{Number}
@@ -13,12 +14,12 @@ abbrev pub bitsOf : (o first last : ℕ) → ℕ
 bitsOf o first last = o / 2 ^ (8 - last) % 2 ^ (last + 1 - first)
 
 -- The value that x and then the m octets from `at` spell, the higher first.
-unfoldable pub valueFrom : List ℕ → ℕ → ℕ → ℕ → ℕ
+unfoldable pub valueFrom : Octets → ℕ → ℕ → ℕ → ℕ
 valueFrom s at x zero = x
 valueFrom s at x (suc m) = valueFrom s (suc at) (x * 256 + getD s at 0) m
 
 -- The octets behind the first one: missing (2), padding in them (6), a number over the top (7).
-unfoldable pub behind : List ℕ → ℕ → ℕ → ℕ → ℕ → ℕ → ℕ → Number
+unfoldable pub behind : Octets → ℕ → ℕ → ℕ → ℕ → ℕ → ℕ → Number
 behind s at x more low size top =
     pick (ltb (at + more) (length s))
     (pick (ltb (valueFrom s (at + 1) x more) size)
@@ -30,14 +31,14 @@ behind s at x more low size top =
 
 -- b is what the field's bits of the first octet hold: the form that spells a value with b there reads on; padding in the first octet (6); no form has it (5).
 -- `low` is the lowest number that the forms left can spell.
-unfoldable pub readIn : List Form → ℕ → ℕ → List ℕ → ℕ → ℕ → Number
+unfoldable pub readIn : List Form → ℕ → ℕ → Octets → ℕ → ℕ → Number
 readIn [] top low s at b = Refused CODE at
 readIn (form room more size ∷ fs) top low s at b =
     pick (ltb (b * 256 ^ more) size) (behind s at b more low size top)
     (pick (ltb b room) (Refused PADDING at) (readIn fs top (low + size) s at (b - room)))
 
 -- The number or length that starts at bit `bit` of the octet at `at`: missing (2), then as its forms say.
-unfoldable pub fieldAt : List Form → ℕ → ℕ → List ℕ → ℕ → Number
+unfoldable pub fieldAt : List Form → ℕ → ℕ → Octets → ℕ → Number
 fieldAt fs top bit s at = pick (ltb at (length s)) (readIn fs top 1 s at (getD s at 0 % 2 ^ (9 - bit))) (Refused TRUNCATED at)
 
 -- Above every length: a length has no top.

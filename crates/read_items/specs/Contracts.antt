@@ -1,8 +1,8 @@
 -- Contracts of the code, not definitions to be believed. How a step's answer stands for the reading definition, and what the reader keeps in order from step to step.
 use Prim.Native.Nat.{ℕ, _+_, _*_, _≤_}
 use mathlib.Core.Path.{_≡_}
-use mathlib.Core.List.{List}
 use lib.ListN.{length}
+use Rattle.format.specs.Octets.{Octets, Words}
 use Rattle.format.specs.Items as F
 use Rattle.tables.specs.Counts.{tableWords}
 use Rattle.tables.specs.Rows.{vocabulary}
@@ -22,7 +22,7 @@ modeOf Content = F.content
 modeOf (Declaring a) = F.declaring a
 modeOf (Listing any) = F.listing any
 
-abbrev pub standOf : State → List ℕ → Stand
+abbrev pub standOf : State → Words → Stand
 standOf st w = record { at = st .at; state = record { tables = vocabulary (st .counts) w; level = st .level; root = st .root; mode = modeOf (st .mode) } }
 
 pub data SeenStep : Type 0 where
@@ -31,7 +31,7 @@ pub data SeenStep : Type 0 where
   done : SeenStep
   stop : (number place : ℕ) → SeenStep
 
-abbrev pub seenStep : Step → List ℕ → SeenStep
+abbrev pub seenStep : Step → Words → SeenStep
 seenStep (More st p e) w = more p e (standOf st w)
 seenStep (Quiet st) w = quiet (standOf st w)
 seenStep Done w = done
@@ -50,12 +50,12 @@ coming (Declaring a) = 1
 coming (Listing any) = 0
 
 -- The reader stands in the document, and not too deep.
-pub record Good (s : List ℕ) (st : State) (w : List ℕ) : Type 0 where
+pub record Good (s : Octets) (st : State) (w : Words) : Type 0 where
   pub tidy : Tidy s (st .counts) w
   pub at : st .at ≤ 2 * length s
   pub shallow : st .level + coming (st .mode) ≤ 32
 
-abbrev pub StepGood : List ℕ → List ℕ → Step → List ℕ → Type 0
+abbrev pub StepGood : Octets → Words → Step → Words → Type 0
 StepGood s v (More st p e) w = Good s st w
 StepGood s v (Quiet st) w = Good s st w
 StepGood s v Done w = w ≡ v

@@ -2,8 +2,8 @@
 use Prim.Native.Nat.{ℕ, _+_, _*_}
 use mathlib.Core.Path.{_≡_}
 use mathlib.Core.Bool.{Bool, true, false}
-use mathlib.Core.List.{List}
 use lib.Dec.{ltb}
+use Rattle.format.specs.Octets.{Octets, Words}
 use Rattle.format.specs.Numbers.{pick}
 use Rattle.format.specs.Events.{Start, forStart, _by_}
 use Rattle.format.specs.Tables.{link}
@@ -28,13 +28,13 @@ use Rattle.read_items.specs.Items.{Stand}
 use Rattle.read_items.specs.Contracts.{Good, standOf, seenStep, stepSeen, StepGood}
 
 -- An answer stands for the definition's, and what it leaves is in order; v were the table words before it.
-pub record Meets (s v : List ℕ) (r : Step) (w : List ℕ) (d : I.Step) : Type 0 where
+pub record Meets (s : Octets) (v : Words) (r : Step) (w : Words) (d : I.Step) : Type 0 where
   pub is : seenStep r w ≡ stepSeen d
   pub good : StepGood s v r w
 
 -- The same for any tables, for code that does not touch them.
-abbrev pub Keeps : List ℕ → State → Step → (Stand → I.Step) → Type 0
-Keeps s st r d = (w : List ℕ) → Good s st w → Meets s w r w (d (standOf st w))
+abbrev pub Keeps : Octets → State → Step → (Stand → I.Step) → Type 0
+Keeps s st r d = (w : Words) → Good s st w → Meets s w r w (d (standOf st w))
 
 -- At the half behind an end, among children at a level.
 abbrev pub afterEnd : State → ℕ → State
@@ -75,7 +75,7 @@ startBy k a st (Read x h) = More (openedAt st h a) k (startRecord (x .prefix) (x
 startBy k a st (Faulty n p) = Stop n p
 
 -- An element by its name's number: its faults, then depth (13).
-unfoldable pub numberedStart : List ℕ → ℕ → Bool → F.State Located → I.Step
+unfoldable pub numberedStart : Octets → ℕ → Bool → F.State Located → I.Step
 numberedStart s k a v =
     I.into (numberedAt link ofElement s k (v .tables))
     λ x next w. pick (ltb (v .level) (link .depth)) (I.more k (Start (x .name) by forStart (x .how)) (I.octet next (F.opened v w a))) (I.stop DEPTH k)

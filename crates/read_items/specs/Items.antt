@@ -1,9 +1,9 @@
 -- Reading one item: which kind its first octet says, its fields, the event, its choices and its place; each field's tests in 01's order.
 use Prim.Native.Nat.{ℕ, suc, _-_, _*_, _/_, _%_}
 use mathlib.Core.Bool.{Bool, true, false, not, _&&_, _||_}
-use mathlib.Core.List.{List}
 use lib.ListN.{length, getD}
 use lib.Dec.{eqb, ltb, leb}
+use Rattle.format.specs.Octets.{Octets}
 use Rattle.format.specs.Numbers.{pick}
 use Rattle.format.specs.Events.{Namespace, Start, Attribute, Text, Comment, Instruction, forNamespace, forStart, forAttribute, forText, forComment, forInstruction, Item, _by_}
 use Rattle.format.specs.Tables.{OTHER-NCNAME, ATTRIBUTE-VALUE, CONTENT-CHARACTER-CHUNK, OTHER-STRING, Vocabulary, Limits}
@@ -45,14 +45,14 @@ module _ (L : Limits) where
   startOf k a v g = into g λ x next w. more k (Start (x .name) by forStart (x .how)) (octet next (opened v w a))
 
   -- The declaration at k, of the element whose attribute bit is a.
-  unfoldable pub namespaceAt : List ℕ → ℕ → State Located → Bool → Step
+  unfoldable pub namespaceAt : Octets → ℕ → State Located → Bool → Step
   namespaceAt s k v a =
       into (declaredAt L s k (v .tables))
       λ d next w. more k (Namespace (d .prefix) (d .namespace) by forNamespace (d .prefixHow) (d .namespaceHow)) (octet next (moved v w (declaring a)))
 
   -- An element whose first octet holds the attribute bit a and the six bits b: padding (6); a second root (15). A number: its faults, then depth (13).
   -- Declarations (1110 00) and a name in parts: p without n (15), depth (13), then the strings.
-  unfoldable pub elementAt : List ℕ → ℕ → ℕ → Bool → State Located → Step
+  unfoldable pub elementAt : Octets → ℕ → ℕ → Bool → State Located → Step
   elementAt s k b a v =
       pick (namePadding b) (stop PADDING k)
       (pick (mayStart v)
@@ -65,7 +65,7 @@ module _ (L : Limits) where
       (stop STRUCTURE k))
 
   -- The name behind F0: missing (2); 1110 (5); bits 1 and 2, or padding (6); then a number, or parts.
-  unfoldable pub namedAt : List ℕ → ℕ → Bool → State Located → Step
+  unfoldable pub namedAt : Octets → ℕ → Bool → State Located → Step
   namedAt s k a v =
       pick (ltb k (length s))
       (pick (eqb (getD s k 0 % 64 / 4) 14) (stop CODE k)
@@ -76,7 +76,7 @@ module _ (L : Limits) where
       (stop TRUNCATED k)
 
   -- An attribute: missing (2); bit 1 is 1, or 1110 (5); 1111 and then 1 (6); then a number, or parts; then the value.
-  unfoldable pub attributeAt : List ℕ → ℕ → State Located → Step
+  unfoldable pub attributeAt : Octets → ℕ → State Located → Step
   attributeAt s k v =
       pick (ltb k (length s))
       (pick (ltb (getD s k 0) 0x80)
@@ -88,15 +88,15 @@ module _ (L : Limits) where
       (stop CODE k))
       (stop TRUNCATED k)
 
-  unfoldable pub chunkAt : List ℕ → ℕ → State Located → Step
+  unfoldable pub chunkAt : Octets → ℕ → State Located → Step
   chunkAt s k v =
       into (literalAt L c15 s CONTENT-CHARACTER-CHUNK k (v .tables)) λ y next w. more k (Text (y .string) by forText (y .how)) (octet next (knowing v w))
 
-  unfoldable pub commentAt : List ℕ → ℕ → State Located → Step
+  unfoldable pub commentAt : Octets → ℕ → State Located → Step
   commentAt s k v =
       into (valueAt L s OTHER-STRING (suc k) (v .tables)) λ y next w. more k (Comment (y .string) by forComment (y .how)) (octet next (knowing v w))
 
-  unfoldable pub instructionAt : List ℕ → ℕ → State Located → Step
+  unfoldable pub instructionAt : Octets → ℕ → State Located → Step
   instructionAt s k v =
       into (idAt L s OTHER-NCNAME (suc k) (v .tables))
       λ x k₁ w₁. into (valueAt L s OTHER-STRING k₁ w₁)
@@ -104,14 +104,14 @@ module _ (L : Limits) where
 
   -- Entity references (110010) are inside elements, type declarations (110001) outside: another format (8). All else is not assigned (5), but 1111 here
   -- is an end that stood not where it was due (6).
-  unfoldable pub otherAt : List ℕ → ℕ → State Located → Step
+  unfoldable pub otherAt : Octets → ℕ → State Located → Step
   otherAt s k v =
       pick (ltb (getD s k 0) 0xF0)
       (pick (eqb (getD s k 0 / 4) (pick (ltb 0 (v .level)) 0x32 0x31)) (stop FORMAT k) (stop CODE k))
       (stop PADDING k)
 
   -- A child by its first octet (C.2.11, C.3.7): missing (2); 0 element; 10 chunk, inside elements only; E1 instruction; E2 comment.
-  unfoldable pub childAt : List ℕ → ℕ → State Located → Step
+  unfoldable pub childAt : Octets → ℕ → State Located → Step
   childAt s k v =
       pick (ltb k (length s))
       (pick (ltb (getD s k 0) 0x40) (elementAt s k (getD s k 0) false v)
@@ -122,11 +122,11 @@ module _ (L : Limits) where
       (stop TRUNCATED k)
 
   -- Behind a declaration: missing (2); F0 and the name; else another declaration. 1111 with other bits behind it is padding (6).
-  unfoldable pub declaringAt : List ℕ → ℕ → Bool → State Located → Step
+  unfoldable pub declaringAt : Octets → ℕ → Bool → State Located → Step
   declaringAt s k a v = pick (eqb (getD s k 0) 0xF0) (namedAt s (suc k) a v) (namespaceAt s k v a)
 
   -- The item at octet k, by where we are.
-  unfoldable pub itemAt : List ℕ → ℕ → State Located → Mode → Step
+  unfoldable pub itemAt : Octets → ℕ → State Located → Mode → Step
   itemAt s k v content = childAt s k v
   itemAt s k v (declaring a) = declaringAt s k a v
   itemAt s k v (listing some) = attributeAt s k v

@@ -1,9 +1,9 @@
 -- One step of reading: an end, which stands at a half of an octet, or the item behind the padding that is due.
 use Prim.Native.Nat.{ℕ, suc, _*_, _/_, _%_}
 use mathlib.Core.Bool.{Bool, true, false, _&&_, _||_}
-use mathlib.Core.List.{List}
 use lib.ListN.{length, getD, take, drop}
 use lib.Dec.{eqb, ltb}
+use Rattle.format.specs.Octets.{Octets}
 use Rattle.format.specs.Numbers.{pick}
 use Rattle.format.specs.Events.{End, forEnd, _by_}
 use Rattle.format.specs.Tables.{Limits}
@@ -13,18 +13,18 @@ use Rattle.format.specs.Refusals.{CODE, PADDING, STRUCTURE}
 use Rattle.read_items.specs.Items.{Stand, Step, more, quiet, done, stop, itemAt}
 
 -- The half at a place counted in halves; 16 where there is none.
-unfoldable pub halfAt : List ℕ → ℕ → ℕ
+unfoldable pub halfAt : Octets → ℕ → ℕ
 halfAt s at = getD (halves (take 1 (drop (at / 2) s))) (at % 2) 16
 
 -- An end stands there; the padding that is due there is right.
-unfoldable pub endsAt : List ℕ → ℕ → Bool
+unfoldable pub endsAt : Octets → ℕ → Bool
 endsAt s at = eqb (halfAt s at) 15
 
-unfoldable pub padsAt : List ℕ → ℕ → Bool
+unfoldable pub padsAt : Octets → ℕ → Bool
 padsAt s at = eqb (at % 2) 0 || eqb (halfAt s at) 0
 
 -- The document's end: no root (15); bits 5 to 8 (6); octets behind it (15).
-unfoldable pub documentEnd : List ℕ → Stand → Step
+unfoldable pub documentEnd : Octets → Stand → Step
 documentEnd s m =
     pick (m .state .root)
     (pick (padsAt s (suc (m .at)))
@@ -33,7 +33,7 @@ documentEnd s m =
     (stop STRUCTURE (m .at / 2))
 
 -- 1111 ends an attribute list, which has a member (15), an element, or the document.
-unfoldable pub endAt : List ℕ → Stand → Mode → Step
+unfoldable pub endAt : Octets → Stand → Mode → Step
 endAt s m (listing true) = quiet (record { at = suc (m .at); state = moved (m .state) (m .state .tables) content })
 endAt s m (listing false) = stop STRUCTURE (m .at / 2)
 endAt s m (declaring a) = stop CODE (m .at / 2)
@@ -47,7 +47,7 @@ byHalves (listing some) = true
 
 module _ (L : Limits) where
   -- One step: an end, or the item at the next octet behind padding that is right (6).
-  unfoldable pub step : List ℕ → Stand → Step
+  unfoldable pub step : Octets → Stand → Step
   step s m =
       pick (byHalves (m .state .mode) && endsAt s (m .at)) (endAt s m (m .state .mode))
       (pick (padsAt s (m .at)) (itemAt L s (aligned (m .at) / 2) (m .state) (m .state .mode)) (stop PADDING (m .at / 2)))

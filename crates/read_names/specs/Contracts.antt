@@ -3,6 +3,7 @@ use Prim.Native.Nat.{ℕ, _≤_}
 use mathlib.Core.Path.{_≡_}
 use mathlib.Core.List.{List, [], _∷_}
 use lib.ListN.{length}
+use Rattle.format.specs.Octets.{Octets, Words}
 use Rattle.format.specs.Tables.{NameTable, Triple, names}
 use Rattle.tables.specs.declared.Counts.{Counts}
 use Rattle.tables.specs.Counts.{tableWords}
@@ -26,7 +27,7 @@ Ranged c [] = Unit {0}
 Ranged c (x ∷ xs) = (x .prefix ≤ c .prefix) × (x .namespace ≤ c .namespace) × (1 ≤ x .local) × (x .local ≤ c .local) × Ranged c xs
 
 -- The tables of a document s in lent words are in order.
-pub record Tidy (s : List ℕ) (c : Counts) (w : List ℕ) : Type 0 where
+pub record Tidy (s : Octets) (c : Counts) (w : Words) : Type 0 where
   pub size : length s ≤ 16384
   pub room : length w ≡ tableWords
   pub counted : Counted c
@@ -39,11 +40,11 @@ pub record Seen : Type 0 where
   pub text : EventString
   pub number : ℕ
 
-abbrev pub seenField : Field → List ℕ → S.Got Seen
+abbrev pub seenField : Field → Words → S.Got Seen
 seenField (Got x n h) w = S.got (record { text = x; number = n }) (h .at) (vocabulary (h .counts) w)
 seenField (Refused n p) w = S.refused n p
 
-abbrev pub FieldTidy : List ℕ → Field → List ℕ → Type 0
+abbrev pub FieldTidy : Octets → Field → Words → Type 0
 FieldTidy s (Got x n h) w = Tidy s (h .counts) w × (h .at ≤ length s)
 FieldTidy s (Refused n p) w = length w ≡ tableWords
 
@@ -61,11 +62,11 @@ stringSeen (S.got b next v) = S.got (record { text = eventString (b .string); nu
 stringSeen (S.refused n p) = S.refused n p
 
 -- ---- a name, a declaration (which has no local name)
-abbrev pub seenName : Named → List ℕ → S.Got Parts
+abbrev pub seenName : Named → Words → S.Got Parts
 seenName (Read x h) w = S.got x (h .at) (vocabulary (h .counts) w)
 seenName (Faulty n p) w = S.refused n p
 
-abbrev pub NameTidy : List ℕ → Named → List ℕ → Type 0
+abbrev pub NameTidy : Octets → Named → Words → Type 0
 NameTidy s (Read x h) w = Tidy s (h .counts) w × (h .at ≤ length s)
 NameTidy s (Faulty n p) w = length w ≡ tableWords
 

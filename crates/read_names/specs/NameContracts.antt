@@ -1,8 +1,8 @@
 -- Contracts of the code, not definitions to be believed. What each function that reads a part of a name answers: a refusal handed on, the string behind a number in lent words, the name behind its strings.
 use Prim.Native.Nat.{ℕ, zero, suc, _+_, _*_, _≤_}
-use mathlib.Core.List.{List}
 use lib.ListN.{length}
 use lib.Dec.{ltb}
+use Rattle.format.specs.Octets.{Octets, Words}
 use Rattle.format.specs.Numbers.{pick}
 use Rattle.format.specs.Tables.{NameTable, Triple, Vocabulary, names, addingName, holdsName, Limits}
 use Rattle.format.specs.Refusals.{REPEAT, FULL}
@@ -32,12 +32,12 @@ numberFault (Num n c) = Faulty 0 (c .at)
 numberFault (NoNum n p) = Faulty n p
 
 -- The string behind a number of a table in lent words; 0 is none.
-unfoldable pub eventStringAt : List ℕ → (table number : ℕ) → EventString
+unfoldable pub eventStringAt : Words → (table number : ℕ) → EventString
 eventStringAt w table zero = Absent
 eventStringAt w table (suc k) = eventString (stringAt (tableOf table) w (768 * table + 3 * k))
 
 -- The strings behind a name's numbers.
-unfoldable pub eventStringsAt : List ℕ → Triple → Parts
+unfoldable pub eventStringsAt : Words → Triple → Parts
 eventStringsAt w x = record { prefix = eventStringAt w 0 (x .prefix); namespace = eventStringAt w 1 (x .namespace); local = eventStringAt w 2 (x .local) }
 
 -- A name in parts whose strings end before `next`: its triple is there already (11), no room in the table (12), both at k.
@@ -47,5 +47,5 @@ newName L t x y k next v =
     (pick (ltb (length (names v t)) (L .entries)) (S.got y next (addingName v t x)) (S.refused FULL k))
 
 -- Tables that were in order of a document are so afterwards.
-abbrev pub KeepsTidy : Here → List ℕ → Named → List ℕ → Type 0
-KeepsTidy h w r v = (s : List ℕ) → Tidy s (h .counts) w → h .at ≤ length s → NameTidy s r v
+abbrev pub KeepsTidy : Here → Words → Named → Words → Type 0
+KeepsTidy h w r v = (s : Octets) → Tidy s (h .counts) w → h .at ≤ length s → NameTidy s r v

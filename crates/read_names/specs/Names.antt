@@ -2,9 +2,9 @@
 use Prim.Native.Nat.{ℕ, suc, _-_, _%_}
 use mathlib.Core.Bool.{Bool}
 use mathlib.Core.Option.{Option}
-use mathlib.Core.List.{List}
 use lib.ListN.{length, getD}
 use lib.Dec.{eqb, ltb, leb}
+use Rattle.format.specs.Octets.{Octets}
 use Rattle.format.specs.Numbers.{pick, top}
 use Rattle.format.specs.Events.{Name, How, NameHow, inParts, byNumber}
 use Rattle.format.specs.Tables.{PREFIX, NAMESPACE-NAME, LOCAL-NAME, NameTable, ELEMENT-NAME, ATTRIBUTE-NAME, Triple, noTriple, Vocabulary, names, addingName, holdsName, nameOf, Limits}
@@ -41,7 +41,7 @@ nameBit ATTRIBUTE-NAME = 2
 
 module _ (L : Limits) where
   -- A name in parts, its p and n in the octet b at k: p without n (15); the strings; then the triple is there already (11), no room in the table (12).
-  unfoldable pub partsAt : NameLayout → List ℕ → ℕ → ℕ → Vocabulary Located → Got NameRead
+  unfoldable pub partsAt : NameLayout → Octets → ℕ → ℕ → Vocabulary Located → Got NameRead
   partsAt q s b k v =
       pick (lonePrefix b) (refused STRUCTURE k)
       (then (optionalAt L (prefixBit b) s PREFIX (suc k) v)
@@ -55,7 +55,7 @@ module _ (L : Limits) where
       (refused FULL k)))
 
   -- A name by number: 2, 5, 6, 2, 6, 7, then beyond the table (10).
-  unfoldable pub numberedAt : NameLayout → List ℕ → ℕ → Vocabulary Located → Got NameRead
+  unfoldable pub numberedAt : NameLayout → Octets → ℕ → Vocabulary Located → Got NameRead
   numberedAt q s k v =
       number (fieldAt (q .numberForms) top (nameBit (q .table)) s k)
       λ n next. pick (leb n (length (names v (q .table))))
@@ -63,11 +63,11 @@ module _ (L : Limits) where
       (refused INDEX k)
 
   -- A name whose part of its first octet is b: by number, or in parts.
-  unfoldable pub nameAt : NameLayout → List ℕ → ℕ → ℕ → Vocabulary Located → Got NameRead
+  unfoldable pub nameAt : NameLayout → Octets → ℕ → ℕ → Vocabulary Located → Got NameRead
   nameAt q s b k v = pick (ltb b (q .inPartsBits)) (numberedAt q s k v) (partsAt q s b k v)
 
   -- A namespace declaration at octet k: missing (2); not 110011pn (5), but 1111 ends a list that has no member: bits 5 to 8 (6), then 15.
-  unfoldable pub declaredAt : List ℕ → ℕ → Vocabulary Located → Got DeclaredRead
+  unfoldable pub declaredAt : Octets → ℕ → Vocabulary Located → Got DeclaredRead
   declaredAt s k v =
       pick (ltb k (length s))
       (pick (ltb (getD s k 0) 0xCC) (refused CODE k)

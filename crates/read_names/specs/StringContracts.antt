@@ -1,8 +1,9 @@
 -- Contracts of the code, not definitions to be believed. What each function that reads a part of a string answers.
 use Prim.Native.Nat.{ℕ, _+_, _-_, _*_, _≤_}
-use mathlib.Core.List.{List, []}
+use mathlib.Core.List.{[]}
 use lib.ListN.{length, take, drop}
 use lib.Dec.{ltb, leb}
+use Rattle.format.specs.Octets.{Octets, Words}
 use Rattle.format.specs.Numbers.{pick}
 use Rattle.format.specs.Text.{isText}
 use Rattle.format.specs.Strings.{Layout}
@@ -25,7 +26,7 @@ refusalOf (Num n c) = Refused 0 (c .at)
 refusalOf (NoNum n p) = Refused n p
 
 -- A string's length that was read at k, where its octets are there (2) and are text (9).
-unfoldable pub stretchOf : List ℕ → ℕ → Number → Number
+unfoldable pub stretchOf : Octets → ℕ → Number → Number
 stretchOf s k (Num n c) = pick (leb (c .at + n) (length s)) (pick (isText (take n (drop (c .at) s))) (Num n c) (NoNum TEXT k)) (NoNum TRUNCATED k)
 stretchOf s k (NoNum n p) = NoNum n p
 
@@ -35,7 +36,7 @@ Positive (Num n c) = 1 ≤ n
 Positive (NoNum n p) = Unit {0}
 
 -- The entry whose number was read, or a number beyond its table (10).
-unfoldable pub heldOf : List ℕ → Here → ℕ → Number → Field
+unfoldable pub heldOf : Words → Here → ℕ → Number → Field
 heldOf w h table (Num n c) =
     pick (leb n (countOf (h .counts) table))
     (Got (eventString (stringAt (tableOf table) w (768 * table + 3 * (n - 1)))) n (record { at = c .at; counts = h .counts }))
@@ -49,7 +50,7 @@ addedOf h table place size =
     (Got (Stretch place size) (countOf (h .counts) table + 1) (record { at = place + size; counts = oneMore (h .counts) table }))
     (Refused FULL (h .at))
 
-unfoldable pub addedWords : Counts → List ℕ → (table place size : ℕ) → List ℕ
+unfoldable pub addedWords : Counts → Words → (table place size : ℕ) → Words
 addedWords c w table place size = pick (ltb (countOf c table) perTable) (stored w table (countOf c table) place size 0) w
 
 -- The same string, without its number.

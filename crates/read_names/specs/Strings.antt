@@ -2,9 +2,10 @@
 use Prim.Native.Nat.{ℕ, suc, _+_, _-_, _^_}
 use mathlib.Core.Bool.{Bool, true, false, not, _||_}
 use mathlib.Core.Option.{Option, none, some}
-use mathlib.Core.List.{List, map}
+use mathlib.Core.List.{map}
 use lib.ListN.{length, getD, take, drop}
 use lib.Dec.{eqb, ltb, leb}
+use Rattle.format.specs.Octets.{Octets}
 use Rattle.format.specs.Numbers.{pick, lengths, c25, top}
 use Rattle.format.specs.Text.{isText}
 use Rattle.format.specs.Events.{How, spelled, numbered}
@@ -31,7 +32,7 @@ number (Num n c) f = f n (c .at)
 number (NoNum n p) f = refused n p
 
 -- n octets from `next` on: they pass the end (2), are no text (9).
-unfoldable pub spelling : {C : Type 0} → List ℕ → ℕ → ℕ → ℕ → Got C → Got C
+unfoldable pub spelling : {C : Type 0} → Octets → ℕ → ℕ → ℕ → Got C → Got C
 spelling s k next n a = pick (leb (next + n) (length s)) (pick (isText (take n (drop next s))) a (refused TEXT k)) (refused TRUNCATED k)
 
 -- An identifying string: what it is, how it was written, and its number in the table.
@@ -56,7 +57,7 @@ numberBit q = q .lengthBit - 3
 
 module _ (L : Limits) where
   -- C.13 at octet k. Spelled: 2, 6, 2, 9, then held already (11), no room in the table (12). Numbered: 2, 5, 2, 7, then beyond the table (10).
-  unfoldable pub idAt : List ℕ → StringTable → ℕ → Vocabulary Located → Got IdRead
+  unfoldable pub idAt : Octets → StringTable → ℕ → Vocabulary Located → Got IdRead
   idAt s t k v =
       pick (ltb (getD s k 0) 0x80)
       (number (fieldAt (lengths 2) noTop 2 s k)
@@ -70,12 +71,12 @@ module _ (L : Limits) where
       (got (record { string = getD (strings v t) (n - 1) empty; how = numbered n; number = n }) next v)
       (refused INDEX k))
 
-  unfoldable pub optionalAt : Bool → List ℕ → StringTable → ℕ → Vocabulary Located → Got OptionalRead
+  unfoldable pub optionalAt : Bool → Octets → StringTable → ℕ → Vocabulary Located → Got OptionalRead
   optionalAt true s t k v = then (idAt s t k v) λ i next w. got (record { string = some (i .string); how = some (i .how); number = i .number }) next w
   optionalAt false s t k v = got (record { string = none; how = none; number = 0 }) k v
 
   -- A spelled string of C.14 or C.15: 2, 6, 2, 9, then no room in the table, if it is to be added (12).
-  unfoldable pub spelledAt : Layout → List ℕ → StringTable → ℕ → Bool → Vocabulary Located → Got StringRead
+  unfoldable pub spelledAt : Layout → Octets → StringTable → ℕ → Bool → Vocabulary Located → Got StringRead
   spelledAt q s t k added v =
       number (fieldAt (lengths (q .lengthBit)) noTop (q .lengthBit) s k)
       λ n next. spelling s k next n
@@ -84,7 +85,7 @@ module _ (L : Limits) where
       (refused FULL k))
 
   -- C.14 or C.15 by the first octet: spelled and not added, another format (8), spelled and added, another format (8), numbered.
-  unfoldable pub literalAt : Layout → List ℕ → StringTable → ℕ → Vocabulary Located → Got StringRead
+  unfoldable pub literalAt : Layout → Octets → StringTable → ℕ → Vocabulary Located → Got StringRead
   literalAt q s t k v =
       pick (ltb (getD s k 0) (q .spelledBits + 2 ^ (9 - q .lengthBit))) (spelledAt q s t k false v)
       (pick (ltb (getD s k 0) (q .spelledBits + q .addBit)) (refused FORMAT k)
@@ -96,6 +97,6 @@ module _ (L : Limits) where
       (refused INDEX k)))))
 
   -- A value, comment or content: FF is the empty string (C.26).
-  unfoldable pub valueAt : List ℕ → StringTable → ℕ → Vocabulary Located → Got StringRead
+  unfoldable pub valueAt : Octets → StringTable → ℕ → Vocabulary Located → Got StringRead
   valueAt s t k v =
       pick (eqb (getD s k 0) 0xFF) (got (record { string = empty; how = numbered 0 }) (suc k) v) (literalAt c14 s t k v)

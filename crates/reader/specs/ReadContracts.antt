@@ -4,6 +4,7 @@ use mathlib.Core.Path.{_≡_}
 use mathlib.Core.List.{List}
 use lib.ListN.{length}
 use lib.Dec.{eqb}
+use Rattle.format.specs.Octets.{Octets, Words}
 use Rattle.format.specs.Numbers.{pick}
 use Rattle.format.specs.Tables.{Vocabulary, link}
 use Rattle.format.specs.Document.{header}
@@ -38,7 +39,7 @@ abbrev pub first : ℕ → Place
 first octets = placeOf fresh (2 * octets + 1)
 
 -- A place with counts and tables.
-abbrev pub standAt : Place → Counts → List ℕ → Stand
+abbrev pub standAt : Place → Counts → Words → Stand
 standAt p c w = standOf (stateOf p c) w
 
 -- ---- steps up to an event: its place, where the reader stands behind it and the steps that are left; the document's end and the tables; a refusal
@@ -53,23 +54,23 @@ reach go left m (quiet n) = go n
 reach go left m done = ended (m .state .tables)
 reach go left m (stop n p) = fault n p
 
-unfoldable pub nextOf : List ℕ → (fuel : ℕ) → Stand → Reached
+unfoldable pub nextOf : Octets → (fuel : ℕ) → Stand → Reached
 nextOf s zero m = fault 2 (m .at / 2)
 nextOf s (suc fuel) m = reach (λ n. nextOf s fuel n) fuel m (stepSeen (step link s m))
 
 -- What the code's answer says, with the counts and tables that it leaves.
-abbrev pub seenNext : Next → Counts → List ℕ → Reached
+abbrev pub seenNext : Next → Counts → Words → Reached
 seenNext (Found p e next) c w = found p e (standAt next c w) (next .left)
 seenNext Finished c w = ended (vocabulary c w)
 seenNext (Faulty n p) c w = fault n p
 
-abbrev pub NextGood : List ℕ → ℕ → Next → Counts → List ℕ → Type 0
+abbrev pub NextGood : Octets → ℕ → Next → Counts → Words → Type 0
 NextGood s left (Found p e next) c w = Good s (stateOf next c) w × (p ≤ length s) × (next .left < left)
 NextGood s left Finished c w = Tidy s c w
 NextGood s left (Faulty n p) c w = (length w ≡ tableWords) × (p ≤ length s)
 
 -- From a place, counts c and tables v, the answer with counts d and tables w.
-abbrev pub Reaches : List ℕ → Place → Counts → List ℕ → Next → Counts → List ℕ → Type 0
+abbrev pub Reaches : Octets → Place → Counts → Words → Next → Counts → Words → Type 0
 Reaches s p c v r d w = (seenNext r d w ≡ nextOf s (p .left) (standAt p c v)) × NextGood s (p .left) r d w
 
 -- ---- the answer behind n events. An event is one that has no record
@@ -85,10 +86,10 @@ Small Finished n = n ≤ 32769
 Small (Faulty k p) n = p ≤ 16384
 
 -- ---- what is left in a row of n records and m words of table room: on a refusal, nothing
-abbrev pub settled : (n m : ℕ) → Answer → List Event → List ℕ → Outcome
+abbrev pub settled : (n m : ℕ) → Answer → List Event → Words → Outcome
 settled n m (Accepted k c) row tables = record { answer = Accepted k c; told = told (Accepted k c); row = row; tables = tables }
 settled n m (Refused k p) row tables = refusing k p n m
 
 -- SIZE, then the table room, then the opening.
-unfoldable pub admission : List ℕ → (room : ℕ) → Opening
+unfoldable pub admission : Octets → (room : ℕ) → Opening
 admission s room = pick (sized link s) (pick (eqb room tableWords) (opening link header s) (halt ROOM 0)) (halt SIZE 0)

@@ -5,6 +5,7 @@ use mathlib.Core.Bool.{Bool, _&&_}
 use mathlib.Core.List.{List, [], _∷_, _++_, map}
 use lib.ListN.{length, getD, take, replicate}
 use lib.Dec.{eqb, ltb, leb}
+use Rattle.format.specs.Octets.{Octets, Words}
 use Rattle.format.specs.Numbers.{pick}
 use Rattle.format.specs.Events.{Item}
 use Rattle.format.specs.Tables.{Vocabulary, same, Limits, link}
@@ -52,17 +53,17 @@ marked go (stop n p) = []
 
 module _ (L : Limits) where
   -- Steps until the document's end, with records for `room` events. `fuel` bounds the steps.
-  unfoldable pub run : List ℕ → (fuel room : ℕ) → Stand → Result
+  unfoldable pub run : Octets → (fuel room : ℕ) → Stand → Result
   run s zero room m = refusal TRUNCATED (m .at / 2)
   run s (suc fuel) room m = turn (λ left n. run s fuel left n) room m (step L s m)
 
   -- The marks of the events, up to the document's end or the first fault.
-  unfoldable pub trace : List ℕ → (fuel : ℕ) → Stand → List Mark
+  unfoldable pub trace : Octets → (fuel : ℕ) → Stand → List Mark
   trace s zero m = []
   trace s (suc fuel) m = marked (λ n. trace s fuel n) (step L s m)
 
 -- SIZE: a document is not empty, and not over the limit.
-unfoldable pub sized : Limits → List ℕ → Bool
+unfoldable pub sized : Limits → Octets → Bool
 sized L s = leb 1 (length s) && leb (length s) (L .octets)
 
 -- What stands before the first item: go on, or a refusal.
@@ -71,7 +72,7 @@ pub data Opening : Type 0 where
   halt : (number place : ℕ) → Opening
 
 -- SIZE (1). The first four octets: missing (2), others (3). The fifth: missing (2), its padding bit (6), a presence bit (4).
-unfoldable pub opening : Limits → List ℕ → List ℕ → Opening
+unfoldable pub opening : Limits → Octets → Octets → Opening
 opening L head s =
     pick (sized L s)
     (pick (leb 4 (length s))
@@ -87,27 +88,27 @@ opening L head s =
 abbrev pub origin : Vocabulary Located → Stand
 origin tables = record { at = 10; state = beginning tables }
 
-abbrev pub fuelOf : List ℕ → ℕ
+abbrev pub fuelOf : Octets → ℕ
 fuelOf s = suc (2 * length s)
 
 -- On the link, with these octets and records for `room` events: what the opening lets be read.
-abbrev pub resultFrom : List ℕ → ℕ → Opening → Result
+abbrev pub resultFrom : Octets → ℕ → Opening → Result
 resultFrom s room onward = run link s (fuelOf s) room (origin start)
 resultFrom s room (halt n p) = refusal n p
 
-unfoldable pub reading : List ℕ → (room : ℕ) → Result
+unfoldable pub reading : Octets → (room : ℕ) → Result
 reading s room = resultFrom s room (opening link header s)
 
 -- The marks of the events that the document hands out.
-abbrev pub marksFrom : List ℕ → Opening → List Mark
+abbrev pub marksFrom : Octets → Opening → List Mark
 marksFrom s onward = trace link s (fuelOf s) (origin start)
 marksFrom s (halt n p) = []
 
-unfoldable pub marks : List ℕ → List Mark
+unfoldable pub marks : Octets → List Mark
 marks s = marksFrom s (opening link header s)
 
 -- The octets s are accepted, with records for `room` events; these are the items handed out, and this is known at the end, with octets in place of places.
-pub record Accepts (s : List ℕ) (room : ℕ) (items : List (Item (List ℕ))) (z : State (List ℕ)) : Type 0 where
+pub record Accepts (s : Octets) (room : ℕ) (items : List (Item Octets)) (z : State Octets) : Type 0 where
   pub events : List (Item Located)
   pub last : Stand
   pub reads : reading s room ≡ accepted events last
@@ -124,10 +125,10 @@ pub record Outcome : Type 0 where
   pub answer : A.Answer
   pub told : Told
   pub row : List Event
-  pub tables : List ℕ
+  pub tables : Words
 
 -- A call answered and left this.
-abbrev pub Leaves : A.Answer → List Event → List ℕ → Outcome → Type 0
+abbrev pub Leaves : A.Answer → List Event → Words → Outcome → Type 0
 Leaves r row tables o = (r ≡ o .answer) × (told r ≡ o .told) × (row ≡ o .row) × (tables ≡ o .tables)
 
 -- A refusal blanks all the room that was lent.
@@ -148,7 +149,7 @@ outcome (accepted is m) room = accepting (map (λ (i : Item Located). recordOf (
 outcome (refusal n p) room = refusing n p room tableWords
 
 -- Reading on the link, with `room` event records and `table` table words lent: SIZE, then the table room (14), both at place 0, then the fields.
-unfoldable pub readOf : List ℕ → (room table : ℕ) → Outcome
+unfoldable pub readOf : Octets → (room table : ℕ) → Outcome
 readOf s room table =
     pick (sized link s)
     (pick (eqb table tableWords) (outcome (reading s room) room) (refusing ROOM 0 room table))
@@ -160,5 +161,5 @@ numberOf (accepted is m) = 0
 numberOf (refusal n p) = p * 32 + n
 
 -- The check: as a reader with 32,768 event records.
-unfoldable pub checkOf : List ℕ → ℕ
+unfoldable pub checkOf : Octets → ℕ
 checkOf s = numberOf (reading s 32768)

@@ -6,6 +6,7 @@ use mathlib.Core.List.{List, [], _∷_, _++_}
 use lib.ListN.{length}
 use lib.Seq.{sets}
 use lib.Dec.{ltb}
+use Rattle.format.specs.Octets.{Words}
 use Rattle.format.specs.Numbers.{pick}
 use Rattle.format.specs.Events.{Item}
 use Rattle.format.specs.Tables.{Vocabulary}
@@ -44,25 +45,25 @@ abbrev pub endingOf : ℕ → Result → Ending
 endingOf n (accepted is m) = ended (n + length is) (m .state .tables)
 endingOf n (refusal k p) = faulty k p
 
-abbrev pub seenEnding : Answer → List ℕ → Ending
+abbrev pub seenEnding : Answer → Words → Ending
 seenEnding (Accepted n c) w = ended n (vocabulary c w)
 seenEnding (Refused k p) w = faulty k p
 
 -- ---- events in records of 13 words
-unfoldable pub itemWords : List (Item Located) → List ℕ
+unfoldable pub itemWords : List (Item Located) → Words
 itemWords [] = []
 itemWords (i ∷ is) = recordWords (recordOf (i .event)) ++ itemWords is
 
 -- Words with an event in record n, if they have one.
-unfoldable pub kept : List ℕ → ℕ → Event → List ℕ
+unfoldable pub kept : Words → ℕ → Event → Words
 kept w n e = pick (ltb n (length w / 13)) (sets w (13 * n) (recordWords e)) w
 
 -- Words with the events of a run from record n on. A refusal promises nothing of them.
-abbrev pub keptFrom : List ℕ → ℕ → Result → List ℕ
+abbrev pub keptFrom : Words → ℕ → Result → Words
 keptFrom w n (accepted is m) = sets w (13 * n) (itemWords is)
 keptFrom w n (refusal k p) = []
 
-abbrev pub Keeps : Answer → List ℕ → List ℕ → Type 0
+abbrev pub Keeps : Answer → Words → Words → Type 0
 Keeps (Accepted n c) v w = v ≡ w
 Keeps (Refused k p) v w = Unit {0}
 
@@ -76,12 +77,12 @@ abbrev pub answerNumber : Answer → ℕ
 answerNumber a = lowWord (told a)
 
 -- An accepted document has no more events than records, and its table words say what its tables are and nothing else.
-abbrev pub Settled : ℕ → Answer → List ℕ → Type 0
+abbrev pub Settled : ℕ → Answer → Words → Type 0
 Settled room (Accepted n c) w = (n ≤ room) × Clean c w
 Settled room (Refused k p) w = Unit {0}
 
 -- A run with records for `room` events came out as x; v were the words for records before, and w′ and v′ are those of tables and records then.
-pub record Ran (room : ℕ) (v : List ℕ) (r : Answer) (w′ v′ : List ℕ) (x : Result) : Type 0 where
+pub record Ran (room : ℕ) (v : Words) (r : Answer) (w′ v′ : Words) (x : Result) : Type 0 where
   pub is : seenEnding r w′ ≡ endingOf 0 x
   pub small : Small r
   pub settled : Settled room r w′

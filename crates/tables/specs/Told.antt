@@ -1,7 +1,8 @@
 -- An answer in the numbers and values that 01's table gives each case.
 use Prim.Native.Nat.{ℕ, _+_, _*_, _^_}
-use mathlib.Core.List.{List, [], _∷_}
+use mathlib.Core.List.{[], _∷_}
 use lib.ListN.{length, replicate}
+use Rattle.format.specs.Octets.{Words}
 use Rattle.format.specs.Tables.{Vocabulary}
 
 -- The number, 0 for accepted; the place; the count of events (writer: of octets); and the ten tables' counts, in 01's order.
@@ -9,17 +10,17 @@ pub record Told : Type 0 where
   pub number : ℕ
   pub place : ℕ
   pub count : ℕ
-  pub counts : List ℕ
+  pub counts : Words
 
 -- Accepted is 0 at place 0; a refusal has no counts.
-abbrev pub toldAccepted : (count : ℕ) (counts : List ℕ) → Told
+abbrev pub toldAccepted : (count : ℕ) (counts : Words) → Told
 toldAccepted count counts = record { number = 0; place = 0; count = count; counts = counts }
 
 abbrev pub toldRefused : (number place : ℕ) → Told
 toldRefused number place = record { number = number; place = place; count = 0; counts = replicate 10 0 }
 
 -- How many entries the ten tables have.
-unfoldable pub entriesOf : {S : Type 0} → Vocabulary S → List ℕ
+unfoldable pub entriesOf : {S : Type 0} → Vocabulary S → Words
 entriesOf v =
     length (v .prefixes)
     ∷ length (v .namespaces)

@@ -7,6 +7,7 @@ use mathlib.Core.List.{List, [], _∷_, _++_, append-assoc}
 use native.Mathlib.Omega.{arith}
 use lib.Dec.{eqb}
 use lib.ListN.{length, length-append}
+use Rattle.format.specs.Octets.{Octets, Halves}
 use Rattle.format.specs.Numbers.{Form, form, pick, spell}
 use Rattle.format.specs.Events.{Name, How, NameHow, Item, isDeclaration, isStart, openThen, openAfter, declaresLast}
 use Rattle.format.specs.Tables.{StringTable, NameTable, Triple, Vocabulary, strings, names, place, adding, addingName, Limits, InLimits}
@@ -31,31 +32,31 @@ none-on at = omega arith
 end-on : (at n : ℕ) → at + suc n ≡ suc at + n
 end-on at n = omega arith
 
-item-on : (at : ℕ) (o hs : List ℕ) → at + length (pad at ++ (halves o ++ hs)) ≡ aligned at + 2 * length o + length hs
+item-on : (at : ℕ) (o : Octets) (hs : Halves) → at + length (pad at ++ (halves o ++ hs)) ≡ aligned at + 2 * length o + length hs
 item-on at o hs = let a = pad-length at in let b = halves-length o in simp length-append (omega arith)
 
-item-group : (at : ℕ) (o hs ks : List ℕ) → (pad at ++ (halves o ++ hs)) ++ ks ≡ pad at ++ (halves o ++ (hs ++ ks))
+item-group : (at : ℕ) (o : Octets) (hs ks : Halves) → (pad at ++ (halves o ++ hs)) ++ ks ≡ pad at ++ (halves o ++ (hs ++ ks))
 item-group at o hs ks = simp append-assoc
 
 -- What is written, in two: the items xs, and the rest of the document.
-pub record Split (L : Limits) (at : ℕ) (v : State (List ℕ)) (xs ys : List (Item (List ℕ))) (hs : List ℕ) (z : State (List ℕ)) : Type 0 where
-  pub front-halves : List ℕ
-  pub rest-halves : List ℕ
-  pub mid : State (List ℕ)
+pub record Split (L : Limits) (at : ℕ) (v : State Octets) (xs ys : List (Item Octets)) (hs : Halves) (z : State Octets) : Type 0 where
+  pub front-halves : Octets
+  pub rest-halves : Octets
+  pub mid : State Octets
   pub begun : Begun L at v xs front-halves mid
   pub rest : Written L (at + length front-halves) mid ys rest-halves z
   pub are : hs ≡ front-halves ++ rest-halves
 
 module _ {L : Limits} where
   -- ---- what is begun goes on
-  pub begun-more : {at : ℕ} {v w z : State (List ℕ)} {xs ys : List (Item (List ℕ))} {hs ks : List ℕ}
+  pub begun-more : {at : ℕ} {v w z : State Octets} {xs ys : List (Item Octets)} {hs ks : Halves}
       → Begun L at v xs hs w → Begun L (at + length hs) w ys ks z → Begun L at v (xs ++ ys) (hs ++ ks) z
   begun-more {at} begun r = rw (none-on at) at r
   begun-more {at} (after-attributes {hs = hs} md b) r = after-attributes md (begun-more b (rw (end-on at (length hs)) at r))
   begun-more {at} (after-end {hs = hs} md lv b) r = after-end md lv (begun-more b (rw (end-on at (length hs)) at r))
   begun-more {at} {ks = ks} (after-item {o = o} {hs = hs} u b) r = rw (item-group at o hs ks) (after-item u (begun-more b (rw (item-on at o hs) at r)))
 
-  pub begun-written : {at : ℕ} {v w z : State (List ℕ)} {xs ys : List (Item (List ℕ))} {hs ks : List ℕ}
+  pub begun-written : {at : ℕ} {v w z : State Octets} {xs ys : List (Item Octets)} {hs ks : Halves}
       → Begun L at v xs hs w → Written L (at + length hs) w ys ks z → Written L at v (xs ++ ys) (hs ++ ks) z
   begun-written {at} begun r = rw (none-on at) at r
   begun-written {at} (after-attributes {hs = hs} md b) r = attributes-end md (begun-written b (rw (end-on at (length hs)) at r))
@@ -63,14 +64,14 @@ module _ {L : Limits} where
   begun-written {at} {ks = ks} (after-item {o = o} {hs = hs} u b) r = rw (item-group at o hs ks) (item u (begun-written b (rw (item-on at o hs) at r)))
 
   -- the same, said of another place or of other halves
-  elsewhere : {at at′ : ℕ} {v z : State (List ℕ)} {items : List (Item (List ℕ))} {hs hs′ : List ℕ} → at ≡ at′ → hs ≡ hs′ → (r : Written L at v items hs z)
+  elsewhere : {at at′ : ℕ} {v z : State Octets} {items : List (Item Octets)} {hs hs′ : Halves} → at ≡ at′ → hs ≡ hs′ → (r : Written L at v items hs z)
       → (u : Written L at′ v items hs′ z) × (knownAfter L u ≡ knownAfter L r)
   elsewhere {at′ = at′} {v} {z} {items} {hs} a h r =
-      subst (λ (l : List ℕ). (u : Written L at′ v items l z) × (knownAfter L u ≡ knownAfter L r)) h
+      subst (λ (l : Octets). (u : Written L at′ v items l z) × (knownAfter L u ≡ knownAfter L r)) h
       (subst (λ (k : ℕ). (u : Written L k v items hs z) × (knownAfter L u ≡ knownAfter L r)) a (r, refl))
 
   -- one item in front: what is known behind it is known first
-  pub front : {at : ℕ} {v w z : State (List ℕ)} {i : Item (List ℕ)} {items : List (Item (List ℕ))} {own hs : List ℕ}
+  pub front : {at : ℕ} {v w z : State Octets} {i : Item Octets} {items : List (Item Octets)} {own : Octets} {hs : Halves}
       → Begun L at v (i ∷ []) own w → (r : Written L (at + length own) w items hs z)
       → (u : Written L at v (i ∷ items) (own ++ hs) z) × (knownAfter L u ≡ w ∷ knownAfter L r)
   unfolding knownAfter
@@ -80,14 +81,14 @@ module _ {L : Limits} where
       (attributes-end md (f .0), cc)
   front {at} (after-end {v = v} md lv begun) r =
       let k = elsewhere (end-on at 0 ∙ none-on (suc at)) refl r in
-      (element-end md lv (k .0), ap (λ (l : List (State (List ℕ))). closed v ∷ l) (k .1))
+      (element-end md lv (k .0), ap (λ (l : List (State Octets)). closed v ∷ l) (k .1))
   front {at} {hs = hs} (after-item {u = w} {o = o} u begun) r =
       let k = elsewhere (item-on at o [] ∙ none-on (aligned at + 2 * length o)) refl r in
       let f = elsewhere refl (sym (item-group at o [] hs)) (item u (k .0)) in
-      (f .0, f .1 ∙ ap (λ (l : List (State (List ℕ))). w ∷ l) (k .1))
+      (f .0, f .1 ∙ ap (λ (l : List (State Octets)). w ∷ l) (k .1))
 
   -- ---- what is written begins
-  behind-end : {at : ℕ} {v u z : State (List ℕ)} {xs xs′ ys : List (Item (List ℕ))} {hs : List ℕ} (s : Split L (suc at) u xs ys hs z)
+  behind-end : {at : ℕ} {v u z : State Octets} {xs xs′ ys : List (Item Octets)} {hs : Halves} (s : Split L (suc at) u xs ys hs z)
       → Begun L at v xs′ (15 ∷ s .front-halves) (s .mid) → Split L at v xs′ ys (15 ∷ hs) z
   behind-end {at} s b =
       record {
@@ -96,11 +97,11 @@ module _ {L : Limits} where
         mid = s .mid;
         begun = b;
         rest = rw (end-on at (length (s .front-halves))) (s .rest);
-        are = ap (λ (l : List ℕ). 15 ∷ l) (s .are);
+        are = ap (λ (l : Octets). 15 ∷ l) (s .are);
       }
 
-  first-split : {at : ℕ} {v z : State (List ℕ)} {x : Item (List ℕ)} {xs ys items : List (Item (List ℕ))} {hs : List ℕ}
-      → Written L at v (x ∷ items) hs z → ((k : ℕ) (u : State (List ℕ)) (l : List ℕ) → Written L k u items l z → Split L k u xs ys l z)
+  first-split : {at : ℕ} {v z : State Octets} {x : Item Octets} {xs ys items : List (Item Octets)} {hs : Halves}
+      → Written L at v (x ∷ items) hs z → ((k : ℕ) (u : State Octets) (l : Octets) → Written L k u items l z → Split L k u xs ys l z)
       → Split L at v (x ∷ xs) ys hs z
   first-split (attributes-end md w) go = let s = first-split w go in behind-end s (after-attributes md (s .begun))
   first-split (element-end md lv w) go = let s = go _ _ _ w in behind-end s (after-end md lv (s .begun))
@@ -112,10 +113,10 @@ module _ {L : Limits} where
         mid = s .mid;
         begun = after-item u (s .begun);
         rest = rw (item-on at o (s .front-halves)) (s .rest);
-        are = ap (λ (l : List ℕ). pad at ++ (halves o ++ l)) (s .are) ∙ sym (item-group at o (s .front-halves) (s .rest-halves));
+        are = ap (λ (l : Octets). pad at ++ (halves o ++ l)) (s .are) ∙ sym (item-group at o (s .front-halves) (s .rest-halves));
       }
 
-  pub begun-of-written : {at : ℕ} {v z : State (List ℕ)} {hs : List ℕ} (xs ys : List (Item (List ℕ)))
+  pub begun-of-written : {at : ℕ} {v z : State Octets} {hs : Halves} (xs ys : List (Item Octets))
       → Written L at v (xs ++ ys) hs z → Split L at v xs ys hs z
   begun-of-written {at} {v} {hs = hs} [] ys w = record { front-halves = []; rest-halves = hs; mid = v; begun = begun; rest = rw (none-on at) w; are = refl }
   begun-of-written (x ∷ xs) ys w = first-split w (λ k u l. begun-of-written xs ys)
@@ -129,13 +130,13 @@ bitless (listing true) = listing true
 bitless (listing false) = content
 
 -- The same is known, but for the bit.
-pub record Alike (v v′ : State (List ℕ)) : Type 0 where
+pub record Alike (v v′ : State Octets) : Type 0 where
   pub tables : v .tables ≡ v′ .tables
   pub level : v .level ≡ v′ .level
   pub root : v .root ≡ v′ .root
   pub mode : bitless (v .mode) ≡ bitless (v′ .mode)
 
-alike : (v : State (List ℕ)) → Alike v v
+alike : (v : State Octets) → Alike v v
 alike v = record { tables = refl; level = refl; root = refl; mode = refl }
 
 start-bitless : (a : Bool) → bitless (afterStart a) ≡ content
@@ -148,7 +149,7 @@ member-bitless (declaring a) e = cc
 member-bitless (listing any) e = refl
 
 -- a number's octets are as many behind any bits
-length-pick : (b : Bool) (x y : List ℕ) → length (pick b x y) ≡ pick b (length x) (length y)
+length-pick : (b : Bool) (x y : Octets) → length (pick b x y) ≡ pick b (length x) (length y)
 length-pick true x y = refl
 length-pick false x y = refl
 
@@ -159,12 +160,12 @@ spell-size (form room more size ∷ fs) lead lead′ k = simp (length-pick, spel
 
 module _ {L : Limits} where
   -- and so are a name's
-  behind-bits : {q : NameLayout} {lead : ℕ} {v w : Vocabulary (List ℕ)} {x : Name (List ℕ)} {h : NameHow} {o : List ℕ} (lead′ : ℕ)
-      → Named L q lead v x h o w → (o′ : List ℕ) × Named L q lead′ v x h o′ w × (length o ≡ length o′)
+  behind-bits : {q : NameLayout} {lead : ℕ} {v w : Vocabulary Octets} {x : Name Octets} {h : NameHow} {o : Octets} (lead′ : ℕ)
+      → Named L q lead v x h o w → (o′ : Octets) × Named L q lead′ v x h o′ w × (length o ≡ length o′)
   behind-bits lead′ (in-parts lone up un ul new room) = (_, in-parts lone up un ul new room, refl)
   behind-bits {q} {lead} lead′ (by-number {k = k} small fits en) = (_, by-number small fits en, spell-size (q .numberForms) lead lead′ k)
 
-  octets-alike : {v v′ w w′ : State (List ℕ)} {i : Item (List ℕ)} {o o′ : List ℕ} → Alike v v′ → ItemWrittenAs L v i o w → ItemWrittenAs L v′ i o′ w′
+  octets-alike : {v v′ w w′ : State Octets} {i : Item Octets} {o o′ : Octets} → Alike v v′ → ItemWrittenAs L v i o w → ItemWrittenAs L v′ i o′ w′
       → (length o ≡ length o′) × Alike w w′
   octets-alike e (o-start a md may deep u) (o-start b md′ may′ deep′ u′) =
       let t = behind-bits (64 * bit b) u in
@@ -174,10 +175,10 @@ module _ {L : Limits} where
   octets-alike e (o-named-start md u) (o-start a md′ may′ deep′ u′) = clash (cc)
   octets-alike e (o-named-start {a = a} md u) (o-named-start {a = b} md′ u′) =
       let r = named-one u (rw (← (e .tables)) at u′) refl in
-      (ap (λ (l : List ℕ). suc (length l)) (r .0), record { tables = r .1; level = ap suc (e .level); root = refl; mode = start-bitless a ∙ sym (start-bitless b) })
+      (ap (λ (l : Octets). suc (length l)) (r .0), record { tables = r .1; level = ap suc (e .level); root = refl; mode = start-bitless a ∙ sym (start-bitless b) })
   octets-alike e (o-first-namespace md may deep u) (o-first-namespace md′ may′ deep′ u′) =
       let r = declared-one u (rw (← (e .tables)) at u′) in
-      (ap (λ (l : List ℕ). suc (length l)) (r .0), record { tables = r .1; level = e .level; root = e .root; mode = refl })
+      (ap (λ (l : Octets). suc (length l)) (r .0), record { tables = r .1; level = e .level; root = e .root; mode = refl })
   octets-alike e (o-first-namespace md may deep u) (o-namespace md′ u′) = clash (cc)
   octets-alike e (o-namespace md u) (o-first-namespace md′ may′ deep′ u′) = clash (cc)
   octets-alike e (o-namespace md u) (o-namespace md′ u′) =
@@ -192,24 +193,24 @@ module _ {L : Limits} where
       (ap length (r .0), record { tables = r .1; level = e .level; root = e .root; mode = e .mode })
   octets-alike e (o-comment md u) (o-comment md′ u′) =
       let r = value-one u (rw (← (e .tables)) at u′) in
-      (ap (λ (l : List ℕ). suc (length l)) (r .0), record { tables = r .1; level = e .level; root = e .root; mode = e .mode })
+      (ap (λ (l : Octets). suc (length l)) (r .0), record { tables = r .1; level = e .level; root = e .root; mode = e .mode })
   octets-alike e (o-instruction md u1 u2) (o-instruction md′ u1′ u2′) =
       let r = identifying-one u1 (rw (← (e .tables)) at u1′) in
       let t = value-one u2 (rw (← (r .2)) at u2′) in
       ((λ j. suc (length (r .0 j ++ t .0 j))), record { tables = t .1; level = e .level; root = e .root; mode = e .mode })
 
   -- an attribute does not follow the end of its list
-  no-attribute : {at : ℕ} {v w : State (List ℕ)} {i : Item (List ℕ)} {items : List (Item (List ℕ))} {hs : List ℕ}
+  no-attribute : {at : ℕ} {v w : State Octets} {i : Item Octets} {items : List (Item Octets)} {hs : Halves}
       → Begun L at v (i ∷ items) hs w → v .mode ≡ content → isAttribute (i .event) ≡ false
   no-attribute (after-attributes md b) e = clash (cc)
   no-attribute (after-end md lv b) e = refl
   no-attribute (after-item u b) e = where-attributes u ∙ ap inList e
 
-  no-list : {at : ℕ} {v v′ u w : State (List ℕ)} {i : Item (List ℕ)} {o : List ℕ} {items : List (Item (List ℕ))} {hs : List ℕ} {X : Type 0}
+  no-list : {at : ℕ} {v v′ u w : State Octets} {i : Item Octets} {o : Octets} {items : List (Item Octets)} {hs : Halves} {X : Type 0}
       → bitless (v′ .mode) ≡ bitless (v .mode) → v .mode ≡ listing true → Begun L at (moved v (v .tables) content) (i ∷ items) hs w → ItemWrittenAs L v′ i o u → X
   no-list {v′ = v′} e md b u = let y = member-bitless (v′ .mode) (cc) in clash (cc (no-attribute b refl, where-attributes u))
 
-  pub begun-alike : {at : ℕ} {v v′ w w′ : State (List ℕ)} {items : List (Item (List ℕ))} {hs hs′ : List ℕ}
+  pub begun-alike : {at : ℕ} {v v′ w w′ : State Octets} {items : List (Item Octets)} {hs hs′ : Halves}
       → Alike v v′ → Begun L at v items hs w → Begun L at v′ items hs′ w′ → (length hs ≡ length hs′) × Alike w w′
   begun-alike e begun begun = (refl, e)
   begun-alike e (after-attributes md b) (after-attributes md′ b′) =
@@ -231,52 +232,52 @@ module _ {L : Limits} where
       let c = item-on at o′ hs′ in
       (omega (arith, q .0, r .0), r .1)
 
-  pub begun-size : {at : ℕ} {v w w′ : State (List ℕ)} {items : List (Item (List ℕ))} {hs hs′ : List ℕ}
+  pub begun-size : {at : ℕ} {v w w′ : State Octets} {items : List (Item Octets)} {hs hs′ : Halves}
       → Begun L at v items hs w → Begun L at v items hs′ w′ → (length hs ≡ length hs′) × Alike w w′
   begun-size {v = v} = begun-alike (alike v)
 
 -- ---- the limits: a table gets an entry where it has room for one, an element opens where it may
 module _ {L : Limits} where
-  adding-fits : {v : Vocabulary (List ℕ)} (t : StringTable) (x : List ℕ) → length (strings v t) < L .entries → InLimits L v → InLimits L (adding v t x)
+  adding-fits : {v : Vocabulary Octets} (t : StringTable) (x : Octets) → length (strings v t) < L .entries → InLimits L v → InLimits L (adding v t x)
   adding-fits {v} t x room f =
       record {
         few = λ u. rw (strings-adding v t x u) (extended-few (eqb (place t) (place u)) (L .entries) (strings v u) x (f .few u) (λ e. rw (← (same-table t u e)) room));
         few-names = λ u. rw (names-adding v t x u) (f .few-names u);
       }
 
-  adding-name-fits : {v : Vocabulary (List ℕ)} (t : NameTable) (x : Triple) → length (names v t) < L .entries → InLimits L v → InLimits L (addingName v t x)
+  adding-name-fits : {v : Vocabulary Octets} (t : NameTable) (x : Triple) → length (names v t) < L .entries → InLimits L v → InLimits L (addingName v t x)
   adding-name-fits {v} t x room f =
       record {
         few = λ u. rw (strings-adding-name v t x u) (f .few u);
         few-names = λ u. rw (names-adding-name v t x u) (extended-few (sameNames t u) (L .entries) (names v u) x (f .few-names u) (λ e. rw (← (same-name-table t u e)) room));
       }
 
-  identifying-fits : {t : StringTable} {v w : Vocabulary (List ℕ)} {x : List ℕ} {h : How} {n : ℕ} {o : List ℕ} → Identifying L t v x h n o w → InLimits L v → InLimits L w
+  identifying-fits : {t : StringTable} {v w : Vocabulary Octets} {x : Octets} {h : How} {n : ℕ} {o : Octets} → Identifying L t v x h n o w → InLimits L v → InLimits L w
   identifying-fits {t} (id-spelled {x = x} sp new room) f = adding-fits t x room f
   identifying-fits (id-numbered small en) f = f
 
-  optional-fits : {t : StringTable} {v w : Vocabulary (List ℕ)} {x : Option (List ℕ)} {h : Option How} {n : ℕ} {o : List ℕ} → Optional L t v x h n o w → InLimits L v → InLimits L w
+  optional-fits : {t : StringTable} {v w : Vocabulary Octets} {x : Option Octets} {h : Option How} {n : ℕ} {o : Octets} → Optional L t v x h n o w → InLimits L v → InLimits L w
   optional-fits absent f = f
   optional-fits (present u) f = identifying-fits u f
 
-  literal-fits : {q : Layout} {t : StringTable} {v w : Vocabulary (List ℕ)} {x : List ℕ} {h : How} {o : List ℕ} → Literal L q t v x h o w → InLimits L v → InLimits L w
+  literal-fits : {q : Layout} {t : StringTable} {v w : Vocabulary Octets} {x : Octets} {h : How} {o : Octets} → Literal L q t v x h o w → InLimits L v → InLimits L w
   literal-fits {t = t} (literal-spelled {x = x} {added = true} sp room) f = adding-fits t x (room refl) f
   literal-fits (literal-spelled {added = false} sp room) f = f
   literal-fits (literal-numbered small fits en) f = f
 
-  value-fits : {t : StringTable} {v w : Vocabulary (List ℕ)} {x : List ℕ} {h : How} {o : List ℕ} → Value L t v x h o w → InLimits L v → InLimits L w
+  value-fits : {t : StringTable} {v w : Vocabulary Octets} {x : Octets} {h : How} {o : Octets} → Value L t v x h o w → InLimits L v → InLimits L w
   value-fits value-empty f = f
   value-fits (value u) f = literal-fits u f
 
-  named-fits : {q : NameLayout} {lead : ℕ} {v w : Vocabulary (List ℕ)} {x : Name (List ℕ)} {h : NameHow} {o : List ℕ} → Named L q lead v x h o w → InLimits L v → InLimits L w
+  named-fits : {q : NameLayout} {lead : ℕ} {v w : Vocabulary Octets} {x : Name Octets} {h : NameHow} {o : Octets} → Named L q lead v x h o w → InLimits L v → InLimits L w
   named-fits {q} (in-parts {kp = kp} {kn = kn} {kl = kl} lone up un ul new room) f =
       adding-name-fits (q .table) (record { prefix = kp; namespace = kn; local = kl }) room (identifying-fits ul (optional-fits un (optional-fits up f)))
   named-fits (by-number small fits en) f = f
 
-  declared-fits : {v w : Vocabulary (List ℕ)} {p n : Option (List ℕ)} {hp hn : Option How} {o : List ℕ} → Declared L v p n hp hn o w → InLimits L v → InLimits L w
+  declared-fits : {v w : Vocabulary Octets} {p n : Option Octets} {hp hn : Option How} {o : Octets} → Declared L v p n hp hn o w → InLimits L v → InLimits L w
   declared-fits (declared up un) f = optional-fits un (optional-fits up f)
 
-  octets-fit : {v w : State (List ℕ)} {i : Item (List ℕ)} {o : List ℕ} → ItemWrittenAs L v i o w → InLimits L (v .tables) → InLimits L (w .tables)
+  octets-fit : {v w : State Octets} {i : Item Octets} {o : Octets} → ItemWrittenAs L v i o w → InLimits L (v .tables) → InLimits L (w .tables)
   octets-fit (o-start a md may deep u) f = named-fits u f
   octets-fit (o-first-namespace md may deep u) f = declared-fits u f
   octets-fit (o-namespace md u) f = declared-fits u f
@@ -286,13 +287,13 @@ module _ {L : Limits} where
   octets-fit (o-comment md u) f = value-fits u f
   octets-fit (o-instruction md u1 u2) f = value-fits u2 (identifying-fits u1 f)
 
-  pub fits-on : {at : ℕ} {v w : State (List ℕ)} {items : List (Item (List ℕ))} {hs : List ℕ} → Begun L at v items hs w → InLimits L (v .tables) → InLimits L (w .tables)
+  pub fits-on : {at : ℕ} {v w : State Octets} {items : List (Item Octets)} {hs : Halves} → Begun L at v items hs w → InLimits L (v .tables) → InLimits L (w .tables)
   fits-on begun f = f
   fits-on (after-attributes md b) f = fits-on b f
   fits-on (after-end md lv b) f = fits-on b f
   fits-on (after-item u b) f = fits-on b (octets-fit u f)
 
-  pub shallow-is : {v w : State (List ℕ)} {i : Item (List ℕ)} {o : List ℕ} → ItemWrittenAs L v i o w
+  pub shallow-is : {v w : State Octets} {i : Item Octets} {o : Octets} → ItemWrittenAs L v i o w
       → (isDeclaration (i .event) || isStart (i .event)) ≡ true → isDeclaring (v .mode) ≡ false → v .level < L .depth
   shallow-is (o-start a md may deep u) opens e = deep
   shallow-is (o-first-namespace md may deep u) opens e = deep
@@ -303,7 +304,7 @@ module _ {L : Limits} where
   shallow-is (o-comment md u) opens e = clash opens
   shallow-is (o-instruction md u1 u2) opens e = clash opens
 
-  pub written-shallow : {at : ℕ} {v z : State (List ℕ)} {i : Item (List ℕ)} {items : List (Item (List ℕ))} {hs : List ℕ} → Written L at v (i ∷ items) hs z
+  pub written-shallow : {at : ℕ} {v z : State Octets} {i : Item Octets} {items : List (Item Octets)} {hs : Halves} → Written L at v (i ∷ items) hs z
       → (isDeclaration (i .event) || isStart (i .event)) ≡ true → isDeclaring (v .mode) ≡ false → v .level < L .depth
   written-shallow (attributes-end md w) opens e = written-shallow w opens refl
   written-shallow (element-end md lv w) opens e = clash opens
@@ -315,7 +316,7 @@ start-declares true = refl
 start-declares false = refl
 
 module _ {L : Limits} where
-  octets-level : {v w : State (List ℕ)} {i : Item (List ℕ)} {o : List ℕ} → ItemWrittenAs L v i o w → w .level ≡ openThen (v .level) (i .event)
+  octets-level : {v w : State Octets} {i : Item Octets} {o : Octets} → ItemWrittenAs L v i o w → w .level ≡ openThen (v .level) (i .event)
   octets-level (o-start a md may deep u) = refl
   octets-level (o-first-namespace md may deep u) = refl
   octets-level (o-namespace md u) = refl
@@ -325,14 +326,14 @@ module _ {L : Limits} where
   octets-level (o-comment md u) = refl
   octets-level (o-instruction md u1 u2) = refl
 
-  pub level-is : {at : ℕ} {v w : State (List ℕ)} {items : List (Item (List ℕ))} {hs : List ℕ} → Begun L at v items hs w → w .level ≡ openAfter (v .level) (events items)
+  pub level-is : {at : ℕ} {v w : State Octets} {items : List (Item Octets)} {hs : Halves} → Begun L at v items hs w → w .level ≡ openAfter (v .level) (events items)
   unfolding openAfter
   level-is begun = refl
   level-is (after-attributes md b) = level-is b
   level-is (after-end md lv b) = level-is b
   level-is (after-item {items = items} u b) = level-is b ∙ ap (λ (n : ℕ). openAfter n (events items)) (octets-level u)
 
-  octets-declare : {v w : State (List ℕ)} {i : Item (List ℕ)} {o : List ℕ} → ItemWrittenAs L v i o w → isDeclaring (w .mode) ≡ isDeclaration (i .event)
+  octets-declare : {v w : State Octets} {i : Item Octets} {o : Octets} → ItemWrittenAs L v i o w → isDeclaring (w .mode) ≡ isDeclaration (i .event)
   octets-declare (o-start a md may deep u) = start-declares a
   octets-declare (o-first-namespace md may deep u) = refl
   octets-declare (o-namespace md u) = refl
@@ -342,7 +343,7 @@ module _ {L : Limits} where
   octets-declare (o-comment md u) = cc
   octets-declare (o-instruction md u1 u2) = cc
 
-  pub declaring-is : {at : ℕ} {v w : State (List ℕ)} {items : List (Item (List ℕ))} {hs : List ℕ} → Begun L at v items hs w
+  pub declaring-is : {at : ℕ} {v w : State Octets} {items : List (Item Octets)} {hs : Halves} → Begun L at v items hs w
       → isDeclaring (w .mode) ≡ declaresLast (isDeclaring (v .mode)) (events items)
   unfolding declaresLast
   declaring-is begun = refl

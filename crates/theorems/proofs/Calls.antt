@@ -9,7 +9,8 @@ use native.Mathlib.Omega.{arith}
 use lib.ListN.{length}
 use lib.Dec.{eqb, leb}
 use borrow.Author.Tests.{leb-true}
-use Rattle.format.specs.Numbers.{AreOctets, pick}
+use Rattle.format.specs.Octets.{Octets, AreOctets}
+use Rattle.format.specs.Numbers.{pick}
 use Rattle.format.specs.Events.{Item}
 use Rattle.format.specs.Tables.{link}
 use Rattle.format.specs.Items.{State}
@@ -29,19 +30,19 @@ use Rattle.theorems.proofs.Document as Whole
 use Rattle.theorems.proofs.Demands.{check-needs-none}
 
 -- The octets are what the rules write, from some items.
-pub record Written (s : List ℕ) : Type 0 where
-  pub items : List (Item (List ℕ))
-  pub last : State (List ℕ)
+pub record Written (s : Octets) : Type 0 where
+  pub items : List (Item Octets)
+  pub last : State Octets
   pub writes : Writes items last s
 
 -- A call with this room left the records of these events, blank records behind them, and these tables; and the rules write s from the events.
-pub record Handed (s : List ℕ) (room : ℕ) (o : Outcome) : Type 0 where
+pub record Handed (s : Octets) (room : ℕ) (o : Outcome) : Type 0 where
   pub events : List (Item Located)
   pub last : State Located
   pub is : o ≡ accepting (map (λ (i : Item Located). recordOf (i .event)) events) (last .tables) room
   pub writes : Writes (map (plain s) events) (plainState s last) s
 
-module _ (s : List ℕ) (bytes : AreOctets s) where
+module _ (s : Octets) (bytes : AreOctets s) where
   module _ (room : ℕ) where
     from-result : (a : Result) → Whole.Means s bytes a → (n : ℕ) (c : Counts) → outcome a room .answer ≡ Accepted n c → Handed s room (outcome a room)
     from-result (accepted is m) w n c e = record { events = is; last = m .state; is = refl; writes = w }
@@ -61,7 +62,7 @@ module _ (s : List ℕ) (bytes : AreOctets s) where
 
     --     And all that the rules write, if there is a record for each event and the table room is right; the events in the row are those of the items, and the
     --     tables in the words those that the rules know at the end.
-    pub written-is-read : (items : List (Item (List ℕ))) (z : State (List ℕ)) → Writes items z s → length items ≤ room
+    pub written-is-read : (items : List (Item Octets)) (z : State Octets) → Writes items z s → length items ≤ room
         → (h : Handed s room (readOf s room tableWords)) × (map (plain s) (h .events) ≡ items) × (plainState s (h .last) ≡ z)
     unfolding readOf
     written-is-read items z w h =
@@ -86,7 +87,7 @@ module _ (s : List ℕ) (bytes : AreOctets s) where
   unfolding checkOf
   check-accepts e = from-number (reading s 32768) (Whole.means s bytes 32768) e
 
-  pub written-is-checked : (items : List (Item (List ℕ))) (z : State (List ℕ)) → Writes items z s → checkOf s ≡ 0
+  pub written-is-checked : (items : List (Item Octets)) (z : State Octets) → Writes items z s → checkOf s ≡ 0
   written-is-checked items z w =
       let a = Whole.accepts s items z w (32768 + length items) (omega arith) in
       check-needs-none s bytes (32768 + length items) (omega arith) ∙ ap numberOf (a .reads)
@@ -137,7 +138,7 @@ module _ (s : List ℕ) (bytes : AreOctets s) where
     words-accept c n e = by-words c n (sized link s) (eqb c 10) e
 
   --     And all that the rules write is, if there are words for each event and the tables' room is right.
-  pub written-is-worded : (items : List (Item (List ℕ))) (z : State (List ℕ)) → Writes items z s → (r : ℕ) → length items ≤ r / 13
+  pub written-is-worded : (items : List (Item Octets)) (z : State Octets) → Writes items z s → (r : ℕ) → length items ≤ r / 13
       → Handed s (r / 13) (readOf s (r / 13) tableWords) × (readWords s r tableWords 10 ≡ inWords r (readOf s (r / 13) tableWords))
   unfolding readWords
   written-is-worded items z w r h =
@@ -146,18 +147,18 @@ module _ (s : List ℕ) (bytes : AreOctets s) where
 
 -- 16. DEMAND 1: what a call answers and leaves depends on the octets, and on how much room is lent, but not on what stood in it: e and t before one call, f and u
 --     before another.
-module _ (s : List ℕ) (e f : List Event) (t u : List ℕ) (a b : Answer) (e′ f′ : List Event) (t′ u′ : List ℕ) where
+module _ (s : Octets) (e f : List Event) (t u : Octets) (a b : Answer) (e′ f′ : List Event) (t′ u′ : Octets) where
   pub whatever-stood : length e ≡ length f → length t ≡ length u → Leaves a e′ t′ (readOf s (length e) (length t)) → Leaves b f′ u′ (readOf s (length f) (length u))
       → (a ≡ b) × (e′ ≡ f′) × (t′ ≡ u′)
   whatever-stood l m x y = let y′ = rw (← l, ← m) at y in (x .0 ∙ sym (y′ .0), x .2 ∙ sym (y′ .2), x .3 ∙ sym (y′ .3))
 
 --     And a second call on what the first left, whose lengths are what they were, answers and leaves the same.
-pub read-twice : (s : List ℕ) (e e′ e″ : List Event) (t t′ t″ : List ℕ) (a b : Answer) → length e′ ≡ length e → length t′ ≡ length t
+pub read-twice : (s : Octets) (e e′ e″ : List Event) (t t′ t″ : Octets) (a b : Answer) → length e′ ≡ length e → length t′ ≡ length t
     → Leaves a e′ t′ (readOf s (length e) (length t)) → Leaves b e″ t″ (readOf s (length e′) (length t′)) → (b ≡ a) × (e″ ≡ e′) × (t″ ≡ t′)
 read-twice s e e′ e″ t t′ t″ a b l m x y = whatever-stood s e′ e t′ t b a e″ e′ t″ t′ l m y x
 
 --     The same of reading into words.
-pub words-whatever-stood : (s r q t u c d : List ℕ) (a b : ℕ) (r′ q′ t′ u′ c′ d′ : List ℕ) → length r ≡ length q → length t ≡ length u → length c ≡ length d
+pub words-whatever-stood : (s r q t u c d : Octets) (a b : ℕ) (r′ q′ t′ u′ c′ d′ : Octets) → length r ≡ length q → length t ≡ length u → length c ≡ length d
     → leaving a r′ t′ c′ ≡ readWords s (length r) (length t) (length c) → leaving b q′ u′ d′ ≡ readWords s (length q) (length u) (length d)
     → leaving a r′ t′ c′ ≡ leaving b q′ u′ d′
 words-whatever-stood s r q t u c d a b r′ q′ t′ u′ c′ d′ l m n x y = x ∙ rw (l, m, n) (sym y)

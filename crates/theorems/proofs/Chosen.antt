@@ -9,6 +9,7 @@ use borrow.Author.Tests.{ltb-true, eq-eqb, ne-eqb}
 use lib.Dec.{eqb, ltb, leb}
 use lib.ListN.{length, getD, length-append, List·getD-append}
 use lib.Seq.{getD-append-seam}
+use Rattle.format.specs.Octets.{Octets}
 use Rattle.format.specs.Numbers.{pick, coded, spell, sizes, lengths, c25, top}
 use Rattle.format.specs.Events.{Name, How, spelled, numbered, NameHow, inParts, byNumber}
 use Rattle.format.specs.Tables.{StringTable, PREFIX, NAMESPACE-NAME, LOCAL-NAME, NameTable, ELEMENT-NAME, ATTRIBUTE-NAME, Triple, noTriple, Vocabulary, strings, names, place, extended, adding, addingName, holdsName, Entry, partOf, nameOf, Limits, InLimits}
@@ -75,41 +76,41 @@ one-longer v t x =
     omega arith
 
 -- ---- the octets of a string or a name, from how it is written
-abbrev pub idOctets : List ℕ → How → List ℕ
+abbrev pub idOctets : Octets → How → Octets
 idOctets x (spelled added) = withLength (lengths 2) 0 x
 idOctets x (numbered k) = spell c25 0x80 (k - 1)
 
-abbrev pub optionalOctets : Option (List ℕ) → Option How → List ℕ
+abbrev pub optionalOctets : Option Octets → Option How → Octets
 optionalOctets none h = []
 optionalOctets (some x) none = []
 optionalOctets (some x) (some h) = idOctets x h
 
-abbrev pub literalOctets : Layout → List ℕ → How → List ℕ
+abbrev pub literalOctets : Layout → Octets → How → Octets
 literalOctets q x (spelled added) = withLength (lengths (q .lengthBit)) (q .spelledBits + q .addBit * bit added) x
 literalOctets q x (numbered k) = spell (q .numberForms) (q .numberedBits) (k - 1)
 
-abbrev pub valueOctets : List ℕ → How → List ℕ
+abbrev pub valueOctets : Octets → How → Octets
 valueOctets x (spelled added) = literalOctets c14 x (spelled added)
 valueOctets x (numbered zero) = 0xFF ∷ []
 valueOctets x (numbered (suc k)) = literalOctets c14 x (numbered (suc k))
 
-abbrev pub nameOctets : NameLayout → ℕ → Name (List ℕ) → NameHow → List ℕ
+abbrev pub nameOctets : NameLayout → ℕ → Name Octets → NameHow → Octets
 nameOctets q lead x (inParts hp hn hl) =
     (lead + q .inPartsBits + 2 * has (x .prefix) + has (x .namespace)) ∷ (optionalOctets (x .prefix) hp ++ (optionalOctets (x .namespace) hn ++ idOctets (x .local) hl))
 nameOctets q lead x (byNumber k) = spell (q .numberForms) lead (k - 1)
 
 -- ---- an identifying string is held, or new: 01's choice is a permitted one
-abbrev IdCase : StringTable → Vocabulary (List ℕ) → List ℕ → Chose How → Type 0
+abbrev IdCase : StringTable → Vocabulary Octets → Octets → Chose How → Type 0
 IdCase t v x c = PermitsId t v x (c .how) (c .number) (c .tables)
 
 -- what a number other than 0 says
-found : (t : StringTable) (v : Vocabulary (List ℕ)) (x : List ℕ) (n : ℕ) → numberIn (strings v t) x ≡ suc n → Entry (strings v t) n [] x
+found : (t : StringTable) (v : Vocabulary Octets) (x : Octets) (n : ℕ) → numberIn (strings v t) x ≡ suc n → Entry (strings v t) n [] x
 found t v x n e =
     let en = rw e at (number-entry (strings v t) [] x (λ z. absurd (omega arith))) in
     let y : suc n - 1 ≡ n = omega arith in
     rw y at en
 
-module _ (t : StringTable) (v : Vocabulary (List ℕ)) (x : List ℕ) where
+module _ (t : StringTable) (v : Vocabulary Octets) (x : Octets) where
   id-from : (k : ℕ) → numberIn (strings v t) x ≡ k
       → IdCase t v x (pick (eqb k 0) (record { how = spelled true; number = suc (length (strings v t)); tables = adding v t x }) (record { how = numbered k; number = k; tables = v }))
   id-from zero e = id-new (holds-number (strings v t) x ∙ ap (λ (k : ℕ). not (eqb k 0)) e)
@@ -119,45 +120,45 @@ module _ (t : StringTable) (v : Vocabulary (List ℕ)) (x : List ℕ) where
   unfolding chooseId
   id-case = id-from (numberIn (strings v t) x) refl
 
-pub id-grows : {t : StringTable} {v w : Vocabulary (List ℕ)} {x : List ℕ} {h : How} {n : ℕ} → PermitsId t v x h n w → Grows v w
+pub id-grows : {t : StringTable} {v w : Vocabulary Octets} {x : Octets} {h : How} {n : ℕ} → PermitsId t v x h n w → Grows v w
 id-grows {v = v} (id-entry en) = same-size v
 id-grows {t} {v} {x = x} (id-new h) = adding-grows v t x
 
 module _ (L : Limits) (small : L .entries ≤ top) where
-  pub id-rule : {t : StringTable} {v w : Vocabulary (List ℕ)} {x : List ℕ} {h : How} {n : ℕ} → Spelling x → InLimits L w → PermitsId t v x h n w → Identifying L t v x h n (idOctets x h) w
+  pub id-rule : {t : StringTable} {v w : Vocabulary Octets} {x : Octets} {h : How} {n : ℕ} → Spelling x → InLimits L w → PermitsId t v x h n w → Identifying L t v x h n (idOctets x h) w
   id-rule {t} {v} sp f (id-entry {k = j} en) = let z : suc j - 1 ≡ j = omega arith in let a = f .few t in let h = en .made in rw z (id-numbered {k = j} (omega arith) en)
   id-rule {t} {v} {x = x} sp f (id-new h) = let o = one-longer v t x in let a = f .few t in id-spelled sp h (omega arith)
 
 -- one that may be absent
-abbrev OptionalCase : StringTable → Vocabulary (List ℕ) → Option (List ℕ) → Chose (Option How) → Type 0
+abbrev OptionalCase : StringTable → Vocabulary Octets → Option Octets → Chose (Option How) → Type 0
 OptionalCase t v x c = PermitsIfAny t v x (c .how) (c .number) (c .tables)
 
-pub optional-case : (t : StringTable) (v : Vocabulary (List ℕ)) (x : Option (List ℕ)) → OptionalCase t v x (chooseOptional t v x)
+pub optional-case : (t : StringTable) (v : Vocabulary Octets) (x : Option Octets) → OptionalCase t v x (chooseOptional t v x)
 unfolding chooseOptional
 optional-case t v none = not-there
 optional-case t v (some x) = there (id-case t v x)
 
-pub optional-grows : {t : StringTable} {v w : Vocabulary (List ℕ)} {x : Option (List ℕ)} {h : Option How} {n : ℕ} → PermitsIfAny t v x h n w → Grows v w
+pub optional-grows : {t : StringTable} {v w : Vocabulary Octets} {x : Option Octets} {h : Option How} {n : ℕ} → PermitsIfAny t v x h n w → Grows v w
 optional-grows {v = v} not-there = same-size v
 optional-grows (there c) = id-grows c
 
 -- what can be spelled, if it is there
-abbrev pub SpellingIfAny : Option (List ℕ) → Type 0
+abbrev pub SpellingIfAny : Option Octets → Type 0
 SpellingIfAny none = Unit {0}
 SpellingIfAny (some x) = Spelling x
 
 module _ (L : Limits) (small : L .entries ≤ top) where
-  pub optional-rule : {t : StringTable} {v w : Vocabulary (List ℕ)} {x : Option (List ℕ)} {h : Option How} {n : ℕ} → SpellingIfAny x → InLimits L w → PermitsIfAny t v x h n w
+  pub optional-rule : {t : StringTable} {v w : Vocabulary Octets} {x : Option Octets} {h : Option How} {n : ℕ} → SpellingIfAny x → InLimits L w → PermitsIfAny t v x h n w
       → Optional L t v x h n (optionalOctets x h) w
   optional-rule sp f not-there = absent
   optional-rule sp f (there c) = present (id-rule L small sp f c)
 
 -- ---- C.14, C.15
-pub data LiteralCase (L : Limits) (t : StringTable) (v : Vocabulary (List ℕ)) (x : List ℕ) : Chose How → Type 0 where
+pub data LiteralCase (L : Limits) (t : StringTable) (v : Vocabulary Octets) (x : Octets) : Chose How → Type 0 where
   lit-held : {j : ℕ} → Entry (strings v t) j [] x → LiteralCase L t v x (record { how = numbered (suc j); number = suc j; tables = v })
   lit-new : {added : Bool} → (added ≡ true → length (strings v t) < L .entries) → LiteralCase L t v x (record { how = spelled added; number = 0; tables = keeping added v t x })
 
-module _ (L : Limits) (t : StringTable) (v : Vocabulary (List ℕ)) (x : List ℕ) where
+module _ (L : Limits) (t : StringTable) (v : Vocabulary Octets) (x : Octets) where
   literal-from : (k : ℕ) (added : Bool) → numberIn (strings v t) x ≡ k → (added ≡ true → length (strings v t) < L .entries)
       → LiteralCase L t v x (pick (eqb k 0) (record { how = spelled added; number = 0; tables = keeping added v t x }) (record { how = numbered k; number = k; tables = v }))
   literal-from zero added e r = lit-new r
@@ -171,21 +172,21 @@ module _ (L : Limits) (t : StringTable) (v : Vocabulary (List ℕ)) (x : List �
   unfolding chooseLiteral
   literal-case = literal-from (numberIn (strings v t) x) (worthAdding L (strings v t) x) refl worth-room
 
-pub literal-permits : {L : Limits} {t : StringTable} {v : Vocabulary (List ℕ)} {x : List ℕ} {c : Chose How} → LiteralCase L t v x c → PermitsString t v x (c .how) (c .tables)
+pub literal-permits : {L : Limits} {t : StringTable} {v : Vocabulary Octets} {x : Octets} {c : Chose How} → LiteralCase L t v x c → PermitsString t v x (c .how) (c .tables)
 literal-permits (lit-held en) = string-entry en
 literal-permits (lit-new {added = a} r) = string-spelled a
 
-pub literal-grows : {t : StringTable} {v w : Vocabulary (List ℕ)} {x : List ℕ} {h : How} → PermitsString t v x h w → Grows v w
+pub literal-grows : {t : StringTable} {v w : Vocabulary Octets} {x : Octets} {h : How} → PermitsString t v x h w → Grows v w
 literal-grows {v = v} (string-entry en) = same-size v
 literal-grows {t} {v} {x = x} (string-spelled a) = keeping-grows a v t x
 
 module _ (L : Limits) (small : L .entries ≤ top) where
   -- one that is added had room
-  had-room : (added : Bool) (v : Vocabulary (List ℕ)) (t : StringTable) (x : List ℕ) → InLimits L (keeping added v t x) → added ≡ true → length (strings v t) < L .entries
+  had-room : (added : Bool) (v : Vocabulary Octets) (t : StringTable) (x : Octets) → InLimits L (keeping added v t x) → added ≡ true → length (strings v t) < L .entries
   had-room true v t x f e = let o = one-longer v t x in let a = f .few t in omega arith
   had-room false v t x f e = clash e
 
-  pub literal-rule : {q : Layout} {t : StringTable} {v w : Vocabulary (List ℕ)} {x : List ℕ} {h : How} → top ≤ sizes (q .numberForms) → Spelling x → InLimits L w
+  pub literal-rule : {q : Layout} {t : StringTable} {v w : Vocabulary Octets} {x : Octets} {h : How} → top ≤ sizes (q .numberForms) → Spelling x → InLimits L w
       → PermitsString t v x h w → Literal L q t v x h (literalOctets q x h) w
   literal-rule {t = t} big sp f (string-entry {k = j} en) =
       let z : suc j - 1 ≡ j = omega arith in
@@ -195,35 +196,35 @@ module _ (L : Limits) (small : L .entries ≤ top) where
   literal-rule {t = t} {v = v} {x = x} big sp f (string-spelled added) = literal-spelled sp (had-room added v t x f)
 
 -- ---- values
-pub data ValueCase (L : Limits) (t : StringTable) (v : Vocabulary (List ℕ)) (x : List ℕ) : Chose How → Type 0 where
+pub data ValueCase (L : Limits) (t : StringTable) (v : Vocabulary Octets) (x : Octets) : Chose How → Type 0 where
   is-empty : x ≡ [] → ValueCase L t v x (record { how = numbered 0; number = 0; tables = v })
   is-literal : {c : Chose How} → 0 < length x → LiteralCase L t v x c → ValueCase L t v x c
 
-pub value-case : (L : Limits) (t : StringTable) (v : Vocabulary (List ℕ)) (x : List ℕ) → ValueCase L t v x (chooseValue L t v x)
+pub value-case : (L : Limits) (t : StringTable) (v : Vocabulary Octets) (x : Octets) → ValueCase L t v x (chooseValue L t v x)
 unfolding chooseValue
 value-case L t v [] = is-empty refl
 value-case L t v (b ∷ x) = rw (ne-eqb (length (b ∷ x)) 0 (λ z. omega arith)) (is-literal (omega arith) (literal-case L t v (b ∷ x)))
 
-pub value-permits : {L : Limits} {t : StringTable} {v : Vocabulary (List ℕ)} {x : List ℕ} {c : Chose How} → ValueCase L t v x c → PermitsValue t v x (c .how) (c .tables)
+pub value-permits : {L : Limits} {t : StringTable} {v : Vocabulary Octets} {x : Octets} {c : Chose How} → ValueCase L t v x c → PermitsValue t v x (c .how) (c .tables)
 value-permits (is-empty e) = rw e value-none
 value-permits (is-literal h (lit-held en)) = value-entry en
 value-permits (is-literal h (lit-new {added = a} r)) = value-spelled a h
 
-pub value-grows : {t : StringTable} {v w : Vocabulary (List ℕ)} {x : List ℕ} {h : How} → PermitsValue t v x h w → Grows v w
+pub value-grows : {t : StringTable} {v w : Vocabulary Octets} {x : Octets} {h : How} → PermitsValue t v x h w → Grows v w
 value-grows {v = v} value-none = same-size v
 value-grows {t} {v} {x = x} (value-spelled a long) = keeping-grows a v t x
 value-grows {v = v} (value-entry en) = same-size v
 
 -- A text that may be spelled, or be empty.
-abbrev pub SpellingIfSome : List ℕ → Type 0
+abbrev pub SpellingIfSome : Octets → Type 0
 SpellingIfSome x = 0 < length x → Spelling x
 
-pub literal-value : {L : Limits} {t : StringTable} {v : Vocabulary (List ℕ)} {x : List ℕ} {c : Chose How} → LiteralCase L t v x c → valueOctets x (c .how) ≡ literalOctets c14 x (c .how)
+pub literal-value : {L : Limits} {t : StringTable} {v : Vocabulary Octets} {x : Octets} {c : Chose How} → LiteralCase L t v x c → valueOctets x (c .how) ≡ literalOctets c14 x (c .how)
 literal-value (lit-held en) = refl
 literal-value (lit-new r) = refl
 
 module _ (L : Limits) (small : L .entries ≤ top) where
-  pub value-rule : {t : StringTable} {v w : Vocabulary (List ℕ)} {x : List ℕ} {h : How} → SpellingIfSome x → InLimits L w → PermitsValue t v x h w → Value L t v x h (valueOctets x h) w
+  pub value-rule : {t : StringTable} {v w : Vocabulary Octets} {x : Octets} {h : How} → SpellingIfSome x → InLimits L w → PermitsValue t v x h w → Value L t v x h (valueOctets x h) w
   unfolding c14 sizes coded c25
   value-rule sp f value-none = value-empty
   value-rule {t} {v} {x = x} sp f (value-spelled added long) = value (literal-spelled (sp long) (had-room L small added v t x f))
@@ -279,50 +280,50 @@ unfolding sameNames
 same-names-longer ELEMENT-NAME l x = let y = length-append l (x ∷ []) in omega arith
 same-names-longer ATTRIBUTE-NAME l x = let y = length-append l (x ∷ []) in omega arith
 
-pub id-names : {t : StringTable} {v w : Vocabulary (List ℕ)} {x : List ℕ} {h : How} {n : ℕ} → PermitsId t v x h n w → (u : NameTable) → names w u ≡ names v u
+pub id-names : {t : StringTable} {v w : Vocabulary Octets} {x : Octets} {h : How} {n : ℕ} → PermitsId t v x h n w → (u : NameTable) → names w u ≡ names v u
 id-names (id-entry en) u = refl
 id-names {t} {v} {x = x} (id-new h) u = names-adding v t x u
 
-pub optional-names : {t : StringTable} {v w : Vocabulary (List ℕ)} {x : Option (List ℕ)} {h : Option How} {n : ℕ} → PermitsIfAny t v x h n w → (u : NameTable) → names w u ≡ names v u
+pub optional-names : {t : StringTable} {v w : Vocabulary Octets} {x : Option Octets} {h : Option How} {n : ℕ} → PermitsIfAny t v x h n w → (u : NameTable) → names w u ≡ names v u
 optional-names not-there u = refl
 optional-names (there c) u = id-names c u
 
-keeping-names : (b : Bool) (v : Vocabulary (List ℕ)) (t : StringTable) (x : List ℕ) (u : NameTable) → names (keeping b v t x) u ≡ names v u
+keeping-names : (b : Bool) (v : Vocabulary Octets) (t : StringTable) (x : Octets) (u : NameTable) → names (keeping b v t x) u ≡ names v u
 keeping-names true v t x u = names-adding v t x u
 keeping-names false v t x u = refl
 
-pub literal-names : {t : StringTable} {v w : Vocabulary (List ℕ)} {x : List ℕ} {h : How} → PermitsString t v x h w → (u : NameTable) → names w u ≡ names v u
+pub literal-names : {t : StringTable} {v w : Vocabulary Octets} {x : Octets} {h : How} → PermitsString t v x h w → (u : NameTable) → names w u ≡ names v u
 literal-names (string-entry en) u = refl
 literal-names {t} {v} {x = x} (string-spelled a) u = keeping-names a v t x u
 
-pub value-names : {t : StringTable} {v w : Vocabulary (List ℕ)} {x : List ℕ} {h : How} → PermitsValue t v x h w → (u : NameTable) → names w u ≡ names v u
+pub value-names : {t : StringTable} {v w : Vocabulary Octets} {x : Octets} {h : How} → PermitsValue t v x h w → (u : NameTable) → names w u ≡ names v u
 value-names value-none u = refl
 value-names {t} {v} {x = x} (value-spelled a long) u = keeping-names a v t x u
 value-names (value-entry en) u = refl
 
 -- the number is in range of the table then
-id-number : {t : StringTable} {v w : Vocabulary (List ℕ)} {x : List ℕ} {h : How} {n : ℕ} → PermitsId t v x h n w → n ≤ length (strings w t)
+id-number : {t : StringTable} {v w : Vocabulary Octets} {x : Octets} {h : How} {n : ℕ} → PermitsId t v x h n w → n ≤ length (strings w t)
 id-number (id-entry en) = en .made
 id-number {t} {v} {x = x} (id-new h) = let o = one-longer v t x in omega arith
 
-optional-number : {t : StringTable} {v w : Vocabulary (List ℕ)} {x : Option (List ℕ)} {h : Option How} {n : ℕ} → PermitsIfAny t v x h n w → n ≤ length (strings w t)
+optional-number : {t : StringTable} {v w : Vocabulary Octets} {x : Option Octets} {h : Option How} {n : ℕ} → PermitsIfAny t v x h n w → n ≤ length (strings w t)
 optional-number not-there = omega arith
 optional-number (there c) = id-number c
 
 -- a number of the table before is that of a string which was held
-id-was : {t : StringTable} {v w : Vocabulary (List ℕ)} {x : List ℕ} {h : How} {n : ℕ} → PermitsId t v x h n w → n ≤ length (strings v t)
+id-was : {t : StringTable} {v w : Vocabulary Octets} {x : Octets} {h : How} {n : ℕ} → PermitsId t v x h n w → n ≤ length (strings v t)
     → (w ≡ v) × (getD (strings v t) (n - 1) [] ≡ x)
 id-was (id-entry {k = j} en) r = let z : suc j - 1 ≡ j = omega arith in (refl, rw z (en .is))
 id-was (id-new h) r = absurd (omega arith)
 
-optional-was : {t : StringTable} {v w : Vocabulary (List ℕ)} {x : Option (List ℕ)} {h : Option How} {n : ℕ} → PermitsIfAny t v x h n w → n ≤ length (strings v t)
+optional-was : {t : StringTable} {v w : Vocabulary Octets} {x : Option Octets} {h : Option How} {n : ℕ} → PermitsIfAny t v x h n w → n ≤ length (strings v t)
     → (w ≡ v) × (partOf (strings v t) [] n ≡ x)
 optional-was not-there r = (refl, refl)
-optional-was (there (id-entry en)) r = (refl, ap (λ (y : List ℕ). some y) (en .is))
+optional-was (there (id-entry en)) r = (refl, ap (λ (y : Octets). some y) (en .is))
 optional-was (there (id-new h)) r = absurd (omega arith)
 
 -- ---- a name is held, or comes in parts
-module _ (t : NameTable) (v : Vocabulary (List ℕ)) (x : Name (List ℕ)) where
+module _ (t : NameTable) (v : Vocabulary Octets) (x : Name Octets) where
   abbrev p : Chose (Option How)
   p = chooseOptional PREFIX v (x .prefix)
 
@@ -357,13 +358,13 @@ module _ (t : NameTable) (v : Vocabulary (List ℕ)) (x : Name (List ℕ)) where
   unfolding nameOf strings
   name-was r =
       let a = optional-was cp (r .prefix) in
-      let n1 = subst (λ (w : Vocabulary (List ℕ)). n .number ≤ length (strings w NAMESPACE-NAME)) (sym (a .0)) (r .namespace) in
+      let n1 = subst (λ (w : Vocabulary Octets). n .number ≤ length (strings w NAMESPACE-NAME)) (sym (a .0)) (r .namespace) in
       let b = optional-was cn n1 in
       let e : n .tables ≡ v = b .0 ∙ a .0 in
-      let l1 = subst (λ (w : Vocabulary (List ℕ)). l .number ≤ length (strings w LOCAL-NAME)) (sym e) (r .local) in
+      let l1 = subst (λ (w : Vocabulary Octets). l .number ≤ length (strings w LOCAL-NAME)) (sym e) (r .local) in
       let c = id-was cl l1 in
-      let b1 = subst (λ (w : Vocabulary (List ℕ)). partOf (strings w NAMESPACE-NAME) [] (n .number) ≡ x .namespace) (a .0) (b .1) in
-      let c1 = subst (λ (w : Vocabulary (List ℕ)). getD (strings w LOCAL-NAME) (l .number - 1) [] ≡ x .local) e (c .1) in
+      let b1 = subst (λ (w : Vocabulary Octets). partOf (strings w NAMESPACE-NAME) [] (n .number) ≡ x .namespace) (a .0) (b .1) in
+      let c1 = subst (λ (w : Vocabulary Octets). getD (strings w LOCAL-NAME) (l .number - 1) [] ≡ x .local) e (c .1) in
       λ i. record { prefix = a .1 i; namespace = b1 i; local = c1 i }
 
   name-from : Ranged v → (k : ℕ) → numberOfTriple (names (l .tables) t) triple ≡ k
@@ -384,15 +385,15 @@ module _ (t : NameTable) (v : Vocabulary (List ℕ)) (x : Name (List ℕ)) where
   name-case r = name-from r (numberOfTriple (names (l .tables) t) triple) refl
 
   pub name-permits : {c : Chose NameHow} → NameCase c → PermitsName t v x (c .how) (c .tables)
-  name-permits (name-held {j = j} en e) = subst (λ (y : Name (List ℕ)). PermitsName t v y (byNumber (suc j)) v) e (name-entry en)
+  name-permits (name-held {j = j} en e) = subst (λ (y : Name Octets). PermitsName t v y (byNumber (suc j)) v) e (name-entry en)
   name-permits (name-new h) = name-parts cp cn cl h
 
 -- ---- a permitted name
-pub name-grows : {t : NameTable} {v w : Vocabulary (List ℕ)} {x : Name (List ℕ)} {h : NameHow} → PermitsName t v x h w → Grows v w
+pub name-grows : {t : NameTable} {v w : Vocabulary Octets} {x : Name Octets} {h : NameHow} → PermitsName t v x h w → Grows v w
 name-grows {t} (name-parts {v₃ = v₃} up un ul new) = grows-on (optional-grows up) (grows-on (optional-grows un) (grows-on (id-grows ul) (adding-name-grows v₃ t _)))
 name-grows {v = v} (name-entry en) = same-size v
 
-pub name-ranged : {t : NameTable} {v w : Vocabulary (List ℕ)} {x : Name (List ℕ)} {h : NameHow} → PermitsName t v x h w → Ranged v → Ranged w
+pub name-ranged : {t : NameTable} {v w : Vocabulary Octets} {x : Name Octets} {h : NameHow} → PermitsName t v x h w → Ranged v → Ranged w
 name-ranged {t} (name-parts up un ul new) r =
     let a = optional-number up in
     let b = optional-number un in
@@ -404,14 +405,14 @@ name-ranged {t} (name-parts up un ul new) r =
 name-ranged (name-entry en) r = r
 
 -- what can be said of a name's strings
-pub record NameSaid (x : Name (List ℕ)) : Type 0 where
+pub record NameSaid (x : Name Octets) : Type 0 where
   pub prefix : SpellingIfAny (x .prefix)
   pub namespace : SpellingIfAny (x .namespace)
   pub local : Spelling (x .local)
   pub pair : has (x .prefix) ≤ has (x .namespace)
 
 module _ (L : Limits) (small : L .entries ≤ top) (q : NameLayout) (big : top ≤ sizes (q .numberForms)) (lead : ℕ) where
-  pub name-rule : {v w : Vocabulary (List ℕ)} {x : Name (List ℕ)} {h : NameHow} → NameSaid x → InLimits L w → PermitsName (q .table) v x h w → Named L q lead v x h (nameOctets q lead x h) w
+  pub name-rule : {v w : Vocabulary Octets} {x : Name Octets} {h : NameHow} → NameSaid x → InLimits L w → PermitsName (q .table) v x h w → Named L q lead v x h (nameOctets q lead x h) w
   name-rule s f (name-entry {k = j} en) =
       let z : suc j - 1 ≡ j = omega arith in
       let a = f .few-names (q .table) in

@@ -8,7 +8,7 @@ use native.Mathlib.Omega.{arith}
 use borrow.Author.Tests.{leb-true}
 use lib.ListN.{length, length-append}
 use lib.Dec.{leb}
-use Rattle.format.specs.Numbers.{AreOctets}
+use Rattle.format.specs.Octets.{Octets, Words, AreOctets}
 use Rattle.format.specs.Tables.{link}
 use Rattle.tables.specs.Counts.{tableWords}
 use Rattle.tables.specs.Told.{Told, wholeWord}
@@ -32,7 +32,7 @@ use Rattle.theorems.proofs.WriterCalls.{write-whatever-stood, written-w
 use Rattle.theorems.proofs.InWords.{read-worded, read-zeros, write-worded, write-zeros}
 
 -- ---- the check and the reader
-module _ (s : List ℕ) (bytes : AreOctets s) where
+module _ (s : Octets) (bytes : AreOctets s) where
   check-result : (a : Read.Result) → Whole.Means s bytes a → (Read.numberOf a % 32 ≡ 14 → ⊥) → CheckAnswers s (Read.numberOf a)
   check-result (Read.accepted is m) w h = CheckAnswers.passes
   check-result (Read.refusal n p) w h = CheckAnswers.fails (w .0, w .1) (λ e. h (omega arith)) (w .2)
@@ -55,7 +55,7 @@ module _ (s : List ℕ) (bytes : AreOctets s) where
         (λ n. ReadAnswers.refuses {n = 14} {p = 0} (omega arith, omega arith) (omega arith) refl refl refl))
         (λ y. ReadAnswers.refuses {n = 1} {p = 0} (omega arith, omega arith) (omega arith) refl refl refl)
 
-  module _ (e f : List Event) (t u : List ℕ) (a b : ReadAnswer.Answer) (e′ f′ : List Event) (t′ u′ : List ℕ) where
+  module _ (e f : List Event) (t u : Octets) (a b : ReadAnswer.Answer) (e′ f′ : List Event) (t′ u′ : Octets) where
     pub demand-1-read : length e ≡ length f → length t ≡ length u
         → Read.Leaves a e′ t′ (Read.readOf s (length e) (length t)) → Read.Leaves b f′ u′ (Read.readOf s (length f) (length u))
         → ((a ≡ b) × (e′ ≡ f′) × (t′ ≡ u′)) × ReadAnswers s (length e) (length t) (Read.readOf s (length e) (length t))
@@ -63,7 +63,7 @@ module _ (s : List ℕ) (bytes : AreOctets s) where
 
   -- in words
   module _ (r t : ℕ) where
-    read-words : (o : Read.Outcome) (w : ReadWords.Words) → InReadWords r o w → ReadAnswers s (r / 13) t o → ReadWordsAnswer s r t 10 w
+    read-words : (o : Read.Outcome) (w : ReadWords.WordsLeft) → InReadWords r o w → ReadAnswers s (r / 13) t o → ReadWordsAnswer s r t 10 w
     read-words o w i (ReadAnswers.accepts n p) = ReadWordsAnswer.accepts (omega arith)
     read-words o w i (ReadAnswers.refuses {n} {p} k h told row tables) =
         let q = i .answer ∙ ap wholeWord told in
@@ -79,14 +79,14 @@ module _ (s : List ℕ) (bytes : AreOctets s) where
               (ReadWordsAnswer.refuses {n = 14} {p = 0} (omega arith, omega arith) (omega arith) refl refl refl refl)
         ]
 
-  module _ (r q t u c d : List ℕ) (a b : ℕ) (r′ q′ t′ u′ c′ d′ : List ℕ) where
+  module _ (r q t u c d : Octets) (a b : ℕ) (r′ q′ t′ u′ c′ d′ : Octets) where
     pub demand-1-read-words : length r ≡ length q → length t ≡ length u → length c ≡ length d
         → ReadWords.leaving a r′ t′ c′ ≡ ReadWords.readWords s (length r) (length t) (length c) → ReadWords.leaving b q′ u′ d′ ≡ ReadWords.readWords s (length q) (length u) (length d)
         → (ReadWords.leaving a r′ t′ c′ ≡ ReadWords.leaving b q′ u′ d′) × ReadWordsAnswer s (length r) (length t) (length c) (ReadWords.readWords s (length r) (length t) (length c))
     demand-1-read-words l m n x y = (words-whatever-stood s r q t u c d a b r′ q′ t′ u′ c′ d′ l m n x y, read-words-answer (length r) (length t) (length c))
 
 -- ---- the writer
-module _ (es : List Event) (text : List ℕ) where
+module _ (es : List Event) (text : Octets) where
   module _ (room : ℕ) where
     fault-number : {before : List Event} {e : Event} {n : ℕ} → Fault text room before e n → WriterNumber n
     fault-number (not-an-event a) = WriterNumber.event
@@ -113,16 +113,16 @@ module _ (es : List Event) (text : List ℕ) where
         (λ n. WriteAnswers.refuses {p = 0} WriterNumber.room (omega arith) refl refl refl))
         (λ y. WriteAnswers.refuses {p = 0} WriterNumber.size (omega arith) refl refl refl)
 
-  module _ (o p t u : List ℕ) (a b : WriteAnswer.Answer) (o′ p′ t′ u′ : List ℕ) where
+  module _ (o p t u : Octets) (a b : WriteAnswer.Answer) (o′ p′ t′ u′ : Octets) where
     pub demand-1-write : length o ≡ length p → length t ≡ length u
         → Write.Leaves a o′ t′ (Write.writeOf es text (length o) (length t)) → Write.Leaves b p′ u′ (Write.writeOf es text (length p) (length u))
         → ((a ≡ b) × (o′ ≡ p′) × (t′ ≡ u′)) × WriteAnswers es (length o) (length t) (Write.writeOf es text (length o) (length t))
     demand-1-write l m x y = (write-whatever-stood es text o p t u a b o′ p′ t′ u′ l m x y, write-answers (length o) (length t))
 
 -- in words
-module _ (records text : List ℕ) where
+module _ (records : Words) (text : Octets) where
   module _ (r t : ℕ) where
-    write-words : (o : Write.Outcome) (w : WriteWords.Words) → InWriteWords o w → WriteAnswers (recordsOf records) r t o → WriteWordsAnswer (recordsOf records) r t 10 w
+    write-words : (o : Write.Outcome) (w : WriteWords.WordsLeft) → InWriteWords o w → WriteAnswers (recordsOf records) r t o → WriteWordsAnswer (recordsOf records) r t 10 w
     write-words o w i (WriteAnswers.accepts n p) = WriteWordsAnswer.accepts (omega arith)
     write-words o w i (WriteAnswers.refuses {n} {p} k h told out tables) =
         let q = i .answer ∙ ap wholeWord told in
@@ -138,7 +138,7 @@ module _ (records text : List ℕ) where
               (λ l. WriteWordsAnswer.refuses {p = 0} WriterNumber.room (omega arith) refl refl refl refl)
         ]
 
-  module _ (o p t u c d : List ℕ) (a b : ℕ) (o′ p′ t′ u′ c′ d′ : List ℕ) where
+  module _ (o p t u c d : Octets) (a b : ℕ) (o′ p′ t′ u′ c′ d′ : Octets) where
     pub demand-1-write-words : length o ≡ length p → length t ≡ length u → length c ≡ length d
         → WriteWords.leaving a o′ t′ c′ ≡ WriteWords.writeWords records text (length o) (length t) (length c) → WriteWords.leaving b p′ u′ d′ ≡ WriteWords.writeWords records text (length p) (length u) (length d)
         → (WriteWords.leaving a o′ t′ c′ ≡ WriteWords.leaving b p′ u′ d′)

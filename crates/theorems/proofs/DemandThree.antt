@@ -7,7 +7,8 @@ use native.Mathlib.Omega.{arith}
 use borrow.Author.Tests.{eqb-true, eq-eqb}
 use lib.Dec.{eqb}
 use lib.ListN.{length, replicate, length-map}
-use Rattle.format.specs.Numbers.{AreOctets, pick}
+use Rattle.format.specs.Octets.{Octets, AreOctets}
+use Rattle.format.specs.Numbers.{pick}
 use Rattle.format.specs.Events.{Item}
 use Rattle.format.specs.Tables.{link}
 use Rattle.format.specs.Items.{State}
@@ -23,8 +24,8 @@ use Rattle.theorems.proofs.Document as Whole
 use Rattle.theorems.proofs.Fits.{accepted-fits, accepted-sized}
 use Rattle.theorems.proofs.Demands.{accepted-is-written, one-pair, refused, records-well-made, made-earlier-places, spelled-places, tables-made-places}
 
-module _ (s : List ℕ) (room table : ℕ) where
-  pub accepts : (items : List (Item (List ℕ))) (z : State (List ℕ)) (w : Writes items z s) → length items ≤ room → table ≡ tableWords → HandsOut s room items z w (readOf s room table)
+module _ (s : Octets) (room table : ℕ) where
+  pub accepts : (items : List (Item Octets)) (z : State Octets) (w : Writes items z s) → length items ≤ room → table ≡ tableWords → HandsOut s room items z w (readOf s room table)
   unfolding readOf
   accepts items z w h right =
       let a = Whole.accepts s items z w room h in
@@ -35,27 +36,27 @@ module _ (s : List ℕ) (room table : ℕ) where
       (record {
         events = a .events;
         tables = a .last .state .tables;
-        answer = λ i. toldAccepted (as-many i) ((sym (entries-map _ (a .last .state .tables)) ∙ ap (λ (u : State (List ℕ)). entriesOf (u .tables)) known) i);
+        answer = λ i. toldAccepted (as-many i) ((sym (entries-map _ (a .last .state .tables)) ∙ ap (λ (u : State Octets). entriesOf (u .tables)) known) i);
         row = ap (λ (n : ℕ). map (λ (i : Item Located). recordOf (i .event)) (a .events) ++ replicate (room - n) blank) as-many;
         table-words = refl;
         events-are = a .are;
-        tables-are = ap (λ (u : State (List ℕ)). u .tables) known;
+        tables-are = ap (λ (u : State Octets). u .tables) known;
         well-made = records-well-made s room (a .events) (a .last) (a .reads);
         spelled = spelled-places items z s w room h (a .events) (a .last) (a .reads);
         earlier = made-earlier-places s room (a .events) (a .last) (a .reads);
         tables-made = tables-made-places s room (a .events) (a .last) (a .reads);
       })
 
-module _ (s : List ℕ) (bytes : AreOctets s) (room table : ℕ) where
+module _ (s : Octets) (bytes : AreOctets s) (room table : ℕ) where
   only-from : table ≡ tableWords → (r : Result) → reading s room ≡ r → outcome r room .told .number ≡ 0
-      → (items : List (Item (List ℕ))) × (z : State (List ℕ)) × Writes items z s × (length items ≤ room) × (table ≡ tableWords)
+      → (items : List (Item Octets)) × (z : State Octets) × Writes items z s × (length items ≤ room) × (table ≡ tableWords)
   only-from right (accepted is m) q e =
       let a : Accepts s room (map (plain s) is) (plainState s (m .state)) = record { events = is; last = m; reads = q; are = refl; end-is = refl } in
       (map (plain s) is, plainState s (m .state), accepted-is-written s bytes room _ _ a, accepted-fits s room _ _ a, right)
   only-from right (refusal n p) q e = absurd (let k = refused s bytes room n p q .0 in omega arith)
 
   only : (b d : Bool) → eqb table tableWords ≡ d → pick b (pick d (outcome (reading s room) room) (refusing 14 0 room table)) (refusing 1 0 room table) .told .number ≡ 0
-      → (items : List (Item (List ℕ))) × (z : State (List ℕ)) × Writes items z s × (length items ≤ room) × (table ≡ tableWords)
+      → (items : List (Item Octets)) × (z : State Octets) × Writes items z s × (length items ≤ room) × (table ≡ tableWords)
   only true true q e = only-from (eqb-true table tableWords q) (reading s room) refl e
   only true false q e = absurd (omega arith)
   only false d q e = absurd (omega arith)

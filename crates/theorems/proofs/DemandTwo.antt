@@ -8,6 +8,7 @@ use native.Mathlib.Omega.{arith}
 use borrow.Author.Tests.{leb-true, leb-false, le-leb, lt-leb, eqb-true, eq-eqb, ne-eqb}
 use lib.Dec.{eqb, leb}
 use lib.ListN.{length, replicate, length-map}
+use Rattle.format.specs.Octets.{Octets, Halves}
 use Rattle.format.specs.Numbers.{pick}
 use Rattle.format.specs.Events.{Item}
 use Rattle.format.specs.Tables.{link}
@@ -36,21 +37,21 @@ all-from P [] f = tt
 all-from P (x ∷ l) f = (f [] x l refl, all-from P l (λ b y after e. f (x ∷ b) y after (ap (λ (k : List _). x ∷ k) e)))
 
 -- a refusal has a number
-fault-some : {text : List ℕ} {room : ℕ} {before : List Event} {e : Event} {n : ℕ} → Fault text room before e n → 0 < n
+fault-some : {text : Octets} {room : ℕ} {before : List Event} {e : Event} {n : ℕ} → Fault text room before e n → 0 < n
 fault-some (not-an-event a) = omega arith
 fault-some (not-text i a) = omega arith
 fault-some (too-deep i t a) = omega arith
 fault-some (too-many i t s a) = omega arith
 fault-some (no-room i t s f a) = omega arith
 
-refused-some : {text : List ℕ} {room : ℕ} {es : List Event} {n p : ℕ} → Refused text room es n p → 0 < n
+refused-some : {text : Octets} {room : ℕ} {es : List Event} {n p : ℕ} → Refused text room es n p → 0 < n
 refused-some (at-event after is all f) = fault-some f
 refused-some (too-soon all d) = omega arith
 refused-some (no-room-for-end all d w) = omega arith
 
-module _ (es : List Event) (text : List ℕ) (room : ℕ) where
+module _ (es : List Event) (text : Octets) (room : ℕ) where
   module _ (short : length text ≤ 16384) where
-    from-written : (items : List (Item Located)) (hs : List ℕ) (y : State Located) → writing text room es ≡ written items hs y → Acceptable es text room tableWords (header ++ joined hs) (plainState text y)
+    from-written : (items : List (Item Located)) (hs : Halves) (y : State Located) → writing text room es ≡ written items hs y → Acceptable es text room tableWords (header ++ joined hs) (plainState text y)
     from-written items hs y q =
         let m = meant text short room es items hs y q in
         record {
@@ -63,10 +64,10 @@ module _ (es : List Event) (text : List ℕ) (room : ℕ) where
 
     -- OF THE DEFINITION: it writes s, with z known at the end, exactly when the records are well made, the rules write s from their plain events with 01's
     -- choices, z being known then, and s fits.
-    pub writes-exactly : (s : List ℕ) (z : State (List ℕ)) → Wrote es text room s z ↔ Acceptable es text room tableWords s z
+    pub writes-exactly : (s : Octets) (z : State Octets) → Wrote es text room s z ↔ Acceptable es text room tableWords s z
     writes-exactly s z = (
-      λ w. subst (λ (u : State (List ℕ)). Acceptable es text room tableWords s u) (w .known)
-          (subst (λ (o : List ℕ). Acceptable es text room tableWords o (plainState text (w .last))) (w .octets) (from-written (w .items) (w .halves) (w .last) (w .is))),
+      λ w. subst (λ (u : State Octets). Acceptable es text room tableWords s u) (w .known)
+          (subst (λ (o : Octets). Acceptable es text room tableWords o (plainState text (w .last))) (w .octets) (from-written (w .items) (w .halves) (w .last) (w .is))),
       λ a. writes-it text room es (a .well-made) z s (a .writes) (a .fits) short,
     )
 
@@ -75,7 +76,7 @@ module _ (es : List Event) (text : List ℕ) (room : ℕ) where
     abbrev Asked : Bool → Bool → Outcome
     Asked b d = pick b (pick d (outcome (writing text room es) room) (refusing 14 0 room table)) (refusing 1 0 room table)
 
-    accepts : (s : List ℕ) (z : State (List ℕ)) → Acceptable es text room table s z → LeavesWritten es text room s z (writeOf es text room table)
+    accepts : (s : Octets) (z : State Octets) → Acceptable es text room table s z → LeavesWritten es text room s z (writeOf es text room table)
     unfolding writeOf
     accepts s z a =
         let w = writes-it text room es (a .well-made) z s (a .writes) (a .fits) (a .text-size) in
@@ -83,20 +84,20 @@ module _ (es : List Event) (text : List ℕ) (room : ℕ) where
         (record {
           items = w .items;
           tables = w .last .tables;
-          answer = λ i. toldAccepted (length (w .octets i)) ((sym (entries-map _ (w .last .tables)) ∙ ap (λ (u : State (List ℕ)). entriesOf (u .tables)) (w .known)) i);
-          octets = ap (λ (o : List ℕ). o ++ replicate (room - length o) 0) (w .octets);
+          answer = λ i. toldAccepted (length (w .octets i)) ((sym (entries-map _ (w .last .tables)) ∙ ap (λ (u : State Octets). entriesOf (u .tables)) (w .known)) i);
+          octets = ap (λ (o : Octets). o ++ replicate (room - length o) 0) (w .octets);
           table-words = refl;
-          tables-are = ap (λ (u : State (List ℕ)). u .tables) (w .known);
+          tables-are = ap (λ (u : State Octets). u .tables) (w .known);
           given = the-events-given text room es (w .items) (w .halves) (w .last) (w .is);
           chosen = meant text (a .text-size) room es (w .items) (w .halves) (w .last) (w .is) .chosen-by;
           strings-made = strings-written text room es (w .items) (w .halves) (w .last) (w .is);
         })
 
-    only-from : length text ≤ 16384 → table ≡ tableWords → (r : Result) → writing text room es ≡ r → outcome r room .told .number ≡ 0 → (s : List ℕ) × (z : State (List ℕ)) × Acceptable es text room table s z
+    only-from : length text ≤ 16384 → table ≡ tableWords → (r : Result) → writing text room es ≡ r → outcome r room .told .number ≡ 0 → (s : Octets) × (z : State Octets) × Acceptable es text room table s z
     only-from short right (written items hs y) q e = (header ++ joined hs, plainState text y, rw right (from-written short items hs y q))
     only-from short right (refusal n p) q e = absurd (let k = refused-some (refused-by text short room es n p q) in omega arith)
 
-    only : (b d : Bool) → leb (length text) 16384 ≡ b → eqb table tableWords ≡ d → Asked b d .told .number ≡ 0 → (s : List ℕ) × (z : State (List ℕ)) × Acceptable es text room table s z
+    only : (b d : Bool) → leb (length text) 16384 ≡ b → eqb table tableWords ≡ d → Asked b d .told .number ≡ 0 → (s : Octets) × (z : State Octets) × Acceptable es text room table s z
     only true true p q e = only-from (leb-true _ _ p) (eqb-true table tableWords q) (writing text room es) refl e
     only true false p q e = absurd (omega arith)
     only false d p q e = absurd (omega arith)
@@ -137,7 +138,7 @@ module _ (es : List Event) (text : List ℕ) (room : ℕ) where
         back = λ s z a records h.
             Three.accepts s records tableWords (itemsOf (plains text es)) z (a .writes)
             (let l = ap length (chosen-events link started (plains text es)) in
-            let m = length-map (itemsOf (plains text es)) (λ (i : Item (List ℕ)). i .event) in
+            let m = length-map (itemsOf (plains text es)) (λ (i : Item Octets). i .event) in
             let n = length-map es (plainOf text) in
             omega arith) refl;
         refuses = λ n p. (refused-told table n p (leb (length text) 16384) (eqb table tableWords) refl refl, told-refused table);

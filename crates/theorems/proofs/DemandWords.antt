@@ -9,7 +9,8 @@ use native.Mathlib.Decide.{ℕ-discrete}
 use native.Mathlib.Omega.{arith}
 use borrow.Author.Tests.{ne-eqb, le-leb, lt-leb}
 use lib.ListN.{length}
-use Rattle.format.specs.Numbers.{AreOctets, pick}
+use Rattle.format.specs.Octets.{Octets, Words, AreOctets}
+use Rattle.format.specs.Numbers.{pick}
 use Rattle.format.specs.Events.{Item}
 use Rattle.format.specs.Tables.{link}
 use Rattle.format.specs.Items.{State}
@@ -30,8 +31,8 @@ use Rattle.theorems.proofs.DemandThree.{demand-3}
 use Rattle.theorems.proofs.DemandTwo.{demand-2}
 
 -- ---- reading
-module _ (s : List ℕ) (bytes : AreOctets s) where
-  pub demand-3-check : (Read.checkOf s ≡ 0) ↔ ((items : List (Item (List ℕ))) × (z : State (List ℕ)) × Writes items z s)
+module _ (s : Octets) (bytes : AreOctets s) where
+  pub demand-3-check : (Read.checkOf s ≡ 0) ↔ ((items : List (Item Octets)) × (z : State Octets) × Writes items z s)
   demand-3-check = (λ e. let w = check-accepts s bytes e in (w .items, w .last, w .writes), λ w. written-is-checked s bytes (w .0) (w .1) (w .2))
 
   -- The check answers as the reader with 32,768 event records.
@@ -61,7 +62,7 @@ module _ (s : List ℕ) (bytes : AreOctets s) where
         ]
 
     read-words-only : (c : ℕ) → ReadWords.readWords s r t c .answer % 2 ^ 32 ≡ 0
-        → (items : List (Item (List ℕ))) × (z : State (List ℕ)) × Writes items z s × (length items ≤ r / 13) × (t ≡ tableWords) × (c ≡ 10)
+        → (items : List (Item Octets)) × (z : State Octets) × Writes items z s × (length items ≤ r / 13) × (t ≡ tableWords) × (c ≡ 10)
     read-words-only c e = let a = read-words-accepted c e in let b = demand-3 s bytes (r / 13) t .only (a .1) in (b .0, b .1, b .2, b .3, b .4, a .0)
 
     -- DEMAND 3 of `lomphachit_read`
@@ -81,7 +82,7 @@ numbered WriterNumber.depth = omega arith
 numbered WriterNumber.room = omega arith
 numbered WriterNumber.event = omega arith
 
-module _ (records text : List ℕ) (r t : ℕ) where
+module _ (records : Words) (text : Octets) (r t : ℕ) where
   abbrev es : List Event
   es = recordsOf records
 
@@ -100,7 +101,7 @@ module _ (records text : List ℕ) (r t : ℕ) where
       told ∙ rw (same, there)
 
   module _ (c : ℕ) where
-    abbrev left : WriteWords.Words
+    abbrev left : WriteWords.WordsLeft
     left = WriteWords.writeWords records text r t c
 
     write-words-accepted : left .answer % 2 ^ 32 ≡ 0 → (c ≡ 10) × (rows-written records text r t .told .number ≡ 0)

@@ -6,7 +6,8 @@ use mathlib.Core.Logic.{_↔_}
 use mathlib.Core.List.{List, [], _++_, map}
 use native.Mathlib.Omega.{arith}
 use lib.ListN.{length, getD, length-map}
-use Rattle.format.specs.Numbers.{AreOctets, top, longest}
+use Rattle.format.specs.Octets.{Octets, Halves, AreOctets}
+use Rattle.format.specs.Numbers.{top, longest}
 use Rattle.format.specs.Events as E
 use Rattle.format.specs.Events.{Item, IsDocument, stringsOf}
 use Rattle.format.specs.Tables.{Vocabulary, strings, starting, xmlPrefix, xmlNamespace, Limits, link, standard}
@@ -39,22 +40,22 @@ use Rattle.theorems.proofs.Permitted as Permitted
 use Rattle.theorems.proofs.WriterDocument as Made
 use Rattle.theorems.proofs.Given as Given
 
-module _ (s : List ℕ) (bytes : AreOctets s) where
+module _ (s : Octets) (bytes : AreOctets s) where
   -- 1. SOUND: octets that are accepted are what the rules write, from the items handed out, and the tables at the end are the rules'.
-  pub accepted-is-written : (room : ℕ) (items : List (Item (List ℕ))) (z : State (List ℕ)) → Accepts s room items z → Writes items z s
+  pub accepted-is-written : (room : ℕ) (items : List (Item Octets)) (z : State Octets) → Accepts s room items z → Writes items z s
   accepted-is-written room items z a =
-      subst₂ (λ (l : List (Item (List ℕ))) (y : State (List ℕ)). Writes l y s) (a .are) (a .end-is) (subst (Whole.Means s bytes) (a .reads) (Whole.means s bytes room))
+      subst₂ (λ (l : List (Item Octets)) (y : State Octets). Writes l y s) (a .are) (a .end-is) (subst (Whole.Means s bytes) (a .reads) (Whole.means s bytes room))
 
   --    COMPLETE: what the rules write is accepted, with those items, if there is a record for each event.
-  pub written-is-accepted : (room : ℕ) (items : List (Item (List ℕ))) (z : State (List ℕ)) → Writes items z s → length items ≤ room → Accepts s room items z
+  pub written-is-accepted : (room : ℕ) (items : List (Item Octets)) (z : State Octets) → Writes items z s → length items ≤ room → Accepts s room items z
   written-is-accepted room items z w h = Whole.accepts s items z w room h
 
   --    EXACTLY: the octets are accepted with these events, choices and tables exactly when the rules write them so, within the limits and the room.
-  pub exactly : (room : ℕ) (items : List (Item (List ℕ))) (z : State (List ℕ)) → Accepts s room items z ↔ (Writes items z s × (length items ≤ room))
+  pub exactly : (room : ℕ) (items : List (Item Octets)) (z : State Octets) → Accepts s room items z ↔ (Writes items z s × (length items ≤ room))
   exactly room items z = (λ a. (accepted-is-written room items z a, accepted-fits s room items z a), λ w. written-is-accepted room items z (w .0) (w .1))
 
   -- 2. UNIQUE: two pairs of events and choices that the rules write as the same octets are the same pair.
-  pub one-pair : (items others : List (Item (List ℕ))) (y z : State (List ℕ)) → Writes items y s → Writes others z s → (items ≡ others) × (y ≡ z)
+  pub one-pair : (items others : List (Item Octets)) (y z : State Octets) → Writes items y s → Writes others z s → (items ≡ others) × (y ≡ z)
   one-pair items others y z w u =
       let a = written-is-accepted (length items + length others) items y w (omega arith) in
       let b = written-is-accepted (length items + length others) others z u (omega arith) in
@@ -64,47 +65,47 @@ module _ (s : List ℕ) (bytes : AreOctets s) where
       (sym (a .are) ∙ ap (map (plain s)) p ∙ b .are, sym (a .end-is) ∙ ap (λ (m : Stand). plainState s (m .state)) q ∙ b .end-is)
 
 --    And one pair is written as one run of octets only.
-pub one-document : (items : List (Item (List ℕ))) (y z : State (List ℕ)) (s t : List ℕ) → Writes items y s → Writes items z t → (s ≡ t) × (y ≡ z)
+pub one-document : (items : List (Item Octets)) (y z : State Octets) (s t : Octets) → Writes items y s → Writes items z t → (s ≡ t) × (y ≡ z)
 one-document items y z s t w u = One.one-document w u
 
 -- 3. ROOM: with too few records the answer is 14, at the place of the first event that has none (`marks` ends at the first fault, so no field before it is
 --    faulty); with a record for each event, more room changes nothing.
-pub room-short : (s : List ℕ) (room : ℕ) → room < length (marks s) → reading s room ≡ refusal 14 (getD (map (λ (k : Mark). k .place) (marks s)) room 0)
+pub room-short : (s : Octets) (room : ℕ) → room < length (marks s) → reading s room ≡ refusal 14 (getD (map (λ (k : Mark). k .place) (marks s)) room 0)
 room-short s room h = Whole.too-short s room h
 
-pub room-enough : (s : List ℕ) (room : ℕ) → length (marks s) ≤ room → reading s room ≡ reading s (length (marks s))
+pub room-enough : (s : Octets) (room : ℕ) → length (marks s) ≤ room → reading s room ≡ reading s (length (marks s))
 room-enough s room h = Whole.long-enough s room h
 
 -- 4. MADE EARLIER: every number, save the 0 of the empty string, is, when it is used, that of an entry made earlier in the document or built in; and the
 --    entry is the very string, or the whole name, that the event says.
-pub made-earlier : (items : List (Item (List ℕ))) (z : State (List ℕ)) (s : List ℕ) → Writes items z s → Known [] (strings (starting xmlPrefix xmlNamespace)) (λ t. []) (acts [] items)
+pub made-earlier : (items : List (Item Octets)) (z : State Octets) (s : Octets) → Writes items z s → Known [] (strings (starting xmlPrefix xmlNamespace)) (λ t. []) (acts [] items)
 made-earlier items z s w = Before.earlier xmlPrefix xmlNamespace (document-done w)
 
 --    PLACES: in what the reader hands out, the string behind a number has the very place and length of the entry made earlier, or is built in; so each part of a
 --    name behind a number.
-pub made-earlier-places : (s : List ℕ) (room : ℕ) (events : List (Item Located)) (last : Stand) → reading s room ≡ accepted events last
+pub made-earlier-places : (s : Octets) (room : ℕ) (events : List (Item Located)) (last : Stand) → reading s room ≡ accepted events last
     → Known empty (strings start) (λ t. []) (acts empty events)
 made-earlier-places s room events last e = Places.earlier-places s room events last e
 
 --    SPELLED: the strings that the choices spell have, in order, the very places and lengths at which the rules write them.
-pub spelled-places : (items : List (Item (List ℕ))) (z : State (List ℕ)) (s : List ℕ) (w : Writes items z s) (room : ℕ) → length items ≤ room
+pub spelled-places : (items : List (Item Octets)) (z : State Octets) (s : Octets) (w : Writes items z s) (room : ℕ) → length items ≤ room
     → (events : List (Item Located)) (last : Stand) → reading s room ≡ accepted events last → allSpelled events ≡ spelledIn (w .rule)
 spelled-places items z s w room h events last e = Whole.spelled-is s items z w room h events last e
 
 --    MADE: the tables at the end hold the built-in entries, then what the choices of the items make, in order, and nothing else; and the reader's tables have the
 --    very places that its events have.
-pub tables-made : (items : List (Item (List ℕ))) (z : State (List ℕ)) (s : List ℕ) → Writes items z s → MadeBy [] started (acts [] items) (z .tables)
+pub tables-made : (items : List (Item Octets)) (z : State Octets) (s : Octets) → Writes items z s → MadeBy [] started (acts [] items) (z .tables)
 tables-made items z s w = Before.made xmlPrefix xmlNamespace (document-done w)
 
-pub tables-made-places : (s : List ℕ) (room : ℕ) (events : List (Item Located)) (last : Stand) → reading s room ≡ accepted events last
+pub tables-made-places : (s : Octets) (room : ℕ) (events : List (Item Located)) (last : Stand) → reading s room ≡ accepted events last
     → MadeBy empty start (acts empty events) (last .state .tables)
 tables-made-places s room events last e = Places.made-places s room events last e
 
 -- 5. TABLES: what the reader knows after each event is what the rules know then.
-pub tables : (items : List (Item (List ℕ))) (z : State (List ℕ)) (s : List ℕ) (w : Writes items z s) → map (λ (k : Mark). plainState s (k .stand .state)) (marks s) ≡ knownAfter link (w .rule)
+pub tables : (items : List (Item Octets)) (z : State Octets) (s : Octets) (w : Writes items z s) → map (λ (k : Mark). plainState s (k .stand .state)) (marks s) ≡ knownAfter link (w .rule)
 tables items z s w = Whole.known-is s items z w
 
-module _ (s : List ℕ) (bytes : AreOctets s) where
+module _ (s : Octets) (bytes : AreOctets s) where
   -- 6. REFUSED means refused by a number that 01 gives a reader, at a place in the document or at its end.
   pub refused : (room n p : ℕ) → reading s room ≡ refusal n p → (1 ≤ n) × (n ≤ 15) × (p ≤ length s)
   refused room n p e = subst (Whole.Means s bytes) e (Whole.means s bytes room)
@@ -131,26 +132,26 @@ module _ (s : List ℕ) (bytes : AreOctets s) where
 -- 7. The link's limits lie within the standard's: what the rules write within the first, they write within the second (2^20 entries; lengths to 2^32 are in the
 --    rules; no limit on octets and open elements). It says nothing of documents that X.891 allows and the rules do not write: those of the parts that the link does not
 --    carry, and those in which an identifying string or a name is spelled again that its table holds (01's REPEAT is stricter than 7.13.7).
-pub within-standard-limits : (items : List (Item (List ℕ))) (z : State (List ℕ)) (s : List ℕ) (depth octets : ℕ) → link .octets ≤ octets → link .depth ≤ depth
+pub within-standard-limits : (items : List (Item Octets)) (z : State Octets) (s : Octets) (depth octets : ℕ) → link .octets ≤ octets → link .depth ≤ depth
     → Writes items z s → Document (standard depth octets) header started items z s
 within-standard-limits items z s depth octets long deep w = Wider.link-in-standard depth octets long deep w
 
 -- 8. What the rules write are documents in the sense of 01: comments and instructions, one root element, comments and instructions.
-pub a-document : (items : List (Item (List ℕ))) (z : State (List ℕ)) (s : List ℕ) → Writes items z s → IsDocument (map (λ (i : Item (List ℕ)). i .event) items)
+pub a-document : (items : List (Item Octets)) (z : State Octets) (s : Octets) → Writes items z s → IsDocument (map (λ (i : Item Octets). i .event) items)
 a-document items z s w = Tree.is-document w
 
 -- 9. Their strings are as 01 allows: text; empty only where 01 says so; a prefix only with a namespace.
-pub allowed : (items : List (Item (List ℕ))) (z : State (List ℕ)) (s : List ℕ) → Writes items z s → All (λ (i : Item (List ℕ)). Allowed (i .event)) items
+pub allowed : (items : List (Item Octets)) (z : State Octets) (s : Octets) → Writes items z s → All (λ (i : Item Octets). Allowed (i .event)) items
 allowed items z s w = Plain.plain-on-link w
 
 --    RECORDS: so is every record that the reader hands out; its stretches lie in the document, and what is built in stands only where it can.
-pub records-well-made : (s : List ℕ) (room : ℕ) (events : List (Item Located)) (last : Stand) → reading s room ≡ accepted events last
+pub records-well-made : (s : Octets) (room : ℕ) (events : List (Item Located)) (last : Stand) → reading s room ≡ accepted events last
     → All (λ (i : Item Located). WellMade s (recordOf (i .event))) events
 records-well-made s room events last e = Records.well-made s room events last e
 
 -- 10. THE RULES CAN WRITE EVERY DOCUMENT: a list that is a document, its events as 01 allows them, no string over 2^32 octets, fewer than 2^20 events, is written with
 --     01's choices within wide enough limits.
-module _ (es : List (E.Event (List ℕ))) (doc : IsDocument es) (may : All Allowed es) (short : All (λ (e : E.Event (List ℕ)). All (λ (x : List ℕ). length x ≤ longest) (stringsOf e)) es) where
+module _ (es : List (E.Event Octets)) (doc : IsDocument es) (may : All Allowed es) (short : All (λ (e : E.Event Octets). All (λ (x : Octets). length x ≤ longest) (stringsOf e)) es) where
   pub every-document : length es < top → WrittenWidely es
   every-document few = Every.every-document es doc may short few
 
@@ -160,51 +161,51 @@ module _ (es : List (E.Event (List ℕ))) (doc : IsDocument es) (may : All Allow
 
 --     AND WITH EVERY CHOICE: not only 01's own. Whatever choices are permitted (specs/Permitted: a chunk or value spelled again, added or not; any number that names the
 --     string or name), the rules write these items, and the tables behind them are those that the choices leave. So the rules, and the reader with them, are not narrowed to our writer.
-module _ (items : List (Item (List ℕ))) (w : Vocabulary (List ℕ)) where
-  abbrev es : List (E.Event (List ℕ))
-  es = map (λ (i : Item (List ℕ)). i .event) items
+module _ (items : List (Item Octets)) (w : Vocabulary Octets) where
+  abbrev es : List (E.Event Octets)
+  es = map (λ (i : Item Octets). i .event) items
 
-  pub every-choice : IsDocument es → All Allowed es → All (λ (e : E.Event (List ℕ)). All (λ (x : List ℕ). length x ≤ longest) (stringsOf e)) es → length items < top
+  pub every-choice : IsDocument es → All Allowed es → All (λ (e : E.Event Octets). All (λ (x : Octets). length x ≤ longest) (stringsOf e)) es → length items < top
       → PermitsAll started items w → WrittenAs items w
   every-choice doc may short few permits = Every.every-choice items doc may short permits few
 
 --     And no other choices: what the rules write is permitted, and leaves those tables.
-pub permitted : (items : List (Item (List ℕ))) (z : State (List ℕ)) (s : List ℕ) (L : Limits) → Document L header started items z s → PermitsAll started items (z .tables)
+pub permitted : (items : List (Item Octets)) (z : State Octets) (s : Octets) (L : Limits) → Document L header started items z s → PermitsAll started items (z .tables)
 unfolding beginning
 permitted items z s L d = Permitted.permitted (d .rule)
 
 -- DEMAND 2, of the definitions: what the writer makes of records over a text area (of at most 16,384 octets).
 -- 11. WRITTEN BY THE RULES: its octets are those that the rules write from the plain events and 01's choices, its tables are the rules', and they fit the output.
-pub written-by-the-rules : (text : List ℕ) (room : ℕ) (es : List Event) (items : List (Item Located)) (hs : List ℕ) (z : State Located) → length text ≤ 16384 → writing text room es ≡ written items hs z
+pub written-by-the-rules : (text : Octets) (room : ℕ) (es : List Event) (items : List (Item Located)) (hs : Halves) (z : State Located) → length text ≤ 16384 → writing text room es ≡ written items hs z
     → Writes (map (plain text) items) (plainState text z) (header ++ joined hs) × (length (header ++ joined hs) ≤ room)
 written-by-the-rules text room es items hs z short e = let m = Made.meant text short room es items hs z e in (m .writes, m .fits)
 
 -- 12. ROUND TRIP: reading what the writer wrote, with a record for each event, gives back the same events, and the reader's tables are the writer's.
-pub round-trip : (text : List ℕ) (room : ℕ) (es : List Event) (items : List (Item Located)) (hs : List ℕ) (z : State Located) → length text ≤ 16384 → writing text room es ≡ written items hs z
+pub round-trip : (text : Octets) (room : ℕ) (es : List Event) (items : List (Item Located)) (hs : Halves) (z : State Located) → length text ≤ 16384 → writing text room es ≡ written items hs z
     → (records : ℕ) → length items ≤ records → Accepts (header ++ joined hs) records (map (plain text) items) (plainState text z)
 round-trip text room es items hs z short e records h =
     let l = length-map items (plain text) in
     Whole.accepts (header ++ joined hs) (map (plain text) items) (plainState text z) (written-by-the-rules text room es items hs z short e .0) records (omega arith)
 
 --     GIVEN: the events that were written are, as records, the very list that was given.
-pub the-events-given : (text : List ℕ) (room : ℕ) (es : List Event) (items : List (Item Located)) (hs : List ℕ) (z : State Located) → writing text room es ≡ written items hs z
+pub the-events-given : (text : Octets) (room : ℕ) (es : List Event) (items : List (Item Located)) (hs : Halves) (z : State Located) → writing text room es ≡ written items hs z
     → map (λ (i : Item Located). recordOf (i .event)) items ≡ es
 the-events-given text room es items hs z e = Given.given-back text room es items hs z e
 
 --     TABLES: after each event the reader's tables are the writer's, as octets.
-pub same-tables : (text : List ℕ) (room : ℕ) (es : List Event) (items : List (Item Located)) (hs : List ℕ) (z : State Located) → length text ≤ 16384 → writing text room es ≡ written items hs z
+pub same-tables : (text : Octets) (room : ℕ) (es : List Event) (items : List (Item Located)) (hs : Halves) (z : State Located) → length text ≤ 16384 → writing text room es ≡ written items hs z
     → map (λ (k : Mark). plainState (header ++ joined hs) (k .stand .state)) (marks (header ++ joined hs)) ≡ map (plainState text) (knownWriting text room es)
 same-tables text room es items hs z short e =
     let m = Made.meant text short room es items hs z e in
     tables (map (plain text) items) (plainState text z) (header ++ joined hs) (m .writes) ∙ m .known
 
 --     And so they are what the rules know then.
-pub writer-tables : (text : List ℕ) (room : ℕ) (es : List Event) (items : List (Item Located)) (hs : List ℕ) (z : State Located) → length text ≤ 16384 → writing text room es ≡ written items hs z
+pub writer-tables : (text : Octets) (room : ℕ) (es : List Event) (items : List (Item Located)) (hs : Halves) (z : State Located) → length text ≤ 16384 → writing text room es ≡ written items hs z
     → (w : Writes (map (plain text) items) (plainState text z) (header ++ joined hs)) → map (plainState text) (knownWriting text room es) ≡ knownAfter link (w .rule)
 writer-tables text room es items hs z short e w = sym (same-tables text room es items hs z short e) ∙ tables (map (plain text) items) (plainState text z) (header ++ joined hs) w
 
 --     There are tables for each event.
-pub tables-for-each : (text : List ℕ) (room : ℕ) (es : List Event) (items : List (Item Located)) (hs : List ℕ) (z : State Located) → length text ≤ 16384 → writing text room es ≡ written items hs z
+pub tables-for-each : (text : Octets) (room : ℕ) (es : List Event) (items : List (Item Located)) (hs : Halves) (z : State Located) → length text ≤ 16384 → writing text room es ≡ written items hs z
     → length (knownWriting text room es) ≡ length es
 tables-for-each text room es items hs z short e =
     Made.each-known text short room es items hs z e ∙ sym (length-map items (λ (i : Item Located). recordOf (i .event))) ∙ ap length (the-events-given text room es items hs z e)

@@ -5,7 +5,8 @@ use mathlib.Core.Bool.{false}
 use mathlib.Core.List.{List, _++_, map}
 use native.Mathlib.Omega.{arith}
 use lib.ListN.{length, getD, drop, length-drop}
-use Rattle.format.specs.Numbers.{AreOctets, longest}
+use Rattle.format.specs.Octets.{Octets, AreOctets}
+use Rattle.format.specs.Numbers.{longest}
 use Rattle.format.specs.Events.{Item}
 use Rattle.format.specs.Tables.{starting, xmlPrefix, xmlNamespace, link}
 use Rattle.format.specs.Items.{content, State}
@@ -19,7 +20,7 @@ use Rattle.theorems.proofs.Words.{starting-map}
 use Rattle.theorems.proofs.Run.{Right, run-right, fuel-free, NotShort, run-not-short, trace-few, placesOf, room-short, room-enough, Reads, run-complete}
 use Rattle.theorems.proofs.Opening.{Opened, opening-sound, opening-complete}
 
-pub plain-start : (s : List ℕ) → plainState s (beginning start) ≡ beginning (starting xmlPrefix xmlNamespace)
+pub plain-start : (s : Octets) → plainState s (beginning start) ≡ beginning (starting xmlPrefix xmlNamespace)
 unfolding beginning start octetsOf
 plain-start s = λ i. record { tables = starting-map (octetsOf s) builtInPrefix builtInNamespace i; level = 0; root = false; mode = content }
 
@@ -35,7 +36,7 @@ fifth = refl
 brief : {n : ℕ} → n ≤ 16384 → n ≤ longest
 brief h = omega arith
 
-module _ (s : List ℕ) (bytes : AreOctets s) where
+module _ (s : Octets) (bytes : AreOctets s) where
   -- what a result means
   abbrev pub Means : Result → Type 0
   Means (accepted is m) = Writes (map (plain s) is) (plainState s (m .state)) s
@@ -46,8 +47,8 @@ module _ (s : List ℕ) (bytes : AreOctets s) where
   from-run d h (accepted is m) r =
       record {
         body = drop 10 (halves s);
-        here = ap halves d ∙ halves-append header (drop 5 s) ∙ ap (λ (l : List ℕ). halves header ++ l) (sym (halves-drop 5 s));
-        rule = subst (λ (v : State (List ℕ)). Written link 10 v (map (plain s) is) (drop 10 (halves s)) (plainState s (m .state))) (plain-start s) r;
+        here = ap halves d ∙ halves-append header (drop 5 s) ∙ ap (λ (l : Octets). halves header ++ l) (sym (halves-drop 5 s));
+        rule = subst (λ (v : State Octets). Written link 10 v (map (plain s) is) (drop 10 (halves s)) (plainState s (m .state))) (plain-start s) r;
         short = h;
       }
   from-run d h (refusal n p) r = r
@@ -96,9 +97,9 @@ module _ (s : List ℕ) (bytes : AreOctets s) where
   pub more-fuel : (more room : ℕ) → opening link header s ≡ onward → run link s (more + fuelOf s) room (origin start) ≡ run link s (fuelOf s) room (origin start)
   more-fuel more room e = free-from more room (opening link header s) (opening-sound link header five fifth s) e
 
-module _ (s : List ℕ) where
+module _ (s : Octets) where
   -- what the rules write is read, with a record for every event; the tables after every event are theirs
-  module _ (items : List (Item (List ℕ))) (z : State (List ℕ)) (w : Writes items z s) where
+  module _ (items : List (Item Octets)) (z : State Octets) (w : Writes items z s) where
     whole : s ≡ header ++ drop 5 s
     unfolding header
     whole = halves-complete s 0 header (w .body) (w .here)

@@ -4,6 +4,7 @@ use mathlib.Core.Path.{refl}
 use mathlib.Core.Bool.{true, false}
 use mathlib.Core.List.{List, _∷_, map}
 use borrow.Author.Tests.{lt-ltb}
+use Rattle.format.specs.Octets.{Octets, Halves}
 use Rattle.format.specs.Events.{Event, Namespace, Start, Attribute, Text, Comment, Instruction, End, Item, no-attribute, IsDocument}
 use Rattle.format.specs.Tables.{Vocabulary, Limits}
 use Rattle.format.specs.Items.{State, mayStart, ItemWrittenAs, o-start, o-first-namespace, o-namespace, o-named-start, o-attribute, o-text, o-comment, o-instruction}
@@ -11,12 +12,12 @@ use Rattle.format.specs.Document.{Written, document-end, attributes-end, elemen
 use Rattle.writer.specs.Events.{goesOn}
 use Rattle.theorems.proofs.Structure.{Rest, back, ended-back, all-left}
 
-abbrev pub events : List (Item (List ℕ)) → List (Event (List ℕ))
-events items = map (λ (i : Item (List ℕ)). i .event) items
+abbrev pub events : List (Item Octets) → List (Event Octets)
+events items = map (λ (i : Item Octets). i .event) items
 
 module _ {L : Limits} where
   -- an item in front of what is left behind it: the rules go on as `goesOn` does
-  fronts : {v w : State (List ℕ)} {i : Item (List ℕ)} {o : List ℕ} (es : List (Event (List ℕ))) → ItemWrittenAs L v i o w → Rest w es → Rest v (i .event ∷ es)
+  fronts : {v w : State Octets} {i : Item Octets} {o : Octets} (es : List (Event Octets)) → ItemWrittenAs L v i o w → Rest w es → Rest v (i .event ∷ es)
   unfolding goesOn mayStart
   fronts {v} es (o-start a {x = x} md may deep u) k = back a v (Start x) es (rw md may) k
   fronts {v} es (o-first-namespace {a = a} {p = p} {n = n} md may deep u) k = back a v (Namespace p n) es (rw md may) k
@@ -27,13 +28,13 @@ module _ {L : Limits} where
   fronts {v} es (o-comment {y = y} md u) k = back false v (Comment y) es (rw md) (rw md at k)
   fronts {v} es (o-instruction {x = x} {y = y} md u1 u2) k = back false v (Instruction x y) es (rw md) (rw md at k)
 
-  left : {at : ℕ} {v z : State (List ℕ)} {items : List (Item (List ℕ))} {hs : List ℕ} → Written L at v items hs z → Rest v (events items)
+  left : {at : ℕ} {v z : State Octets} {items : List (Item Octets)} {hs : Halves} → Written L at v items hs z → Rest v (events items)
   unfolding goesOn
   left {v = v} (document-end md lv rt) = ended-back v (md, lv, rt)
   left {items = items} (attributes-end md w) = rw md (events items, no-attribute, left w, refl)
   left {v = v} (element-end {items = items} md lv w) = back false v End (events items) (rw md (lt-ltb 0 (v .level) lv)) (left w)
   left (item {items = items} u w) = fronts (events items) u (left w)
 
-  pub is-document : {h : List ℕ} {start : Vocabulary (List ℕ)} {items : List (Item (List ℕ))} {z : State (List ℕ)} {s : List ℕ}
+  pub is-document : {h : Octets} {start : Vocabulary Octets} {items : List (Item Octets)} {z : State Octets} {s : Octets}
       → Document L h start items z s → IsDocument (events items)
   is-document {start = start} {items = items} d = all-left start (events items) .1 (left (d .rule))

@@ -5,6 +5,7 @@ use mathlib.Core.Bool.{Bool, true}
 use mathlib.Core.Option.{Option, none, some}
 use mathlib.Core.List.{List, [], _∷_}
 use lib.ListN.{length}
+use Rattle.format.specs.Octets.{Octets, Halves}
 use Rattle.format.specs.Events.{Name, Namespace, Start, Attribute, Text, Comment, Instruction, End, How, spelled, numbered, NameHow, inParts, byNumber}
 use Rattle.format.specs.Events.{forNamespace, forStart, forAttribute, forText, forComment, forInstruction, forEnd, Item, _by_}
 use Rattle.format.specs.Tables.{StringTable, PREFIX, NAMESPACE-NAME, LOCAL-NAME, OTHER-NCNAME, ATTRIBUTE-VALUE, CONTENT-CHARACTER-CHUNK, OTHER-STRING}
@@ -58,33 +59,33 @@ module _ {S : Type 0} (d : S) (Spelt : S → Type 0) where
 
 -- ---- the rules do so; what they spell is text, and not empty
 module _ {L : Limits} where
-  id-done : {t : StringTable} {v w : Vocabulary (List ℕ)} {x : List ℕ} {h : How} {n : ℕ} {o : List ℕ} → Identifying L t v x h n o w → IdDone [] Said t v x h n w
+  id-done : {t : StringTable} {v w : Vocabulary Octets} {x : Octets} {h : How} {n : ℕ} {o : Octets} → Identifying L t v x h n o w → IdDone [] Said t v x h n w
   id-done (id-spelled sp new room) = id-made (sp .some, sp .formed)
   id-done (id-numbered small en) = id-used en
 
-  part-done : {t : StringTable} {v w : Vocabulary (List ℕ)} {x : Option (List ℕ)} {h : Option How} {n : ℕ} {o : List ℕ}
+  part-done : {t : StringTable} {v w : Vocabulary Octets} {x : Option Octets} {h : Option How} {n : ℕ} {o : Octets}
       → Optional L t v x h n o w → PartDone [] Said t v x h n w
   part-done absent = no-part
   part-done (present u) = a-part (id-done u)
 
-  string-done : {q : Layout} {t : StringTable} {v w : Vocabulary (List ℕ)} {x : List ℕ} {h : How} {o : List ℕ} → Literal L q t v x h o w → StringDone [] Said t v x h w
+  string-done : {q : Layout} {t : StringTable} {v w : Vocabulary Octets} {x : Octets} {h : How} {o : Octets} → Literal L q t v x h o w → StringDone [] Said t v x h w
   string-done (literal-spelled {added = added} sp room) = string-made added (sp .some, sp .formed)
   string-done (literal-numbered small fits en) = string-used en
 
-  value-done : {t : StringTable} {v w : Vocabulary (List ℕ)} {x : List ℕ} {h : How} {o : List ℕ} → Value L t v x h o w → ValueDone [] Said t v x h w
+  value-done : {t : StringTable} {v w : Vocabulary Octets} {x : Octets} {h : How} {o : Octets} → Value L t v x h o w → ValueDone [] Said t v x h w
   value-done value-empty = empty-value
   value-done (value u) = a-value (string-done u)
 
-  name-done : {q : NameLayout} {lead : ℕ} {v w : Vocabulary (List ℕ)} {x : Name (List ℕ)} {h : NameHow} {o : List ℕ}
+  name-done : {q : NameLayout} {lead : ℕ} {v w : Vocabulary Octets} {x : Name Octets} {h : NameHow} {o : Octets}
       → Named L q lead v x h o w → NameDone [] Said (q .table) v x h w
   name-done (in-parts lone up un ul new room) = name-made lone (part-done up) (part-done un) (id-done ul)
   name-done (by-number small fits en) = name-used en
 
-  namespace-done : {v w : Vocabulary (List ℕ)} {p n : Option (List ℕ)} {hp hn : Option How} {o : List ℕ}
+  namespace-done : {v w : Vocabulary Octets} {p n : Option Octets} {hp hn : Option How} {o : Octets}
       → Declared L v p n hp hn o w → ItemDone [] Said v (Namespace p n by forNamespace hp hn) w
   namespace-done (declared up un) = done-namespace (part-done up) (part-done un)
 
-  octets-done : {v w : State (List ℕ)} {i : Item (List ℕ)} {o : List ℕ} → ItemWrittenAs L v i o w → ItemDone [] Said (v .tables) i (w .tables)
+  octets-done : {v w : State Octets} {i : Item Octets} {o : Octets} → ItemWrittenAs L v i o w → ItemDone [] Said (v .tables) i (w .tables)
   unfolding ofElement ofAttribute
   octets-done (o-start a md may deep u) = done-start (name-done u)
   octets-done (o-first-namespace md may deep u) = namespace-done u
@@ -95,13 +96,13 @@ module _ {L : Limits} where
   octets-done (o-comment md u) = done-comment (value-done u)
   octets-done (o-instruction md u1 u2) = done-instruction (id-done u1) (value-done u2)
 
-  written-done : {at : ℕ} {v z : State (List ℕ)} {items : List (Item (List ℕ))} {hs : List ℕ} → Written L at v items hs z → Done [] Said (v .tables) items (z .tables)
+  written-done : {at : ℕ} {v z : State Octets} {items : List (Item Octets)} {hs : Halves} → Written L at v items hs z → Done [] Said (v .tables) items (z .tables)
   written-done (document-end md lv rt) = no-item
   written-done (attributes-end md w) = written-done w
   written-done (element-end md lv w) = an-item done-end (written-done w)
   written-done (item u w) = an-item (octets-done u) (written-done w)
 
-  pub document-done : {h : List ℕ} {start : Vocabulary (List ℕ)} {items : List (Item (List ℕ))} {z : State (List ℕ)} {s : List ℕ}
+  pub document-done : {h : Octets} {start : Vocabulary Octets} {items : List (Item Octets)} {z : State Octets} {s : Octets}
       → Document L h start items z s → Done [] Said start items (z .tables)
   unfolding beginning
   document-done d = written-done (d .rule)

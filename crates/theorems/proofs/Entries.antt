@@ -7,6 +7,7 @@ use mathlib.Core.List.{List, [], _∷_}
 use native.Mathlib.Omega.{arith}
 use lib.Dec.{eqb}
 use lib.ListN.{length, length-append}
+use Rattle.format.specs.Octets.{Octets}
 use Rattle.format.specs.Events.{Name, Event, How, NameHow, Choice, Item}
 use Rattle.format.specs.Tables.{StringTable, PREFIX, NAMESPACE-NAME, LOCAL-NAME, OTHER-NCNAME, OTHER-URI, ATTRIBUTE-VALUE, CONTENT-CHARACTER-CHUNK, OTHER-STRING, NameTable, ELEMENT-NAME, ATTRIBUTE-NAME, Vocabulary, strings, names, place, extended, adding, starting, Limits, InLimits}
 use Rattle.format.specs.Strings.{bit, keeping}
@@ -32,31 +33,31 @@ abbrev own : StringTable → StringTable → ℕ
 own t u = bit (eqb (place t) (place u))
 
 module _ (u : StringTable) where
-  adding-adds : (v : Vocabulary (List ℕ)) (t : StringTable) (x : List ℕ) → length (strings (adding v t x) u) ≤ length (strings v u) + own t u
+  adding-adds : (v : Vocabulary Octets) (t : StringTable) (x : Octets) → length (strings (adding v t x) u) ≤ length (strings v u) + own t u
   adding-adds v t x = rw (strings-adding v t x u) (extended-adds (eqb (place t) (place u)) (strings v u) x)
 
-  id-adds : {t : StringTable} {v w : Vocabulary (List ℕ)} {x : List ℕ} {h : How} {n : ℕ} → PermitsId t v x h n w → length (strings w u) ≤ length (strings v u) + own t u
+  id-adds : {t : StringTable} {v w : Vocabulary Octets} {x : Octets} {h : How} {n : ℕ} → PermitsId t v x h n w → length (strings w u) ≤ length (strings v u) + own t u
   id-adds (id-entry en) = omega arith
   id-adds {t} {v} {x = x} (id-new h) = adding-adds v t x
 
-  optional-adds : {t : StringTable} {v w : Vocabulary (List ℕ)} {x : Option (List ℕ)} {h : Option How} {n : ℕ} → PermitsIfAny t v x h n w → length (strings w u) ≤ length (strings v u) + own t u
+  optional-adds : {t : StringTable} {v w : Vocabulary Octets} {x : Option Octets} {h : Option How} {n : ℕ} → PermitsIfAny t v x h n w → length (strings w u) ≤ length (strings v u) + own t u
   optional-adds not-there = omega arith
   optional-adds (there c) = id-adds c
 
-  keeping-adds : (b : Bool) (v : Vocabulary (List ℕ)) (t : StringTable) (x : List ℕ) → length (strings (keeping b v t x) u) ≤ length (strings v u) + own t u
+  keeping-adds : (b : Bool) (v : Vocabulary Octets) (t : StringTable) (x : Octets) → length (strings (keeping b v t x) u) ≤ length (strings v u) + own t u
   keeping-adds true v t x = adding-adds v t x
   keeping-adds false v t x = omega arith
 
-  literal-adds : {t : StringTable} {v w : Vocabulary (List ℕ)} {x : List ℕ} {h : How} → PermitsString t v x h w → length (strings w u) ≤ length (strings v u) + own t u
+  literal-adds : {t : StringTable} {v w : Vocabulary Octets} {x : Octets} {h : How} → PermitsString t v x h w → length (strings w u) ≤ length (strings v u) + own t u
   literal-adds (string-entry en) = omega arith
   literal-adds {t} {v} {x = x} (string-spelled b) = keeping-adds b v t x
 
-  value-adds : {t : StringTable} {v w : Vocabulary (List ℕ)} {x : List ℕ} {h : How} → PermitsValue t v x h w → length (strings w u) ≤ length (strings v u) + own t u
+  value-adds : {t : StringTable} {v w : Vocabulary Octets} {x : Octets} {h : How} → PermitsValue t v x h w → length (strings w u) ≤ length (strings v u) + own t u
   value-adds value-none = omega arith
   value-adds {t} {v} {x = x} (value-spelled b long) = keeping-adds b v t x
   value-adds (value-entry en) = omega arith
 
-  name-adds : {t : NameTable} {v w : Vocabulary (List ℕ)} {x : Name (List ℕ)} {h : NameHow} → PermitsName t v x h w
+  name-adds : {t : NameTable} {v w : Vocabulary Octets} {x : Name Octets} {h : NameHow} → PermitsName t v x h w
       → length (strings w u) ≤ length (strings v u) + own PREFIX u + own NAMESPACE-NAME u + own LOCAL-NAME u
   name-adds (name-entry en) = omega arith
   name-adds (name-parts up un ul new) = let a = optional-adds up in let b = optional-adds un in let c = id-adds ul in rw strings-adding-name (omega arith)
@@ -74,11 +75,11 @@ once CONTENT-CHARACTER-CHUNK = omega arith
 once OTHER-STRING = omega arith
 
 -- ---- with each event, each table by one at most
-pub record Adds (n : ℕ) (v w : Vocabulary (List ℕ)) : Type 0 where
+pub record Adds (n : ℕ) (v w : Vocabulary Octets) : Type 0 where
   pub few : (t : StringTable) → length (strings w t) ≤ length (strings v t) + n
   pub few-names : (t : NameTable) → length (names w t) ≤ length (names v t) + n
 
-strings-for : {v w : Vocabulary (List ℕ)} {e : Event (List ℕ)} {c : Choice} → Permits v e c w → (u : StringTable) → length (strings w u) ≤ length (strings v u) + 1
+strings-for : {v w : Vocabulary Octets} {e : Event Octets} {c : Choice} → Permits v e c w → (u : StringTable) → length (strings w u) ≤ length (strings v u) + 1
 strings-for (a-declaration up un) u = let a = optional-adds u up in let b = optional-adds u un in let o = once u in omega arith
 strings-for (a-start x) u = let a = name-adds u x in let o = once u in omega arith
 strings-for (an-attribute x y) u = let a = name-adds u x in let b = value-adds u y in let o = once u in omega arith
@@ -87,13 +88,13 @@ strings-for (a-comment y) u = let a = value-adds u y in let o = once u in omega 
 strings-for (an-instruction x y) u = let a = id-adds u x in let b = value-adds u y in let o = once u in omega arith
 strings-for an-end u = omega arith
 
-name-more : {t : NameTable} {v w : Vocabulary (List ℕ)} {x : Name (List ℕ)} {h : NameHow} (u : NameTable) → PermitsName t v x h w → length (names w u) ≤ length (names v u) + 1
+name-more : {t : NameTable} {v w : Vocabulary Octets} {x : Name Octets} {h : NameHow} (u : NameTable) → PermitsName t v x h w → length (names w u) ≤ length (names v u) + 1
 name-more u (name-entry en) = omega arith
 name-more {t} {v} u (name-parts up un ul new) =
     let a = ap length (id-names ul u ∙ optional-names un u ∙ optional-names up u) in
     rw names-adding-name (extended-few (sameNames t u) (length (names v u) + 1) _ _ (omega arith) (λ e. omega arith))
 
-names-for : {v w : Vocabulary (List ℕ)} {e : Event (List ℕ)} {c : Choice} → Permits v e c w → (u : NameTable) → length (names w u) ≤ length (names v u) + 1
+names-for : {v w : Vocabulary Octets} {e : Event Octets} {c : Choice} → Permits v e c w → (u : NameTable) → length (names w u) ≤ length (names v u) + 1
 names-for (a-declaration up un) u = let a = ap length (optional-names up u) in let b = ap length (optional-names un u) in omega arith
 names-for (a-start x) u = name-more u x
 names-for (an-attribute x y) u = let a = name-more u x in let b = ap length (value-names y u) in omega arith
@@ -103,11 +104,11 @@ names-for (an-instruction x y) u = let a = ap length (id-names x u) in let b = a
 names-for an-end u = omega arith
 
 -- ---- along a list
-pub all-grow : {v w : Vocabulary (List ℕ)} {items : List (Item (List ℕ))} → PermitsAll v items w → Grows v w
+pub all-grow : {v w : Vocabulary Octets} {items : List (Item Octets)} → PermitsAll v items w → Grows v w
 all-grow {v} no-item = same-size v
 all-grow (an-item p ps) = grows-on (permits-grows p) (all-grow ps)
 
-all-add : {v w : Vocabulary (List ℕ)} {items : List (Item (List ℕ))} → PermitsAll v items w → Adds (length items) v w
+all-add : {v w : Vocabulary Octets} {items : List (Item Octets)} → PermitsAll v items w → Adds (length items) v w
 all-add no-item = record { few = λ t. omega arith; few-names = λ t. omega arith }
 all-add (an-item p ps) =
     let b = all-add ps in
@@ -117,15 +118,15 @@ all-add (an-item p ps) =
     }
 
 -- 01's choices, along a list
-pub chosen-permitted : (C : Limits) (v : Vocabulary (List ℕ)) (es : List (Event (List ℕ))) → Ranged v → PermitsAll v (chosen C v es) (tablesAfter C v es)
+pub chosen-permitted : (C : Limits) (v : Vocabulary Octets) (es : List (Event Octets)) → Ranged v → PermitsAll v (chosen C v es) (tablesAfter C v es)
 unfolding chosen tablesAfter
 chosen-permitted C v [] r = no-item
 chosen-permitted C v (e ∷ es) r = an-item (permits-for C v e r) (chosen-permitted C (chooseFor C v e .tables) es (ranged-for C v e r))
 
-pub chosen-events : (C : Limits) (v : Vocabulary (List ℕ)) (es : List (Event (List ℕ))) → events (chosen C v es) ≡ es
+pub chosen-events : (C : Limits) (v : Vocabulary Octets) (es : List (Event Octets)) → events (chosen C v es) ≡ es
 unfolding chosen
 chosen-events C v [] = refl
-chosen-events C v (e ∷ es) = ap (λ (l : List (Event (List ℕ))). e ∷ l) (chosen-events C (chooseFor C v e .tables) es)
+chosen-events C v (e ∷ es) = ap (λ (l : List (Event Octets)). e ∷ l) (chosen-events C (chooseFor C v e .tables) es)
 
 -- ---- from the tables with which every document starts
 few-started : (t : StringTable) → length (strings started t) ≤ 1
@@ -148,7 +149,7 @@ pub ranged-started : Ranged started
 ranged-started t k h = absurd (let z = none-started t in omega arith)
 
 -- a list that is short enough passes no limit
-pub few-after : (L : Limits) {items : List (Item (List ℕ))} {w : Vocabulary (List ℕ)} → PermitsAll started items w → length items < L .entries → InLimits L w
+pub few-after : (L : Limits) {items : List (Item Octets)} {w : Vocabulary Octets} → PermitsAll started items w → length items < L .entries → InLimits L w
 few-after L ps h =
     let a = all-add ps in
     record {
@@ -179,7 +180,7 @@ module _ {X : Type 0} (n : ℕ) where
       case n (f ATTRIBUTE-NAME) (passed ATTRIBUTE-NAME) λ b.
       kept (λ t. elim t [ ELEMENT-NAME ↦ a | ATTRIBUTE-NAME ↦ b ])
 
-pub in-limits : (L : Limits) (v : Vocabulary (List ℕ)) → Dec (InLimits L v)
+pub in-limits : (L : Limits) (v : Vocabulary Octets) → Dec (InLimits L v)
 in-limits L v =
     of-strings (L .entries) (λ t. length (strings v t))
     (λ a.

@@ -8,6 +8,7 @@ use native.Mathlib.Omega.{arith}
 use borrow.Author.Tests.{lt-leb}
 use lib.Dec.{leb}
 use lib.ListN.{length, length-map}
+use Rattle.format.specs.Octets.{Octets}
 use Rattle.format.specs.Numbers.{top}
 use Rattle.format.specs.Events.{Event, Namespace, Start, Attribute, Text, Comment, Instruction, End, Item, IsDocument, openThen, deepest, stringsOf}
 use Rattle.format.specs.Tables.{Vocabulary, Limits, link, standard, InLimits}
@@ -32,12 +33,12 @@ use Rattle.theorems.proofs.Joined.{document-of}
 use Rattle.theorems.proofs.Entries.{all-grow, chosen-permitted, chosen-events, ranged-started, few-after, in-limits}
 
 -- Whether an attribute follows the Start with which the events begin, or the Start behind the declarations with which they begin.
-unfoldable pub announcedBy : List (Event (List ℕ)) → Bool
+unfoldable pub announcedBy : List (Event Octets) → Bool
 announcedBy [] = false
 announcedBy (e ∷ es) = later e (attributeFirst es) (announcedBy es)
 
 -- ---- how deep
-level-is : (a : Bool) (v : State (List ℕ)) (e : Event (List ℕ)) → stepped a v e .level ≡ openThen (v .level) e
+level-is : (a : Bool) (v : State Octets) (e : Event Octets) → stepped a v e .level ≡ openThen (v .level) e
 level-is a v (Namespace p n) = refl
 level-is a v (Start x) = refl
 level-is a v (Attribute x y) = refl
@@ -50,42 +51,42 @@ shallow : (b : Bool) (depth level : ℕ) → (b ≡ true → level < depth) → 
 shallow true depth level f = lt-leb depth level (f refl)
 shallow false depth level f = refl
 
-deep-on : (depth : ℕ) (a : Bool) (v : State (List ℕ)) (e : Event (List ℕ)) (es : List (Event (List ℕ))) → deepest (v .level) (e ∷ es) ≤ depth → deepest (stepped a v e .level) es ≤ depth
+deep-on : (depth : ℕ) (a : Bool) (v : State Octets) (e : Event Octets) (es : List (Event Octets)) → deepest (v .level) (e ∷ es) ≤ depth → deepest (stepped a v e .level) es ≤ depth
 unfolding deepest
 deep-on depth a v e es h = rw (level-is a v e) (omega arith)
 
 -- ---- what is left of a document can be written, from wherever a document comes
 -- The halves that the items are written as, and what is known then: these tables.
-pub record CanWrite (L : Limits) (at : ℕ) (v : State (List ℕ)) (items : List (Item (List ℕ))) (tables : Vocabulary (List ℕ)) : Type 0 where
-  pub halves : List ℕ
-  pub last : State (List ℕ)
+pub record CanWrite (L : Limits) (at : ℕ) (v : State Octets) (items : List (Item Octets)) (tables : Vocabulary Octets) : Type 0 where
+  pub halves : Octets
+  pub last : State Octets
   pub rule : Written L at v items halves last
   pub known : last .tables ≡ tables
 
 module _ (L : Limits) (small : L .entries ≤ top) where
-  can-write : {w : Vocabulary (List ℕ)} (items : List (Item (List ℕ))) (at : ℕ) (v : State (List ℕ)) → Rest v (events items) → Sane v → All Said (events items) → deepest (v .level) (events items) ≤ L .depth → InLimits L w
+  can-write : {w : Vocabulary Octets} (items : List (Item Octets)) (at : ℕ) (v : State Octets) → Rest v (events items) → Sane v → All Said (events items) → deepest (v .level) (events items) ≤ L .depth → InLimits L w
       → Ahead (v .mode) (announcedBy (events items)) → PermitsAll (v .tables) items w → CanWrite L at v items w
   unfolding announcedBy
   can-write [] at v k s sd dp i ah no-item = let e = ended v s k in record { halves = _; last = v; rule = document-end (e .0) (e .1) (e .2); known = refl }
   can-write (x ∷ items) at v k s sd dp i ah (an-item {u = u} p ps) =
-      let e : Event (List ℕ) = x .event in
+      let e : Event Octets = x .event in
       let es = events items in
       let a = announcedBy (e ∷ es) in
       let go = goes v e es s k in
       let d : (opens (v .mode) e ≡ true → v .level < L .depth) = λ t. let y = deep v e es s k t in omega arith in
       let b = front L small at a v e ah (sd .0) go (shallow (opens (v .mode) e) (L .depth) (v .level) d) (fits-before (all-grow ps) i)
-      (subst (λ (y : Vocabulary (List ℕ)). Permits y e (x .choice) u) (sym (words-settled v e)) p) in
+      (subst (λ (y : Vocabulary Octets). Permits y e (x .choice) u) (sym (words-settled v e)) p) in
       let next = can-write items _ (knowing (stepped a v e) u) (on a v e es s k (λ t. sym (later-start e (attributeFirst es) (announcedBy es) t))) (sane-on a v e s go) (sd .1) (deep-on (L .depth) a v e es dp) i
       (ahead-next a (announcedBy es) v e (later-declared e (attributeFirst es) (announcedBy es))) ps in
       record { halves = _; last = next .last; rule = B.front (rw (next-state a v e go p) at b) (next .rule) .0; known = next .known }
 
 -- ---- a whole document
 -- the strings are text and no longer than a length can say
-sayable : (es : List (Event (List ℕ))) → All Allowed es → All (λ e. All Short (stringsOf e)) es → All Said es
+sayable : (es : List (Event Octets)) → All Allowed es → All (λ e. All Short (stringsOf e)) es → All Said es
 sayable [] a b = tt
 sayable (e ∷ es) a b = (said e (a .0) (by-kind Short e (b .0)), sayable es (a .1) (b .1))
 
-module _ (items : List (Item (List ℕ))) {w : Vocabulary (List ℕ)} (doc : IsDocument (events items)) (allowed : All Allowed (events items)) (short : All (λ e. All Short (stringsOf e)) (events items)) (may : PermitsAll started items w) where
+module _ (items : List (Item Octets)) {w : Vocabulary Octets} (doc : IsDocument (events items)) (allowed : All Allowed (events items)) (short : All (λ e. All Short (stringsOf e)) (events items)) (may : PermitsAll started items w) where
   from-start : (L : Limits) → L .entries ≤ top → deepest 0 (events items) ≤ L .depth → InLimits L w → CanWrite L (2 * length header) (beginning started) items w
   unfolding beginning
   from-start L small shallow i =
@@ -104,7 +105,7 @@ module _ (items : List (Item (List ℕ))) {w : Vocabulary (List ℕ)} (doc : IsD
       }
 
 -- So every document is, with 01's choices.
-module _ (es : List (Event (List ℕ))) (doc : IsDocument es) (allowed : All Allowed es) (short : All (λ e. All Short (stringsOf e)) es) where
+module _ (es : List (Event Octets)) (doc : IsDocument es) (allowed : All Allowed es) (short : All (λ e. All Short (stringsOf e)) es) where
   abbrev same : events (chosen link started es) ≡ es
   same = chosen-events link started es
 
@@ -122,7 +123,7 @@ module _ (es : List (Event (List ℕ))) (doc : IsDocument es) (allowed : All All
 
   pub every-document : length es < top → WrittenWidely es
   every-document few =
-      let l = length-map (chosen link started es) (λ (i : Item (List ℕ)). i .event) in
+      let l = length-map (chosen link started es) (λ (i : Item Octets). i .event) in
       let k = ap length same in
       let c = every-choice (chosen link started es) doc′ allowed′ short′ may (omega arith) in
       record { octets = c .octets; last = c .last; writes = λ depth size deep long. c .writes depth size (rw same deep) long; tables = c .known }

@@ -6,6 +6,7 @@ use Prim.Native.Nat.{ℕ, suc, _+_, _-_, _*_, _^_, _≤_, _<_}
 use native.Mathlib.Omega.{arith}
 use borrow.Author.Tests.{le-leb}
 use lib.ListN.{length, getD, take, drop, length-append}
+use Rattle.format.specs.Octets.{Octets, Words}
 use Rattle.format.specs.Numbers.{Form, spell, sizes, longest}
 use Rattle.format.specs.Text.{isText}
 use Rattle.format.specs.Tables.{Vocabulary}
@@ -21,16 +22,16 @@ use Rattle.theorems.proofs.Lists.{Fault, fault, test, test-le, stretch-
 use Rattle.theorems.proofs.Numbers.{NumRead, NumOk, num-complete, num-first}
 
 -- ---- sound
-module _ (s : List ℕ) where
+module _ (s : Octets) where
   -- from octet k, where v is known, b has been read, up to the octet `next`, and w is known then
-  pub record FieldRead {B : Type 0} (R : Vocabulary (List ℕ) → B → List ℕ → Vocabulary (List ℕ) → Type 0) (k : ℕ) (v : Vocabulary Located) (b : B) (next : ℕ) (w : Vocabulary Located) : Type 0 where
-    pub octets : List ℕ
+  pub record FieldRead {B : Type 0} (R : Vocabulary Octets → B → Octets → Vocabulary Octets → Type 0) (k : ℕ) (v : Vocabulary Located) (b : B) (next : ℕ) (w : Vocabulary Located) : Type 0 where
+    pub octets : Octets
     pub rule : R (plainTables s v) b octets (plainTables s w)
     pub here : drop k s ≡ octets ++ drop next s
     pub next-is : next ≡ k + length octets
     pub inside : next ≤ length s
 
-  abbrev pub Ok : {B : Type 0} → (Vocabulary (List ℕ) → B → List ℕ → Vocabulary (List ℕ) → Type 0) → ℕ → Vocabulary Located → Got B → Type 0
+  abbrev pub Ok : {B : Type 0} → (Vocabulary Octets → B → Octets → Vocabulary Octets → Type 0) → ℕ → Vocabulary Located → Got B → Type 0
   Ok R k v (got b next w) = FieldRead R k v b next w
   Ok R k v (refused n p) = Fault s n p
 
@@ -41,12 +42,12 @@ module _ (s : List ℕ) where
   on-number P nay fs top base k (NoNum c p) r f g = nay c p r
 
   -- a field, then the rest
-  pub on-field : {B C : Type 0} (P : Got C → Type 0) → ((c p : ℕ) → Fault s c p → P (refused c p)) → (R : Vocabulary (List ℕ) → B → List ℕ → Vocabulary (List ℕ) → Type 0) (k : ℕ) (v : Vocabulary Located)
+  pub on-field : {B C : Type 0} (P : Got C → Type 0) → ((c p : ℕ) → Fault s c p → P (refused c p)) → (R : Vocabulary Octets → B → Octets → Vocabulary Octets → Type 0) (k : ℕ) (v : Vocabulary Located)
       (a : Got B) → Ok R k v a → (f : B → ℕ → Vocabulary Located → Got C) → ((b : B) (next : ℕ) (w : Vocabulary Located) → FieldRead R k v b next w → P (f b next w)) → P (then a f)
   on-field P nay R k v (got b next w) r f g = g b next w r
   on-field P nay R k v (refused c p) r f g = nay c p r
 
-  pub in-step : {B : Type 0} (P : Step → Type 0) → ((c p : ℕ) → Fault s c p → P (stop c p)) → (R : Vocabulary (List ℕ) → B → List ℕ → Vocabulary (List ℕ) → Type 0) (k : ℕ) (v : Vocabulary Located)
+  pub in-step : {B : Type 0} (P : Step → Type 0) → ((c p : ℕ) → Fault s c p → P (stop c p)) → (R : Vocabulary Octets → B → Octets → Vocabulary Octets → Type 0) (k : ℕ) (v : Vocabulary Located)
       (a : Got B) → Ok R k v a → (f : B → ℕ → Vocabulary Located → Step) → ((b : B) (next : ℕ) (w : Vocabulary Located) → FieldRead R k v b next w → P (f b next w)) → P (into a f)
   in-step P nay R k v (got b next w) r f g = g b next w r
   in-step P nay R k v (refused c p) r f g = nay c p r
@@ -61,13 +62,13 @@ module _ (s : List ℕ) where
       test-le P (refused 2 k) (nay 2 k (fault s 2 k refl kl)) (next + n) (length s) _
       λ t1. test P (refused 9 k) (nay 9 k (fault s 9 k refl kl)) (isText (take n (drop next s))) _
       λ t2.
-      let x : List ℕ = take n (drop next s) in
+      let x : Octets = take n (drop next s) in
       let l = stretch-length s next n t1 in
       let i = r .is in
       let sm = r .small in
       let z : r .v ≡ length x - 1 = omega arith in
       let h : drop k s ≡ (spell fs base (length x - 1) ++ x) ++ drop (next + n) s =
-      r .here ∙ ap₂ (λ (u : ℕ) (y : List ℕ). spell fs base u ++ y) z (stretch-sound s next n)
+      r .here ∙ ap₂ (λ (u : ℕ) (y : Octets). spell fs base u ++ y) z (stretch-sound s next n)
       ∙ sym (append-assoc (spell fs base (length x - 1)) x (drop (next + n) s)) in
       let q = r .next-is in
       let zw = ap (λ (u : ℕ). length (spell fs base u)) z in
@@ -75,20 +76,20 @@ module _ (s : List ℕ) where
       f (record { some = omega arith; fits = omega arith; formed = t2 }) h (omega arith) t1
 
 -- ---- complete
-module _ (s : List ℕ) where
+module _ (s : Octets) where
   -- a field's answer g: what it read is Q, up to the octet `next`, and the tables then are w
-  pub record Hit {B : Type 0} (Q : B → Type 0) (next : ℕ) (w : Vocabulary (List ℕ)) (g : Got B) : Type 0 where
+  pub record Hit {B : Type 0} (Q : B → Type 0) (next : ℕ) (w : Vocabulary Octets) (g : Got B) : Type 0 where
     pub b : B
     pub v : Vocabulary Located
     pub goes : g ≡ got b next v
     pub state : plainTables s v ≡ w
     pub what : Q b
 
-  pub hit-at : {B : Type 0} (Q : B → Type 0) (a b : ℕ) (w : Vocabulary (List ℕ)) (g : Got B) → a ≡ b → Hit Q a w g → Hit Q b w g
+  pub hit-at : {B : Type 0} (Q : B → Type 0) (a b : ℕ) (w : Vocabulary Octets) (g : Got B) → a ≡ b → Hit Q a w g → Hit Q b w g
   hit-at Q a b w g p h = subst (λ (x : ℕ). Hit Q x w g) p h
 
   -- a length and a string stand at k, behind the bits `base` of the first octet
-  pub record Spelt (fs : List Form) (bit base k : ℕ) (x : List ℕ) : Type 0 where
+  pub record Spelt (fs : List Form) (bit base k : ℕ) (x : Octets) : Type 0 where
     pub next : ℕ
     pub num : fieldAt fs noTop bit s k ≡ Num (length x) (record { at = next })
     pub text-is : take (length x) (drop next s) ≡ x
@@ -98,10 +99,10 @@ module _ (s : List ℕ) where
     pub high : getD s k 0 < base + rooms fs
     pub here : k < length s
 
-  pub spelt : (fs : List Form) (bit lead base k : ℕ) (x rest : List ℕ) → Roomy fs → rooms fs ≤ 2 ^ (9 - bit) → longest ≤ sizes fs → base ≡ lead * 2 ^ (9 - bit) → Spelling x
+  pub spelt : (fs : List Form) (bit lead base k : ℕ) (x rest : Octets) → Roomy fs → rooms fs ≤ 2 ^ (9 - bit) → longest ≤ sizes fs → base ≡ lead * 2 ^ (9 - bit) → Spelling x
       → drop k s ≡ withLength fs base x ++ rest → Spelt fs bit base k x
   spelt fs bit lead base k x rest ok r sz bl sp d =
-      let w : List ℕ = spell fs base (length x - 1) in
+      let w : Words = spell fs base (length x - 1) in
       let d1 : drop k s ≡ w ++ (x ++ rest) = d ∙ append-assoc w x rest in
       let p = sp .some in
       let f = sp .fits in
@@ -122,6 +123,6 @@ module _ (s : List ℕ) where
         here = o .2;
       }
 
-  pub spelling-is : {C : Type 0} (fs : List Form) (bit base k : ℕ) (x : List ℕ) (e : Spelt fs bit base k x) (a : Got C) → isText x ≡ true → spelling s k (e .next) (length x) a ≡ a
+  pub spelling-is : {C : Type 0} (fs : List Form) (bit base k : ℕ) (x : Octets) (e : Spelt fs bit base k x) (a : Got C) → isText x ≡ true → spelling s k (e .next) (length x) a ≡ a
   unfolding spelling
   spelling-is fs bit base k x e a t = rw (le-leb (e .next + length x) (length s) (e .room), e .text-is, t)

@@ -5,6 +5,7 @@ use mathlib.Core.Bool.{Bool, true, false}
 use mathlib.Core.List.{List}
 use native.Mathlib.Omega.{arith}
 use lib.ListN.{length, length-map}
+use Rattle.format.specs.Octets.{Octets}
 use Rattle.format.specs.Events.{Item}
 use Rattle.format.specs.Tables.{Limits, link}
 use Rattle.format.specs.Items.{State}
@@ -29,16 +30,16 @@ turn-fits go rec room m (quiet n) = rec room n
 turn-fits go rec room m done = omega arith
 turn-fits go rec room m (stop n p) = tt
 
-run-fits : (L : Limits) (s : List ℕ) (fuel room : ℕ) (m : Stand) → Fits room (run L s fuel room m)
+run-fits : (L : Limits) (s : Octets) (fuel room : ℕ) (m : Stand) → Fits room (run L s fuel room m)
 unfolding run
 run-fits L s zero room m = tt
 run-fits L s (suc fuel) room m = turn-fits (λ r n. run L s fuel r n) (λ r n. run-fits L s fuel r n) room m (step L s m)
 
-from-fits : (s : List ℕ) (room : ℕ) (o : Opening) → Fits room (resultFrom s room o)
+from-fits : (s : Octets) (room : ℕ) (o : Opening) → Fits room (resultFrom s room o)
 from-fits s room onward = run-fits link s (fuelOf s) room (origin start)
 from-fits s room (halt n p) = tt
 
-pub accepted-fits : (s : List ℕ) (room : ℕ) (items : List (Item (List ℕ))) (z : State (List ℕ)) → Accepts s room items z → length items ≤ room
+pub accepted-fits : (s : Octets) (room : ℕ) (items : List (Item Octets)) (z : State Octets) → Accepts s room items z → length items ≤ room
 unfolding reading
 accepted-fits s room items z a =
     let h : length (a .events) ≤ room = subst (Fits room) (a .reads) (from-fits s room (opening link header s)) in
@@ -47,10 +48,10 @@ accepted-fits s room items z a =
     omega arith
 
 -- and it has a document's size
-sized-is : (s : List ℕ) (room : ℕ) (is : List (Item Located)) (m : Stand) → reading s room ≡ accepted is m → (b : Bool) → sized link s ≡ b → sized link s ≡ true
+sized-is : (s : Octets) (room : ℕ) (is : List (Item Located)) (m : Stand) → reading s room ≡ accepted is m → (b : Bool) → sized link s ≡ b → sized link s ≡ true
 unfolding reading opening
 sized-is s room is m r true e = e
 sized-is s room is m r false e = let q = rw e at r in absurd (let z : _≡_ {A = ℕ} 0 1 = cc in omega arith)
 
-pub accepted-sized : (s : List ℕ) (room : ℕ) (is : List (Item Located)) (m : Stand) → reading s room ≡ accepted is m → sized link s ≡ true
+pub accepted-sized : (s : Octets) (room : ℕ) (is : List (Item Located)) (m : Stand) → reading s room ≡ accepted is m → sized link s ≡ true
 accepted-sized s room is m r = sized-is s room is m r (sized link s) refl

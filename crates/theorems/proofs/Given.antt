@@ -6,6 +6,7 @@ use mathlib.Core.List.{List, [], _∷_, map}
 use Prim.Native.Nat.{ℕ, zero, suc, _+_, _*_}
 use lib.Dec.{eqb}
 use lib.ListN.{length}
+use Rattle.format.specs.Octets.{Octets, Halves}
 use Rattle.format.specs.Numbers.{pick}
 use Rattle.format.specs.Events.{Item, _by_}
 use Rattle.format.specs.Tables.{Limits, link}
@@ -21,7 +22,7 @@ use Rattle.theorems.proofs.Lists.{test}
 use Rattle.theorems.proofs.Sayable.{made-is, record-back}
 
 -- an event that is passed is a record that is well made
-passed : (text : List ℕ) (e : Event) (goes : Bool) (n : ℕ) → pick (wellMade text (e .kind) e && goes) n 16 ≡ 0 → recordOf (eventOf (e .kind) e) ≡ e
+passed : (text : Octets) (e : Event) (goes : Bool) (n : ℕ) → pick (wellMade text (e .kind) e && goes) n 16 ≡ 0 → recordOf (eventOf (e .kind) e) ≡ e
 passed text e goes n q = record-back text (made-is text e (e .kind) refl (from (wellMade text (e .kind) e) goes q))
   where
     from : (a b : Bool) → pick (a && b) n 16 ≡ 0 → a ≡ true
@@ -32,12 +33,12 @@ passed text e goes n q = record-back text (made-is text e (e .kind) refl (from (
 abbrev pub recordsOf : List (Item Located) → List Event
 recordsOf items = map (λ (i : Item Located). recordOf (i .event)) items
 
-module _ (L : Limits) (text : List ℕ) (room : ℕ) where
+module _ (L : Limits) (text : Octets) (room : ℕ) where
   abbrev GivenBack : List Event → Result → Type 0
   GivenBack es (written items hs z) = recordsOf items ≡ es
   GivenBack es (refusal n p) = Unit {0}
 
-  plus-given : (e : Event) (es : List Event) (j : Item Located) (hs : List ℕ) → recordOf (j .event) ≡ e → (r : Result) → GivenBack es r → GivenBack (e ∷ es) (plus j hs r)
+  plus-given : (e : Event) (es : List Event) (j : Item Located) (hs : Halves) → recordOf (j .event) ≡ e → (r : Result) → GivenBack es r → GivenBack (e ∷ es) (plus j hs r)
   plus-given e es j hs q (written items rest z) h = ap₂ (λ (a : Event) (l : List Event). a ∷ l) q h
   plus-given e es j hs q (refusal n p) h = tt
 
@@ -46,7 +47,7 @@ module _ (L : Limits) (text : List ℕ) (room : ℕ) where
   finish-given at v i =
       test (GivenBack []) (refusal 16 i) tt (isContent (v .mode) && (eqb (v .level) 0 && v .root)) _ λ t. test (GivenBack []) (refusal 14 i) tt (fits L text room (suc at)) _ λ f. refl
 
-  turn-given : (e : Event) (es : List Event) (at : ℕ) (v : State Located) (i : ℕ) (w : WroteItem) (hs : List ℕ) (rest : Result) → GivenBack es rest → (j : ℕ) → judge L text room at v e w hs ≡ j
+  turn-given : (e : Event) (es : List Event) (at : ℕ) (v : State Located) (i : ℕ) (w : WroteItem) (hs : Halves) (rest : Result) → GivenBack es rest → (j : ℕ) → judge L text room at v e w hs ≡ j
       → GivenBack (e ∷ es) (elim j [ zero ↦ plus (eventOf (e .kind) e by w .choice) hs rest | suc n ↦ refusal (suc n) i ])
   unfolding judge
   turn-given e es at v i w hs rest h zero q =
@@ -62,6 +63,6 @@ module _ (L : Limits) (text : List ℕ) (room : ℕ) where
       let hs = halvesOf L text room at v ev w in
       turn-given e es at v i w hs (run L text room (at + length hs) (w .state) (suc i) es) (run-given es (at + length hs) (w .state) (suc i)) (judge L text room at v e w hs) refl
 
-pub given-back : (text : List ℕ) (room : ℕ) (es : List Event) (items : List (Item Located)) (hs : List ℕ) (z : State Located) → writing text room es ≡ written items hs z → recordsOf items ≡ es
+pub given-back : (text : Octets) (room : ℕ) (es : List Event) (items : List (Item Located)) (hs : Halves) (z : State Located) → writing text room es ≡ written items hs z → recordsOf items ≡ es
 unfolding writing
 given-back text room es items hs z e = subst (GivenBack link text room es) e (run-given link text room es (2 * length header) (beginning start) 0)

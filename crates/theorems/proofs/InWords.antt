@@ -3,10 +3,10 @@
 use Prim.Native.Nat.{ℕ, _/_, _≤_, _<_}
 use mathlib.Core.Path.{_≡_, refl, sym, ap, subst}
 use mathlib.Core.Bool.{Bool, true, false}
-use mathlib.Core.List.{List}
 use borrow.Author.Tests.{eq-eqb, ne-eqb, leb-true, leb-false}
 use lib.ListN.{length}
 use lib.Dec.{eqb, leb}
+use Rattle.format.specs.Octets.{Octets, Words}
 use Rattle.format.specs.Tables.{link}
 use Rattle.tables.specs.Counts.{tableWords}
 use Rattle.tables.specs.Told.{Told, toldAccepted, wholeWord}
@@ -21,7 +21,7 @@ use Rattle.theorems.specs.Demands.{InReadWords, InWriteWords}
 use Rattle.theorems.proofs.Lists.{either}
 
 -- ---- reading
-module _ (s : List ℕ) (r t : ℕ) where
+module _ (s : Octets) (r t : ℕ) where
   abbrev pub rows-read : Read.Outcome
   rows-read = Read.readOf s (r / 13) t
 
@@ -49,12 +49,12 @@ module _ (s : List ℕ) (r t : ℕ) where
     pub read-worded : c ≡ 10 → InReadWords r rows-read (ReadWords.readWords s r t c)
     read-worded h = subst (InReadWords r rows-read) (read-sized h (Read.sized link s) refl) in-read-words
 
-    pub read-zeros : (c ≡ 10 → ⊥) → (P : ReadWords.Words → Type 0) → P (ReadWords.nothing 1 r t c) → P (ReadWords.nothing 14 r t c) → P (ReadWords.readWords s r t c)
+    pub read-zeros : (c ≡ 10 → ⊥) → (P : ReadWords.WordsLeft → Type 0) → P (ReadWords.nothing 1 r t c) → P (ReadWords.nothing 14 r t c) → P (ReadWords.readWords s r t c)
     unfolding ReadWords.readWords
     read-zeros h P f g = rw (ne-eqb _ _ h) (either P (Read.sized link s) _ _ (λ e. g) (λ e. f))
 
 -- ---- writing
-module _ (records text : List ℕ) (r t : ℕ) where
+module _ (records : Words) (text : Octets) (r t : ℕ) where
   abbrev pub rows-written : Write.Outcome
   rows-written = Write.writeOf (recordsOf records) text r t
 
@@ -81,7 +81,7 @@ module _ (records text : List ℕ) (r t : ℕ) where
     pub write-worded : c ≡ 10 → InWriteWords rows-written (WriteWords.writeWords records text r t c)
     write-worded h = subst (InWriteWords rows-written) (write-sized h (leb (length text) 16384) refl) in-write-words
 
-    pub write-zeros : (c ≡ 10 → ⊥) → (P : WriteWords.Words → Type 0) → (16384 < length text → P (WriteWords.nothing 1 r t c)) → (length text ≤ 16384 → P (WriteWords.nothing 14 r t c))
+    pub write-zeros : (c ≡ 10 → ⊥) → (P : WriteWords.WordsLeft → Type 0) → (16384 < length text → P (WriteWords.nothing 1 r t c)) → (length text ≤ 16384 → P (WriteWords.nothing 14 r t c))
         → P (WriteWords.writeWords records text r t c)
     unfolding WriteWords.writeWords
     write-zeros h P f g = rw (ne-eqb _ _ h) (either P (leb (length text) 16384) _ _ (λ e. g (leb-true _ _ e)) (λ e. f (leb-false _ _ e)))

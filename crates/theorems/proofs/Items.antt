@@ -9,6 +9,7 @@ use borrow.Author.Tests.{lt-ltb, le-ltb, le-leb, eq-eqb, ne-eqb}
 use lib.Dec.{eqb, ltb, leb}
 use lib.ListN.{length, getD, drop, length-append}
 use lib.Seq.{drop-cons}
+use Rattle.format.specs.Octets.{Octets}
 use Rattle.format.specs.Numbers.{pick, coded, numbers, c25, top, longest}
 use Rattle.format.specs.Events.{Name, Namespace, Start, Attribute, Text, Comment, Instruction, How, NameHow, forNamespace, forStart, forAttribute, forText, forComment, forInstruction, Item, _by_, eventMap}
 use Rattle.format.specs.Tables.{OTHER-NCNAME, ATTRIBUTE-VALUE, CONTENT-CHARACTER-CHUNK, OTHER-STRING, Vocabulary, Limits}
@@ -56,7 +57,7 @@ unfolding namePadding
 parts-unpadded b lo hi = rw (ne-eqb (b / 8) 6 (omega arith), ne-eqb (b / 4) 14 (omega arith))
 
 -- 110 and then not 000 is no number
-padded-refused : (s : List ℕ) (k b : ℕ) → 48 < b → b < 56 → readIn (numbers 3) top 1 s k b ≡ NoNum 6 k
+padded-refused : (s : Octets) (k b : ℕ) → 48 < b → b < 56 → readIn (numbers 3) top 1 s k b ≡ NoNum 6 k
 unfolding readIn numbers coded
 padded-refused s k b lo hi =
     rw (
@@ -74,7 +75,7 @@ is-no-number : {X : Type 0} (t : Bool) (a b : Number) (n : ℕ) (c : Cursor) (m 
 is-no-number true a b n c m p j q e f g = absurd (let z : NoNum m p ≡ Num n c = sym e ∙ g in let y : _≡_ {A = ℕ} 0 1 = cc in omega arith)
 is-no-number false a b n c m p j q e f g = absurd (let z : NoNum j q ≡ Num n c = sym f ∙ g in let y : _≡_ {A = ℕ} 0 1 = cc in omega arith)
 
-number-unpadded : (s : List ℕ) (k b n : ℕ) (c : Cursor) → fieldAt (numbers 3) top 3 s k ≡ Num n c → getD s k 0 % 64 ≡ b → b < 56 → namePadding b ≡ false
+number-unpadded : (s : Octets) (k b n : ℕ) (c : Cursor) → fieldAt (numbers 3) top 3 s k ≡ Num n c → getD s k 0 % 64 ≡ b → b < 56 → namePadding b ≡ false
 unfolding namePadding fieldAt
 number-unpadded s k b n c e z h =
     case b 48 (λ y. rw (ne-eqb (b / 8) 6 (omega arith), ne-eqb (b / 4) 14 (omega arith)))
@@ -83,9 +84,9 @@ number-unpadded s k b n c e z h =
     (λ w. let q : b ≡ 48 = omega arith in rw q))
 
 -- ---- what is read is what the rules write
-module _ (L : Limits) (s : List ℕ) (bytes : (i : ℕ) → getD s i 0 < 256) (short : length s ≤ longest) where
+module _ (L : Limits) (s : Octets) (bytes : (i : ℕ) → getD s i 0 < 256) (short : length s ≤ longest) where
   pub record ItemRead (k : ℕ) (v : State Located) (p : ℕ) (i : Item Located) (n : Stand) : Type 0 where
-    pub octets : List ℕ
+    pub octets : Octets
     pub rule : ItemWrittenAs L (plainState s v) (plain s i) octets (plainState s (n .state))
     pub here : drop k s ≡ octets ++ drop (k + length octets) s
     pub next : n .at ≡ 2 * (k + length octets)
@@ -99,13 +100,13 @@ module _ (L : Limits) (s : List ℕ) (bytes : (i : ℕ) → getD s i 0 < 256) (s
   Took k v (stop c p) = Fault s c p
 
   -- the octets and what stands before them
-  took : (k : ℕ) (v : State Located) (p : ℕ) (i : Item Located) (next : ℕ) (w : State Located) (o : List ℕ) → drop k s ≡ o ++ drop next s → next ≡ k + length o → next ≤ length s → p ≤ length s
+  took : (k : ℕ) (v : State Located) (p : ℕ) (i : Item Located) (next : ℕ) (w : State Located) (o : Octets) → drop k s ≡ o ++ drop next s → next ≡ k + length o → next ≤ length s → p ≤ length s
       → ItemWrittenAs L (plainState s v) (plain s i) o (plainState s w) → ItemRead k v p i (octet next w)
   took k v p i next w o d l ll pl u = record { octets = o; rule = u; here = rw (← l) d; next = ap (λ (x : ℕ). 2 * x) l; inside = omega arith; place = pl }
 
   -- a Start, behind the octets `pre`, once its name is read
-  module _ (a : Bool) (lead k j : ℕ) (pre : List ℕ) (v : State Located) (d : drop j s ≡ pre ++ drop k s) (l : k ≡ j + length pre) (kl : k ≤ length s)
-      (f : (x : Name (List ℕ)) (h : NameHow) (os : List ℕ) (w : Vocabulary (List ℕ)) → Named L ofElement lead (plainTables s (v .tables)) x h os w
+  module _ (a : Bool) (lead k j : ℕ) (pre : Octets) (v : State Located) (d : drop j s ≡ pre ++ drop k s) (l : k ≡ j + length pre) (kl : k ≤ length s)
+      (f : (x : Name Octets) (h : NameHow) (os : Octets) (w : Vocabulary Octets) → Named L ofElement lead (plainTables s (v .tables)) x h os w
       → ItemWrittenAs L (plainState s v) (Start x by forStart h) (pre ++ os) (opened (plainState s v) w a)) where
     start-read : (x : NameRead) (next : ℕ) (w : Vocabulary Located) → FieldRead s (NameR L s bytes short ofElement lead) k (v .tables) x next w
         → ItemRead j v k (Start (x .name) by forStart (x .how)) (octet next (opened v w a))
@@ -113,13 +114,13 @@ module _ (L : Limits) (s : List ℕ) (bytes : (i : ℕ) → getD s i 0 < 256) (s
     start-read x next w r =
         let n1 = r .next-is in
         let la = length-append pre (r .octets) in
-        took j v k (Start (x .name) by forStart (x .how)) next (opened v w a) (pre ++ r .octets) (d ∙ ap (λ (l : List ℕ). pre ++ l) (r .here) ∙ sym (append-assoc pre (r .octets) (drop next s))) (omega arith) (r .inside) kl (f _ _ _ _ (r .rule))
+        took j v k (Start (x .name) by forStart (x .how)) next (opened v w a) (pre ++ r .octets) (d ∙ ap (λ (l : Octets). pre ++ l) (r .here) ∙ sym (append-assoc pre (r .octets) (drop next s))) (omega arith) (r .inside) kl (f _ _ _ _ (r .rule))
 
     start-sound : (g : Got NameRead) → Ok s (NameR L s bytes short ofElement lead) k (v .tables) g → Took j v (startOf L k a v g)
     start-sound g r = in-step s (Took j v) (λ c p f. f) (NameR L s bytes short ofElement lead) k (v .tables) g r _ λ x next w r. start-read x next w r
 
-  namespace-sound : (k j : ℕ) (pre : List ℕ) (v : State Located) (a : Bool) → drop j s ≡ pre ++ drop k s → k ≡ j + length pre → k ≤ length s
-      → ((p n : Option (List ℕ)) (hp hn : Option How) (os : List ℕ) (w : Vocabulary (List ℕ)) → Declared L (plainTables s (v .tables)) p n hp hn os w
+  namespace-sound : (k j : ℕ) (pre : Octets) (v : State Located) (a : Bool) → drop j s ≡ pre ++ drop k s → k ≡ j + length pre → k ≤ length s
+      → ((p n : Option Octets) (hp hn : Option How) (os : Octets) (w : Vocabulary Octets) → Declared L (plainTables s (v .tables)) p n hp hn os w
       → ItemWrittenAs L (plainState s v) (Namespace p n by forNamespace hp hn) (pre ++ os) (moved (plainState s v) w (declaring a)))
       → Took j v (namespaceAt L s k v a)
   unfolding namespaceAt eventMap
@@ -129,7 +130,7 @@ module _ (L : Limits) (s : List ℕ) (bytes : (i : ℕ) → getD s i 0 < 256) (s
       let n1 = r .next-is in
       let la = length-append pre (r .octets) in
       took j v k (Namespace (x .prefix) (x .namespace) by forNamespace (x .prefixHow) (x .namespaceHow)) next (moved v w (declaring a)) (pre ++ r .octets)
-      (d ∙ ap (λ (l : List ℕ). pre ++ l) (r .here) ∙ sym (append-assoc pre (r .octets) (drop next s))) (omega arith) (r .inside) kl (f _ _ _ _ _ _ (r .rule))
+      (d ∙ ap (λ (l : Octets). pre ++ l) (r .here) ∙ sym (append-assoc pre (r .octets) (drop next s))) (omega arith) (r .inside) kl (f _ _ _ _ _ _ (r .rule))
 
   element-sound : (a : Bool) (k b : ℕ) (v : State Located) → v .mode ≡ content → getD s k 0 ≡ 64 * bit a + b → b < 64 → k < length s → Took k v (elementAt L s k b a v)
   unfolding elementAt mayStart ofElement
@@ -162,7 +163,7 @@ module _ (L : Limits) (s : List ℕ) (bytes : (i : ℕ) → getD s i 0 < 256) (s
       let h = inside L s bytes short k 0xF0 e (omega arith) in
       let jl : j ≤ length s = omega arith in
       let d : drop k s ≡ (0xF0 ∷ []) ++ drop j s = drop-cons s k 0 h ∙ ap (λ (x : ℕ). x ∷ drop j s) e in
-      let rule : (x : Name (List ℕ)) (hw : NameHow) (os : List ℕ) (w : Vocabulary (List ℕ)) → Named L ofElement 0 (plainTables s (v .tables)) x hw os w
+      let rule : (x : Name Octets) (hw : NameHow) (os : Octets) (w : Vocabulary Octets) → Named L ofElement 0 (plainTables s (v .tables)) x hw os w
       → ItemWrittenAs L (plainState s v) (Start x by forStart hw) ((0xF0 ∷ []) ++ os) (opened (plainState s v) w a) = λ x hw os w u. o-named-start md u in
       test-lt P (stop 2 j) (fault s 2 j refl jl) j (length s) _
       λ h1. either-eq P (o % 64 / 4) 14 _ _ (λ y. fault s 5 j refl jl)
@@ -187,7 +188,7 @@ module _ (L : Limits) (s : List ℕ) (bytes : (i : ℕ) → getD s i 0 < 256) (s
       let n2 = r₂ .next-is in
       let la = length-append (r₁ .octets) (r₂ .octets) in
       took k v k (Attribute (x .name) (y .string) by forAttribute (x .how) (y .how)) k₂ (moved v w₂ (listing true)) (r₁ .octets ++ r₂ .octets)
-      (r₁ .here ∙ ap (λ (l : List ℕ). r₁ .octets ++ l) (r₂ .here) ∙ sym (append-assoc (r₁ .octets) (r₂ .octets) (drop k₂ s)))
+      (r₁ .here ∙ ap (λ (l : Octets). r₁ .octets ++ l) (r₂ .here) ∙ sym (append-assoc (r₁ .octets) (r₂ .octets) (drop k₂ s)))
       (omega arith) (r₂ .inside) kl (o-attribute md (r₁ .rule) (r₂ .rule))
 
   chunk-sound : (k : ℕ) (v : State Located) → k ≤ length s → v .mode ≡ content → 0 < v .level → 0x80 ≤ getD s k 0 → getD s k 0 < 0xC0 → Took k v (chunkAt L s k v)
@@ -205,7 +206,7 @@ module _ (L : Limits) (s : List ℕ) (bytes : (i : ℕ) → getD s i 0 < 256) (s
       λ y next w r.
       let n1 = r .next-is in
       took k v k (Comment (y .string) by forComment (y .how)) next (knowing v w) (0xE2 ∷ r .octets)
-      (drop-cons s k 0 h ∙ ap₂ (λ (x : ℕ) (l : List ℕ). x ∷ l) e (r .here)) (omega arith) (r .inside) kl (o-comment md (r .rule))
+      (drop-cons s k 0 h ∙ ap₂ (λ (x : ℕ) (l : Octets). x ∷ l) e (r .here)) (omega arith) (r .inside) kl (o-comment md (r .rule))
 
   instruction-sound : (k : ℕ) (v : State Located) → v .mode ≡ content → getD s k 0 ≡ 0xE1 → k < length s → Took k v (instructionAt L s k v)
   unfolding instructionAt eventMap
@@ -219,7 +220,7 @@ module _ (L : Limits) (s : List ℕ) (bytes : (i : ℕ) → getD s i 0 < 256) (s
       let n2 = r₂ .next-is in
       let la = length-append (r₁ .octets) (r₂ .octets) in
       took k v k (Instruction (x .string) (y .string) by forInstruction (x .how) (y .how)) k₂ (knowing v w₂) (0xE1 ∷ (r₁ .octets ++ r₂ .octets))
-      (drop-cons s k 0 h ∙ ap₂ (λ (x : ℕ) (l : List ℕ). x ∷ l) e (r₁ .here ∙ ap (λ (l : List ℕ). r₁ .octets ++ l) (r₂ .here) ∙ sym (append-assoc (r₁ .octets) (r₂ .octets) (drop k₂ s))))
+      (drop-cons s k 0 h ∙ ap₂ (λ (x : ℕ) (l : Octets). x ∷ l) e (r₁ .here ∙ ap (λ (l : Octets). r₁ .octets ++ l) (r₂ .here) ∙ sym (append-assoc (r₁ .octets) (r₂ .octets) (drop k₂ s))))
       (omega arith) (r₂ .inside) kl (o-instruction md (r₁ .rule) (r₂ .rule))
 
   other-sound : (k : ℕ) (v : State Located) → k ≤ length s → Took k v (otherAt L s k v)
@@ -249,9 +250,9 @@ module _ (L : Limits) (s : List ℕ) (bytes : (i : ℕ) → getD s i 0 < 256) (s
   item-sound k v (listing any) kl md = attribute-sound any k v kl md
 
 -- ---- what the rules write is read
-module _ (L : Limits) (s : List ℕ) where
+module _ (L : Limits) (s : Octets) where
   -- p is where its strings are spelled
-  pub record ItemHit (k : ℕ) (v : State Located) (i : Item (List ℕ)) (o : List ℕ) (w : State (List ℕ)) (p : List Located) : Type 0 where
+  pub record ItemHit (k : ℕ) (v : State Located) (i : Item Octets) (o : Octets) (w : State Octets) (p : List Located) : Type 0 where
     pub place : ℕ
     pub found : Item Located
     pub n : State Located
@@ -308,17 +309,17 @@ module _ (L : Limits) (s : List ℕ) where
   not-halves m a q e = not-both (byHalves m) e (ap byHalves q)
 
   -- a Start, at its first octet
-  record StartHit (a : Bool) (k : ℕ) (v : State Located) (x : Name (List ℕ)) (h : NameHow) (os : List ℕ) (w : Vocabulary (List ℕ)) (p : List Located) (t : Step) : Type 0 where
+  record StartHit (a : Bool) (k : ℕ) (v : State Located) (x : Name Octets) (h : NameHow) (os : Octets) (w : Vocabulary Octets) (p : List Located) (t : Step) : Type 0 where
     name : NameRead
     tables : Vocabulary Located
     goes : t ≡ more k (Start (name .name) by forStart (name .how)) (octet (k + length os) (opened v tables a))
     what : NameQ L s x h p name
     state : plainTables s tables ≡ w
 
-  start-of : (a : Bool) (k : ℕ) (v : State Located) {x : Name (List ℕ)} {h : NameHow} {os : List ℕ} {w : Vocabulary (List ℕ)} {p : List Located} (g : Got NameRead) → Hit s (NameQ L s x h p) (k + length os) w g → StartHit a k v x h os w p (startOf L k a v g)
+  start-of : (a : Bool) (k : ℕ) (v : State Located) {x : Name Octets} {h : NameHow} {os : Octets} {w : Vocabulary Octets} {p : List Located} (g : Got NameRead) → Hit s (NameQ L s x h p) (k + length os) w g → StartHit a k v x h os w p (startOf L k a v g)
   start-of a k v g h = record { name = h .b; tables = h .v; goes = rw (h .goes); what = h .what; state = h .state }
 
-  element-hit : (a : Bool) (k : ℕ) (v : State Located) {x : Name (List ℕ)} {h : NameHow} {os : List ℕ} {w : Vocabulary (List ℕ)} {p : List Located} → mayStart v ≡ true → v .level < L .depth → k < length s
+  element-hit : (a : Bool) (k : ℕ) (v : State Located) {x : Name Octets} {h : NameHow} {os : Octets} {w : Vocabulary Octets} {p : List Located} → mayStart v ≡ true → v .level < L .depth → k < length s
       → NameHit L s ofElement (64 * bit a) k (v .tables) x h os w p → StartHit a k v x h os w p (childAt L s k v)
   unfolding elementAt ofElement rooms coded numbers
   element-hit a k v {os = os} may deep l (hit-numbered o oc hi n c e hit) =
@@ -340,7 +341,7 @@ module _ (L : Limits) (s : List ℕ) where
         state = hit .state;
       }
 
-  named-hit : (a : Bool) (k : ℕ) (v : State Located) {x : Name (List ℕ)} {h : NameHow} {os : List ℕ} {w : Vocabulary (List ℕ)} {p : List Located} → k < length s
+  named-hit : (a : Bool) (k : ℕ) (v : State Located) {x : Name Octets} {h : NameHow} {os : Octets} {w : Vocabulary Octets} {p : List Located} → k < length s
       → NameHit L s ofElement 0 k (v .tables) x h os w p → StartHit a k v x h os w p (namedAt L s k a v)
   unfolding namedAt nameAt ofElement rooms coded numbers
   named-hit a k v l (hit-numbered o oc hi n c e hit) =
@@ -351,18 +352,18 @@ module _ (L : Limits) (s : List ℕ) where
       rw (lt-ltb k (length s) l, q, ne-eqb (o % 64 / 4) 14 (omega arith), lt-ltb o 0x40 hi, parts-unpadded o lo hi, le-ltb o 0x3C lo) (start-of a k v _ hit)
 
   -- an attribute's name
-  attribute-hit : (k : ℕ) (v : Vocabulary Located) {x : Name (List ℕ)} {h : NameHow} {os : List ℕ} {w : Vocabulary (List ℕ)} {p : List Located} → NameHit L s ofAttribute 0 k v x h os w p
+  attribute-hit : (k : ℕ) (v : Vocabulary Located) {x : Name Octets} {h : NameHow} {os : Octets} {w : Vocabulary Octets} {p : List Located} → NameHit L s ofAttribute 0 k v x h os w p
       → Hit s (NameQ L s x h p) (k + length os) w (nameAt L ofAttribute s (getD s k 0) k v) × (getD s k 0 < 0x7C)
   unfolding nameAt ofAttribute rooms coded c25
   attribute-hit k v (hit-numbered o oc hi n c e hit) = (rw (lt-ltb (getD s k 0) 0x78 (omega arith)) hit, omega arith)
   attribute-hit k v (hit-parts o oc lo hi lone hit) = let q : getD s k 0 ≡ o = omega arith in (rw (q, le-ltb o 0x78 lo) hit, omega arith)
 
-  name-first : (a : Bool) {k : ℕ} {v : Vocabulary Located} {x : Name (List ℕ)} {h : NameHow} {os : List ℕ} {w : Vocabulary (List ℕ)} {p : List Located} → NameHit L s ofElement (64 * bit a) k v x h os w p → getD s k 0 < 0x80
+  name-first : (a : Bool) {k : ℕ} {v : Vocabulary Located} {x : Name Octets} {h : NameHow} {os : Octets} {w : Vocabulary Octets} {p : List Located} → NameHit L s ofElement (64 * bit a) k v x h os w p → getD s k 0 < 0x80
   unfolding ofElement rooms coded numbers
   name-first a (hit-numbered o oc hi n c e hit) = let b1 = one-bit a in omega arith
   name-first a (hit-parts o oc lo hi lone hit) = let b1 = one-bit a in omega arith
 
-  pub item-complete : (k : ℕ) (v : State Located) {i : Item (List ℕ)} {o : List ℕ} {w : State (List ℕ)} (rest : List ℕ) (u : ItemWrittenAs L (plainState s v) i o w) → drop k s ≡ o ++ rest → ItemHit k v i o w (inItem k u)
+  pub item-complete : (k : ℕ) (v : State Located) {i : Item Octets} {o : Octets} {w : State Octets} (rest : Octets) (u : ItemWrittenAs L (plainState s v) i o w) → drop k s ≡ o ++ rest → ItemHit k v i o w (inItem k u)
   unfolding itemAt declaringAt namespaceAt elementAt attributeAt chunkAt commentAt instructionAt eventMap mayStart ofElement ofAttribute
   item-complete k v rest (o-start a {o = os} md may deep u) d =
       let c = name-complete L s ofElement element-shape (bit a) (64 * bit a) k (omega arith) (v .tables) rest u d in
@@ -375,7 +376,7 @@ module _ (L : Limits) (s : List ℕ) where
         goes = ap (λ (y : Mode). itemAt L s k v y) md ∙ t .goes;
         what = λ j. Start (t .what .0 j) by forStart (t .what .1 j);
         spells = t .what .2;
-        state = ap (λ (y : Vocabulary (List ℕ)). opened (plainState s v) y a) (t .state);
+        state = ap (λ (y : Vocabulary Octets). opened (plainState s v) y a) (t .state);
         some = c .1;
         here = c .2;
         first = λ y. omega arith;
@@ -395,7 +396,7 @@ module _ (L : Limits) (s : List ℕ) where
         goes = ap (λ (y : Mode). itemAt L s k v y) md ∙ element-goes a k 0x38 v oc (omega arith) (f .0) ∙ rw (pad, may, lt-ltb (v .level) (L .depth) deep, h .goes, z);
         what = λ j. Namespace (h .what .0 j) (h .what .1 j) by forNamespace (h .what .2 j) (h .what .3 j);
         spells = h .what .4;
-        state = ap (λ (y : Vocabulary (List ℕ)). moved (plainState s v) y (declaring a)) (h .state);
+        state = ap (λ (y : Vocabulary Octets). moved (plainState s v) y (declaring a)) (h .state);
         some = omega arith;
         here = f .0;
         first = λ y. omega arith;
@@ -412,7 +413,7 @@ module _ (L : Limits) (s : List ℕ) where
         goes = ap (λ (y : Mode). itemAt L s k v y) md ∙ rw (ne-eqb (getD s k 0) 0xF0 (omega arith), h .goes);
         what = λ j. Namespace (h .what .0 j) (h .what .1 j) by forNamespace (h .what .2 j) (h .what .3 j);
         spells = h .what .4;
-        state = ap (λ (y : Vocabulary (List ℕ)). moved (plainState s v) y (declaring a)) (h .state);
+        state = ap (λ (y : Vocabulary Octets). moved (plainState s v) y (declaring a)) (h .state);
         some = c .4;
         here = c .3;
         first = λ y. not-halves (v .mode) a md y;
@@ -429,7 +430,7 @@ module _ (L : Limits) (s : List ℕ) where
         goes = ap (λ (y : Mode). itemAt L s k v y) md ∙ rw (eq-eqb (getD s k 0) 0xF0 (f .1), t .goes, z);
         what = λ j. Start (t .what .0 j) by forStart (t .what .1 j);
         spells = t .what .2;
-        state = ap (λ (y : Vocabulary (List ℕ)). opened (plainState s v) y a) (t .state);
+        state = ap (λ (y : Vocabulary Octets). opened (plainState s v) y a) (t .state);
         some = omega arith;
         here = f .0;
         first = λ y. not-halves (v .mode) a md y;
@@ -440,7 +441,7 @@ module _ (L : Limits) (s : List ℕ) where
       let t = attribute-hit k (v .tables) (c .0) in
       let h = t .0 in
       let hi = t .1 in
-      let e = value-complete L s ATTRIBUTE-VALUE (k + length o1) (h .v) rest (subst (λ (x : Vocabulary (List ℕ)). Value L ATTRIBUTE-VALUE x y g o2 w2) (sym (h .state)) u2) (drop-past s k o1 (o2 ++ rest) d1) in
+      let e = value-complete L s ATTRIBUTE-VALUE (k + length o1) (h .v) rest (subst (λ (x : Vocabulary Octets). Value L ATTRIBUTE-VALUE x y g o2 w2) (sym (h .state)) u2) (drop-past s k o1 (o2 ++ rest) d1) in
       let la = length-append o1 o2 in
       let z : k + length o1 + length o2 ≡ k + length (o1 ++ o2) = omega arith in
       let sm = c .1 in
@@ -451,7 +452,7 @@ module _ (L : Limits) (s : List ℕ) where
         goes = ap (λ (y : Mode). itemAt L s k v y) md ∙ rw (lt-ltb k (length s) (c .2), lt-ltb (getD s k 0) 0x80 (omega arith), lt-ltb (getD s k 0) 0x7C hi, h .goes, e .goes, z);
         what = λ j. Attribute (h .what .0 j) (e .what .0 j) by forAttribute (h .what .1 j) (e .what .1 j);
         spells = λ j. h .what .2 j ++ e .what .2 j;
-        state = ap (λ (y : Vocabulary (List ℕ)). moved (plainState s v) y (listing true)) (e .state);
+        state = ap (λ (y : Vocabulary Octets). moved (plainState s v) y (listing true)) (e .state);
         some = omega arith;
         here = c .2;
         first = λ y. omega arith;
@@ -466,7 +467,7 @@ module _ (L : Limits) (s : List ℕ) where
         goes = ap (λ (y : Mode). itemAt L s k v y) md ∙ chunk-goes k v lev (c .low) (c .last) (c .here) ∙ rw (h .goes);
         what = λ j. Text (h .what .0 j) by forText (h .what .1 j);
         spells = h .what .2;
-        state = ap (λ (y : Vocabulary (List ℕ)). knowing (plainState s v) y) (h .state);
+        state = ap (λ (y : Vocabulary Octets). knowing (plainState s v) y) (h .state);
         some = c .some;
         here = c .here;
         first = λ y. c .high;
@@ -483,7 +484,7 @@ module _ (L : Limits) (s : List ℕ) where
         goes = ap (λ (y : Mode). itemAt L s k v y) md ∙ comment-goes k v oc (f .0) ∙ rw (h .goes, z);
         what = λ j. Comment (h .what .0 j) by forComment (h .what .1 j);
         spells = h .what .2;
-        state = ap (λ (y : Vocabulary (List ℕ)). knowing (plainState s v) y) (h .state);
+        state = ap (λ (y : Vocabulary Octets). knowing (plainState s v) y) (h .state);
         some = omega arith;
         here = f .0;
         first = λ y. omega arith;
@@ -493,7 +494,7 @@ module _ (L : Limits) (s : List ℕ) where
       let oc = f .1 in
       let d1 : drop (suc k) s ≡ o1 ++ (o2 ++ rest) = f .2 ∙ append-assoc o1 o2 rest in
       let h = id-complete L s OTHER-NCNAME (suc k) (v .tables) (o2 ++ rest) u1 d1 in
-      let e = value-complete L s OTHER-STRING (suc k + length o1) (h .v) rest (subst (λ (z : Vocabulary (List ℕ)). Value L OTHER-STRING z y g o2 w2) (sym (h .state)) u2) (drop-past s (suc k) o1 (o2 ++ rest) d1) in
+      let e = value-complete L s OTHER-STRING (suc k + length o1) (h .v) rest (subst (λ (z : Vocabulary Octets). Value L OTHER-STRING z y g o2 w2) (sym (h .state)) u2) (drop-past s (suc k) o1 (o2 ++ rest) d1) in
       let la = length-append o1 o2 in
       let z : suc k + length o1 + length o2 ≡ k + suc (length (o1 ++ o2)) = omega arith in
       record {
@@ -503,7 +504,7 @@ module _ (L : Limits) (s : List ℕ) where
         goes = ap (λ (y : Mode). itemAt L s k v y) md ∙ instruction-goes k v oc (f .0) ∙ rw (h .goes, e .goes, z);
         what = λ j. Instruction (h .what .0 j) (e .what .0 j) by forInstruction (h .what .1 j) (e .what .1 j);
         spells = λ j. h .what .3 j ++ e .what .2 j;
-        state = ap (λ (y : Vocabulary (List ℕ)). knowing (plainState s v) y) (e .state);
+        state = ap (λ (y : Vocabulary Octets). knowing (plainState s v) y) (e .state);
         some = omega arith;
         here = f .0;
         first = λ y. omega arith;

@@ -4,6 +4,7 @@ use mathlib.Core.Path.{_≡_, refl, ap, _∙_}
 use mathlib.Core.List.{List, [], _∷_, _++_}
 use native.Mathlib.Omega.{arith}
 use lib.ListN.{length}
+use Rattle.format.specs.Octets.{Octets, Halves}
 use Rattle.format.specs.Events.{Item}
 use Rattle.format.specs.Tables.{Limits}
 use Rattle.format.specs.Items.{State}
@@ -13,34 +14,34 @@ use Rattle.theorems.proofs.Lists.{parity, halves-append}
 
 -- ---- halves joined to octets are those halves, where the first starts an octet
 -- from an odd half: whatever half stands before it
-abbrev Joins : ℕ → List ℕ → Type 0
+abbrev Joins : ℕ → Octets → Type 0
 Joins zero hs = halves (joined hs) ≡ hs
 Joins (suc n) hs = (h : ℕ) → halves (joined (h ∷ hs)) ≡ h ∷ hs
 
 one-octet : (h l : ℕ) → l < 16 → ((16 * h + l) / 16 ≡ h) × ((16 * h + l) % 16 ≡ l)
 one-octet h l k = (omega arith, omega arith)
 
-join-two : (h l : ℕ) (hs : List ℕ) → l < 16 → halves (joined hs) ≡ hs → halves (joined (h ∷ l ∷ hs)) ≡ h ∷ l ∷ hs
+join-two : (h l : ℕ) (hs : Halves) → l < 16 → halves (joined hs) ≡ hs → halves (joined (h ∷ l ∷ hs)) ≡ h ∷ l ∷ hs
 unfolding halves joined
 join-two h l hs k e = let o = one-octet h l k in rw (o .0, o .1, e)
 
-join-octets : (o hs : List ℕ) → halves (joined hs) ≡ hs → halves (joined (halves o ++ hs)) ≡ halves o ++ hs
+join-octets : (o : Octets) (hs : Halves) → halves (joined hs) ≡ hs → halves (joined (halves o ++ hs)) ≡ halves o ++ hs
 unfolding halves
 join-octets [] hs e = e
 join-octets (x ∷ o) hs e = join-two (x / 16) (x % 16) (halves o ++ hs) (omega arith) (join-octets o hs e)
 
 -- one more end in front
-join-end : (at : ℕ) (hs : List ℕ) → Joins (suc at % 2) hs → Joins (at % 2) (15 ∷ hs)
+join-end : (at : ℕ) (hs : Halves) → Joins (suc at % 2) hs → Joins (at % 2) (15 ∷ hs)
 join-end at hs k =
     parity at (λ z. let y : suc at % 2 ≡ 1 = omega arith in rw z (rw y at k 15))
     (λ z. let y : suc at % 2 ≡ 0 = omega arith in rw z (λ h. join-two h 15 hs (omega arith) (rw y at k)))
 
 -- octets in front, from the next whole octet on
-join-item : (at : ℕ) (o hs : List ℕ) → halves (joined hs) ≡ hs → Joins (at % 2) (pad at ++ (halves o ++ hs))
+join-item : (at : ℕ) (o : Octets) (hs : Halves) → halves (joined hs) ≡ hs → Joins (at % 2) (pad at ++ (halves o ++ hs))
 unfolding pad
 join-item at o hs k = parity at (λ z. rw z (join-octets o hs k)) (λ z. rw z (λ h. join-two h 0 (halves o ++ hs) (omega arith) (join-octets o hs k)))
 
-joins-from : {L : Limits} {at : ℕ} {v z : State (List ℕ)} {items : List (Item (List ℕ))} {hs : List ℕ} → Written L at v items hs z → Joins (at % 2) hs
+joins-from : {L : Limits} {at : ℕ} {v z : State Octets} {items : List (Item Octets)} {hs : Halves} → Written L at v items hs z → Joins (at % 2) hs
 unfolding pad aligned halves joined
 joins-from (document-end {at = at} md lv rt) =
     parity at (λ z. let y : suc at % 2 ≡ 1 = omega arith in rw (z, y)) (λ z. let y : suc at % 2 ≡ 0 = omega arith in rw (z, y) (λ h. join-two h 15 [] (omega arith) refl))
@@ -51,11 +52,11 @@ joins-from (item {at = at} {o = o} {hs = hs} u w) =
     join-item at o hs (rw y at (joins-from w))
 
 -- ---- behind the header
-module _ {L : Limits} {v z : State (List ℕ)} {items : List (Item (List ℕ))} {hs : List ℕ} where
+module _ {L : Limits} {v z : State Octets} {items : List (Item Octets)} {hs : Halves} where
   pub joins : Written L (2 * length header) v items hs z → halves (joined hs) ≡ hs
   unfolding header
   joins w = joins-from w
 
-abbrev pub document-of : {L : Limits} {z : State (List ℕ)} {items : List (Item (List ℕ))} {hs : List ℕ} → Written L (2 * length header) (beginning started) items hs z → length (header ++ joined hs) ≤ L .octets
+abbrev pub document-of : {L : Limits} {z : State Octets} {items : List (Item Octets)} {hs : Halves} → Written L (2 * length header) (beginning started) items hs z → length (header ++ joined hs) ≤ L .octets
     → Document L header started items z (header ++ joined hs)
-document-of {hs = hs} w short = record { body = hs; here = halves-append header (joined hs) ∙ ap (λ (l : List ℕ). halves header ++ l) (joins w); rule = w; short = short }
+document-of {hs = hs} w short = record { body = hs; here = halves-append header (joined hs) ∙ ap (λ (l : Octets). halves header ++ l) (joins w); rule = w; short = short }

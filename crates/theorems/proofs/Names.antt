@@ -9,6 +9,7 @@ use borrow.Author.Tests.{lt-ltb, le-ltb, le-leb}
 use lib.Dec.{eqb, leb}
 use lib.ListN.{length, getD, drop, length-append}
 use lib.Seq.{drop-cons}
+use Rattle.format.specs.Octets.{Octets}
 use Rattle.format.specs.Numbers.{coded, spell, numbers, c25, top, longest}
 use Rattle.format.specs.Events.{Name, nameMap, How, NameHow, inParts, byNumber}
 use Rattle.format.specs.Tables.{PREFIX, NAMESPACE-NAME, LOCAL-NAME, Triple, noTriple, Vocabulary, names, addingName, holdsName, Entry, nameOf, Limits}
@@ -82,12 +83,12 @@ unfolding ofAttribute rooms coded c25
 attribute-shape = record { numbers-ok = omega arith; numbers-fit = omega arith; even = refl }
 
 -- ---- what is read is what the rules write
-module _ (L : Limits) (s : List ℕ) (bytes : (i : ℕ) → getD s i 0 < 256) (short : length s ≤ longest) where
-  abbrev pub NameR : NameLayout → ℕ → Vocabulary (List ℕ) → NameRead → List ℕ → Vocabulary (List ℕ) → Type 0
+module _ (L : Limits) (s : Octets) (bytes : (i : ℕ) → getD s i 0 < 256) (short : length s ≤ longest) where
+  abbrev pub NameR : NameLayout → ℕ → Vocabulary Octets → NameRead → Octets → Vocabulary Octets → Type 0
   NameR q lead v b o w = Named L q lead v (nameMap (octetsOf s) (b .name)) (b .how) o w
 
-  three-parts : (k : ℕ) (a b c : List ℕ) (k₁ k₂ k₃ : ℕ) → drop k s ≡ a ++ drop k₁ s → drop k₁ s ≡ b ++ drop k₂ s → drop k₂ s ≡ c ++ drop k₃ s → drop k s ≡ (a ++ (b ++ c)) ++ drop k₃ s
-  three-parts k a b c k₁ k₂ k₃ p q r = p ∙ ap (λ (l : List ℕ). a ++ l) (q ∙ ap (λ (l : List ℕ). b ++ l) r) ∙ simp append-assoc
+  three-parts : (k : ℕ) (a b c : Octets) (k₁ k₂ k₃ : ℕ) → drop k s ≡ a ++ drop k₁ s → drop k₁ s ≡ b ++ drop k₂ s → drop k₂ s ≡ c ++ drop k₃ s → drop k s ≡ (a ++ (b ++ c)) ++ drop k₃ s
+  three-parts k a b c k₁ k₂ k₃ p q r = p ∙ ap (λ (l : Octets). a ++ l) (q ∙ ap (λ (l : Octets). b ++ l) r) ∙ simp append-assoc
 
   pub numbered-sound : (q : NameLayout) (lead k : ℕ) (v : Vocabulary Located) → k ≤ length s → getD s k 0 ≡ lead + getD s k 0 % 2 ^ (9 - nameBit (q .table)) → Ok s (NameR q lead) k v (numberedAt L q s k v)
   unfolding numberedAt octetsOf
@@ -103,7 +104,7 @@ module _ (L : Limits) (s : List ℕ) (bytes : (i : ℕ) → getD s i 0 < 256) (s
       let en : Entry (names v (q .table)) (r .v) noTriple x = record { made = omega arith; is = ap (λ (m : ℕ). getD (names v (q .table)) m noTriple) (sym e) } in
       record {
         octets = spell (q .numberForms) lead (r .v);
-        rule = subst₂ (λ (m : ℕ) (y : Name (List ℕ)). Named L q lead (plainTables s v) y (byNumber m) (spell (q .numberForms) lead (r .v)) (plainTables s v)) (sym i) (sym (name-map (octetsOf s) v empty x))
+        rule = subst₂ (λ (m : ℕ) (y : Name Octets). Named L q lead (plainTables s v) y (byNumber m) (spell (q .numberForms) lead (r .v)) (plainTables s v)) (sym i) (sym (name-map (octetsOf s) v empty x))
             (by-number (omega arith) (r .small) (rw (names-map (octetsOf s) v (q .table)) en));
         here = r .here;
         next-is = r .next-is;
@@ -137,7 +138,7 @@ module _ (L : Limits) (s : List ℕ) (bytes : (i : ℕ) → getD s i 0 < 256) (s
       record {
         octets = (lead + q .inPartsBits + 2 * has (Option·map (octetsOf s) (p .string)) + has (Option·map (octetsOf s) (n .string))) ∷ (r₁ .octets ++ (r₂ .octets ++ r₃ .octets));
         rule = rw (adding-name-map (octetsOf s) v₃ (q .table) x) (in-parts paired (r₁ .rule .0) (r₂ .rule .0) (r₃ .rule) (rw same-names t1) (rw same-names t2));
-        here = drop-cons s k 0 h ∙ ap₂ (λ (y : ℕ) (l : List ℕ). y ∷ l) oct (three-parts (suc k) (r₁ .octets) (r₂ .octets) (r₃ .octets) k₁ k₂ k₃ (r₁ .here) (r₂ .here) (r₃ .here));
+        here = drop-cons s k 0 h ∙ ap₂ (λ (y : ℕ) (l : Octets). y ∷ l) oct (three-parts (suc k) (r₁ .octets) (r₂ .octets) (r₃ .octets) k₁ k₂ k₃ (r₁ .here) (r₂ .here) (r₃ .here));
         next-is = let y : length (r₁ .octets ++ (r₂ .octets ++ r₃ .octets)) ≡ length (r₁ .octets) + (length (r₂ .octets) + length (r₃ .octets)) = simp length-append in omega arith;
         inside = r₃ .inside;
       }
@@ -149,7 +150,7 @@ module _ (L : Limits) (s : List ℕ) (bytes : (i : ℕ) → getD s i 0 < 256) (s
   name-sound q lead b k v f g h =
       either-lt (Ok s (NameR q lead) k v) b (q .inPartsBits) _ _ (λ y. numbered-sound q lead k v (omega arith) (f y)) (λ y. parts-sound q lead b k v (g y) h)
 
-  abbrev pub DeclaredR : Vocabulary (List ℕ) → DeclaredRead → List ℕ → Vocabulary (List ℕ) → Type 0
+  abbrev pub DeclaredR : Vocabulary Octets → DeclaredRead → Octets → Vocabulary Octets → Type 0
   DeclaredR v b o w = Declared L v (Option·map (octetsOf s) (b .prefix)) (Option·map (octetsOf s) (b .namespace)) (b .prefixHow) (b .namespaceHow) o w
 
   pub declared-sound : (k : ℕ) (v : Vocabulary Located) → k ≤ length s → Ok s DeclaredR k v (declaredAt L s k v)
@@ -173,27 +174,27 @@ module _ (L : Limits) (s : List ℕ) (bytes : (i : ℕ) → getD s i 0 < 256) (s
       record {
         octets = (0xCC + 2 * has (Option·map (octetsOf s) (p .string)) + has (Option·map (octetsOf s) (n .string))) ∷ (r₁ .octets ++ r₂ .octets);
         rule = declared (r₁ .rule .0) (r₂ .rule .0);
-        here = drop-cons s k 0 h ∙ ap₂ (λ (y : ℕ) (l : List ℕ). y ∷ l) oct (r₁ .here ∙ ap (λ (l : List ℕ). r₁ .octets ++ l) (r₂ .here) ∙ sym (append-assoc (r₁ .octets) (r₂ .octets) (drop k₂ s)));
+        here = drop-cons s k 0 h ∙ ap₂ (λ (y : ℕ) (l : Octets). y ∷ l) oct (r₁ .here ∙ ap (λ (l : Octets). r₁ .octets ++ l) (r₂ .here) ∙ sym (append-assoc (r₁ .octets) (r₂ .octets) (drop k₂ s)));
         next-is = omega arith;
         inside = r₂ .inside;
       })
       (λ h2. either-lt P b 0xF0 _ _ (λ y. fault s 5 k refl kl) (λ y. either-eq P b 0xF0 _ _ (λ z. fault s 15 k refl kl) (λ z. fault s 6 k refl kl)))
 
 -- ---- what the rules write is read
-module _ (L : Limits) (s : List ℕ) where
+module _ (L : Limits) (s : Octets) where
   -- p is where its parts are spelled
-  abbrev pub NameQ : Name (List ℕ) → NameHow → List Located → NameRead → Type 0
+  abbrev pub NameQ : Name Octets → NameHow → List Located → NameRead → Type 0
   NameQ x h p b = (nameMap (octetsOf s) (b .name) ≡ x) × (b .how ≡ h) × (nameSpelled (b .name) (b .how) ≡ p)
 
   -- o is the name's part of its first octet
-  pub data NameHit (q : NameLayout) (lead k : ℕ) (v : Vocabulary Located) (x : Name (List ℕ)) (h : NameHow) (os : List ℕ) (w : Vocabulary (List ℕ)) (p : List Located) : Type 0 where
+  pub data NameHit (q : NameLayout) (lead k : ℕ) (v : Vocabulary Located) (x : Name Octets) (h : NameHow) (os : Octets) (w : Vocabulary Octets) (p : List Located) : Type 0 where
     hit-numbered : (o : ℕ) → getD s k 0 ≡ lead + o → o < rooms (q .numberForms) → (n : ℕ) (c : Cursor) → fieldAt (q .numberForms) top (nameBit (q .table)) s k ≡ Num n c
         → Hit s (NameQ x h p) (k + length os) w (numberedAt L q s k v) → NameHit q lead k v x h os w p
     hit-parts : (o : ℕ) → getD s k 0 ≡ lead + o → q .inPartsBits ≤ o → o < q .inPartsBits + 4 → lonePrefix o ≡ false
         → Hit s (NameQ x h p) (k + length os) w (partsAt L q s o k v) → NameHit q lead k v x h os w p
 
   -- the three parts, read; then the triple
-  module _ (q : NameLayout) (k : ℕ) (v : Vocabulary Located) (p n : Option (List ℕ)) (l : List ℕ) (hp hn : Option How) (hl : How) (kp kn kl o k₁ k₂ k₃ : ℕ) (w₁ w₂ w₃ : Vocabulary (List ℕ)) (sp sn sl : List Located)
+  module _ (q : NameLayout) (k : ℕ) (v : Vocabulary Located) (p n : Option Octets) (l : Octets) (hp hn : Option How) (hl : How) (kp kn kl o k₁ k₂ k₃ : ℕ) (w₁ w₂ w₃ : Vocabulary Octets) (sp sn sl : List Located)
       (is : o % 4 ≡ 2 * has p + has n) (paired : has p ≤ has n)
       (i1 : Hit s (OptionalQ L s p hp kp sp) k₁ w₁ (optionalAt L (there p) s PREFIX (suc k) v))
       (i2 : Hit s (OptionalQ L s n hn kn sn) k₂ w₂ (optionalAt L (there n) s NAMESPACE-NAME k₁ (i1 .v))) (i3 : Hit s (IdQ L s l hl kl sl) k₃ w₃ (idAt L s LOCAL-NAME k₂ (i2 .v)))
@@ -205,7 +206,7 @@ module _ (L : Limits) (s : List ℕ) where
     triple-is = λ j. record { prefix = i1 .what .2 j; namespace = i2 .what .2 j; local = i3 .what .2 j }
 
     names-are : names (i3 .v) (q .table) ≡ names w₃ (q .table)
-    names-are = sym (names-map (octetsOf s) (i3 .v) (q .table)) ∙ ap (λ (y : Vocabulary (List ℕ)). names y (q .table)) (i3 .state)
+    names-are = sym (names-map (octetsOf s) (i3 .v) (q .table)) ∙ ap (λ (y : Vocabulary Octets). names y (q .table)) (i3 .state)
 
     parts-read : Hit s (NameQ (record { prefix = p; namespace = n; local = l }) (inParts hp hn hl) (sp ++ (sn ++ sl))) k₃ (addingName w₃ (q .table) (record { prefix = kp; namespace = kn; local = kl })) (partsAt L q s o k v)
     unfolding partsAt
@@ -217,11 +218,11 @@ module _ (L : Limits) (s : List ℕ) where
           b = record { name = record { prefix = i1 .b .string; namespace = i2 .b .string; local = i3 .b .string }; how = inParts (i1 .b .how) (i2 .b .how) (i3 .b .how) };
           v = addingName (i3 .v) (q .table) triple;
           goes = refl;
-          state = adding-name-map (octetsOf s) (i3 .v) (q .table) triple ∙ ap₂ (λ (y : Vocabulary (List ℕ)) (x : Triple). addingName y (q .table) x) (i3 .state) triple-is;
+          state = adding-name-map (octetsOf s) (i3 .v) (q .table) triple ∙ ap₂ (λ (y : Vocabulary Octets) (x : Triple). addingName y (q .table) x) (i3 .state) triple-is;
           what = ((λ j. record { prefix = i1 .what .0 j; namespace = i2 .what .0 j; local = i3 .what .0 j }), (λ j. inParts (i1 .what .1 j) (i2 .what .1 j) (i3 .what .1 j)), (λ j. i1 .what .3 j ++ (i2 .what .3 j ++ i3 .what .3 j)));
         })
 
-  pub name-complete : (q : NameLayout) → NameShape q → (times lead k : ℕ) → lead ≡ times * 2 ^ (9 - nameBit (q .table)) → (v : Vocabulary Located) {x : Name (List ℕ)} {h : NameHow} {os : List ℕ} {w : Vocabulary (List ℕ)} (rest : List ℕ)
+  pub name-complete : (q : NameLayout) → NameShape q → (times lead k : ℕ) → lead ≡ times * 2 ^ (9 - nameBit (q .table)) → (v : Vocabulary Located) {x : Name Octets} {h : NameHow} {os : Octets} {w : Vocabulary Octets} (rest : Octets)
       (u : Named L q lead (plainTables s v) x h os w) → drop k s ≡ os ++ rest → NameHit q lead k v x h os w (inName k u) × (0 < length os) × (k < length s)
   unfolding numberedAt octetsOf
   name-complete q g times lead k e v rest (by-number {k = j} {x = x} small fits en) d =
@@ -256,10 +257,10 @@ module _ (L : Limits) (s : List ℕ) where
       let i1 = optional-complete L s PREFIX (suc k) v (on ++ (ol ++ rest)) up d1 in
       let k1 : ℕ = suc k + length op in
       let d2 : drop k1 s ≡ on ++ (ol ++ rest) = drop-past s (suc k) op (on ++ (ol ++ rest)) d1 in
-      let i2 = optional-complete L s NAMESPACE-NAME k1 (i1 .v) (ol ++ rest) (subst (λ (y : Vocabulary (List ℕ)). Optional L NAMESPACE-NAME y n hn kn on w₂) (sym (i1 .state)) un) d2 in
+      let i2 = optional-complete L s NAMESPACE-NAME k1 (i1 .v) (ol ++ rest) (subst (λ (y : Vocabulary Octets). Optional L NAMESPACE-NAME y n hn kn on w₂) (sym (i1 .state)) un) d2 in
       let k2 : ℕ = k1 + length on in
       let d3 : drop k2 s ≡ ol ++ rest = drop-past s k1 on (ol ++ rest) d2 in
-      let i3 = id-complete L s LOCAL-NAME k2 (i2 .v) rest (subst (λ (y : Vocabulary (List ℕ)). Identifying L LOCAL-NAME y l hl kl ol w₃) (sym (i2 .state)) ul) d3 in
+      let i3 = id-complete L s LOCAL-NAME k2 (i2 .v) rest (subst (λ (y : Vocabulary Octets). Identifying L LOCAL-NAME y l hl kl ol w₃) (sym (i2 .state)) ul) d3 in
       let la : length (op ++ (on ++ ol)) ≡ length op + (length on + length ol) = simp length-append in (
         hit-parts o (omega arith) (omega arith) (omega arith) (not-lone p n o paired is)
             (hit-at s (NameQ (record { prefix = p; namespace = n; local = l }) (inParts hp hn hl) _) (k2 + length ol) (k + suc (length (op ++ (on ++ ol)))) (addingName w₃ (q .table) (record { prefix = kp; namespace = kn; local = kl })) (partsAt L q s o k v) (omega arith)
@@ -268,12 +269,12 @@ module _ (L : Limits) (s : List ℕ) where
         a .0,
       )
 
-  abbrev pub DeclaredQ : Option (List ℕ) → Option (List ℕ) → Option How → Option How → List Located → DeclaredRead → Type 0
+  abbrev pub DeclaredQ : Option Octets → Option Octets → Option How → Option How → List Located → DeclaredRead → Type 0
   DeclaredQ p n hp hn l b =
       (Option·map (octetsOf s) (b .prefix) ≡ p) × (Option·map (octetsOf s) (b .namespace) ≡ n) × (b .prefixHow ≡ hp) × (b .namespaceHow ≡ hn)
       × (optionSpelled (b .prefix) (b .prefixHow) ++ optionSpelled (b .namespace) (b .namespaceHow) ≡ l)
 
-  pub declared-complete : (k : ℕ) (v : Vocabulary Located) {p n : Option (List ℕ)} {hp hn : Option How} {os : List ℕ} {w : Vocabulary (List ℕ)} (rest : List ℕ)
+  pub declared-complete : (k : ℕ) (v : Vocabulary Located) {p n : Option Octets} {hp hn : Option How} {os : Octets} {w : Vocabulary Octets} (rest : Octets)
       (u : Declared L (plainTables s v) p n hp hn os w) → drop k s ≡ os ++ rest
       → Hit s (DeclaredQ p n hp hn (inDeclared k u)) (k + length os) w (declaredAt L s k v) × (0xCC ≤ getD s k 0) × (getD s k 0 < 0xD0) × (k < length s) × (0 < length os)
   unfolding declaredAt
@@ -288,7 +289,7 @@ module _ (L : Limits) (s : List ℕ) where
       let i1 = optional-complete L s PREFIX (suc k) v (on ++ rest) up d1 in
       let k1 : ℕ = suc k + length op in
       let d2 : drop k1 s ≡ on ++ rest = drop-past s (suc k) op (on ++ rest) d1 in
-      let i2 = optional-complete L s NAMESPACE-NAME k1 (i1 .v) rest (subst (λ (y : Vocabulary (List ℕ)). Optional L NAMESPACE-NAME y n hn kn on w₂) (sym (i1 .state)) un) d2 in
+      let i2 = optional-complete L s NAMESPACE-NAME k1 (i1 .v) rest (subst (λ (y : Vocabulary Octets). Optional L NAMESPACE-NAME y n hn kn on w₂) (sym (i1 .state)) un) d2 in
       let la = length-append op on in (
         hit-at s (DeclaredQ p n hp hn _) (k1 + length on) _ _ _ (omega arith)
             (rw (lt-ltb k (length s) (a .0), le-ltb o 0xCC (omega arith), lt-ltb o 0xD0 (omega arith), bb .0, bb .1, i1 .goes, i2 .goes)

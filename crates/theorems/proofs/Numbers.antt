@@ -6,6 +6,7 @@ use native.Mathlib.Omega.{arith}
 use lib.Dec.{ltb, leb}
 use lib.ListN.{length, getD, take, drop, length-append, length-drop, take-append-drop}
 use lib.Seq.{drop-cons, length-take-le}
+use Rattle.format.specs.Octets.{Octets, Words}
 use Rattle.fields.specs.declared.Number.{Number}
 use Rattle.fields.specs.declared.Number.the-variants.{Got as Num, Refused as NoNum}
 use Rattle.format.specs.Numbers.{Form, form, spell, sizes}
@@ -14,7 +15,7 @@ use Rattle.fields.proofs.Laws.{rooms, Roomy, accepted, first-ge}
 use Rattle.fields.proofs.RoundTrip.{first-lt, some-first, field-write}
 use Rattle.theorems.proofs.Lists.{Fault, fault, test, test-lt, either, drop-add, drop-head}
 
-pub record NumRead (s : List ℕ) (fs : List Form) (top base k n next : ℕ) : Type 0 where
+pub record NumRead (s : Octets) (fs : List Form) (top base k n next : ℕ) : Type 0 where
   pub v : ℕ
   pub is : n ≡ suc v
   pub small : v < sizes fs
@@ -23,30 +24,30 @@ pub record NumRead (s : List ℕ) (fs : List Form) (top base k n next : ℕ) : T
   pub next-is : next ≡ k + length (spell fs base v)
   pub inside : next ≤ length s
 
-abbrev pub NumOk : List ℕ → List Form → ℕ → ℕ → ℕ → Number → Type 0
+abbrev pub NumOk : Octets → List Form → ℕ → ℕ → ℕ → Number → Type 0
 NumOk s fs top base k (Num n c) = NumRead s fs top base k n (c .at)
 NumOk s fs top base k (NoNum c p) = Fault s c p
 
 -- whatever a number is refused for, it is at its place
-abbrev Refusable : List ℕ → Number → Type 0
+abbrev Refusable : Octets → Number → Type 0
 Refusable s (Num n c) = Unit {0}
 Refusable s (NoNum c p) = Fault s c p
 
-behind-refusable : (s : List ℕ) (at x more low size top : ℕ) → at ≤ length s → Refusable s (behind s at x more low size top)
+behind-refusable : (s : Octets) (at x more low size top : ℕ) → at ≤ length s → Refusable s (behind s at x more low size top)
 unfolding behind
 behind-refusable s at x more low size top h =
     test (Refusable s) (NoNum 2 at) (fault s 2 at refl h) (ltb (at + more) (length s)) _
     λ t1. test (Refusable s) (NoNum 6 at) (fault s 6 at refl h) (ltb (valueFrom s (at + 1) x more) size) _
     λ t2. test (Refusable s) (NoNum 7 at) (fault s 7 at refl h) (leb (low + valueFrom s (at + 1) x more) top) _ λ t3. tt
 
-read-refusable : (fs : List Form) (s : List ℕ) (top low at b : ℕ) → at ≤ length s → Refusable s (readIn fs top low s at b)
+read-refusable : (fs : List Form) (s : Octets) (top low at b : ℕ) → at ≤ length s → Refusable s (readIn fs top low s at b)
 unfolding readIn
 read-refusable [] s top low at b h = fault s 5 at refl h
 read-refusable (form room more size ∷ fs) s top low at b h =
     either (Refusable s) (ltb (b * 256 ^ more) size) _ _ (λ t. behind-refusable s at b more low size top h)
     (λ t. either (Refusable s) (ltb b room) _ _ (λ u. fault s 6 at refl h) (λ u. read-refusable fs s top (low + size) at (b - room) h))
 
-module _ (s : List ℕ) (bytes : (i : ℕ) → getD s i 0 < 256) where
+module _ (s : Octets) (bytes : (i : ℕ) → getD s i 0 < 256) where
   -- `base` is what stands before the field in its first octet
   read-sound : (fs : List Form) (top base k b : ℕ) → k < length s → getD s k 0 ≡ base + b → (a : Number) → readIn fs top 1 s k b ≡ a → NumOk s fs top base k a
   read-sound fs top base k b h z (NoNum c p) e = subst (Refusable s) e (read-refusable fs s top 1 k b (omega arith))
@@ -65,8 +66,8 @@ module _ (s : List ℕ) (bytes : (i : ℕ) → getD s i 0 < 256) where
         under = a .under;
         here =
             drop-cons s k 0 h
-            ∙ ap (λ (l : List ℕ). getD s k 0 ∷ l) (sym (take-append-drop m (drop (suc k) s)) ∙ ap (λ (l : List ℕ). take m (drop (suc k) s) ++ l) (drop-add s (suc k) m ∙ ap (λ (x : ℕ). drop x s) (sym nx)))
-            ∙ ap (λ (l : List ℕ). l ++ drop (c .at) s) (sym w);
+            ∙ ap (λ (l : Octets). getD s k 0 ∷ l) (sym (take-append-drop m (drop (suc k) s)) ∙ ap (λ (l : Octets). take m (drop (suc k) s) ++ l) (drop-add s (suc k) m ∙ ap (λ (x : ℕ). drop x s) (sym nx)))
+            ∙ ap (λ (l : Octets). l ++ drop (c .at) s) (sym w);
         next-is = let q = ap length w in omega arith;
         inside = omega arith;
       }
@@ -77,32 +78,32 @@ module _ (s : List ℕ) (bytes : (i : ℕ) → getD s i 0 < 256) where
       test-lt (NumOk s fs top base k) (NoNum 2 k) (fault s 2 k refl kl) k (length s) _
       λ h. read-sound fs top base k (getD s k 0 % 2 ^ (9 - bit)) h z (readIn fs top 1 s k (getD s k 0 % 2 ^ (9 - bit))) refl
 
-pub num-complete : (s : List ℕ) (fs : List Form) (top bit lead base v k : ℕ) (t : List ℕ) → Roomy fs → rooms fs ≤ 2 ^ (9 - bit) → v < sizes fs → suc v ≤ top → base ≡ lead * 2 ^ (9 - bit)
+pub num-complete : (s : Octets) (fs : List Form) (top bit lead base v k : ℕ) (t : Octets) → Roomy fs → rooms fs ≤ 2 ^ (9 - bit) → v < sizes fs → suc v ≤ top → base ≡ lead * 2 ^ (9 - bit)
     → drop k s ≡ spell fs base v ++ t → fieldAt fs top bit s k ≡ Num (suc v) (record { at = k + length (spell fs base v) })
 num-complete s fs top bit lead base v k t ok r h u bl d =
-    let w : List ℕ = spell fs base v in
+    let w : Words = spell fs base v in
     let some = some-first fs base v h in
     let l1 = length-append w t in
     let l2 = length-drop k s in
     let l3 = ap length d in
     let lt : length (take k s) ≡ k = length-take-le k s (omega arith) in
-    let e : s ≡ take k s ++ (w ++ t) = sym (take-append-drop k s) ∙ ap (λ (l : List ℕ). take k s ++ l) d in
+    let e : s ≡ take k s ++ (w ++ t) = sym (take-append-drop k s) ∙ ap (λ (l : Octets). take k s ++ l) d in
     let q : fieldAt fs top bit (take k s ++ (w ++ t)) (length (take k s)) ≡ Num (1 + v) (record { at = length (take k s) + length w }) =
     rw bl (field-write fs top bit lead v (take k s) t ok r h (omega arith)) in
     let one : 1 + v ≡ suc v = omega arith in
-    ap₂ (λ (l : List ℕ) (x : ℕ). fieldAt fs top bit l x) e (sym lt) ∙ q ∙ ap₂ (λ (x y : ℕ). Num x (record { at = y + length w })) one lt
+    ap₂ (λ (l : Octets) (x : ℕ). fieldAt fs top bit l x) e (sym lt) ∙ q ∙ ap₂ (λ (x y : ℕ). Num x (record { at = y + length w })) one lt
 
 -- the first octet
-pub num-first : (s : List ℕ) (fs : List Form) (base v k : ℕ) (t : List ℕ) → Roomy fs → v < sizes fs → drop k s ≡ spell fs base v ++ t
+pub num-first : (s : Octets) (fs : List Form) (base v k : ℕ) (t : Octets) → Roomy fs → v < sizes fs → drop k s ≡ spell fs base v ++ t
     → (base ≤ getD s k 0) × (getD s k 0 < base + rooms fs) × (k < length s)
 num-first s fs base v k t ok h d = go (spell fs base v) refl
   where
-    go : (w : List ℕ) → spell fs base v ≡ w → (base ≤ getD s k 0) × (getD s k 0 < base + rooms fs) × (k < length s)
+    go : (w : Words) → spell fs base v ≡ w → (base ≤ getD s k 0) × (getD s k 0 < base + rooms fs) × (k < length s)
     go [] e = absurd (let q = some-first fs base v h in let z = ap length e in omega arith)
     go (o ∷ w) e =
-        let a = drop-head s k o (w ++ t) (d ∙ ap (λ (l : List ℕ). l ++ t) e) in
+        let a = drop-head s k o (w ++ t) (d ∙ ap (λ (l : Octets). l ++ t) e) in
         let x = first-ge fs base v h in
         let y = first-lt fs base v ok h in
-        let z : getD (spell fs base v) 0 0 ≡ o = ap (λ (l : List ℕ). getD l 0 0) e in
+        let z : getD (spell fs base v) 0 0 ≡ o = ap (λ (l : Octets). getD l 0 0) e in
         let b = a .1 in
         (omega arith, omega arith, a .0)

@@ -4,6 +4,7 @@ use mathlib.Core.List.{List}
 use Prim.Native.Nat.{ℕ, _+_, _*_, _/_, _<_, min}
 use native.Mathlib.Omega.{arith}
 use lib.ListN.{length}
+use Rattle.format.specs.Octets.{Octets}
 use Rattle.format.specs.Events.{IsDocument}
 use Rattle.format.specs.Tables.{link}
 use Rattle.format.specs.Document.{aligned, header}
@@ -12,7 +13,7 @@ use Rattle.theorems.specs.Verdicts.{plains, itemsOf, WrittenIn, Right, F
 use Rattle.theorems.proofs.Splits.{splits}
 use Rattle.theorems.proofs.Begun.{begun-size}
 
-module _ (text : List ℕ) (room : ℕ) where
+module _ (text : Octets) (room : ℕ) where
   -- ---- one fault
   fault-one : {before : List Event} {e : Event} {m n : ℕ} → Fault text room before e m → Fault text room before e n → m ≡ n
   fault-one (not-an-event a) (not-an-event b) = refl

@@ -5,6 +5,7 @@ use mathlib.Core.Option.{Option}
 use mathlib.Core.List.{List, [], _∷_, _++_}
 use Prim.Native.Nat.{ℕ, suc, _+_, _*_}
 use native.Mathlib.Omega.{arith}
+use Rattle.format.specs.Octets.{Octets, Halves}
 use Rattle.format.specs.Events.{Name, Event, Namespace, Start, Attribute, Text, Comment, Instruction, End, How, numbered, NameHow, Item, _by_, forEnd, isDeclaration, isStart}
 use Rattle.format.specs.Tables.{StringTable, Vocabulary, addingName, Limits}
 use Rattle.format.specs.Strings.{bit, Identifying, id-spelled, id-numbered, Optional, absent, present, Layout, Literal, literal-spelled, literal-numbered, Value, value-empty, value}
@@ -16,11 +17,11 @@ use Rattle.format.specs.Document.{halves, pad, Written, document-end, attribute
 use Rattle.theorems.proofs.Lists.{octet-is}
 
 -- Whether attributes follow is decided by the items: by the next, and behind declarations by the one behind the Start.
-abbrev attributeNext : List (Item (List ℕ)) → Bool
+abbrev attributeNext : List (Item Octets) → Bool
 attributeNext [] = false
 attributeNext (i ∷ is) = isAttribute (i .event)
 
-abbrev pub later : Event (List ℕ) → Bool → Bool → Bool
+abbrev pub later : Event Octets → Bool → Bool → Bool
 later (Namespace p n) next behind = behind
 later (Start x) next behind = next
 later (Attribute x y) next behind = false
@@ -30,7 +31,7 @@ later (Instruction x y) next behind = false
 later End next behind = false
 
 -- A Start has the bit of what is next, a declaration that of what is behind it.
-pub later-start : (e : Event (List ℕ)) (next behind : Bool) → isStart e ≡ true → later e next behind ≡ next
+pub later-start : (e : Event Octets) (next behind : Bool) → isStart e ≡ true → later e next behind ≡ next
 later-start (Namespace p n) next behind t = false-true t
 later-start (Start x) next behind t = refl
 later-start (Attribute x y) next behind t = false-true t
@@ -39,7 +40,7 @@ later-start (Comment y) next behind t = false-true t
 later-start (Instruction x y) next behind t = false-true t
 later-start End next behind t = false-true t
 
-pub later-declared : (e : Event (List ℕ)) (next behind : Bool) → isDeclaration e ≡ true → later e next behind ≡ behind
+pub later-declared : (e : Event Octets) (next behind : Bool) → isDeclaration e ≡ true → later e next behind ≡ behind
 later-declared (Namespace p n) next behind t = refl
 later-declared (Start x) next behind t = false-true t
 later-declared (Attribute x y) next behind t = false-true t
@@ -48,7 +49,7 @@ later-declared (Comment y) next behind t = false-true t
 later-declared (Instruction x y) next behind t = false-true t
 later-declared End next behind t = false-true t
 
-attributeLater : List (Item (List ℕ)) → Bool
+attributeLater : List (Item Octets) → Bool
 attributeLater [] = false
 attributeLater (i ∷ is) = later (i .event) (attributeNext is) (attributeLater is)
 
@@ -58,7 +59,7 @@ inList (declaring a) = false
 inList (listing any) = true
 
 -- The mode behind an item, from what follows it.
-abbrev modeAfter : Event (List ℕ) → List (Item (List ℕ)) → Mode
+abbrev modeAfter : Event Octets → List (Item Octets) → Mode
 modeAfter (Namespace p n) items = declaring (attributeLater items)
 modeAfter (Start x) items = afterStart (attributeNext items)
 modeAfter (Attribute x y) items = listing true
@@ -80,36 +81,36 @@ no-member true e = clash (cc)
 no-member false e = clash (cc)
 
 -- Halves of octets determine the octets.
-halves-one : (a b : List ℕ) → halves a ≡ halves b → a ≡ b
+halves-one : (a b : Octets) → halves a ≡ halves b → a ≡ b
 unfolding halves
 halves-one [] [] e = refl
 halves-one [] (y ∷ b) e = cc
 halves-one (x ∷ a) [] e = cc
-halves-one (x ∷ a) (y ∷ b) e = ap₂ (λ (z : ℕ) (l : List ℕ). z ∷ l) (octet-is x y (cc) (cc)) (halves-one a b (cc))
+halves-one (x ∷ a) (y ∷ b) e = ap₂ (λ (z : ℕ) (l : Octets). z ∷ l) (octet-is x y (cc) (cc)) (halves-one a b (cc))
 
 module _ {L : Limits} where
   -- strings: the octets, the number and the tables
-  pub identifying-one : {t : StringTable} {v w w′ : Vocabulary (List ℕ)} {x : List ℕ} {h : How} {n n′ : ℕ} {o o′ : List ℕ}
+  pub identifying-one : {t : StringTable} {v w w′ : Vocabulary Octets} {x : Octets} {h : How} {n n′ : ℕ} {o o′ : Octets}
       → Identifying L t v x h n o w → Identifying L t v x h n′ o′ w′ → (o ≡ o′) × (n ≡ n′) × (w ≡ w′)
   identifying-one (id-spelled sp new room) (id-spelled sp′ new′ room′) = (refl, refl, refl)
   identifying-one (id-numbered small en) (id-numbered small′ en′) = (refl, refl, refl)
 
-  optional-one : {t : StringTable} {v w w′ : Vocabulary (List ℕ)} {x : Option (List ℕ)} {h : Option How} {n n′ : ℕ} {o o′ : List ℕ}
+  optional-one : {t : StringTable} {v w w′ : Vocabulary Octets} {x : Option Octets} {h : Option How} {n n′ : ℕ} {o o′ : Octets}
       → Optional L t v x h n o w → Optional L t v x h n′ o′ w′ → (o ≡ o′) × (n ≡ n′) × (w ≡ w′)
   optional-one absent absent = (refl, refl, refl)
   optional-one (present u) (present u′) = identifying-one u u′
 
-  pub literal-one : {q : Layout} {t : StringTable} {v w w′ : Vocabulary (List ℕ)} {x : List ℕ} {h : How} {o o′ : List ℕ}
+  pub literal-one : {q : Layout} {t : StringTable} {v w w′ : Vocabulary Octets} {x : Octets} {h : How} {o o′ : Octets}
       → Literal L q t v x h o w → Literal L q t v x h o′ w′ → (o ≡ o′) × (w ≡ w′)
   literal-one (literal-spelled sp room) (literal-spelled sp′ room′) = (refl, refl)
   literal-one (literal-numbered small fits en) (literal-numbered small′ fits′ en′) = (refl, refl)
 
-  pub literal-some : {q : Layout} {t : StringTable} {v w : Vocabulary (List ℕ)} {x : List ℕ} {h : How} {o : List ℕ} {X : Type 0}
+  pub literal-some : {q : Layout} {t : StringTable} {v w : Vocabulary Octets} {x : Octets} {h : How} {o : Octets} {X : Type 0}
       → Literal L q t v x h o w → h ≡ numbered 0 → X
   literal-some (literal-spelled sp room) e = clash (cc)
   literal-some (literal-numbered {k = k} small fits en) e = absurd (let y : suc k ≡ 0 = cc in omega arith)
 
-  pub value-one : {t : StringTable} {v w w′ : Vocabulary (List ℕ)} {x : List ℕ} {h : How} {o o′ : List ℕ}
+  pub value-one : {t : StringTable} {v w w′ : Vocabulary Octets} {x : Octets} {h : How} {o o′ : Octets}
       → Value L t v x h o w → Value L t v x h o′ w′ → (o ≡ o′) × (w ≡ w′)
   value-one value-empty value-empty = (refl, refl)
   value-one value-empty (value u) = literal-some u refl
@@ -117,13 +118,13 @@ module _ {L : Limits} where
   value-one (value u) (value u′) = literal-one u u′
 
   -- names
-  pub named-one : {q : NameLayout} {lead : ℕ} {v w w′ : Vocabulary (List ℕ)} {x x′ : Name (List ℕ)} {h : NameHow} {o o′ : List ℕ}
+  pub named-one : {q : NameLayout} {lead : ℕ} {v w w′ : Vocabulary Octets} {x x′ : Name Octets} {h : NameHow} {o o′ : Octets}
       → Named L q lead v x h o w → Named L q lead v x′ h o′ w′ → x ≡ x′ → (o ≡ o′) × (w ≡ w′)
   named-one (by-number small fits en) (by-number small′ fits′ en′) e = (refl, refl)
   named-one {q} {lead} (in-parts lone up un ul new room) (in-parts lone′ up′ un′ ul′ new′ room′) e =
-      let ep = ap (λ (y : Name (List ℕ)). y .prefix) e in
-      let en = ap (λ (y : Name (List ℕ)). y .namespace) e in
-      let el = ap (λ (y : Name (List ℕ)). y .local) e in
+      let ep = ap (λ (y : Name Octets). y .prefix) e in
+      let en = ap (λ (y : Name Octets). y .namespace) e in
+      let el = ap (λ (y : Name Octets). y .local) e in
       let a = optional-one up (rw (← ep) at up′) in
       let b = optional-one un (rw (← en, ← (a .2)) at un′) in
       let c = identifying-one ul (rw (← el, ← (b .2)) at ul′) in (
@@ -131,7 +132,7 @@ module _ {L : Limits} where
         (λ j. addingName (c .2 j) (q .table) (record { prefix = a .1 j; namespace = b .1 j; local = c .1 j })),
       )
 
-  pub declared-one : {v w w′ : Vocabulary (List ℕ)} {p n : Option (List ℕ)} {hp hn : Option How} {o o′ : List ℕ}
+  pub declared-one : {v w w′ : Vocabulary Octets} {p n : Option Octets} {hp hn : Option How} {o o′ : Octets}
       → Declared L v p n hp hn o w → Declared L v p n hp hn o′ w′ → (o ≡ o′) × (w ≡ w′)
   declared-one {p = p} {n = n} (declared up un) (declared up′ un′) =
       let a = optional-one up up′ in
@@ -139,7 +140,7 @@ module _ {L : Limits} where
       ((λ j. (0xCC + 2 * has p + has n) ∷ (a .0 j ++ b .0 j)), b .2)
 
   -- attributes are written in attribute lists, and nothing else is; End is no item's event
-  pub where-attributes : {v w : State (List ℕ)} {i : Item (List ℕ)} {o : List ℕ} → ItemWrittenAs L v i o w → isAttribute (i .event) ≡ inList (v .mode)
+  pub where-attributes : {v w : State Octets} {i : Item Octets} {o : Octets} → ItemWrittenAs L v i o w → isAttribute (i .event) ≡ inList (v .mode)
   where-attributes (o-start a md may deep u) = cc
   where-attributes (o-first-namespace md may deep u) = cc
   where-attributes (o-namespace md u) = cc
@@ -149,20 +150,20 @@ module _ {L : Limits} where
   where-attributes (o-comment md u) = cc
   where-attributes (o-instruction md u1 u2) = cc
 
-  pub no-end : {v w : State (List ℕ)} {o : List ℕ} {X : Type 0} → ItemWrittenAs L v (End by forEnd) o w → X
+  pub no-end : {v w : State Octets} {o : Octets} {X : Type 0} → ItemWrittenAs L v (End by forEnd) o w → X
   no-end u = elim u [ ]
 
-  next-is : {at : ℕ} {v z : State (List ℕ)} {items : List (Item (List ℕ))} {hs : List ℕ}
+  next-is : {at : ℕ} {v z : State Octets} {items : List (Item Octets)} {hs : Halves}
       → Written L at v items hs z → (v .mode ≡ listing true → ⊥) → attributeNext items ≡ inList (v .mode)
   next-is (document-end md lv rt) n = cc
   next-is (attributes-end md w) n = absurd (n md)
   next-is (element-end md lv w) n = cc
   next-is (item u w) n = where-attributes u
 
-  behind-start : {at : ℕ} {v z : State (List ℕ)} {items : List (Item (List ℕ))} {hs : List ℕ} (a : Bool) → Written L at v items hs z → v .mode ≡ afterStart a → a ≡ attributeNext items
+  behind-start : {at : ℕ} {v z : State Octets} {items : List (Item Octets)} {hs : Halves} (a : Bool) → Written L at v items hs z → v .mode ≡ afterStart a → a ≡ attributeNext items
   behind-start a w e = sym (next-is w (λ l. no-member a (sym e ∙ l)) ∙ ap inList e ∙ bit-said a)
 
-  behind-declarations : {at : ℕ} {v z : State (List ℕ)} {items : List (Item (List ℕ))} {hs : List ℕ} (a : Bool) → Written L at v items hs z → v .mode ≡ declaring a → a ≡ attributeLater items
+  behind-declarations : {at : ℕ} {v z : State Octets} {items : List (Item Octets)} {hs : Halves} (a : Bool) → Written L at v items hs z → v .mode ≡ declaring a → a ≡ attributeLater items
   unfolding attributeLater
   behind-declarations a (document-end md lv rt) e = cc
   behind-declarations a (attributes-end md w) e = cc
@@ -176,7 +177,7 @@ module _ {L : Limits} where
   behind-declarations a (item (o-comment md u) w) e = cc
   behind-declarations a (item (o-instruction md u1 u2) w) e = cc
 
-  mode-is : {at : ℕ} {v w z : State (List ℕ)} {i : Item (List ℕ)} {o : List ℕ} {items : List (Item (List ℕ))} {hs : List ℕ}
+  mode-is : {at : ℕ} {v w z : State Octets} {i : Item Octets} {o : Octets} {items : List (Item Octets)} {hs : Halves}
       → ItemWrittenAs L v i o w → Written L at w items hs z → w .mode ≡ modeAfter (i .event) items
   mode-is (o-start a md may deep u) w = ap afterStart (behind-start a w refl)
   mode-is (o-first-namespace {a = a} md may deep u) w = ap declaring (behind-declarations a w refl)
@@ -188,7 +189,7 @@ module _ {L : Limits} where
   mode-is (o-instruction md u1 u2) w = md
 
   -- items
-  octets-one : {v w w′ : State (List ℕ)} {i : Item (List ℕ)} {o o′ : List ℕ} → ItemWrittenAs L v i o w → ItemWrittenAs L v i o′ w′ → w .mode ≡ w′ .mode → (o ≡ o′) × (w ≡ w′)
+  octets-one : {v w w′ : State Octets} {i : Item Octets} {o o′ : Octets} → ItemWrittenAs L v i o w → ItemWrittenAs L v i o′ w′ → w .mode ≡ w′ .mode → (o ≡ o′) × (w ≡ w′)
   octets-one {v} (o-start a md may deep u) (o-start b md′ may′ deep′ u′) e =
       let q : a ≡ b = sym (bit-said a) ∙ ap inList e ∙ bit-said b in
       let r = named-one u (rw (← q) at u′) refl in
@@ -198,7 +199,7 @@ module _ {L : Limits} where
   octets-one {v} (o-named-start {a = a} md u) (o-named-start {a = b} md′ u′) e =
       let q : a ≡ b = cc in
       let r = named-one u u′ refl in
-      (ap (λ (l : List ℕ). 0xF0 ∷ l) (r .0), λ j. opened v (r .1 j) (q j))
+      (ap (λ (l : Octets). 0xF0 ∷ l) (r .0), λ j. opened v (r .1 j) (q j))
   octets-one {v} (o-first-namespace {a = a} md may deep u) (o-first-namespace {a = b} md′ may′ deep′ u′) e =
       let q : a ≡ b = cc in
       let r = declared-one u u′ in
@@ -218,12 +219,12 @@ module _ {L : Limits} where
       ((λ j. 0xE1 ∷ (r .0 j ++ t .0 j)), λ j. knowing v (t .1 j))
 
   -- a list that has ended does not go on
-  no-list : {at : ℕ} {v w z : State (List ℕ)} {i : Item (List ℕ)} {o : List ℕ} {items : List (Item (List ℕ))} {hs : List ℕ} {X : Type 0}
+  no-list : {at : ℕ} {v w z : State Octets} {i : Item Octets} {o : Octets} {items : List (Item Octets)} {hs : Halves} {X : Type 0}
       → v .mode ≡ listing true → ItemWrittenAs L v i o w
       → Written L at (moved v (v .tables) content) (i ∷ items) hs z → X
   no-list md u w = let a = where-attributes u in let b = next-is w (λ e. clash (cc)) in clash (cc)
 
-  pub one-writing : {at : ℕ} {v z z′ : State (List ℕ)} {items : List (Item (List ℕ))} {hs hs′ : List ℕ}
+  pub one-writing : {at : ℕ} {v z z′ : State Octets} {items : List (Item Octets)} {hs hs′ : Halves}
       → Written L at v items hs z → Written L at v items hs′ z′ → (hs ≡ hs′) × (z ≡ z′)
   one-writing (document-end md lv rt) (document-end md′ lv′ rt′) = (refl, refl)
   one-writing (document-end md lv rt) (attributes-end md′ w′) = (cc, cc)
@@ -241,9 +242,9 @@ module _ {L : Limits} where
       let r = one-writing w (rw (← (q .0), ← (q .1)) at w′) in
       ((λ j. pad at ++ (halves (q .0 j) ++ r .0 j)), r .1)
 
-  pub one-document : {h : List ℕ} {start : Vocabulary (List ℕ)} {items : List (Item (List ℕ))} {z z′ : State (List ℕ)} {s s′ : List ℕ}
+  pub one-document : {h : Octets} {start : Vocabulary Octets} {items : List (Item Octets)} {z z′ : State Octets} {s s′ : Octets}
       → Document L h start items z s → Document L h start items z′ s′
       → (s ≡ s′) × (z ≡ z′)
   one-document {h} {s = s} {s′ = s′} d d′ =
       let r = one-writing (d .rule) (d′ .rule) in
-      (halves-one s s′ (d .here ∙ ap (λ (l : List ℕ). halves h ++ l) (r .0) ∙ sym (d′ .here)), r .1)
+      (halves-one s s′ (d .here ∙ ap (λ (l : Octets). halves h ++ l) (r .0) ∙ sym (d′ .here)), r .1)

@@ -6,6 +6,7 @@ use mathlib.Core.Option.{Option, none, some}
 use mathlib.Core.List.{List, [], _∷_, _++_}
 use native.Mathlib.Omega.{arith}
 use lib.Dec.{eqb}
+use Rattle.format.specs.Octets.{Octets}
 use Rattle.format.specs.Text.{rows, between, first, next, after, isText}
 use Rattle.format.specs.Events.{Name, Event, Namespace, Start, Attribute, Text, Comment, Instruction, End, How, NameHow, Item}
 use Rattle.format.specs.Tables.{StringTable, PREFIX, NAMESPACE-NAME, LOCAL-NAME, OTHER-NCNAME, OTHER-URI, ATTRIBUTE-VALUE, CONTENT-CHARACTER-CHUNK, OTHER-STRING}
@@ -156,22 +157,22 @@ module _ {S : Type 0} (P : StringTable → S → Type 0) (d : S) where
     holds a b r = all-hold r (good-start a b)
 
 -- ---- 01's strings
-abbrev OfTable : StringTable → List ℕ → Type 0
+abbrev OfTable : StringTable → Octets → Type 0
 OfTable t x = Said x
 
-if-any : (t : StringTable) (x : Option (List ℕ)) → IfAny OfTable [] t x → SaidIfAny x
+if-any : (t : StringTable) (x : Option Octets) → IfAny OfTable [] t x → SaidIfAny x
 if-any t none a = tt
 if-any t (some x) a = a
 
-as-name : (x : Name (List ℕ)) → Parts OfTable [] x → AllowedName x
+as-name : (x : Name Octets) → Parts OfTable [] x → AllowedName x
 as-name x a = record { prefix = if-any PREFIX (x .prefix) (a .prefix); namespace = if-any NAMESPACE-NAME (x .namespace) (a .namespace); local = a .local; not-alone = a .not-alone }
 
-as-text : {t : StringTable} {x : List ℕ} → OrEmpty OfTable [] t x → isText x ≡ true
+as-text : {t : StringTable} {x : Octets} → OrEmpty OfTable [] t x → isText x ≡ true
 unfolding isText after between
 as-text is-empty = refl
 as-text (not-empty a) = a .1
 
-as-allowed : (e : Event (List ℕ)) → Holds OfTable [] e → Allowed e
+as-allowed : (e : Event Octets) → Holds OfTable [] e → Allowed e
 as-allowed (Namespace p n) a = (if-any PREFIX p (a .0), if-any NAMESPACE-NAME n (a .1))
 as-allowed (Start x) a = as-name x a
 as-allowed (Attribute x y) a = (as-name x (a .0), as-text (a .1))
@@ -184,6 +185,6 @@ two-said : Said xmlPrefix × Said xmlNamespace
 unfolding xmlPrefix xmlNamespace rows between first next after isText
 two-said = ((omega arith, refl), (omega arith, refl))
 
-pub plain-on-link : {items : List (Item (List ℕ))} {z : State (List ℕ)} {s : List ℕ} → Writes items z s → All (λ i. Allowed (i .event)) items
+pub plain-on-link : {items : List (Item Octets)} {z : State Octets} {s : Octets} → Writes items z s → All (λ i. Allowed (i .event)) items
 plain-on-link {items} w =
     all-so (λ i. Allowed (i .event)) (λ i a. as-allowed (i .event) a) items (holds OfTable [] Said (λ t x a. a) (two-said .0) (two-said .1) (document-done w))

@@ -7,6 +7,7 @@ use native.Mathlib.Omega.{arith}
 use borrow.Author.Tests.{leb-true, le-leb}
 use lib.Dec.{leb}
 use lib.ListN.{length, length-map}
+use Rattle.format.specs.Octets.{Octets}
 use Rattle.format.specs.Numbers.{pick}
 use Rattle.format.specs.Events as E
 use Rattle.format.specs.Events.{eventMap, isDeclaration, isStart}
@@ -70,7 +71,7 @@ opens-is m (E.Instruction x y) = refl
 opens-is m E.End = refl
 
 -- ---- what the records ahead announce
-module _ (text : List ℕ) where
+module _ (text : Octets) where
   pub next-is : (e : Event) (es : List Event) → attributeNext (e ∷ es) ≡ isAttribute (plainOf text e)
   unfolding eventOf
   next-is e es = go (e .kind) ∙ sym (attribute-map (octetsOf text) (eventOf (e .kind) e))
@@ -107,11 +108,11 @@ module _ (text : List ℕ) where
   announced-on e es t = announced-is e es ∙ later-declared (plainOf text e) (attributeNext es) (announced es) t
 
 -- ---- one event
-module _ (L : Limits) (text : List ℕ) (a : Bool) (v : State Located) (e : E.Event Located) where
-  abbrev pv : State (List ℕ)
+module _ (L : Limits) (text : Octets) (a : Bool) (v : State Located) (e : E.Event Located) where
+  abbrev pv : State Octets
   pv = plainState text v
 
-  abbrev pe : E.Event (List ℕ)
+  abbrev pe : E.Event Octets
   pe = eventMap (octetsOf text) e
 
   abbrev w : WroteItem
@@ -129,18 +130,18 @@ module _ (L : Limits) (text : List ℕ) (a : Bool) (v : State Located) (e : E.Ev
   same = same-item text L a (settled v e) e
 
   pub next-plain : plainState text (w .state) ≡ nextBy L a pv pe
-  next-plain = same .state ∙ ap (λ (u : State (List ℕ)). knownBy L a u pe) settled-plain
+  next-plain = same .state ∙ ap (λ (u : State Octets). knownBy L a u pe) settled-plain
 
   pub choice-plain : w .choice ≡ chooseFor L (pv .tables) pe .how
-  choice-plain = same .choice ∙ ap (λ (u : Vocabulary (List ℕ)). chooseFor L u pe .how) (ap (λ (u : State (List ℕ)). u .tables) settled-plain ∙ words-settled pv pe)
+  choice-plain = same .choice ∙ ap (λ (u : Vocabulary Octets). chooseFor L u pe .how) (ap (λ (u : State Octets). u .tables) settled-plain ∙ words-settled pv pe)
 
   pub halves-plain : (room at : ℕ) → halvesOf L text room at v e w ≡ halvesBy L at a pv pe
   unfolding halvesOf halvesBy halvesAs owed
   halves-plain room at =
-      rw (attribute-map (octetsOf text) e, end-map (octetsOf text) e, same .octets ∙ ap (λ (u : State (List ℕ)). octetsBy L a u pe) settled-plain)
+      rw (attribute-map (octetsOf text) e, end-map (octetsOf text) e, same .octets ∙ ap (λ (u : State Octets). octetsBy L a u pe) settled-plain)
 
 -- ---- the tables behind it
-known-words : (L : Limits) (a : Bool) (v : State (List ℕ)) (e : E.Event (List ℕ)) → knownBy L a v e .tables ≡ chooseFor L (v .tables) e .tables
+known-words : (L : Limits) (a : Bool) (v : State Octets) (e : E.Event Octets) → knownBy L a v e .tables ≡ chooseFor L (v .tables) e .tables
 unfolding chooseFor
 known-words L a v (E.Namespace p n) = refl
 known-words L a v (E.Start x) = refl
@@ -150,16 +151,16 @@ known-words L a v (E.Comment y) = refl
 known-words L a v (E.Instruction x y) = refl
 known-words L a v E.End = refl
 
-pub next-words : (L : Limits) (a : Bool) (v : State (List ℕ)) (e : E.Event (List ℕ)) → nextBy L a v e .tables ≡ chooseFor L (v .tables) e .tables
-next-words L a v e = known-words L a (settled v e) e ∙ ap (λ (u : Vocabulary (List ℕ)). chooseFor L u e .tables) (words-settled v e)
+pub next-words : (L : Limits) (a : Bool) (v : State Octets) (e : E.Event Octets) → nextBy L a v e .tables ≡ chooseFor L (v .tables) e .tables
+next-words L a v e = known-words L a (settled v e) e ∙ ap (λ (u : Vocabulary Octets). chooseFor L u e .tables) (words-settled v e)
 
-pub within-plain : (L : Limits) (text : List ℕ) (v : Vocabulary Located) → within L (plainTables text v) ≡ within L v
+pub within-plain : (L : Limits) (text : Octets) (v : Vocabulary Located) → within L (plainTables text v) ≡ within L v
 unfolding within vocabularyMap
 within-plain L text v =
     rw (length-map (v .prefixes) (octetsOf text), length-map (v .namespaces) (octetsOf text), length-map (v .locals) (octetsOf text), length-map (v .ncnames) (octetsOf text))
 
 -- what is within the limits, by the writer's test and by how it adds
-pub fits-of : (L : Limits) (v : Vocabulary (List ℕ)) → within L v ≡ true → Rest L v → InLimits L v
+pub fits-of : (L : Limits) (v : Vocabulary Octets) → within L v ≡ true → Rest L v → InLimits L v
 unfolding within strings names place
 fits-of L v e r =
     let a = both-true (leb (length (v .prefixes)) (L .entries)) _ e in
@@ -183,7 +184,7 @@ fits-of L v e r =
     gone e a ELEMENT-NAME = e
     gone e a ATTRIBUTE-NAME = a
 
-pub of-fits : (L : Limits) (v : Vocabulary (List ℕ)) → InLimits L v → within L v ≡ true
+pub of-fits : (L : Limits) (v : Vocabulary Octets) → InLimits L v → within L v ≡ true
 unfolding within strings names
 of-fits L v f =
     rw (

@@ -2,12 +2,13 @@
 use mathlib.Core.Path.{_≡_, refl, sym, ap, _∙_, subst}
 use mathlib.Core.Bool.{Bool, true, false}
 use mathlib.Core.Option.{Option}
-use mathlib.Core.List.{List, [], _∷_, _++_}
+use mathlib.Core.List.{[], _∷_, _++_}
 use Prim.Native.Nat.{ℕ, _+_, _-_, _*_, _≤_, _<_}
 use native.Mathlib.Omega.{arith}
 use borrow.Author.Tests.{ne-eqb}
 use lib.Dec.{eqb}
 use lib.ListN.{length}
+use Rattle.format.specs.Octets.{Octets}
 use Rattle.format.specs.Numbers.{coded, sizes, numbers, c25, top}
 use Rattle.format.specs.Events.{Name, Event, Namespace, Start, Attribute, Text, Comment, Instruction, End, How, NameHow, Item, _by_, Choice, forStart}
 use Rattle.format.specs.Tables.{StringTable, PREFIX, NAMESPACE-NAME, LOCAL-NAME, OTHER-NCNAME, ATTRIBUTE-VALUE, CONTENT-CHARACTER-CHUNK, OTHER-STRING, NameTable, ELEMENT-NAME, ATTRIBUTE-NAME, Vocabulary, strings, place, extended, adding, Limits, InLimits}
@@ -23,22 +24,22 @@ use Rattle.theorems.proofs.Growing.{strings-adding-name, same-table, ex
 use Rattle.theorems.proofs.Chosen.{Grows, same-size, grows-on, fits-before, idOctets, optionalOctets, literalOctets, valueOctets, nameOctets, id-case, id-grows, id-rule, optional-case, optional-grows, optional-rule, SpellingIfAny, SpellingIfSome, LiteralCase, lit-held, lit-new, literal-case, literal-permits, literal-grows, literal-rule, ValueCase, is-empty, is-literal, value-case, value-permits, value-grows, value-rule, Ranged, ranged-on, id-names, optional-names, literal-names, value-names, NameCase, name-held, name-new, name-case, name-permits, name-grows, name-ranged, NameSaid, name-rule}
 
 -- the tables in order: none over its limit, and each triple's numbers in range
-pub record Order (L : Limits) (v : Vocabulary (List ℕ)) : Type 0 where
+pub record Order (L : Limits) (v : Vocabulary Octets) : Type 0 where
   pub fit : InLimits L v
   pub ranged : Ranged v
 
 -- ---- the tables that no identifying string is added to: they are added to only where there is room
-pub record Rest (L : Limits) (v : Vocabulary (List ℕ)) : Type 0 where
+pub record Rest (L : Limits) (v : Vocabulary Octets) : Type 0 where
   pub few : (t : StringTable) → 4 ≤ place t → length (strings v t) ≤ L .entries
 
 -- what stands in the other tables stays
-same-rest : {L : Limits} {v w : Vocabulary (List ℕ)} → ((t : StringTable) → 4 ≤ place t → strings w t ≡ strings v t) → Rest L v → Rest L w
+same-rest : {L : Limits} {v w : Vocabulary Octets} → ((t : StringTable) → 4 ≤ place t → strings w t ≡ strings v t) → Rest L v → Rest L w
 same-rest e r = record { few = λ t h. let a = r .few t h in let b = ap length (e t h) in omega arith }
 
-other-table : (v : Vocabulary (List ℕ)) (t u : StringTable) (x : List ℕ) → place t < 4 → 4 ≤ place u → strings (adding v t x) u ≡ strings v u
+other-table : (v : Vocabulary Octets) (t u : StringTable) (x : Octets) → place t < 4 → 4 ≤ place u → strings (adding v t x) u ≡ strings v u
 other-table v t u x a b = strings-adding v t x u ∙ ap (λ (c : Bool). extended c (strings v u) x) (ne-eqb (place t) (place u) (λ e. omega arith))
 
-adding-rest : {L : Limits} (v : Vocabulary (List ℕ)) (t : StringTable) (x : List ℕ) → length (strings v t) < L .entries → Rest L v → Rest L (adding v t x)
+adding-rest : {L : Limits} (v : Vocabulary Octets) (t : StringTable) (x : Octets) → length (strings v t) < L .entries → Rest L v → Rest L (adding v t x)
 adding-rest {L} v t x room r =
     record {
       few = λ u h.
@@ -47,24 +48,24 @@ adding-rest {L} v t x room r =
           (λ e. let z = same-table t u e in rw (← z) room));
     }
 
-id-rest : {t : StringTable} {v w : Vocabulary (List ℕ)} {x : List ℕ} {h : How} {n : ℕ} (u : StringTable) → place t < 4 → 4 ≤ place u → PermitsId t v x h n w → strings w u ≡ strings v u
+id-rest : {t : StringTable} {v w : Vocabulary Octets} {x : Octets} {h : How} {n : ℕ} (u : StringTable) → place t < 4 → 4 ≤ place u → PermitsId t v x h n w → strings w u ≡ strings v u
 id-rest u a b (id-entry en) = refl
 id-rest {t} {v} {x = x} u a b (id-new h) = other-table v t u x a b
 
-optional-rest : {t : StringTable} {v w : Vocabulary (List ℕ)} {x : Option (List ℕ)} {h : Option How} {n : ℕ} (u : StringTable) → place t < 4 → 4 ≤ place u → PermitsIfAny t v x h n w → strings w u ≡ strings v u
+optional-rest : {t : StringTable} {v w : Vocabulary Octets} {x : Option Octets} {h : Option How} {n : ℕ} (u : StringTable) → place t < 4 → 4 ≤ place u → PermitsIfAny t v x h n w → strings w u ≡ strings v u
 optional-rest u a b not-there = refl
 optional-rest u a b (there c) = id-rest u a b c
 
-literal-rest : {L : Limits} {t : StringTable} {v : Vocabulary (List ℕ)} {x : List ℕ} {c : Chose How} → LiteralCase L t v x c → Rest L v → Rest L (c .tables)
+literal-rest : {L : Limits} {t : StringTable} {v : Vocabulary Octets} {x : Octets} {c : Chose How} → LiteralCase L t v x c → Rest L v → Rest L (c .tables)
 literal-rest (lit-held en) r = r
 literal-rest {t = t} {v = v} {x = x} (lit-new {added = true} room) r = adding-rest v t x (room refl) r
 literal-rest (lit-new {added = false} room) r = r
 
-value-rest : {L : Limits} {t : StringTable} {v : Vocabulary (List ℕ)} {x : List ℕ} {c : Chose How} → ValueCase L t v x c → Rest L v → Rest L (c .tables)
+value-rest : {L : Limits} {t : StringTable} {v : Vocabulary Octets} {x : Octets} {c : Chose How} → ValueCase L t v x c → Rest L v → Rest L (c .tables)
 value-rest (is-empty e) r = r
 value-rest (is-literal h c) r = literal-rest c r
 
-name-rest : (t : NameTable) (v : Vocabulary (List ℕ)) (x : Name (List ℕ)) {c : Chose NameHow} (u : StringTable) → 4 ≤ place u → NameCase t v x c → strings (c .tables) u ≡ strings v u
+name-rest : (t : NameTable) (v : Vocabulary Octets) (x : Name Octets) {c : Chose NameHow} (u : StringTable) → 4 ≤ place u → NameCase t v x c → strings (c .tables) u ≡ strings v u
 unfolding place
 name-rest t v x u h (name-held en e) = refl
 name-rest t v x u h (name-new m) =
@@ -86,11 +87,11 @@ unfolding place
 namespace-low = omega arith
 
 -- so it is after each event
-pub rest-for : (C : Limits) (v : Vocabulary (List ℕ)) (e : Event (List ℕ)) → Order C v → Rest C (chooseFor C v e .tables)
+pub rest-for : (C : Limits) (v : Vocabulary Octets) (e : Event Octets) → Order C v → Rest C (chooseFor C v e .tables)
 unfolding chooseFor
 rest-for C v e o = go e (record { few = λ t h. o .fit .few t })
   where
-    go : (e : Event (List ℕ)) → Rest C v → Rest C (chooseFor C v e .tables)
+    go : (e : Event Octets) → Rest C v → Rest C (chooseFor C v e .tables)
     go (Namespace p n) r =
         let a = optional-case PREFIX v p in
         let b = optional-case NAMESPACE-NAME (chooseOptional PREFIX v p .tables) n in
@@ -107,7 +108,7 @@ rest-for C v e o = go e (record { few = λ t h. o .fit .few t })
     go End r = r
 
 -- ---- 01's choices are permitted ones
-unfoldable pub permits-for : (C : Limits) (v : Vocabulary (List ℕ)) (e : Event (List ℕ)) → Ranged v → Permits v e (chooseFor C v e .how) (chooseFor C v e .tables)
+unfoldable pub permits-for : (C : Limits) (v : Vocabulary Octets) (e : Event Octets) → Ranged v → Permits v e (chooseFor C v e .how) (chooseFor C v e .tables)
 unfolding chooseFor
 permits-for C v (Namespace p n) r = a-declaration (optional-case PREFIX v p) (optional-case NAMESPACE-NAME (chooseOptional PREFIX v p .tables) n)
 permits-for C v (Start x) r = a-start (name-permits ELEMENT-NAME v x (name-case ELEMENT-NAME v x r))
@@ -118,7 +119,7 @@ permits-for C v (Instruction x y) r = an-instruction (id-case OTHER-NCNAME v x) 
 permits-for C v End r = an-end
 
 -- ---- tables only grow, and the numbers of triples stay in range
-pub permits-grows : {v w : Vocabulary (List ℕ)} {e : Event (List ℕ)} {c : Choice} → Permits v e c w → Grows v w
+pub permits-grows : {v w : Vocabulary Octets} {e : Event Octets} {c : Choice} → Permits v e c w → Grows v w
 permits-grows (a-declaration up un) = grows-on (optional-grows up) (optional-grows un)
 permits-grows (a-start u) = name-grows u
 permits-grows (an-attribute u y) = grows-on (name-grows u) (value-grows y)
@@ -127,7 +128,7 @@ permits-grows (a-comment y) = value-grows y
 permits-grows (an-instruction u y) = grows-on (id-grows u) (value-grows y)
 permits-grows {v} an-end = same-size v
 
-permits-ranged : {v w : Vocabulary (List ℕ)} {e : Event (List ℕ)} {c : Choice} → Permits v e c w → Ranged v → Ranged w
+permits-ranged : {v w : Vocabulary Octets} {e : Event Octets} {c : Choice} → Permits v e c w → Ranged v → Ranged w
 permits-ranged (a-declaration up un) r = ranged-on (grows-on (optional-grows up) (optional-grows un)) (λ u. optional-names un u ∙ optional-names up u) r
 permits-ranged (a-start u) r = name-ranged u r
 permits-ranged (an-attribute u y) r = ranged-on (value-grows y) (value-names y) (name-ranged u r)
@@ -136,23 +137,23 @@ permits-ranged (a-comment y) r = ranged-on (value-grows y) (value-names y) r
 permits-ranged (an-instruction x y) r = ranged-on (grows-on (id-grows x) (value-grows y)) (λ u. value-names y u ∙ id-names x u) r
 permits-ranged an-end r = r
 
-pub ranged-for : (C : Limits) (v : Vocabulary (List ℕ)) (e : Event (List ℕ)) → Ranged v → Ranged (chooseFor C v e .tables)
+pub ranged-for : (C : Limits) (v : Vocabulary Octets) (e : Event Octets) → Ranged v → Ranged (chooseFor C v e .tables)
 ranged-for C v e r = permits-ranged (permits-for C v e r) r
 
 -- ---- one event
 -- where an event may stand, a says whether an attribute follows its element's Start
-pub data Where (L : Limits) (a : Bool) (v : State (List ℕ)) : Event (List ℕ) → Type 0 where
-  first-namespace : {p n : Option (List ℕ)} → v .mode ≡ content → mayStart v ≡ true → v .level < L .depth → Where L a v (Namespace p n)
-  next-namespace : {p n : Option (List ℕ)} → v .mode ≡ declaring a → Where L a v (Namespace p n)
-  first-start : {x : Name (List ℕ)} → v .mode ≡ content → mayStart v ≡ true → v .level < L .depth → Where L a v (Start x)
-  named-start : {x : Name (List ℕ)} → v .mode ≡ declaring a → Where L a v (Start x)
-  in-list : {x : Name (List ℕ)} {y : List ℕ} {any : Bool} → v .mode ≡ listing any → Where L a v (Attribute x y)
-  in-element : {y : List ℕ} → v .mode ≡ content → 0 < v .level → Where L a v (Text y)
-  comment : {y : List ℕ} → v .mode ≡ content → Where L a v (Comment y)
-  instruction : {x y : List ℕ} → v .mode ≡ content → Where L a v (Instruction x y)
+pub data Where (L : Limits) (a : Bool) (v : State Octets) : Event Octets → Type 0 where
+  first-namespace : {p n : Option Octets} → v .mode ≡ content → mayStart v ≡ true → v .level < L .depth → Where L a v (Namespace p n)
+  next-namespace : {p n : Option Octets} → v .mode ≡ declaring a → Where L a v (Namespace p n)
+  first-start : {x : Name Octets} → v .mode ≡ content → mayStart v ≡ true → v .level < L .depth → Where L a v (Start x)
+  named-start : {x : Name Octets} → v .mode ≡ declaring a → Where L a v (Start x)
+  in-list : {x : Name Octets} {y : Octets} {any : Bool} → v .mode ≡ listing any → Where L a v (Attribute x y)
+  in-element : {y : Octets} → v .mode ≡ content → 0 < v .level → Where L a v (Text y)
+  comment : {y : Octets} → v .mode ≡ content → Where L a v (Comment y)
+  instruction : {x y : Octets} → v .mode ≡ content → Where L a v (Instruction x y)
 
 -- its strings can be said
-abbrev pub Said : Event (List ℕ) → Type 0
+abbrev pub Said : Event Octets → Type 0
 Said (Namespace p n) = SpellingIfAny p × SpellingIfAny n
 Said (Start x) = NameSaid x
 Said (Attribute x y) = NameSaid x × SpellingIfSome y
@@ -162,7 +163,7 @@ Said (Instruction x y) = Spelling x × SpellingIfSome y
 Said End = Unit {0}
 
 -- what is known behind it, with these tables
-abbrev pub behind : Bool → State (List ℕ) → Vocabulary (List ℕ) → Event (List ℕ) → State (List ℕ)
+abbrev pub behind : Bool → State Octets → Vocabulary Octets → Event Octets → State Octets
 behind a v w (Namespace p n) = moved v w (declaring a)
 behind a v w (Start x) = opened v w a
 behind a v w (Attribute x y) = moved v w (listing true)
@@ -172,7 +173,7 @@ behind a v w (Instruction x y) = knowing v w
 behind a v w End = closed v
 
 -- its octets, by the choice made for it; an End has none of its own
-unfoldable pub octetsAs : Bool → Mode → {v w : Vocabulary (List ℕ)} {e : Event (List ℕ)} {c : Choice} → Permits v e c w → List ℕ
+unfoldable pub octetsAs : Bool → Mode → {v w : Vocabulary Octets} {e : Event Octets} {c : Choice} → Permits v e c w → Octets
 octetsAs a m (a-declaration {p = p} {n = n} {hp = hp} {hn = hn} up un) = beforeDeclaration m a ++ ((0xCC + 2 * has p + has n) ∷ (optionalOctets p hp ++ optionalOctets n hn))
 octetsAs a m (a-start {x = x} {h = h} u) = beforeName m ++ nameOctets ofElement (nameLead m a) x h
 octetsAs a m (an-attribute {x = x} {y = y} {h = h} {g = g} u z) = nameOctets ofAttribute 0 x h ++ valueOctets y g
@@ -183,7 +184,7 @@ octetsAs a m an-end = []
 
 module _ (C : Limits) where
   -- with 01's choice
-  unfoldable pub octetsBy : Bool → State (List ℕ) → Event (List ℕ) → List ℕ
+  unfoldable pub octetsBy : Bool → State Octets → Event Octets → Octets
   octetsBy a v (Namespace p n) =
       let x : Chose (Option How) = chooseOptional PREFIX (v .tables) p in
       let y : Chose (Option How) = chooseOptional NAMESPACE-NAME (x .tables) n in
@@ -200,10 +201,10 @@ module _ (C : Limits) where
   octetsBy a v End = []
 
   -- what is known behind it
-  abbrev pub knownBy : Bool → State (List ℕ) → Event (List ℕ) → State (List ℕ)
+  abbrev pub knownBy : Bool → State Octets → Event Octets → State Octets
   knownBy a v e = behind a v (chooseFor C (v .tables) e .tables) e
 
-pub octets-by : (C : Limits) (a : Bool) (v : State (List ℕ)) (e : Event (List ℕ)) (r : Ranged (v .tables)) → octetsAs a (v .mode) (permits-for C (v .tables) e r) ≡ octetsBy C a v e
+pub octets-by : (C : Limits) (a : Bool) (v : State Octets) (e : Event Octets) (r : Ranged (v .tables)) → octetsAs a (v .mode) (permits-for C (v .tables) e r) ≡ octetsBy C a v e
 unfolding octetsAs octetsBy permits-for chooseFor
 octets-by C a v (Namespace p n) r = refl
 octets-by C a v (Start x) r = refl
@@ -215,32 +216,32 @@ octets-by C a v End r = refl
 
 -- A permitted choice is what the rules write.
 module _ (L : Limits) (small : L .entries ≤ top) where
-  element-rule : (lead : ℕ) {v w : Vocabulary (List ℕ)} {x : Name (List ℕ)} {h : NameHow} → NameSaid x → InLimits L w → PermitsName ELEMENT-NAME v x h w → Named L ofElement lead v x h (nameOctets ofElement lead x h) w
+  element-rule : (lead : ℕ) {v w : Vocabulary Octets} {x : Name Octets} {h : NameHow} → NameSaid x → InLimits L w → PermitsName ELEMENT-NAME v x h w → Named L ofElement lead v x h (nameOctets ofElement lead x h) w
   unfolding ofElement sizes coded numbers
   element-rule lead s f u = name-rule L small ofElement (omega arith) lead s f u
 
-  attribute-rule : {v w : Vocabulary (List ℕ)} {x : Name (List ℕ)} {h : NameHow} → NameSaid x → InLimits L w → PermitsName ATTRIBUTE-NAME v x h w → Named L ofAttribute 0 v x h (nameOctets ofAttribute 0 x h) w
+  attribute-rule : {v w : Vocabulary Octets} {x : Name Octets} {h : NameHow} → NameSaid x → InLimits L w → PermitsName ATTRIBUTE-NAME v x h w → Named L ofAttribute 0 v x h (nameOctets ofAttribute 0 x h) w
   unfolding ofAttribute sizes coded c25
   attribute-rule s f u = name-rule L small ofAttribute (omega arith) 0 s f u
 
-  chunk-rule : {v w : Vocabulary (List ℕ)} {y : List ℕ} {h : How} → Spelling y → InLimits L w → PermitsString CONTENT-CHARACTER-CHUNK v y h w → Literal L c15 CONTENT-CHARACTER-CHUNK v y h (literalOctets c15 y h) w
+  chunk-rule : {v w : Vocabulary Octets} {y : Octets} {h : How} → Spelling y → InLimits L w → PermitsString CONTENT-CHARACTER-CHUNK v y h w → Literal L c15 CONTENT-CHARACTER-CHUNK v y h (literalOctets c15 y h) w
   unfolding c15 sizes coded numbers
   chunk-rule s f u = literal-rule L small (omega arith) s f u
 
   -- the strings of a declaration
-  declared-rule : {v v₁ w : Vocabulary (List ℕ)} {p n : Option (List ℕ)} {hp hn : Option How} {kp kn : ℕ} → SpellingIfAny p × SpellingIfAny n → InLimits L w
+  declared-rule : {v v₁ w : Vocabulary Octets} {p n : Option Octets} {hp hn : Option How} {kp kn : ℕ} → SpellingIfAny p × SpellingIfAny n → InLimits L w
       → PermitsIfAny PREFIX v p hp kp v₁ → PermitsIfAny NAMESPACE-NAME v₁ n hn kn w
       → Declared L v p n hp hn ((0xCC + 2 * has p + has n) ∷ (optionalOctets p hp ++ optionalOctets n hn)) w
   declared-rule s f up un = declared (optional-rule L small (s .0) (fits-before (optional-grows un) f) up) (optional-rule L small (s .1) f un)
 
-  before-at : (a : Bool) (m k : Mode) → m ≡ k → (v z : State (List ℕ)) (i : Item (List ℕ)) (os : List ℕ) → ItemWrittenAs L v i (beforeDeclaration k a ++ os) z → ItemWrittenAs L v i (beforeDeclaration m a ++ os) z
+  before-at : (a : Bool) (m k : Mode) → m ≡ k → (v z : State Octets) (i : Item Octets) (os : Octets) → ItemWrittenAs L v i (beforeDeclaration k a ++ os) z → ItemWrittenAs L v i (beforeDeclaration m a ++ os) z
   before-at a m k e v z i os u = subst (λ (y : Mode). ItemWrittenAs L v i (beforeDeclaration y a ++ os) z) (sym e) u
 
-  name-at : (a : Bool) (m k : Mode) → m ≡ k → (v z : State (List ℕ)) (x : Name (List ℕ)) (h : NameHow)
+  name-at : (a : Bool) (m k : Mode) → m ≡ k → (v z : State Octets) (x : Name Octets) (h : NameHow)
       → ItemWrittenAs L v (Start x by forStart h) (beforeName k ++ nameOctets ofElement (nameLead k a) x h) z → ItemWrittenAs L v (Start x by forStart h) (beforeName m ++ nameOctets ofElement (nameLead m a) x h) z
   name-at a m k e v z x h u = subst (λ (y : Mode). ItemWrittenAs L v (Start x by forStart h) (beforeName y ++ nameOctets ofElement (nameLead y a) x h) z) (sym e) u
 
-  pub made : (a : Bool) (v : State (List ℕ)) {e : Event (List ℕ)} {c : Choice} {w : Vocabulary (List ℕ)} → Said e → Where L a v e → InLimits L w → (p : Permits (v .tables) e c w)
+  pub made : (a : Bool) (v : State Octets) {e : Event Octets} {c : Choice} {w : Vocabulary Octets} → Said e → Where L a v e → InLimits L w → (p : Permits (v .tables) e c w)
       → ItemWrittenAs L v (e by c) (octetsAs a (v .mode) p) (behind a v w e)
   unfolding octetsAs mayStart
   made a v s (first-namespace md may deep) f (a-declaration up un) = before-at a (v .mode) content md _ _ _ _ (o-first-namespace {a = a} md may deep (declared-rule s f up un))

@@ -8,6 +8,7 @@ use native.Mathlib.Omega.{arith}
 use borrow.Author.Tests.{eqb-false}
 use lib.Dec.{eqb, ltb, leb}
 use lib.ListN.{length, getD, take, drop}
+use Rattle.format.specs.Octets.{Octets}
 use Rattle.format.specs.Numbers.{pick, Form, lengths, c25, top}
 use Rattle.format.specs.Text.{isText}
 use Rattle.format.specs.Events.{Namespace, forNamespace, Item, _by_}
@@ -35,7 +36,7 @@ use Rattle.theorems.proofs.Effects.{IdDone, id-made, id-used, PartDone,
 use Rattle.theorems.proofs.Effects.{ItemDone, done-namespace, done-start, done-attribute, done-text, done-comment, done-instruction, done-end, Done, no-item, an-item}
 
 -- What is spelled is a stretch of the document.
-abbrev pub Lies : List ℕ → Located → Type 0
+abbrev pub Lies : Octets → Located → Type 0
 Lies s x = IsStretch s (eventString x)
 
 -- number suc k names entry k
@@ -53,7 +54,7 @@ module _ {B C : Type 0} (Q : C → Vocabulary Located → Type 0) where
   then-did R (got b next w) f r h = h b next w r
   then-did R (refused n p) f r h = tt
 
-module _ (s : List ℕ) {C : Type 0} (Q : C → Vocabulary Located → Type 0) where
+module _ (s : Octets) {C : Type 0} (Q : C → Vocabulary Located → Type 0) where
   -- a number is from 1
   number-did : (fs : List Form) (max bit k : ℕ) (f : ℕ → ℕ → Got C) → ((n next : ℕ) → Did Q (f (suc n) next)) → Did Q (number (fieldAt fs max bit s k) f)
   number-did fs max bit k f g = go (fieldAt fs max bit s k) refl
@@ -67,7 +68,7 @@ module _ (s : List ℕ) {C : Type 0} (Q : C → Vocabulary Located → Type 0) w
   unfolding spelling
   spelling-did k next n a f = test-le (Did Q) (refused 2 k) tt (next + n) (length s) _ λ h. test (Did Q) (refused 9 k) tt (isText (take n (drop next s))) _ λ t. f h
 
-module _ (L : Limits) (s : List ℕ) where
+module _ (L : Limits) (s : Octets) where
   -- ---- strings
   abbrev IdDid : StringTable → Vocabulary Located → IdRead → Vocabulary Located → Type 0
   IdDid t v b w = IdDone empty (Lies s) t v (b .string) (b .how) (b .number) w
@@ -298,7 +299,7 @@ module _ (L : Limits) (s : List ℕ) where
   run-gave zero room m = tt
   run-gave (suc fuel) room m = turn-gave (λ r n. run L s fuel r n) (λ r n. run-gave fuel r n) room m (step L s m) (step-gave m)
 
-module _ (s : List ℕ) (room : ℕ) where
+module _ (s : Octets) (room : ℕ) where
   from-gave : (o : Opening) → GaveAll link s start (resultFrom s room o)
   unfolding beginning
   from-gave onward = run-gave link s (fuelOf s) room (origin start)

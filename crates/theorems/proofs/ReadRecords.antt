@@ -5,6 +5,7 @@ use mathlib.Core.Path.{_≡_, refl}
 use mathlib.Core.Option.{Option, none, some}
 use mathlib.Core.List.{List}
 use native.Mathlib.Omega.{arith}
+use Rattle.format.specs.Octets.{Octets}
 use Rattle.format.specs.Events.{Name, Event, Namespace, Start, Attribute, Text, Comment, Instruction, End, Item}
 use Rattle.format.specs.Tables.{StringTable, PREFIX, NAMESPACE-NAME, place}
 use Rattle.format.specs.Names.{has}
@@ -19,7 +20,7 @@ use Rattle.reader.specs.Reading.{accepted, reading}
 use Rattle.theorems.proofs.Plain.{all-so, IfAny, Parts, OrEmpty, is-empty, not-empty, Holds, holds}
 use Rattle.theorems.proofs.ReadEffects.{Lies, reading-done}
 
-module _ (s : List ℕ) where
+module _ (s : Octets) where
   -- a string of table t: a stretch of the document, or what is built into that table
   data Stands : StringTable → Located → Type 0 where
     spelled-here : {t : StringTable} {x : Located} → Lies s x → Stands t x

@@ -4,6 +4,7 @@ use mathlib.Core.Path.{_≡_, refl, ap, _∙_}
 use mathlib.Core.Option.{Option}
 use mathlib.Core.List.{List, [], _∷_}
 use native.Mathlib.Omega.{arith}
+use Rattle.format.specs.Octets.{Octets, Halves}
 use Rattle.format.specs.Events.{Name, Event, End, How, NameHow, Item, _by_, forEnd}
 use Rattle.format.specs.Tables.{StringTable, PREFIX, NAMESPACE-NAME, LOCAL-NAME, OTHER-NCNAME, ATTRIBUTE-VALUE, CONTENT-CHARACTER-CHUNK, OTHER-STRING, ELEMENT-NAME, ATTRIBUTE-NAME, Vocabulary, addingName, Limits}
 use Rattle.format.specs.Strings.{keeping, Identifying, id-spelled, id-numbered, Optional, absent, present, Layout, Literal, literal-spelled, literal-numbered, Value, value-empty, value}
@@ -18,19 +19,19 @@ use Rattle.theorems.proofs.Produced.{ranged-for}
 
 module _ {L : Limits} where
   -- ---- strings
-  id-words : {t : StringTable} {v w w′ : Vocabulary (List ℕ)} {x : List ℕ} {h h′ : How} {n n′ : ℕ} {o : List ℕ}
+  id-words : {t : StringTable} {v w w′ : Vocabulary Octets} {x : Octets} {h h′ : How} {n n′ : ℕ} {o : Octets}
       → Identifying L t v x h n o w → PermitsId t v x h′ n′ w′ → h ≡ h′ → (w ≡ w′) × (n ≡ n′)
   id-words (id-spelled sp first room) (id-new m) e = (refl, refl)
   id-words (id-spelled sp first room) (id-entry en) e = (cc, cc)
   id-words (id-numbered small en) (id-new m) e = (cc, cc)
   id-words (id-numbered small en) (id-entry en′) e = (refl, cc)
 
-  optional-words : {t : StringTable} {v w w′ : Vocabulary (List ℕ)} {x : Option (List ℕ)} {h h′ : Option How} {n n′ : ℕ} {o : List ℕ}
+  optional-words : {t : StringTable} {v w w′ : Vocabulary Octets} {x : Option Octets} {h h′ : Option How} {n n′ : ℕ} {o : Octets}
       → Optional L t v x h n o w → PermitsIfAny t v x h′ n′ w′ → h ≡ h′ → (w ≡ w′) × (n ≡ n′)
   optional-words absent not-there e = (refl, refl)
   optional-words (present u) (there c) e = id-words u c (cc)
 
-  literal-words : {C : Limits} {q : Layout} {t : StringTable} {v w : Vocabulary (List ℕ)} {x : List ℕ} {h : How} {o : List ℕ} {c : Chose How}
+  literal-words : {C : Limits} {q : Layout} {t : StringTable} {v w : Vocabulary Octets} {x : Octets} {h : How} {o : Octets} {c : Chose How}
       → Literal L q t v x h o w → LiteralCase C t v x c → h ≡ c .how → w ≡ c .tables
   literal-words {t = t} {v = v} {x = x} (literal-spelled {added = a} sp room) (lit-new {added = b} r) e = let y : a ≡ b = cc in λ j. keeping (y j) v t x
   literal-words (literal-spelled sp room) (lit-held en) e = cc
@@ -38,7 +39,7 @@ module _ {L : Limits} where
   literal-words (literal-numbered small fits en) (lit-held en′) e = refl
 
   -- an empty value adds nothing, and is no literal's choice
-  value-words : {C : Limits} {t : StringTable} {v w : Vocabulary (List ℕ)} {x : List ℕ} {h : How} {o : List ℕ} {c : Chose How}
+  value-words : {C : Limits} {t : StringTable} {v w : Vocabulary Octets} {x : Octets} {h : How} {o : Octets} {c : Chose How}
       → Value L t v x h o w → ValueCase C t v x c → h ≡ c .how → w ≡ c .tables
   value-words value-empty (is-empty z) e = refl
   value-words value-empty (is-literal long c) e = absurd (omega arith)
@@ -46,7 +47,7 @@ module _ {L : Limits} where
   value-words (value u) (is-literal long c) e = literal-words u c e
 
   -- ---- names: the numbers of the parts make the triple
-  named-words : {q : NameLayout} {lead : ℕ} {v w : Vocabulary (List ℕ)} {x : Name (List ℕ)} {h : NameHow} {o : List ℕ} {c : Chose NameHow}
+  named-words : {q : NameLayout} {lead : ℕ} {v w : Vocabulary Octets} {x : Name Octets} {h : NameHow} {o : Octets} {c : Chose NameHow}
       → Named L q lead v x h o w → NameCase (q .table) v x c → h ≡ c .how → w ≡ c .tables
   named-words {q} {v = v} {x = x} (in-parts lone up un ul first room) (name-new m) e =
       let p = chooseOptional PREFIX v (x .prefix) in
@@ -59,17 +60,17 @@ module _ {L : Limits} where
   named-words (by-number small fits en) (name-new m) e = cc
   named-words (by-number small fits en) (name-held en′ m) e = refl
 
-  element-words : {lead : ℕ} {v w : Vocabulary (List ℕ)} {x : Name (List ℕ)} {h : NameHow} {o : List ℕ}
+  element-words : {lead : ℕ} {v w : Vocabulary Octets} {x : Name Octets} {h : NameHow} {o : Octets}
       → Named L ofElement lead v x h o w → Ranged v → h ≡ chooseName ELEMENT-NAME v x .how → w ≡ chooseName ELEMENT-NAME v x .tables
   unfolding ofElement
   element-words {v = v} {x = x} u r e = named-words u (name-case ELEMENT-NAME v x r) e
 
-  attribute-words : {lead : ℕ} {v w : Vocabulary (List ℕ)} {x : Name (List ℕ)} {h : NameHow} {o : List ℕ}
+  attribute-words : {lead : ℕ} {v w : Vocabulary Octets} {x : Name Octets} {h : NameHow} {o : Octets}
       → Named L ofAttribute lead v x h o w → Ranged v → h ≡ chooseName ATTRIBUTE-NAME v x .how → w ≡ chooseName ATTRIBUTE-NAME v x .tables
   unfolding ofAttribute
   attribute-words {v = v} {x = x} u r e = named-words u (name-case ATTRIBUTE-NAME v x r) e
 
-  declared-words : {v w : Vocabulary (List ℕ)} {p n : Option (List ℕ)} {hp hn : Option How} {o : List ℕ} → Declared L v p n hp hn o w
+  declared-words : {v w : Vocabulary Octets} {p n : Option Octets} {hp hn : Option How} {o : Octets} → Declared L v p n hp hn o w
       → hp ≡ chooseOptional PREFIX v p .how → hn ≡ chooseOptional NAMESPACE-NAME (chooseOptional PREFIX v p .tables) n .how
       → w ≡ chooseOptional NAMESPACE-NAME (chooseOptional PREFIX v p .tables) n .tables
   declared-words {v = v} {p = p} {n = n} (declared up un) ep en =
@@ -78,7 +79,7 @@ module _ {L : Limits} where
 
   -- ---- items
   module _ (C : Limits) where
-    octets-words : {v w : State (List ℕ)} {i : Item (List ℕ)} {o : List ℕ} → ItemWrittenAs L v i o w → Ranged (v .tables)
+    octets-words : {v w : State Octets} {i : Item Octets} {o : Octets} → ItemWrittenAs L v i o w → Ranged (v .tables)
         → i .choice ≡ chooseFor C (v .tables) (i .event) .how → w .tables ≡ chooseFor C (v .tables) (i .event) .tables
     unfolding chooseFor
     octets-words (o-start a md may deep u) r e = element-words u r (cc)
@@ -95,7 +96,7 @@ module _ {L : Limits} where
         value-words (rw (a .0) at u2) (value-case C OTHER-STRING (chooseId OTHER-NCNAME (v .tables) x .tables) y) (cc)
 
     -- a list of them; the tables are said to be u, so that each step can name them by the choices
-    from-items : {at : ℕ} {v w : State (List ℕ)} {u : Vocabulary (List ℕ)} {items : List (Item (List ℕ))} {hs : List ℕ} (es : List (Event (List ℕ)))
+    from-items : {at : ℕ} {v w : State Octets} {u : Vocabulary Octets} {items : List (Item Octets)} {hs : Halves} (es : List (Event Octets))
         → Begun L at v items hs w → v .tables ≡ u → Ranged u → items ≡ chosen C u es → w .tables ≡ tablesAfter C u es
     unfolding chosen tablesAfter chooseFor
     from-items [] begun q r e = q
@@ -106,12 +107,12 @@ module _ {L : Limits} where
     from-items (x ∷ es) (after-attributes md b) q r e = from-items (x ∷ es) b q r e
     from-items {u = u} (x ∷ es) (after-end md lv b) q r e =
         let y : (End by forEnd) ≡ (x by chooseFor C u x .how) = cc in
-        from-items es b (q ∙ ap (λ (i : Item (List ℕ)). chooseFor C u (i .event) .tables) y) (ranged-for C u x r) (cc)
+        from-items es b (q ∙ ap (λ (i : Item Octets). chooseFor C u (i .event) .tables) y) (ranged-for C u x r) (cc)
     from-items {u = u} (x ∷ es) (after-item {i = i} o b) q r e =
         let y : i ≡ (x by chooseFor C u x .how) = cc in
         let p = octets-words (rw y at o) (rw q r) (rw q) in
         from-items es b (rw q at p) (ranged-for C u x r) (cc)
 
-    pub begun-words : {at : ℕ} {v w : State (List ℕ)} {hs : List ℕ} (es : List (Event (List ℕ)))
+    pub begun-words : {at : ℕ} {v w : State Octets} {hs : Halves} (es : List (Event Octets))
         → Begun L at v (chosen C (v .tables) es) hs w → Ranged (v .tables) → w .tables ≡ tablesAfter C (v .tables) es
     begun-words es b r = from-items es b refl r refl

@@ -9,6 +9,7 @@ use borrow.Author.Tests.{lt-ltb, le-ltb, eq-eqb, eqb-true}
 use lib.Dec.{eqb}
 use lib.ListN.{length, getD, drop, length-append, length-drop, replicate}
 use lib.Seq.{drop-cons, drop-length}
+use Rattle.format.specs.Octets.{Octets, Halves}
 use Rattle.format.specs.Numbers.{spell, lengths, longest}
 use Rattle.format.specs.Events.{Name, How, NameHow, End, forEnd, Item, _by_, eventMap}
 use Rattle.format.specs.Tables.{StringTable, Vocabulary, Limits}
@@ -33,19 +34,19 @@ NotShort (accepted is m) = Unit {0}
 NotShort (refusal c p) = c ≡ 14 → ⊥
 
 module _ {L : Limits} where
-  named-some : {q : NameLayout} {lead : ℕ} {v w : Vocabulary (List ℕ)} {x : Name (List ℕ)} {h : NameHow} {o : List ℕ} → Named L q lead v x h o w → 0 < length o
+  named-some : {q : NameLayout} {lead : ℕ} {v w : Vocabulary Octets} {x : Name Octets} {h : NameHow} {o : Octets} → Named L q lead v x h o w → 0 < length o
   named-some (in-parts paired up un ul new room) = omega arith
   named-some {q} {lead} (by-number {k = k} small fits en) = some-first (q .numberForms) lead k fits
 
-  declared-some : {v w : Vocabulary (List ℕ)} {p n : Option (List ℕ)} {hp hn : Option How} {o : List ℕ} → Declared L v p n hp hn o w → 0 < length o
+  declared-some : {v w : Vocabulary Octets} {p n : Option Octets} {hp hn : Option How} {o : Octets} → Declared L v p n hp hn o w → 0 < length o
   declared-some (declared up un) = omega arith
 
-  literal-some : {q : Layout} {t : StringTable} {v w : Vocabulary (List ℕ)} {x : List ℕ} {h : How} {o : List ℕ} → Literal L q t v x h o w → 0 < length o
+  literal-some : {q : Layout} {t : StringTable} {v w : Vocabulary Octets} {x : Octets} {h : How} {o : Octets} → Literal L q t v x h o w → 0 < length o
   literal-some {q} (literal-spelled {x = x} {added = a} sp room) =
       let p = sp .some in let l = length-append (spell (lengths (q .lengthBit)) (q .spelledBits + q .addBit * bit a) (length x - 1)) x in omega arith
   literal-some {q} (literal-numbered {k = k} small fits en) = some-first (q .numberForms) (q .numberedBits) k fits
 
-  octets-some : {v w : State (List ℕ)} {i : Item (List ℕ)} {o : List ℕ} → ItemWrittenAs L v i o w → (0 < length o) × (w .level ≤ suc (v .level))
+  octets-some : {v w : State Octets} {i : Item Octets} {o : Octets} → ItemWrittenAs L v i o w → (0 < length o) × (w .level ≤ suc (v .level))
   octets-some (o-start a md may deep u) = (named-some u, omega arith)
   octets-some (o-first-namespace md may deep u) = (omega arith, omega arith)
   octets-some (o-namespace md u) = (declared-some u, omega arith)
@@ -56,9 +57,9 @@ module _ {L : Limits} where
   octets-some (o-instruction md u1 u2) = (omega arith, omega arith)
 
 -- ---- what is read is what the rules write
-module _ (L : Limits) (s : List ℕ) (bytes : (i : ℕ) → getD s i 0 < 256) (short : length s ≤ longest) where
+module _ (L : Limits) (s : Octets) (bytes : (i : ℕ) → getD s i 0 < 256) (short : length s ≤ longest) where
   -- from where the reader stands, the items and the document's end are written as the halves left
-  abbrev pub Rest : Stand → List (Item (List ℕ)) → State (List ℕ) → Type 0
+  abbrev pub Rest : Stand → List (Item Octets) → State Octets → Type 0
   Rest m items z = Written L (m .at) (plainState s (m .state)) items (drop (m .at) (halves s)) z
 
   -- what is left to read, where an element that is open counts half of an octet's half: 3 for each event that can still come
@@ -68,8 +69,8 @@ module _ (L : Limits) (s : List ℕ) (bytes : (i : ℕ) → getD s i 0 < 256) (s
   -- if the rest is what the rules write, so is this step and the rest; the reader stays inside, and there is less left to read
   abbrev pub Fine : Stand → Step → Type 0
   Fine m (more p i n) =
-      ((items : List (Item (List ℕ))) (z : State (List ℕ)) → Rest n items z → Rest m (plain s i ∷ items) z) × (n .at ≤ 2 * length s) × (3 + left n ≤ left m) × (p ≤ length s)
-  Fine m (quiet n) = ((items : List (Item (List ℕ))) (z : State (List ℕ)) → Rest n items z → Rest m items z) × (n .at ≤ 2 * length s) × (2 + left n ≤ left m)
+      ((items : List (Item Octets)) (z : State Octets) → Rest n items z → Rest m (plain s i ∷ items) z) × (n .at ≤ 2 * length s) × (3 + left n ≤ left m) × (p ≤ length s)
+  Fine m (quiet n) = ((items : List (Item Octets)) (z : State Octets) → Rest n items z → Rest m items z) × (n .at ≤ 2 * length s) × (2 + left n ≤ left m)
   Fine m done = Rest m [] (plainState s (m .state))
   Fine m (stop c p) = Fault s c p
 
@@ -82,14 +83,14 @@ module _ (L : Limits) (s : List ℕ) (bytes : (i : ℕ) → getD s i 0 < 256) (s
       let d : drop (m .at) (halves s) ≡ pad (m .at) ++ (halves o ++ drop (n .at) (halves s)) =
       pads-sound s (m .at) t
       ∙ ap (λ (x : ℕ). pad (m .at) ++ drop x (halves s)) (sym a)
-      ∙ ap (λ (l : List ℕ). pad (m .at) ++ l) (halves-sound s k o (k + length o) (w .here) ∙ ap (λ (x : ℕ). halves o ++ drop x (halves s)) (sym (w .next))) in
+      ∙ ap (λ (l : Octets). pad (m .at) ++ l) (halves-sound s k o (k + length o) (w .here) ∙ ap (λ (x : ℕ). halves o ++ drop x (halves s)) (sym (w .next))) in
       let e = octets-some (w .rule) in
       let some = e .0 in
       let lev = e .1 in
       let ins = w .inside in
       let al = aligned-ge (m .at) in (
         λ items y u.
-            subst (λ (l : List ℕ). Written L (m .at) (plainState s (m .state)) (plain s i ∷ items) l y) (sym d)
+            subst (λ (l : Octets). Written L (m .at) (plainState s (m .state)) (plain s i ∷ items) l y) (sym d)
             (item (w .rule) (subst (λ (x : ℕ). Written L x (plainState s (n .state)) items (drop (n .at) (halves s)) y) z u)),
         omega arith,
         omega arith,
@@ -112,10 +113,10 @@ module _ (L : Limits) (s : List ℕ) (bytes : (i : ℕ) → getD s i 0 < 256) (s
       λ t3. test (Fine m) (stop 15 (aligned (suc (m .at)) / 2)) (fault s 15 (aligned (suc (m .at)) / 2) refl k3) (eqb (aligned (suc (m .at))) (2 * length s)) _
       λ t4.
       let over : aligned (suc (m .at)) ≡ length (halves s) = eqb-true _ _ t4 ∙ sym (halves-length s) in
-      subst (λ (l : List ℕ). Written L (m .at) (plainState s (m .state)) [] l (plainState s (m .state)))
-      (sym (d ∙ ap (λ (l : List ℕ). 15 ∷ l) (pads-sound s (suc (m .at)) t3
+      subst (λ (l : Octets). Written L (m .at) (plainState s (m .state)) [] l (plainState s (m .state)))
+      (sym (d ∙ ap (λ (l : Octets). 15 ∷ l) (pads-sound s (suc (m .at)) t3
       ∙ ap (λ (x : ℕ). pad (suc (m .at)) ++ drop x (halves s)) over
-      ∙ ap (λ (l : List ℕ). pad (suc (m .at)) ++ l) (drop-length (halves s))
+      ∙ ap (λ (l : Octets). pad (suc (m .at)) ++ l) (drop-length (halves s))
       ∙ append-nil (pad (suc (m .at))))))
       (document-end q l t2)
 
@@ -127,7 +128,7 @@ module _ (L : Limits) (s : List ℕ) (bytes : (i : ℕ) → getD s i 0 < 256) (s
       let d = ends-sound s (m .at) t in
       let ah = drop-head (halves s) (m .at) 15 (drop (suc (m .at)) (halves s)) d .0 in
       let hl = halves-length s in (
-        λ items y u. subst (λ (l : List ℕ). Written L (m .at) (plainState s (m .state)) items l y) (sym d) (attributes-end q u),
+        λ items y u. subst (λ (l : Octets). Written L (m .at) (plainState s (m .state)) items l y) (sym d) (attributes-end q u),
         omega arith,
         omega arith,
       )
@@ -137,7 +138,7 @@ module _ (L : Limits) (s : List ℕ) (bytes : (i : ℕ) → getD s i 0 < 256) (s
       let hl = halves-length s in
       either-lt (Fine m) 0 (m .state .level) _ _
       (λ t1. (
-        λ items y u. subst (λ (l : List ℕ). Written L (m .at) (plainState s (m .state)) ((End by forEnd) ∷ items) l y) (sym d) (element-end q t1 u),
+        λ items y u. subst (λ (l : Octets). Written L (m .at) (plainState s (m .state)) ((End by forEnd) ∷ items) l y) (sym d) (element-end q t1 u),
         omega arith,
         omega arith,
         omega arith,
@@ -227,7 +228,7 @@ module _ (L : Limits) (s : List ℕ) (bytes : (i : ℕ) → getD s i 0 < 256) (s
       turn-not-short (λ r n. run L s fuel r n) (λ n. trace L s fuel n) (λ r n l k. run-not-short fuel r n l k) room m (step L s m) (step-fine m ml) h
 
 -- ---- room
-abbrev pub placesOf : List Mark → List ℕ
+abbrev pub placesOf : List Mark → Octets
 placesOf = map (λ (k : Mark). k .place)
 
 module _ (run₁ : ℕ → Stand → Result) (trace₁ : Stand → List Mark) where
@@ -247,7 +248,7 @@ module _ (run₁ : ℕ → Stand → Result) (trace₁ : Stand → List Mark) wh
   turn-enough rec room m done h = refl
   turn-enough rec room m (stop c p) h = refl
 
-module _ (L : Limits) (s : List ℕ) where
+module _ (L : Limits) (s : Octets) where
   -- the first event without a record is refused at its place
   pub room-short : (fuel room : ℕ) (m : Stand) → room < length (trace L s fuel m) → run L s fuel room m ≡ refusal 14 (getD (placesOf (trace L s fuel m)) room 0)
   unfolding run trace
@@ -261,7 +262,7 @@ module _ (L : Limits) (s : List ℕ) where
   room-enough (suc fuel) room m h = turn-enough (λ r n. run L s fuel r n) (λ n. trace L s fuel n) (λ r n y. room-enough fuel r n y) room m (step L s m) h
 
 -- ---- what the rules write is read
-no-end : (n h : ℕ) (t u : List ℕ) → h < 15 → replicate n 0 ++ (h ∷ t) ≡ 15 ∷ u → ⊥
+no-end : (n h : ℕ) (t u : Octets) → h < 15 → replicate n 0 ++ (h ∷ t) ≡ 15 ∷ u → ⊥
 no-end zero h t u l e = let z : h ≡ 15 = cc in omega arith
 no-end (suc n) h t u l e = let z : _≡_ {A = ℕ} 0 15 = cc in omega arith
 
@@ -269,7 +270,7 @@ and-false : (a b : Bool) → (a ≡ true → b ≡ false) → (a && b) ≡ false
 and-false true b f = f refl
 and-false false b f = refl
 
-module _ (L : Limits) (s : List ℕ) where
+module _ (L : Limits) (s : Octets) where
   -- an item's first half is no end, where an end could stand
   not-end : (at k : ℕ) → 2 * k ≡ aligned at → k < length s → getD s k 0 < 0xF0 → padsAt s at ≡ true → endsAt s at ≡ false
   unfolding halves pad
@@ -279,11 +280,11 @@ module _ (L : Limits) (s : List ℕ) where
       let d : drop at (halves s) ≡ pad at ++ (getD s k 0 / 16 ∷ (getD s k 0 % 16 ∷ halves (drop (suc k) s))) =
       pads-sound s at t
       ∙ ap (λ (x : ℕ). pad at ++ drop x (halves s)) (sym z)
-      ∙ ap (λ (x : List ℕ). pad at ++ x) (halves-drop k s ∙ ap halves (drop-cons s k 0 h)) in
+      ∙ ap (λ (x : Octets). pad at ++ x) (halves-drop k s ∙ ap halves (drop-cons s k 0 h)) in
       no-end (at % 2) (getD s k 0 / 16) (getD s k 0 % 16 ∷ halves (drop (suc k) s)) (drop (suc at) (halves s)) (omega arith) (sym d ∙ ends-sound s at u)
 
   -- l is where the item's strings are spelled
-  record Next (m : Stand) (i : Item (List ℕ)) (at : ℕ) (w : State (List ℕ)) (l : List Located) : Type 0 where
+  record Next (m : Stand) (i : Item Octets) (at : ℕ) (w : State Octets) (l : List Located) : Type 0 where
     place : ℕ
     found : Item Located
     n : Stand
@@ -293,12 +294,12 @@ module _ (L : Limits) (s : List ℕ) where
     stands : n .at ≡ at
     state : plainState s (n .state) ≡ w
 
-  abbrev NextIf : Stand → Item (List ℕ) → List ℕ → State (List ℕ) → List ℕ → State (List ℕ) → Type 0
+  abbrev NextIf : Stand → Item Octets → Octets → State Octets → Octets → State Octets → Type 0
   NextIf m i o w hs v =
       (u : ItemWrittenAs L v i o w) → drop (m .at) (halves s) ≡ pad (m .at) ++ (halves o ++ hs)
       → Next m i (aligned (m .at) + 2 * length o) w (inItem (aligned (m .at) / 2) u) × (drop (aligned (m .at) + 2 * length o) (halves s) ≡ hs) × (0 < length o)
 
-  item-next : (m : Stand) (i : Item (List ℕ)) (o : List ℕ) (w : State (List ℕ)) (hs : List ℕ) → NextIf m i o w hs (plainState s (m .state))
+  item-next : (m : Stand) (i : Item Octets) (o : Octets) (w : State Octets) (hs : Halves) → NextIf m i o w hs (plainState s (m .state))
   unfolding step
   item-next m i o w hs u d =
       let at : ℕ = m .at in
@@ -316,7 +317,7 @@ module _ (L : Limits) (s : List ℕ) where
         c .some,
       )
 
-  module _ (m : Stand) (hs : List ℕ) (d : drop (m .at) (halves s) ≡ 15 ∷ hs) where
+  module _ (m : Stand) (hs : Halves) (d : drop (m .at) (halves s) ≡ 15 ∷ hs) where
     at-end : endsAt s (m .at) ≡ true
     at-end = ends-complete s (m .at) hs d
 
@@ -349,7 +350,7 @@ module _ (L : Limits) (s : List ℕ) where
       rw (md, at-end m (pad (suc at)) d, le-ltb 0 (m .state .level) (omega arith), r, q .0, eq-eqb (aligned (suc at)) (2 * length s) over)
 
   -- a run with room for every event; what is known after each, and where the strings are spelled
-  pub record Reads (fuel room : ℕ) (m : Stand) (items : List (Item (List ℕ))) (z : State (List ℕ)) (after : List (State (List ℕ))) (l : List Located) : Type 0 where
+  pub record Reads (fuel room : ℕ) (m : Stand) (items : List (Item Octets)) (z : State Octets) (after : List (State Octets)) (l : List Located) : Type 0 where
     pub events : List (Item Located)
     pub last : Stand
     pub runs : run L s fuel room m ≡ accepted events last
@@ -358,7 +359,7 @@ module _ (L : Limits) (s : List ℕ) where
     pub known : map (λ (k : Mark). plainState s (k .stand .state)) (trace L s fuel m) ≡ after
     pub spells : allSpelled events ≡ l
 
-  go-on : (fuel room : ℕ) (m n : Stand) (p : ℕ) (f : Item Located) (i : Item (List ℕ)) (items : List (Item (List ℕ))) (z w : State (List ℕ)) (after : List (State (List ℕ))) (l r : List Located) → step L s m ≡ more p f n → plain s f ≡ i → itemSpelled f ≡ l → plainState s (n .state) ≡ w
+  go-on : (fuel room : ℕ) (m n : Stand) (p : ℕ) (f : Item Located) (i : Item Octets) (items : List (Item Octets)) (z w : State Octets) (after : List (State Octets)) (l r : List Located) → step L s m ≡ more p f n → plain s f ≡ i → itemSpelled f ≡ l → plainState s (n .state) ≡ w
       → Reads fuel room n items z after r → Reads (suc fuel) (suc room) m (i ∷ items) z (w ∷ after) (l ++ r)
   unfolding run trace allSpelled
   go-on fuel room m n p f i items z w after l l′ e q sp st r =
@@ -366,17 +367,17 @@ module _ (L : Limits) (s : List ℕ) where
         events = f ∷ r .events;
         last = r .last;
         runs = rw (e, r .runs);
-        are = ap₂ (λ (a : Item (List ℕ)) (l : List (Item (List ℕ))). a ∷ l) q (r .are);
+        are = ap₂ (λ (a : Item Octets) (l : List (Item Octets)). a ∷ l) q (r .are);
         end-is = r .end-is;
-        known = rw e (ap₂ (λ (a : State (List ℕ)) (l : List (State (List ℕ))). a ∷ l) st (r .known));
+        known = rw e (ap₂ (λ (a : State Octets) (l : List (State Octets)). a ∷ l) st (r .known));
         spells = ap₂ (λ (a b : List Located). a ++ b) sp (r .spells);
       }
 
-  go-over : (fuel room : ℕ) (m n : Stand) (items : List (Item (List ℕ))) (z : State (List ℕ)) (after : List (State (List ℕ))) (l : List Located) → step L s m ≡ quiet n → Reads fuel room n items z after l → Reads (suc fuel) room m items z after l
+  go-over : (fuel room : ℕ) (m n : Stand) (items : List (Item Octets)) (z : State Octets) (after : List (State Octets)) (l : List Located) → step L s m ≡ quiet n → Reads fuel room n items z after l → Reads (suc fuel) room m items z after l
   unfolding run trace
   go-over fuel room m n items z after l e r = record { events = r .events; last = r .last; runs = rw e (r .runs); are = r .are; end-is = r .end-is; known = rw e (r .known); spells = r .spells }
 
-  pub run-complete : {at : ℕ} {v z : State (List ℕ)} {items : List (Item (List ℕ))} {hs : List ℕ} (written : Written L at v items hs z) (m : Stand) (fuel room : ℕ) → m .at ≡ at → plainState s (m .state) ≡ v
+  pub run-complete : {at : ℕ} {v z : State Octets} {items : List (Item Octets)} {hs : Halves} (written : Written L at v items hs z) (m : Stand) (fuel room : ℕ) → m .at ≡ at → plainState s (m .state) ≡ v
       → drop at (halves s) ≡ hs → length hs ≤ fuel → length items ≤ room → Reads fuel room m items z (knownAfter L written) (spelledIn written)
   unfolding run trace eventMap knownAfter spelledIn allSpelled
   run-complete (document-end md lv rt) m zero room a k d f g = absurd (omega arith)
@@ -384,22 +385,22 @@ module _ (L : Limits) (s : List ℕ) where
       record {
         events = [];
         last = m;
-        runs = rw (done-next m (ap (λ (x : State (List ℕ)). x .mode) k ∙ md) (ap (λ (x : State (List ℕ)). x .level) k ∙ lv) (ap (λ (x : State (List ℕ)). x .root) k ∙ rt) (rw a d));
+        runs = rw (done-next m (ap (λ (x : State Octets). x .mode) k ∙ md) (ap (λ (x : State Octets). x .level) k ∙ lv) (ap (λ (x : State Octets). x .root) k ∙ rt) (rw a d));
         are = refl;
         end-is = k;
-        known = rw (done-next m (ap (λ (x : State (List ℕ)). x .mode) k ∙ md) (ap (λ (x : State (List ℕ)). x .level) k ∙ lv) (ap (λ (x : State (List ℕ)). x .root) k ∙ rt) (rw a d));
+        known = rw (done-next m (ap (λ (x : State Octets). x .mode) k ∙ md) (ap (λ (x : State Octets). x .level) k ∙ lv) (ap (λ (x : State Octets). x .root) k ∙ rt) (rw a d));
         spells = refl;
       }
   run-complete (attributes-end md w) m zero room a k d f g = absurd (omega arith)
   run-complete (attributes-end {z = y} {items = items} {hs = hs} md w) m (suc fuel) room a k d f g =
-      go-over fuel room m _ items y _ _ (quiet-next m hs (rw a d) (ap (λ (x : State (List ℕ)). x .mode) k ∙ md))
-      (run-complete w (record { at = suc (m .at); state = moved (m .state) (m .state .tables) content }) fuel room (ap suc a) (ap (λ (x : State (List ℕ)). moved x (x .tables) content) k) (rw a at (past-end m hs (rw a d))) (omega arith) g)
+      go-over fuel room m _ items y _ _ (quiet-next m hs (rw a d) (ap (λ (x : State Octets). x .mode) k ∙ md))
+      (run-complete w (record { at = suc (m .at); state = moved (m .state) (m .state .tables) content }) fuel room (ap suc a) (ap (λ (x : State Octets). moved x (x .tables) content) k) (rw a at (past-end m hs (rw a d))) (omega arith) g)
   run-complete (element-end md lv w) m zero room a k d f g = absurd (omega arith)
   run-complete (element-end md lv w) m (suc fuel) zero a k d f g = absurd (omega arith)
   run-complete (element-end {z = y} {items = items} {hs = hs} md lv w) m (suc fuel) (suc room) a k d f g =
-      let z = ap (λ (x : State (List ℕ)). x .level) k in
-      go-on fuel room m (ended m hs (rw a d)) (m .at / 2) (End by forEnd) (End by forEnd) items y _ _ [] _ (end-next m hs (rw a d) (ap (λ (x : State (List ℕ)). x .mode) k ∙ md) (omega arith)) refl refl (ap (λ (x : State (List ℕ)). closed x) k)
-      (run-complete w (ended m hs (rw a d)) fuel room (ap suc a) (ap (λ (x : State (List ℕ)). closed x) k) (rw a at (past-end m hs (rw a d))) (omega arith) (omega arith))
+      let z = ap (λ (x : State Octets). x .level) k in
+      go-on fuel room m (ended m hs (rw a d)) (m .at / 2) (End by forEnd) (End by forEnd) items y _ _ [] _ (end-next m hs (rw a d) (ap (λ (x : State Octets). x .mode) k ∙ md) (omega arith)) refl refl (ap (λ (x : State Octets). closed x) k)
+      (run-complete w (ended m hs (rw a d)) fuel room (ap suc a) (ap (λ (x : State Octets). closed x) k) (rw a at (past-end m hs (rw a d))) (omega arith) (omega arith))
   run-complete (item {at = at} {w = v} {i = i} {o = o} {hs = hs} u w) m zero room a k d f g =
       let t = subst (NextIf m i o v hs) k (item-next m i o v hs) u (rw a d) in
       let l1 = length-append (pad at) (halves o ++ hs) in

@@ -3,12 +3,13 @@ use mathlib.Core.Path.{_≡_, refl, sym, ap₂, subst}
 use mathlib.Core.Bool.{Bool, true, not, _&&_, _||_, or-true}
 use mathlib.Core.Option.{Option, none, some, Option·map}
 use mathlib.Core.List.{List, [], _∷_, _++_, append-assoc}
-use Prim.Native.Nat.{ℕ, _+_, _-_, _≤_}
+use Prim.Native.Nat.{_+_, _-_, _≤_}
 use native.Mathlib.Omega.{arith}
 use borrow.Author.Tests.{ltb-true, leb-true, lt-ltb, le-leb}
 use lib.Dec.{ltb, leb}
 use lib.ListN.{length, drop, length-take, length-drop}
 use lib.Seq.{length-take-le}
+use Rattle.format.specs.Octets.{Octets}
 use Rattle.format.specs.Numbers.{longest}
 use Rattle.format.specs.Text.{isText}
 use Rattle.format.specs.Events as E
@@ -44,7 +45,7 @@ absent-is XmlPrefix e = clash e
 absent-is XmlNamespace e = clash e
 
 -- ---- the writer's test of a record, and what 01 says of it
-module _ (s : List ℕ) where
+module _ (s : Octets) where
   stretch-is : (x : EventString) → isStretch s x ≡ true → IsStretch s x
   stretch-is Absent e = clash e
   stretch-is Empty e = clash e
@@ -192,14 +193,14 @@ module _ (s : List ℕ) where
 
 -- ---- the strings of an event, by its kind
 -- What holds of a string, if there is one; of the strings of a name; of those of an event.
-abbrev pub IfAny : (List ℕ → Type 0) → Option (List ℕ) → Type 0
+abbrev pub IfAny : (Octets → Type 0) → Option Octets → Type 0
 IfAny P none = Unit {0}
 IfAny P (some x) = P x
 
-abbrev pub EachOfName : (List ℕ → Type 0) → Name (List ℕ) → Type 0
+abbrev pub EachOfName : (Octets → Type 0) → Name Octets → Type 0
 EachOfName P x = IfAny P (x .prefix) × IfAny P (x .namespace) × P (x .local)
 
-abbrev pub Each : (List ℕ → Type 0) → E.Event (List ℕ) → Type 0
+abbrev pub Each : (Octets → Type 0) → E.Event Octets → Type 0
 Each P (E.Namespace p n) = IfAny P p × IfAny P n
 Each P (E.Start x) = EachOfName P x
 Each P (E.Attribute x y) = EachOfName P x × P y
@@ -208,33 +209,33 @@ Each P (E.Comment y) = P y
 Each P (E.Instruction x y) = P x × P y
 Each P E.End = Unit {0}
 
-module _ (P : List ℕ → Type 0) where
-  any-last : (x : Option (List ℕ)) → All P (ifAny x) → IfAny P x
+module _ (P : Octets → Type 0) where
+  any-last : (x : Option Octets) → All P (ifAny x) → IfAny P x
   any-last none a = tt
   any-last (some x) a = a .0
 
-  any-first : (x : Option (List ℕ)) (l : List (List ℕ)) → All P (ifAny x ++ l) → IfAny P x × All P l
+  any-first : (x : Option Octets) (l : List Octets) → All P (ifAny x ++ l) → IfAny P x × All P l
   any-first none l a = (tt, a)
   any-first (some x) l a = a
 
-  last-any : (x : Option (List ℕ)) → IfAny P x → All P (ifAny x)
+  last-any : (x : Option Octets) → IfAny P x → All P (ifAny x)
   last-any none a = tt
   last-any (some x) a = (a, tt)
 
-  first-any : (x : Option (List ℕ)) (l : List (List ℕ)) → IfAny P x → All P l → All P (ifAny x ++ l)
+  first-any : (x : Option Octets) (l : List Octets) → IfAny P x → All P l → All P (ifAny x ++ l)
   first-any none l a b = b
   first-any (some x) l a b = (a, b)
 
-  name-first : (x : Name (List ℕ)) (l : List (List ℕ)) → All P (ifAny (x .prefix) ++ (ifAny (x .namespace) ++ (x .local ∷ l))) → EachOfName P x × All P l
+  name-first : (x : Name Octets) (l : List Octets) → All P (ifAny (x .prefix) ++ (ifAny (x .namespace) ++ (x .local ∷ l))) → EachOfName P x × All P l
   name-first x l a =
       let b = any-first (x .prefix) _ a in
       let c = any-first (x .namespace) _ (b .1) in
       ((b .0, c .0, c .1 .0), c .1 .1)
 
-  first-name : (x : Name (List ℕ)) (l : List (List ℕ)) → EachOfName P x → All P l → All P (ifAny (x .prefix) ++ (ifAny (x .namespace) ++ (x .local ∷ l)))
+  first-name : (x : Name Octets) (l : List Octets) → EachOfName P x → All P l → All P (ifAny (x .prefix) ++ (ifAny (x .namespace) ++ (x .local ∷ l)))
   first-name x l a b = first-any (x .prefix) _ (a .0) (first-any (x .namespace) _ (a .1) (a .2, b))
 
-  pub by-kind : (e : E.Event (List ℕ)) → All P (stringsOf e) → Each P e
+  pub by-kind : (e : E.Event Octets) → All P (stringsOf e) → Each P e
   unfolding stringsOf
   by-kind (E.Namespace p n) a = let b = any-first p (ifAny n) a in (b .0, any-last n (b .1))
   by-kind (E.Start x) a = name-first x [] a .0
@@ -244,7 +245,7 @@ module _ (P : List ℕ → Type 0) where
   by-kind (E.Instruction x y) a = (a .0, a .1 .0)
   by-kind E.End a = tt
 
-  pub in-order : (e : E.Event (List ℕ)) → Each P e → All P (stringsOf e)
+  pub in-order : (e : E.Event Octets) → Each P e → All P (stringsOf e)
   unfolding stringsOf
   in-order (E.Namespace p n) a = first-any p (ifAny n) (a .0) (last-any n (a .1))
   in-order (E.Start x) a = first-name x [] a tt
@@ -255,24 +256,24 @@ module _ (P : List ℕ → Type 0) where
   in-order E.End a = tt
 
 -- ---- strings that are allowed can be spelled, if they are not too long
-abbrev pub Short : List ℕ → Type 0
+abbrev pub Short : Octets → Type 0
 Short x = length x ≤ longest
 
-said-one : (x : List ℕ) → A.Said x → Short x → Spelling x
+said-one : (x : Octets) → A.Said x → Short x → Spelling x
 said-one x a b = record { some = a .0; fits = b; formed = a .1 }
 
-said-some : (x : List ℕ) → isText x ≡ true → Short x → SpellingIfSome x
+said-some : (x : Octets) → isText x ≡ true → Short x → SpellingIfSome x
 said-some x a b h = record { some = h; fits = b; formed = a }
 
-said-any : (x : Option (List ℕ)) → SaidIfAny x → IfAny Short x → SpellingIfAny x
+said-any : (x : Option Octets) → SaidIfAny x → IfAny Short x → SpellingIfAny x
 said-any none a b = tt
 said-any (some x) a b = said-one x a b
 
-said-name : (x : Name (List ℕ)) → AllowedName x → EachOfName Short x → NameSaid x
+said-name : (x : Name Octets) → AllowedName x → EachOfName Short x → NameSaid x
 said-name x a b =
     record { prefix = said-any (x .prefix) (a .prefix) (b .0); namespace = said-any (x .namespace) (a .namespace) (b .1); local = said-one (x .local) (a .local) (b .2); pair = a .not-alone }
 
-pub said : (e : E.Event (List ℕ)) → Allowed e → Each Short e → Said e
+pub said : (e : E.Event Octets) → Allowed e → Each Short e → Said e
 said (E.Namespace p n) a b = (said-any p (a .0) (b .0), said-any n (a .1) (b .1))
 said (E.Start x) a b = said-name x a b
 said (E.Attribute x y) a b = (said-name x (a .0) (b .0), said-some y (a .1) (b .1))
@@ -281,18 +282,18 @@ said (E.Comment y) a b = said-some y a b
 said (E.Instruction x y) a b = (said-one x (a .0) (b .0), said-some y (a .1) (b .1))
 said E.End a b = tt
 
-abbrev pub IsText : List ℕ → Type 0
+abbrev pub IsText : Octets → Type 0
 IsText x = isText x ≡ true
 
 -- and they are text
-any-is-text : (x : Option (List ℕ)) → SaidIfAny x → IfAny IsText x
+any-is-text : (x : Option Octets) → SaidIfAny x → IfAny IsText x
 any-is-text none a = tt
 any-is-text (some x) a = a .1
 
-name-is-text : (x : Name (List ℕ)) → AllowedName x → EachOfName IsText x
+name-is-text : (x : Name Octets) → AllowedName x → EachOfName IsText x
 name-is-text x a = (any-is-text (x .prefix) (a .prefix), any-is-text (x .namespace) (a .namespace), a .local .1)
 
-pub allowed-text : (e : E.Event (List ℕ)) → Allowed e → Each IsText e
+pub allowed-text : (e : E.Event Octets) → Allowed e → Each IsText e
 allowed-text (E.Namespace p n) a = (any-is-text p (a .0), any-is-text n (a .1))
 allowed-text (E.Start x) a = name-is-text x a
 allowed-text (E.Attribute x y) a = (name-is-text x (a .0), a .1)
@@ -302,8 +303,8 @@ allowed-text (E.Instruction x y) a = (a .0 .1, a .1)
 allowed-text E.End a = tt
 
 -- ---- the strings of a record over a text area
-module _ (text : List ℕ) where
-  abbrev f : Located → List ℕ
+module _ (text : Octets) where
+  abbrev f : Located → Octets
   f = octetsOf text
 
   -- the writer's test of them
@@ -389,7 +390,7 @@ module _ (text : List ℕ) where
   namespace-said xml-namespace t = (omega arith, t)
   namespace-said (a-namespace (inside h k)) t = stretch-said (inside h k) t
 
-  one-or-none : (x : Option (List ℕ)) → has x ≤ 1
+  one-or-none : (x : Option Octets) → has x ≤ 1
   one-or-none none = omega arith
   one-or-none (some x) = omega arith
 

@@ -9,6 +9,7 @@ use borrow.Author.Tests.{lt-ltb, le-ltb, le-leb, eq-eqb, ne-eqb, ltb-true}
 use lib.Dec.{ltb}
 use lib.ListN.{length, getD, drop, length-append, List·getD-eq-default}
 use lib.Seq.{drop-cons}
+use Rattle.format.specs.Octets.{Octets}
 use Rattle.format.specs.Numbers.{coded, spell, sizes, lengths, numbers, c25, top, longest}
 use Rattle.format.specs.Events.{How, spelled, numbered}
 use Rattle.format.specs.Tables.{StringTable, Vocabulary, strings, adding, holds, Entry, Limits}
@@ -30,13 +31,13 @@ long-enough : (bit : ℕ) → longest ≤ sizes (lengths bit)
 unfolding sizes lengths coded
 long-enough bit = omega arith
 
-module _ (s : List ℕ) where
+module _ (s : Octets) where
   -- entry n of a table, both ways
   entry-sound : (v : Vocabulary Located) (t : StringTable) (n k : ℕ) → n ≡ suc k → n ≤ length (strings v t) → Entry (strings (plainTables s v) t) k [] (octetsOf s (getD (strings v t) (n - 1) empty))
   unfolding octetsOf
   entry-sound v t n k e h = let z : n - 1 ≡ k = omega arith in rw z (entry-map (octetsOf s) v t k empty (omega arith))
 
-  entry-complete : (v : Vocabulary Located) (t : StringTable) (k : ℕ) (x : List ℕ) → Entry (strings (plainTables s v) t) k [] x
+  entry-complete : (v : Vocabulary Located) (t : StringTable) (k : ℕ) (x : Octets) → Entry (strings (plainTables s v) t) k [] x
       → (suc k ≤ length (strings v t)) × (octetsOf s (getD (strings v t) (suc k - 1) empty) ≡ x)
   unfolding octetsOf
   entry-complete v t k x en =
@@ -122,8 +123,8 @@ shape15 =
     }
 
 -- ---- what is read is what the rules write
-module _ (L : Limits) (s : List ℕ) (bytes : (i : ℕ) → getD s i 0 < 256) (short : length s ≤ longest) where
-  abbrev pub IdR : StringTable → Vocabulary (List ℕ) → IdRead → List ℕ → Vocabulary (List ℕ) → Type 0
+module _ (L : Limits) (s : Octets) (bytes : (i : ℕ) → getD s i 0 < 256) (short : length s ≤ longest) where
+  abbrev pub IdR : StringTable → Vocabulary Octets → IdRead → Octets → Vocabulary Octets → Type 0
   IdR t v b o w = Identifying L t v (octetsOf s (b .string)) (b .how) (b .number) o w
 
   pub id-sound : (t : StringTable) (k : ℕ) (v : Vocabulary Located) → k ≤ length s → Ok s (IdR t) k v (idAt L s t k v)
@@ -161,7 +162,7 @@ module _ (L : Limits) (s : List ℕ) (bytes : (i : ℕ) → getD s i 0 < 256) (s
       })
 
   -- `there` is the presence bit
-  abbrev pub OptionalR : Bool → StringTable → Vocabulary (List ℕ) → OptionalRead → List ℕ → Vocabulary (List ℕ) → Type 0
+  abbrev pub OptionalR : Bool → StringTable → Vocabulary Octets → OptionalRead → Octets → Vocabulary Octets → Type 0
   OptionalR there t v b o w = Optional L t v (Option·map (octetsOf s) (b .string)) (b .how) (b .number) o w × (has (Option·map (octetsOf s) (b .string)) ≡ bit there)
 
   pub optional-sound : (there : Bool) (t : StringTable) (k : ℕ) (v : Vocabulary Located) → k ≤ length s → Ok s (OptionalR there t) k v (optionalAt L there s t k v)
@@ -171,7 +172,7 @@ module _ (L : Limits) (s : List ℕ) (bytes : (i : ℕ) → getD s i 0 < 256) (s
       λ b next w r. record { octets = r .octets; rule = (present (r .rule), refl); here = r .here; next-is = r .next-is; inside = r .inside }
   optional-sound false t k v kl = record { octets = []; rule = (absent, refl); here = refl; next-is = omega arith; inside = kl }
 
-  abbrev pub LiteralR : Layout → StringTable → Vocabulary (List ℕ) → StringRead → List ℕ → Vocabulary (List ℕ) → Type 0
+  abbrev pub LiteralR : Layout → StringTable → Vocabulary Octets → StringRead → Octets → Vocabulary Octets → Type 0
   LiteralR q t v b o w = Literal L q t v (octetsOf s (b .string)) (b .how) o w
 
   or-true : (a b : Bool) → (not a || b) ≡ true → a ≡ true → b ≡ true
@@ -223,7 +224,7 @@ module _ (L : Limits) (s : List ℕ) (bytes : (i : ℕ) → getD s i 0 < 256) (s
         inside = r .inside;
       }
 
-  abbrev pub ValueR : StringTable → Vocabulary (List ℕ) → StringRead → List ℕ → Vocabulary (List ℕ) → Type 0
+  abbrev pub ValueR : StringTable → Vocabulary Octets → StringRead → Octets → Vocabulary Octets → Type 0
   ValueR t v b o w = Value L t v (octetsOf s (b .string)) (b .how) o w
 
   as-value : (t : StringTable) (k : ℕ) (v : Vocabulary Located) (a : Got StringRead) → Ok s (LiteralR c14 t) k v a → Ok s (ValueR t) k v a
@@ -247,12 +248,12 @@ abbrev pub there : {E : Type 0} → Option E → Bool
 there none = false
 there (some x) = true
 
-module _ (L : Limits) (s : List ℕ) where
+module _ (L : Limits) (s : Octets) where
   -- p is where it is spelled
-  abbrev pub IdQ : List ℕ → How → ℕ → List Located → IdRead → Type 0
+  abbrev pub IdQ : Octets → How → ℕ → List Located → IdRead → Type 0
   IdQ x h n p b = (octetsOf s (b .string) ≡ x) × (b .how ≡ h) × (b .number ≡ n) × (ifSpelled (b .string) (b .how) ≡ p)
 
-  pub id-complete : (t : StringTable) (k : ℕ) (v : Vocabulary Located) {x : List ℕ} {h : How} {n : ℕ} {o : List ℕ} {w : Vocabulary (List ℕ)} (rest : List ℕ)
+  pub id-complete : (t : StringTable) (k : ℕ) (v : Vocabulary Located) {x : Octets} {h : How} {n : ℕ} {o : Octets} {w : Vocabulary Octets} (rest : Octets)
       → Identifying L t (plainTables s v) x h n o w → drop k s ≡ o ++ rest → Hit s (IdQ x h n (inField k h x o)) (k + length o) w (idAt L s t k v)
   unfolding idAt octetsOf rooms sizes coded lengths c25
   id-complete t k v rest (id-spelled {x = x} sp new room) d =
@@ -267,7 +268,7 @@ module _ (L : Limits) (s : List ℕ) where
         b = record { string = stretch (e .next) (length x); how = spelled true; number = suc (length (strings v t)) };
         v = adding v t (stretch (e .next) (length x));
         goes = refl;
-        state = adding-map (octetsOf s) v t (stretch (e .next) (length x)) ∙ ap (λ (y : List ℕ). adding (plainTables s v) t y) (e .text-is);
+        state = adding-map (octetsOf s) v t (stretch (e .next) (length x)) ∙ ap (λ (y : Octets). adding (plainTables s v) t y) (e .text-is);
         what = (e .text-is, refl, ap suc (sym len), ap (λ (p : ℕ). stretch p (length x) ∷ []) (omega arith));
       }))
   id-complete t k v rest (id-numbered {x = x} {k = j} small en) d =
@@ -278,10 +279,10 @@ module _ (L : Limits) (s : List ℕ) where
       rw (le-ltb (getD s k 0) 0x80 lo, n, le-leb (suc j) (length (strings v t)) (y .0))
       (record { b = record { string = getD (strings v t) (suc j - 1) empty; how = numbered (suc j); number = suc j }; v = v; goes = refl; state = refl; what = (y .1, refl, refl, refl) })
 
-  abbrev pub OptionalQ : Option (List ℕ) → Option How → ℕ → List Located → OptionalRead → Type 0
+  abbrev pub OptionalQ : Option Octets → Option How → ℕ → List Located → OptionalRead → Type 0
   OptionalQ x h n p b = (Option·map (octetsOf s) (b .string) ≡ x) × (b .how ≡ h) × (b .number ≡ n) × (optionSpelled (b .string) (b .how) ≡ p)
 
-  pub optional-complete : (t : StringTable) (k : ℕ) (v : Vocabulary Located) {x : Option (List ℕ)} {h : Option How} {n : ℕ} {o : List ℕ} {w : Vocabulary (List ℕ)} (rest : List ℕ)
+  pub optional-complete : (t : StringTable) (k : ℕ) (v : Vocabulary Located) {x : Option Octets} {h : Option How} {n : ℕ} {o : Octets} {w : Vocabulary Octets} (rest : Octets)
       → Optional L t (plainTables s v) x h n o w → drop k s ≡ o ++ rest → Hit s (OptionalQ x h n (inOption k h x o)) (k + length o) w (optionalAt L (there x) s t k v)
   unfolding optionalAt
   optional-complete t k v rest absent d =
@@ -294,17 +295,17 @@ module _ (L : Limits) (s : List ℕ) where
         v = i .v;
         goes = refl;
         state = i .state;
-        what = (ap (λ (y : List ℕ). some y) (i .what .0), ap (λ (y : How). some y) (i .what .1), i .what .2, i .what .3);
+        what = (ap (λ (y : Octets). some y) (i .what .0), ap (λ (y : How). some y) (i .what .1), i .what .2, i .what .3);
       })
 
-  abbrev pub StringQ : List ℕ → How → List Located → StringRead → Type 0
+  abbrev pub StringQ : Octets → How → List Located → StringRead → Type 0
   StringQ x h p b = (octetsOf s (b .string) ≡ x) × (b .how ≡ h) × (ifSpelled (b .string) (b .how) ≡ p)
 
   or-room : (added : Bool) (a b : ℕ) → (added ≡ true → a < b) → (not added || ltb a b) ≡ true
   or-room true a b f = lt-ltb a b (f refl)
   or-room false a b f = refl
 
-  pub record LiteralHit (q : Layout) (t : StringTable) (k : ℕ) (v : Vocabulary Located) (x : List ℕ) (h : How) (o : List ℕ) (w : Vocabulary (List ℕ)) : Type 0 where
+  pub record LiteralHit (q : Layout) (t : StringTable) (k : ℕ) (v : Vocabulary Located) (x : Octets) (h : How) (o : Octets) (w : Vocabulary Octets) : Type 0 where
     pub hit : Hit s (StringQ x h (inField k h x o)) (k + length o) w (literalAt L q s t k v)
     pub low : q .spelledBits ≤ getD s k 0
     pub high : getD s k 0 < 0xF0
@@ -312,7 +313,7 @@ module _ (L : Limits) (s : List ℕ) where
     pub some : 0 < length o
     pub here : k < length s
 
-  spelled-complete : (q : Layout) → Shape q → (t : StringTable) (k : ℕ) (v : Vocabulary Located) (added : Bool) (x rest : List ℕ) → Spelling x
+  spelled-complete : (q : Layout) → Shape q → (t : StringTable) (k : ℕ) (v : Vocabulary Located) (added : Bool) (x rest : Octets) → Spelling x
       → (added ≡ true → length (strings (plainTables s v) t) < L .entries)
       → drop k s ≡ withLength (lengths (q .lengthBit)) (q .spelledBits + q .addBit * bit added) x ++ rest
       → Hit s (StringQ x (spelled added) (inField k (spelled added) x (withLength (lengths (q .lengthBit)) (q .spelledBits + q .addBit * bit added) x))) (k + length (withLength (lengths (q .lengthBit)) (q .spelledBits + q .addBit * bit added) x)) (keeping added (plainTables s v) t x) (spelledAt L q s t k added v)
@@ -330,13 +331,13 @@ module _ (L : Limits) (s : List ℕ) where
               b = record { string = stretch (e .next) (length x); how = spelled added };
               v = keeping added v t (stretch (e .next) (length x));
               goes = refl;
-              state = keeping-map (octetsOf s) added v t (stretch (e .next) (length x)) ∙ ap (λ (y : List ℕ). keeping added (plainTables s v) t y) (e .text-is);
+              state = keeping-map (octetsOf s) added v t (stretch (e .next) (length x)) ∙ ap (λ (y : Octets). keeping added (plainTables s v) t y) (e .text-is);
               what = (e .text-is, refl, ap (λ (p : ℕ). stretch p (length x) ∷ []) (omega arith));
             })),
         e,
       )
 
-  pub literal-complete : (q : Layout) → Shape q → (t : StringTable) (k : ℕ) (v : Vocabulary Located) {x : List ℕ} {h : How} {o : List ℕ} {w : Vocabulary (List ℕ)} (rest : List ℕ)
+  pub literal-complete : (q : Layout) → Shape q → (t : StringTable) (k : ℕ) (v : Vocabulary Located) {x : Octets} {h : How} {o : Octets} {w : Vocabulary Octets} (rest : Octets)
       → Literal L q t (plainTables s v) x h o w → drop k s ≡ o ++ rest → LiteralHit q t k v x h o w
   unfolding literalAt
   literal-complete q g t k v rest (literal-spelled {x = x} {added = false} sp room) d =
@@ -386,7 +387,7 @@ module _ (L : Limits) (s : List ℕ) where
         here = o .2;
       }
 
-  pub value-complete : (t : StringTable) (k : ℕ) (v : Vocabulary Located) {x : List ℕ} {h : How} {o : List ℕ} {w : Vocabulary (List ℕ)} (rest : List ℕ)
+  pub value-complete : (t : StringTable) (k : ℕ) (v : Vocabulary Located) {x : Octets} {h : How} {o : Octets} {w : Vocabulary Octets} (rest : Octets)
       → Value L t (plainTables s v) x h o w → drop k s ≡ o ++ rest → Hit s (StringQ x h (inField k h x o)) (k + length o) w (valueAt L s t k v)
   unfolding valueAt octetsOf
   value-complete t k v rest value-empty d =

@@ -3,6 +3,7 @@ use Prim.Native.Nat.{ℕ, _≤_}
 use mathlib.Core.Option.{Option}
 use mathlib.Core.List.{List}
 use native.Mathlib.Omega.{arith}
+use Rattle.format.specs.Octets.{Octets, Halves}
 use Rattle.format.specs.Events.{Name, How, NameHow, Item}
 use Rattle.format.specs.Tables.{StringTable, Vocabulary, Limits, link, standard}
 use Rattle.format.specs.Strings.{Identifying, id-spelled, id-numbered, Optional, absent, present, Layout, Literal, literal-spelled, literal-numbered, Value, value-empty, value}
@@ -11,33 +12,33 @@ use Rattle.format.specs.Items.{State, ItemWrittenAs, o-start, o-first-namespace
 use Rattle.format.specs.Document.{Written, document-end, attributes-end, element-end, item, Document}
 
 module _ {L M : Limits} (long : L .octets ≤ M .octets) (many : L .entries ≤ M .entries) (deep : L .depth ≤ M .depth) where
-  identifying : {t : StringTable} {v w : Vocabulary (List ℕ)} {x : List ℕ} {h : How} {n : ℕ} {o : List ℕ}
+  identifying : {t : StringTable} {v w : Vocabulary Octets} {x : Octets} {h : How} {n : ℕ} {o : Octets}
       → Identifying L t v x h n o w → Identifying M t v x h n o w
   identifying (id-spelled sp new room) = id-spelled sp new (omega arith)
   identifying (id-numbered small en) = id-numbered small en
 
-  optional : {t : StringTable} {v w : Vocabulary (List ℕ)} {x : Option (List ℕ)} {h : Option How} {n : ℕ} {o : List ℕ}
+  optional : {t : StringTable} {v w : Vocabulary Octets} {x : Option Octets} {h : Option How} {n : ℕ} {o : Octets}
       → Optional L t v x h n o w → Optional M t v x h n o w
   optional absent = absent
   optional (present u) = present (identifying u)
 
-  literal : {q : Layout} {t : StringTable} {v w : Vocabulary (List ℕ)} {x : List ℕ} {h : How} {o : List ℕ} → Literal L q t v x h o w → Literal M q t v x h o w
+  literal : {q : Layout} {t : StringTable} {v w : Vocabulary Octets} {x : Octets} {h : How} {o : Octets} → Literal L q t v x h o w → Literal M q t v x h o w
   literal (literal-spelled sp room) = literal-spelled sp (λ e. let r = room e in omega arith)
   literal (literal-numbered small fits en) = literal-numbered small fits en
 
-  value-in : {t : StringTable} {v w : Vocabulary (List ℕ)} {x : List ℕ} {h : How} {o : List ℕ} → Value L t v x h o w → Value M t v x h o w
+  value-in : {t : StringTable} {v w : Vocabulary Octets} {x : Octets} {h : How} {o : Octets} → Value L t v x h o w → Value M t v x h o w
   value-in value-empty = value-empty
   value-in (value u) = value (literal u)
 
-  named : {q : NameLayout} {lead : ℕ} {v w : Vocabulary (List ℕ)} {x : Name (List ℕ)} {h : NameHow} {o : List ℕ}
+  named : {q : NameLayout} {lead : ℕ} {v w : Vocabulary Octets} {x : Name Octets} {h : NameHow} {o : Octets}
       → Named L q lead v x h o w → Named M q lead v x h o w
   named (in-parts lone up un ul new room) = in-parts lone (optional up) (optional un) (identifying ul) new (omega arith)
   named (by-number small fits en) = by-number small fits en
 
-  declares : {v w : Vocabulary (List ℕ)} {p n : Option (List ℕ)} {hp hn : Option How} {o : List ℕ} → Declared L v p n hp hn o w → Declared M v p n hp hn o w
+  declares : {v w : Vocabulary Octets} {p n : Option Octets} {hp hn : Option How} {o : Octets} → Declared L v p n hp hn o w → Declared M v p n hp hn o w
   declares (declared up un) = declared (optional up) (optional un)
 
-  octets : {v w : State (List ℕ)} {i : Item (List ℕ)} {o : List ℕ} → ItemWrittenAs L v i o w → ItemWrittenAs M v i o w
+  octets : {v w : State Octets} {i : Item Octets} {o : Octets} → ItemWrittenAs L v i o w → ItemWrittenAs M v i o w
   octets (o-start a md may lv u) = o-start a md may (omega arith) (named u)
   octets (o-first-namespace md may lv u) = o-first-namespace md may (omega arith) (declares u)
   octets (o-namespace md u) = o-namespace md (declares u)
@@ -47,17 +48,17 @@ module _ {L M : Limits} (long : L .octets ≤ M .octets) (many : L .entries ≤ 
   octets (o-comment md u) = o-comment md (value-in u)
   octets (o-instruction md u1 u2) = o-instruction md (identifying u1) (value-in u2)
 
-  pub written : {at : ℕ} {v z : State (List ℕ)} {items : List (Item (List ℕ))} {hs : List ℕ} → Written L at v items hs z → Written M at v items hs z
+  pub written : {at : ℕ} {v z : State Octets} {items : List (Item Octets)} {hs : Halves} → Written L at v items hs z → Written M at v items hs z
   written (document-end md lv rt) = document-end md lv rt
   written (attributes-end md w) = attributes-end md (written w)
   written (element-end md lv w) = element-end md lv (written w)
   written (item u w) = item (octets u) (written w)
 
-  pub wider : {h : List ℕ} {start : Vocabulary (List ℕ)} {items : List (Item (List ℕ))} {z : State (List ℕ)} {s : List ℕ}
+  pub wider : {h : Octets} {start : Vocabulary Octets} {items : List (Item Octets)} {z : State Octets} {s : Octets}
       → Document L h start items z s → Document M h start items z s
   wider {s = s} d = record { body = d .body; here = d .here; rule = written (d .rule); short = let a = d .short in omega arith }
 
-pub link-in-standard : {h : List ℕ} {start : Vocabulary (List ℕ)} {items : List (Item (List ℕ))} {z : State (List ℕ)} {s : List ℕ} (depth octets : ℕ)
+pub link-in-standard : {h : Octets} {start : Vocabulary Octets} {items : List (Item Octets)} {z : State Octets} {s : Octets} (depth octets : ℕ)
     → link .octets ≤ octets → link .depth ≤ depth → Document link h start items z s → Document (standard depth octets) h start items z s
 unfolding standard link
 link-in-standard depth octets long deep = wider long (omega arith) deep

@@ -5,6 +5,7 @@ use mathlib.Core.List.{List, [], _∷_, _++_, append-assoc}
 use Prim.Native.Nat.{ℕ, _+_, _*_, _/_, _≤_, _<_, min}
 use native.Mathlib.Omega.{arith}
 use lib.ListN.{length, length-append}
+use Rattle.format.specs.Octets.{Octets}
 use Rattle.format.specs.Events as E
 use Rattle.format.specs.Events.{Item, _by_, IsDocument, openAfter, declaresLast, isDeclaration, isStart, opensElement}
 use Rattle.format.specs.Tables.{link, InLimits}
@@ -37,14 +38,14 @@ all-at P [] x l a = a .0
 all-at P (y ∷ b) x l a = all-at P b x l (a .1)
 
 -- a written list is a document
-pub written-document : (es : List (E.Event (List ℕ))) (z : State (List ℕ)) (s : List ℕ) → Writes (itemsOf es) z s → IsDocument es
+pub written-document : (es : List (E.Event Octets)) (z : State Octets) (s : Octets) → Writes (itemsOf es) z s → IsDocument es
 written-document es z s w = subst IsDocument (chosen-events link started es) (is-document w)
 
-module _ (text : List ℕ) (room : ℕ) (ps rest : List (E.Event (List ℕ))) (pe : E.Event (List ℕ)) (z : State (List ℕ)) (s : List ℕ) (w : Writes (itemsOf (ps ++ (pe ∷ rest))) z s) where
-  abbrev choice : Item (List ℕ)
+module _ (text : Octets) (room : ℕ) (ps rest : List (E.Event Octets)) (pe : E.Event Octets) (z : State Octets) (s : Octets) (w : Writes (itemsOf (ps ++ (pe ∷ rest))) z s) where
+  abbrev choice : Item Octets
   choice = pe by chooseFor link (tablesAfter link started ps) pe .how
 
-  abbrev others : List (Item (List ℕ))
+  abbrev others : List (Item Octets)
   others = chosen link (chooseFor link (tablesAfter link started ps) pe .tables) rest
 
   at-event : itemsOf (ps ++ (pe ∷ rest)) ≡ itemsOf ps ++ (choice ∷ others)
@@ -55,7 +56,7 @@ module _ (text : List ℕ) (room : ℕ) (ps rest : List (E.Event (List ℕ))) (p
   behind-event = ap itemsOf (sym (append-assoc ps (pe ∷ []) rest)) ∙ chosen-append link started (ps ++ (pe ∷ [])) rest
 
   is-allowed : Allowed pe
-  is-allowed = all-at (λ (i : Item (List ℕ)). Allowed (i .event)) (itemsOf ps) choice others (rw at-event at (plain-on-link w))
+  is-allowed = all-at (λ (i : Item Octets). Allowed (i .event)) (itemsOf ps) choice others (rw at-event at (plain-on-link w))
 
   before-it : Begun.Split link (2 * length header) (beginning started) (itemsOf ps) (choice ∷ others) (w .body) z
   before-it = Begun.begun-of-written (itemsOf ps) (choice ∷ others) (rw at-event at (w .rule))
@@ -93,14 +94,14 @@ module _ (text : List ℕ) (room : ℕ) (ps rest : List (E.Event (List ℕ))) (p
       let m = aligned-in (2 * length header + length (with-it .front-halves)) (length s) (omega arith) in
       omega arith
 
-module _ (text : List ℕ) (room : ℕ) (es : List Event) (made : All (WellMade text) es) (z : State (List ℕ)) (s : List ℕ) (w : Writes (itemsOf (plains text es)) z s) (fit : length s ≤ room) where
+module _ (text : Octets) (room : ℕ) (es : List Event) (made : All (WellMade text) es) (z : State Octets) (s : Octets) (w : Writes (itemsOf (plains text es)) z s) (fit : length s ≤ room) where
   pub all-right : AllRight text room es
   all-right before e after is =
       let ps = plains text before in
       let pe = plainOf text e in
       let rest = plains text after in
       let split : plains text es ≡ ps ++ (pe ∷ rest) = ap (plains text) is ∙ map-append (plainOf text) before (e ∷ after) in
-      let v : Writes (itemsOf (ps ++ (pe ∷ rest))) z s = subst (λ (l : List (E.Event (List ℕ))). Writes (itemsOf l) z s) split w in
+      let v : Writes (itemsOf (ps ++ (pe ∷ rest))) z s = subst (λ (l : List (E.Event Octets)). Writes (itemsOf l) z s) split w in
       record {
         is-event = (all-at (WellMade text) before e after (rw is at made), record { rest = rest; whole = rw append-assoc (written-document (ps ++ (pe ∷ rest)) z s v) });
         is-text = in-order IsText pe (allowed-text pe (is-allowed text room ps rest pe z s v));
@@ -124,7 +125,7 @@ module _ (text : List ℕ) (room : ℕ) (es : List Event) (made : All (WellMade 
   writes-it short = writes-from short (writing text room es) refl
 
 -- A list that 01 refuses is refused so.
-module _ (text : List ℕ) (short : length text ≤ 16384) (room : ℕ) (es : List Event) (n p : ℕ) (r : Refused text room es n p) where
+module _ (text : Octets) (short : length text ≤ 16384) (room : ℕ) (es : List Event) (n p : ℕ) (r : Refused text room es n p) where
   refuses-from : (a : Result) → writing text room es ≡ a → writing text room es ≡ refusal n p
   refuses-from (written items hs y) q =
       let m = meant text short room es items hs y q in

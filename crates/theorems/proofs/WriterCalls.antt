@@ -8,6 +8,7 @@ use native.Mathlib.Omega.{arith}
 use borrow.Author.Tests.{leb-true}
 use lib.ListN.{length, length-map}
 use lib.Dec.{eqb, leb}
+use Rattle.format.specs.Octets.{Octets, Halves, Words}
 use Rattle.format.specs.Numbers.{pick}
 use Rattle.format.specs.Events.{Item, _by_}
 use Rattle.format.specs.Tables.{Limits, link}
@@ -32,16 +33,16 @@ use Rattle.writer.specs.Words.{answerWord, leaving, nothing, inWords, writeWord
 use Rattle.theorems.proofs.Fits.{accepted-sized}
 
 -- A call with this output room left these octets, 0 behind them, and these tables; the rules write the octets from the items, whose records are those given.
-pub record Wrote (text : List ℕ) (es : List Event) (room : ℕ) (o : Outcome) : Type 0 where
+pub record Wrote (text : Octets) (es : List Event) (room : ℕ) (o : Outcome) : Type 0 where
   pub items : List (Item Located)
   pub last : State Located
-  pub octets : List ℕ
+  pub octets : Octets
   pub is : o ≡ accepting octets (last .tables) room
   pub given : map (λ (i : Item Located). recordOf (i .event)) items ≡ es
   pub writes : Writes (map (plain text) items) (plainState text last) octets
   pub fits : length octets ≤ room
 
-module _ (text : List ℕ) (room : ℕ) (es : List Event) where
+module _ (text : Octets) (room : ℕ) (es : List Event) where
   from-result : length text ≤ 16384 → (r : Result) → writing text room es ≡ r → (n : ℕ) (c : Counts) → outcome r room .answer ≡ Accepted n c → Wrote text es room (outcome r room)
   from-result short (written items hs z) e n c q =
       let w = written-by-the-rules text room es items hs z short e in
@@ -61,7 +62,7 @@ module _ (text : List ℕ) (room : ℕ) (es : List Event) where
   write-accepts table n c e = by-room table n c (leb (length text) 16384) (eqb table tableWords) refl e
 
 -- What reading octets leaves: the records of events whose plain forms are these items', blank records behind them, and tables that are these, as octets.
-pub record ReadBack (s : List ℕ) (records : ℕ) (items : List (Item (List ℕ))) (z : State (List ℕ)) : Type 0 where
+pub record ReadBack (s : Octets) (records : ℕ) (items : List (Item Octets)) (z : State Octets) : Type 0 where
   pub events : List (Item Located)
   pub last : State Located
   pub is : readOf s records tableWords ≡ reading (map (λ (i : Item Located). recordOf (i .event)) events) (last .tables) records
@@ -69,7 +70,7 @@ pub record ReadBack (s : List ℕ) (records : ℕ) (items : List (Item (List ℕ
   pub tables : plainState s last ≡ z
 
 -- 18. READ BACK: what a call wrote is read, with a record for each event, and gives the same events and tables.
-pub read-back : (text : List ℕ) (room : ℕ) (es : List Event) (o : Outcome) (w : Wrote text es room o) (records : ℕ) → length es ≤ records
+pub read-back : (text : Octets) (room : ℕ) (es : List Event) (o : Outcome) (w : Wrote text es room o) (records : ℕ) → length es ≤ records
     → ReadBack (w .octets) records (map (plain text) (w .items)) (plainState text (w .last))
 unfolding readOf
 read-back text room es o w records h =
@@ -84,12 +85,12 @@ read-back text room es o w records h =
 abbrev pub Numbered : ℕ → Type 0
 Numbered n = (9 ≤ n) × (n ≤ 16) × (n ≡ 10 → ⊥) × (n ≡ 11 → ⊥) × (n ≡ 15 → ⊥)
 
-module _ (L : Limits) (text : List ℕ) (room : ℕ) where
+module _ (L : Limits) (text : Octets) (room : ℕ) where
   abbrev Faulty : (low high : ℕ) → Result → Type 0
   Faulty low high (written items hs z) = Unit {0}
   Faulty low high (refusal n p) = Numbered n × (low ≤ p) × (p ≤ high)
 
-  verdicts : (at : ℕ) (v : State Located) (e : Event) (w : WroteItem) (hs : List ℕ) → (judge L text room at v e w hs ≡ 0 → ⊥) → Numbered (judge L text room at v e w hs)
+  verdicts : (at : ℕ) (v : State Located) (e : Event) (w : WroteItem) (hs : Halves) → (judge L text room at v e w hs ≡ 0 → ⊥) → Numbered (judge L text room at v e w hs)
   unfolding judge
   verdicts at v e w hs =
       cases (wellMade text (e .kind) e && goesOn v (eventOf (e .kind) e)) (allText text (eventOf (e .kind) e)) (opens (v .mode) (eventOf (e .kind) e) && leb (L .depth) (v .level))
@@ -112,11 +113,11 @@ module _ (L : Limits) (text : List ℕ) (room : ℕ) where
       cases true false = (omega arith, omega arith, omega arith)
       cases false b = (omega arith, omega arith, omega arith)
 
-  later : (i n : ℕ) (j : Item Located) (hs : List ℕ) (r : Result) → Faulty (suc i) (suc i + n) r → Faulty i (i + suc n) (plus j hs r)
+  later : (i n : ℕ) (j : Item Located) (hs : Halves) (r : Result) → Faulty (suc i) (suc i + n) r → Faulty i (i + suc n) (plus j hs r)
   later i n j hs (written items ks z) h = tt
   later i n j hs (refusal k p) h = let a = h .1 in let b = h .2 in (h .0, omega arith, omega arith)
 
-  turned : (i m : ℕ) (j : Item Located) (hs : List ℕ) (r : Result) (n : ℕ) → ((n ≡ 0 → ⊥) → Numbered n) → Faulty (suc i) (suc i + m) r
+  turned : (i m : ℕ) (j : Item Located) (hs : Halves) (r : Result) (n : ℕ) → ((n ≡ 0 → ⊥) → Numbered n) → Faulty (suc i) (suc i + m) r
       → Faulty i (i + suc m) (elim n [ zero ↦ plus j hs r | suc k ↦ refusal (suc k) i ])
   turned i m j hs r zero f h = later i m j hs r h
   turned i m j hs r (suc k) f h = (f (omega arith), omega arith, omega arith)
@@ -130,7 +131,7 @@ module _ (L : Limits) (text : List ℕ) (room : ℕ) where
       let hs = halvesOf L text room at v ev w in
       turned i (length es) (ev by w .choice) hs (run L text room (at + length hs) (w .state) (suc i) es) (judge L text room at v e w hs) (verdicts at v e w hs) (run-faulty es (at + length hs) (w .state) (suc i))
 
-pub write-refused : (text : List ℕ) (room : ℕ) (es : List Event) (n p : ℕ) → writing text room es ≡ refusal n p → Numbered n × (p ≤ length es)
+pub write-refused : (text : Octets) (room : ℕ) (es : List Event) (n p : ℕ) → writing text room es ≡ refusal n p → Numbered n × (p ≤ length es)
 unfolding writing
 write-refused text room es n p e =
     let f = run-faulty link text room es (2 * length header) (beginning start) 0 in
@@ -139,7 +140,7 @@ write-refused text room es n p e =
     (g .0, omega arith)
 
 -- 20. WRITE FROM WORDS: what is accepted is left as the words of what `write` leaves, from the records of the words (17).
-refused-small : (records text : List ℕ) (r t : ℕ) (b d : Bool) (k p : ℕ)
+refused-small : (records : Words) (text : Octets) (r t : ℕ) (b d : Bool) (k p : ℕ)
     → pick b (pick d (outcome (writing text r (recordsOf records)) r) (refusing 14 0 r t)) (refusing 1 0 r t) .answer ≡ Refused k p → (1 ≤ k) × (k ≤ 16)
 refused-small records text r t true true k p e = from (writing text r (recordsOf records)) refl e
   where
@@ -154,7 +155,7 @@ refused-small records text r t true true k p e = from (writing text r (recordsOf
 refused-small records text r t true false k p e = let ek : 14 ≡ k = cc in (omega arith, omega arith)
 refused-small records text r t false d k p e = let ek : 1 ≡ k = cc in (omega arith, omega arith)
 
-module _ (records text : List ℕ) (r t : ℕ) where
+module _ (records : Words) (text : Octets) (r t : ℕ) where
   abbrev left : Outcome
   left = writeOf (recordsOf records) text r t
 
@@ -175,13 +176,13 @@ module _ (records text : List ℕ) (r t : ℕ) where
   words-written c n e = by-words c n (leb (length text) 16384) (eqb c 10) e
 
 -- 21. DEMAND 1: what a call answers and leaves depends on the records and the text, and on how much room is lent, but not on what stood in it.
-module _ (es : List Event) (text o p t u : List ℕ) (a b : Answer) (o′ p′ t′ u′ : List ℕ) where
+module _ (es : List Event) (text o p t u : Octets) (a b : Answer) (o′ p′ t′ u′ : Octets) where
   pub write-whatever-stood : length o ≡ length p → length t ≡ length u → Leaves a o′ t′ (writeOf es text (length o) (length t)) → Leaves b p′ u′ (writeOf es text (length p) (length u))
       → (a ≡ b) × (o′ ≡ p′) × (t′ ≡ u′)
   write-whatever-stood l m x y = let y′ = rw (← l, ← m) at y in (x .0 ∙ sym (y′ .0), x .2 ∙ sym (y′ .2), x .3 ∙ sym (y′ .3))
 
 --     The same of writing from words.
-pub written-whatever-stood : (records text o p t u c d : List ℕ) (a b : ℕ) (o′ p′ t′ u′ c′ d′ : List ℕ) → length o ≡ length p → length t ≡ length u → length c ≡ length d
+pub written-whatever-stood : (records : Words) (text o p t u c d : Octets) (a b : ℕ) (o′ p′ t′ u′ c′ d′ : Octets) → length o ≡ length p → length t ≡ length u → length c ≡ length d
     → leaving a o′ t′ c′ ≡ writeWords records text (length o) (length t) (length c) → leaving b p′ u′ d′ ≡ writeWords records text (length p) (length u) (length d)
     → leaving a o′ t′ c′ ≡ leaving b p′ u′ d′
 written-whatever-stood records text o p t u c d a b o′ p′ t′ u′ c′ d′ l m n x y = x ∙ rw (l, m, n) (sym y)

@@ -2,10 +2,11 @@
 use mathlib.Core.Path.{_≡_, refl, sym, ap, _∙_, subst}
 use mathlib.Core.Bool.{Bool, true, false}
 use mathlib.Core.Option.{Option, none, some, Option·map}
-use mathlib.Core.List.{List, _∷_, _++_, map}
+use mathlib.Core.List.{_∷_, _++_, map}
 use Prim.Native.Nat.{ℕ, suc, _+_, _-_, _*_}
 use lib.Dec.{eqb}
 use lib.ListN.{length, length-map}
+use Rattle.format.specs.Octets.{Octets}
 use Rattle.format.specs.Numbers.{pick, spell}
 use Rattle.format.specs.Events as E
 use Rattle.format.specs.Events.{Name, nameMap, eventMap, How, inParts, byNumber}
@@ -22,15 +23,15 @@ use Rattle.theorems.proofs.Words.{strings-map, names-map, adding-map, k
 use Rattle.theorems.proofs.Chosen.{idOctets, optionalOctets, literalOctets, valueOctets, nameOctets, literal-value, literal-case}
 use Rattle.theorems.proofs.Produced.{octetsBy, knownBy}
 
-module _ (text : List ℕ) where
+module _ (text : Octets) where
   -- what the writer makes of a string or a name, and what is chosen for its plain form
-  pub record Same {H : Type 0} (octets : H → List ℕ) (w : Wrote H) (c : Chose H) : Type 0 where
+  pub record Same {H : Type 0} (octets : H → Octets) (w : Wrote H) (c : Chose H) : Type 0 where
     pub octets-are : w .octets ≡ octets (c .how)
     pub how : w .how ≡ c .how
     pub number : w .number ≡ c .number
     pub tables : plainTables text (w .tables) ≡ c .tables
 
-  same-pick : {H : Type 0} {octets : H → List ℕ} (b : Bool) {w w′ : Wrote H} {c c′ : Chose H} → Same octets w c → Same octets w′ c′ → Same octets (pick b w w′) (pick b c c′)
+  same-pick : {H : Type 0} {octets : H → Octets} (b : Bool) {w w′ : Wrote H} {c c′ : Chose H} → Same octets w c → Same octets w′ c′ → Same octets (pick b w w′) (pick b c c′)
   same-pick true s s′ = s
   same-pick false s s′ = s′
 
@@ -71,14 +72,14 @@ module _ (text : List ℕ) where
 
     same-triple : (y : Triple) → Tripled y y
     same-triple y =
-        let e : names (l′ .tables) (q .table) ≡ names (l .tables) (q .table) = ap (λ (w : Vocabulary (List ℕ)). names w (q .table)) (sym (sl .tables)) ∙ names-map (octetsOf text) (l .tables) (q .table) in
+        let e : names (l′ .tables) (q .table) ≡ names (l .tables) (q .table) = ap (λ (w : Vocabulary Octets). names w (q .table)) (sym (sl .tables)) ∙ names-map (octetsOf text) (l .tables) (q .table) in
         rw e
         (same-pick (eqb (numberOfTriple (names (l .tables) (q .table)) y) 0)
         (record {
           octets-are = λ i. (lead + q .inPartsBits + 2 * has-map (x .prefix) i + has-map (x .namespace) i) ∷ (sp .octets-are i ++ (sn .octets-are i ++ sl .octets-are i));
           how = λ i. inParts (sp .how i) (sn .how i) (sl .how i);
           number = refl;
-          tables = adding-name-map (octetsOf text) (l .tables) (q .table) y ∙ ap (λ (w : Vocabulary (List ℕ)). addingName w (q .table) y) (sl .tables);
+          tables = adding-name-map (octetsOf text) (l .tables) (q .table) y ∙ ap (λ (w : Vocabulary Octets). addingName w (q .table) y) (sl .tables);
         })
         (record { octets-are = refl; how = refl; number = refl; tables = refl }))
 
@@ -94,9 +95,9 @@ module _ (text : List ℕ) where
       let p = writeOptional text PREFIX v (x .prefix) in
       let sp = same-optional PREFIX v (x .prefix) in
       let n = writeOptional text NAMESPACE-NAME (p .tables) (x .namespace) in
-      let sn = subst (λ (w : Vocabulary (List ℕ)). Same (optionalOctets (Option·map (octetsOf text) (x .namespace))) n (chooseOptional NAMESPACE-NAME w (Option·map (octetsOf text) (x .namespace)))) (sp .tables)
+      let sn = subst (λ (w : Vocabulary Octets). Same (optionalOctets (Option·map (octetsOf text) (x .namespace))) n (chooseOptional NAMESPACE-NAME w (Option·map (octetsOf text) (x .namespace)))) (sp .tables)
       (same-optional NAMESPACE-NAME (p .tables) (x .namespace)) in
-      let sl = subst (λ (w : Vocabulary (List ℕ)). Same (idOctets (octetsOf text (x .local))) (writeId text LOCAL-NAME (n .tables) (x .local)) (chooseId LOCAL-NAME w (octetsOf text (x .local)))) (sn .tables)
+      let sl = subst (λ (w : Vocabulary Octets). Same (idOctets (octetsOf text (x .local))) (writeId text LOCAL-NAME (n .tables) (x .local)) (chooseId LOCAL-NAME w (octetsOf text (x .local)))) (sn .tables)
       (same-id LOCAL-NAME (n .tables) (x .local)) in
       same-name-from q lead v x _ _ _ _ _ _ sp sn sl
 
@@ -125,14 +126,14 @@ module _ (text : List ℕ) where
       pub state : plainState text (writeItem L text a v e .state) ≡ knownBy L a (plainState text v) (eventMap (octetsOf text) e)
 
     -- the second string of an event, with the tables behind the first
-    value-then : (t : StringTable) (v : Vocabulary Located) (w : Vocabulary (List ℕ)) (x : Located) → plainTables text v ≡ w
+    value-then : (t : StringTable) (v : Vocabulary Located) (w : Vocabulary Octets) (x : Located) → plainTables text v ≡ w
         → Same (valueOctets (octetsOf text x)) (writeValue L text t v x) (chooseValue L t w (octetsOf text x))
-    value-then t v w x e = subst (λ (u : Vocabulary (List ℕ)). Same (valueOctets (octetsOf text x)) (writeValue L text t v x) (chooseValue L t u (octetsOf text x))) e (same-value t v x)
+    value-then t v w x e = subst (λ (u : Vocabulary Octets). Same (valueOctets (octetsOf text x)) (writeValue L text t v x) (chooseValue L t u (octetsOf text x))) e (same-value t v x)
 
-    optional-then : (t : StringTable) (v : Vocabulary Located) (w : Vocabulary (List ℕ)) (x : Option Located) → plainTables text v ≡ w
+    optional-then : (t : StringTable) (v : Vocabulary Located) (w : Vocabulary Octets) (x : Option Located) → plainTables text v ≡ w
         → Same (optionalOctets (Option·map (octetsOf text) x)) (writeOptional text t v x) (chooseOptional t w (Option·map (octetsOf text) x))
     optional-then t v w x e =
-        subst (λ (u : Vocabulary (List ℕ)). Same (optionalOctets (Option·map (octetsOf text) x)) (writeOptional text t v x) (chooseOptional t u (Option·map (octetsOf text) x))) e (same-optional t v x)
+        subst (λ (u : Vocabulary Octets). Same (optionalOctets (Option·map (octetsOf text) x)) (writeOptional text t v x) (chooseOptional t u (Option·map (octetsOf text) x))) e (same-optional t v x)
 
     pub same-item : (a : Bool) (v : State Located) (e : E.Event Located) → SameItem a v e
     unfolding writeItem octetsBy chooseFor eventMap ofElement ofAttribute
@@ -147,9 +148,9 @@ module _ (text : List ℕ) where
     same-item a v (E.Start x) =
         let s = same-name ofElement (nameLead (v .mode) a) (v .tables) x in
         record {
-          octets = ap (λ (o : List ℕ). beforeName (v .mode) ++ o) (s .octets-are);
+          octets = ap (λ (o : Octets). beforeName (v .mode) ++ o) (s .octets-are);
           choice = ap E.forStart (s .how);
-          state = ap (λ (w : Vocabulary (List ℕ)). opened (plainState text v) w a) (s .tables);
+          state = ap (λ (w : Vocabulary Octets). opened (plainState text v) w a) (s .tables);
         }
     same-item a v (E.Attribute x y) =
         let s = same-name ofAttribute 0 (v .tables) x in
@@ -157,14 +158,14 @@ module _ (text : List ℕ) where
         record {
           octets = λ i. s .octets-are i ++ z .octets-are i;
           choice = λ i. E.forAttribute (s .how i) (z .how i);
-          state = ap (λ (w : Vocabulary (List ℕ)). moved (plainState text v) w (listing true)) (z .tables);
+          state = ap (λ (w : Vocabulary Octets). moved (plainState text v) w (listing true)) (z .tables);
         }
     same-item a v (E.Text y) =
         let s = same-literal c15 CONTENT-CHARACTER-CHUNK (v .tables) y in
         record { octets = s .octets-are; choice = ap E.forText (s .how); state = ap (knowing (plainState text v)) (s .tables) }
     same-item a v (E.Comment y) =
         let s = same-value OTHER-STRING (v .tables) y in
-        record { octets = ap (λ (o : List ℕ). 0xE2 ∷ o) (s .octets-are); choice = ap E.forComment (s .how); state = ap (knowing (plainState text v)) (s .tables) }
+        record { octets = ap (λ (o : Octets). 0xE2 ∷ o) (s .octets-are); choice = ap E.forComment (s .how); state = ap (knowing (plainState text v)) (s .tables) }
     same-item a v (E.Instruction x y) =
         let s = same-id OTHER-NCNAME (v .tables) x in
         let z = value-then OTHER-STRING (writeId text OTHER-NCNAME (v .tables) x .tables) _ y (s .tables) in

@@ -8,6 +8,7 @@ use native.Mathlib.Omega.{arith}
 use borrow.Author.Tests.{leb-true}
 use lib.Dec.{eqb, leb}
 use lib.ListN.{length, length-append, length-map}
+use Rattle.format.specs.Octets.{Octets, Halves}
 use Rattle.format.specs.Events.{Item, _by_}
 use Rattle.format.specs.Tables.{Limits, link}
 use Rattle.format.specs.Items.{State}
@@ -29,7 +30,7 @@ use Rattle.theorems.proofs.Entries.{ranged-started, few-after}
 use Rattle.theorems.proofs.WriterRun.{Stands, Judged, run-judged}
 
 -- ---- after each item something is known
-as-many : {L : Limits} {at : ℕ} {v z : State (List ℕ)} {items : List (Item (List ℕ))} {hs : List ℕ} (w : Written L at v items hs z) → length (knownAfter L w) ≡ length items
+as-many : {L : Limits} {at : ℕ} {v z : State Octets} {items : List (Item Octets)} {hs : Halves} (w : Written L at v items hs z) → length (knownAfter L w) ≡ length items
 unfolding knownAfter
 as-many (document-end md lv rt) = refl
 as-many (attributes-end md w) = as-many w
@@ -37,12 +38,12 @@ as-many (element-end md lv w) = ap suc (as-many w)
 as-many (item u w) = ap suc (as-many w)
 
 -- ---- the room
-module _ (L : Limits) (text : List ℕ) (room : ℕ) where
+module _ (L : Limits) (text : Octets) (room : ℕ) where
   abbrev InRoom : ℕ → Result → Type 0
   InRoom at (written items hs z) = at + length hs ≤ 2 * min room (L .octets)
   InRoom at (refusal n p) = Unit {0}
 
-  plus-room : (at : ℕ) (j : Item Located) (hs : List ℕ) (r : Result) → InRoom (at + length hs) r → InRoom at (plus j hs r)
+  plus-room : (at : ℕ) (j : Item Located) (hs : Halves) (r : Result) → InRoom (at + length hs) r → InRoom at (plus j hs r)
   plus-room at j hs (written items rest z) h = let l = length-append hs rest in omega arith
   plus-room at j hs (refusal n p) h = tt
 
@@ -57,7 +58,7 @@ module _ (L : Limits) (text : List ℕ) (room : ℕ) where
       let c = align-is (suc at) in
       omega arith
 
-  turn-room : (at : ℕ) (rest : ℕ → State Located → Result) → ((k : ℕ) (w : State Located) → InRoom k (rest k w)) → (i j : ℕ) (y : Item Located) (hs : List ℕ) (w : State Located)
+  turn-room : (at : ℕ) (rest : ℕ → State Located → Result) → ((k : ℕ) (w : State Located) → InRoom k (rest k w)) → (i j : ℕ) (y : Item Located) (hs : Halves) (w : State Located)
       → InRoom at (elim j [ zero ↦ plus y hs (rest (at + length hs) w) | suc n ↦ refusal (suc n) i ])
   turn-room at rest rec i zero y hs w = plus-room at y hs (rest (at + length hs) w) (rec (at + length hs) w)
   turn-room at rest rec i (suc n) y hs w = tt
@@ -76,12 +77,12 @@ pub started-order : Order link started
 unfolding link
 started-order = record { fit = few-after link no-item (omega arith); ranged = ranged-started }
 
-module _ (text : List ℕ) (short : length text ≤ 16384) (room : ℕ) where
+module _ (text : Octets) (short : length text ≤ 16384) (room : ℕ) where
   first-stands : (es : List Event) → Stands text [] (2 * length header) (beginning start) es
   unfolding beginning chosen tablesAfter
   first-stands es =
       let s = plain-start text in
-      let w = ap (λ (u : State (List ℕ)). u .tables) s in
+      let w = ap (λ (u : State Octets). u .tables) s in
       record {
         halves = [];
         begun = rw s begun;
@@ -96,7 +97,7 @@ module _ (text : List ℕ) (short : length text ≤ 16384) (room : ℕ) where
 
   -- what a result means, where ks are known after the events: the octets are the rules', they fit the output, and the rules know as much after each item; each
   -- event is right, and the items are 01's; or the list is refused
-  pub record Means (es : List Event) (ks : List (State Located)) (items : List (Item Located)) (hs : List ℕ) (z : State Located) : Type 0 where
+  pub record Means (es : List Event) (ks : List (State Located)) (items : List (Item Located)) (hs : Halves) (z : State Located) : Type 0 where
     pub writes : Writes (map (plain text) items) (plainState text z) (header ++ joined hs)
     pub fits : length (header ++ joined hs) ≤ room
     pub known : knownAfter link (writes .rule) ≡ map (plainState text) ks
@@ -119,7 +120,7 @@ module _ (text : List ℕ) (short : length text ≤ 16384) (room : ℕ) where
         writes = document-of (w .0) (omega arith);
         fits = omega arith;
         known = w .1;
-        chosen-by = u .1 ∙ ap (λ (v : State (List ℕ)). chosen link (v .tables) (plains text es)) (plain-start text);
+        chosen-by = u .1 ∙ ap (λ (v : State Octets). chosen link (v .tables) (plains text es)) (plain-start text);
         all-right = u .2;
       }
   from-run es ks (refusal n p) u h = u
@@ -131,13 +132,13 @@ module _ (text : List ℕ) (short : length text ≤ 16384) (room : ℕ) where
       (run-judged text short room es [] (2 * length header) (beginning start) 0 refl (first-stands es) (λ b e after q. absurd (let l = ap length q in let k = length-append b (e ∷ after) in omega arith)))
       (run-room link text room es (2 * length header) (beginning start) 0)
 
-  pub meant : (es : List Event) (items : List (Item Located)) (hs : List ℕ) (z : State Located) → writing text room es ≡ written items hs z → Means es (knownWriting text room es) items hs z
+  pub meant : (es : List Event) (items : List (Item Located)) (hs : Halves) (z : State Located) → writing text room es ≡ written items hs z → Means es (knownWriting text room es) items hs z
   meant es items hs z e = subst (Meaning es (knownWriting text room es)) e (means es)
 
   pub refused-by : (es : List Event) (n p : ℕ) → writing text room es ≡ refusal n p → Refused text room es n p
   refused-by es n p e = subst (Meaning es (knownWriting text room es)) e (means es)
 
-  pub each-known : (es : List Event) (items : List (Item Located)) (hs : List ℕ) (z : State Located) → writing text room es ≡ written items hs z → length (knownWriting text room es) ≡ length items
+  pub each-known : (es : List Event) (items : List (Item Located)) (hs : Halves) (z : State Located) → writing text room es ≡ written items hs z → length (knownWriting text room es) ≡ length items
   each-known es items hs z e =
       let m = meant es items hs z e in
       sym (length-map (knownWriting text room es) (plainState text)) ∙ sym (ap length (m .known)) ∙ as-many (m .writes .rule) ∙ length-map items (plain text)

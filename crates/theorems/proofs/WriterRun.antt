@@ -9,6 +9,7 @@ use native.Mathlib.Omega.{arith}
 use borrow.Author.Tests.{leb-true, leb-false, le-leb, lt-leb, eqb-true}
 use lib.Dec.{eqb, leb}
 use lib.ListN.{length, length-append}
+use Rattle.format.specs.Octets.{Octets}
 use Rattle.format.specs.Numbers.{pick, top}
 use Rattle.format.specs.Events as E
 use Rattle.format.specs.Events.{Item, _by_, IsDocument, BeginsDocument, openAfter, declaresLast, isDeclaration, isStart, opensElement}
@@ -44,33 +45,33 @@ unfolding link
 link-few = omega arith
 
 -- what the rules write, and what they know after each item
-abbrev pub Knows : ℕ → State (List ℕ) → List (Item (List ℕ)) → List ℕ → State (List ℕ) → List (State (List ℕ)) → Type 0
+abbrev pub Knows : ℕ → State Octets → List (Item Octets) → Octets → State Octets → List (State Octets) → Type 0
 Knows at v items hs z ks = (w : Written link at v items hs z) × (knownAfter link w ≡ ks)
 
-module _ (text : List ℕ) where
+module _ (text : Octets) where
   -- Where the writer stands behind the plain events ps, with es ahead.
-  pub record Stands (ps : List (E.Event (List ℕ))) (at : ℕ) (v : State Located) (es : List Event) : Type 0 where
-    pub halves : List ℕ
+  pub record Stands (ps : List (E.Event Octets)) (at : ℕ) (v : State Located) (es : List Event) : Type 0 where
+    pub halves : Octets
     pub begun : Begun link (2 * length header) (beginning started) (itemsOf ps) halves (plainState text v)
     pub at-is : at ≡ 2 * length header + length halves
     pub tables : plainTables text (v .tables) ≡ tablesAfter link started ps
     pub order : Order link (plainTables text (v .tables))
     pub ahead : Ahead (v .mode) (announced es)
     pub sane : Sane (plainState text v)
-    pub forth : (tail : List (E.Event (List ℕ))) → attributeFirst tail ≡ attributeNext es → IsDocument (ps ++ tail) → Tree.Rest (plainState text v) tail
-    pub back : (tail : List (E.Event (List ℕ))) → Tree.Rest (plainState text v) tail → IsDocument (ps ++ tail)
+    pub forth : (tail : List (E.Event Octets)) → attributeFirst tail ≡ attributeNext es → IsDocument (ps ++ tail) → Tree.Rest (plainState text v) tail
+    pub back : (tail : List (E.Event Octets)) → Tree.Rest (plainState text v) tail → IsDocument (ps ++ tail)
 
   module _ (short : length text ≤ 16384) (room : ℕ) (before : List Event) (e : Event) (es : List Event) (at : ℕ) (v : State Located) (st : Stands (plains text before) at v (e ∷ es)) where
-    abbrev ps : List (E.Event (List ℕ))
+    abbrev ps : List (E.Event Octets)
     ps = plains text before
 
     abbrev ev : E.Event Located
     ev = eventOf (e .kind) e
 
-    abbrev pe : E.Event (List ℕ)
+    abbrev pe : E.Event Octets
     pe = plainOf text e
 
-    abbrev pv : State (List ℕ)
+    abbrev pv : State Octets
     pv = plainState text v
 
     abbrev a : Bool
@@ -79,7 +80,7 @@ module _ (text : List ℕ) where
     abbrev wi : WroteItem
     wi = writeItem link text a (settled v ev) ev
 
-    abbrev hs : List ℕ
+    abbrev hs : Octets
     hs = halvesOf link text room at v ev wi
 
     -- 16: the structure
@@ -124,10 +125,10 @@ module _ (text : List ℕ) where
     -- 12: the tables
     tables-are : tablesAfter link started (upTo text room before e) ≡ chooseFor link (pv .tables) pe .tables
     unfolding tablesAfter
-    tables-are = tables-append link started ps (pe ∷ []) ∙ ap (λ (w : Vocabulary (List ℕ)). chooseFor link w pe .tables) (sym (st .tables))
+    tables-are = tables-append link started ps (pe ∷ []) ∙ ap (λ (w : Vocabulary Octets). chooseFor link w pe .tables) (sym (st .tables))
 
     words-next : plainTables text (wi .state .tables) ≡ chooseFor link (pv .tables) pe .tables
-    words-next = ap (λ (u : State (List ℕ)). u .tables) (next-plain link text a v ev) ∙ next-words link a pv pe
+    words-next = ap (λ (u : State Octets). u .tables) (next-plain link text a v ev) ∙ next-words link a pv pe
 
     within-is : within link (chooseFor link (pv .tables) pe .tables) ≡ within link (wi .state .tables)
     within-is = ap (within link) (sym words-next) ∙ within-plain link text (wi .state .tables)
@@ -141,7 +142,7 @@ module _ (text : List ℕ) where
     -- 14: the room
     items-are : itemsOf (upTo text room before e) ≡ itemsOf ps ++ ((pe by chooseFor link (pv .tables) pe .how) ∷ [])
     unfolding chosen
-    items-are = chosen-append link started ps (pe ∷ []) ∙ ap (λ (w : Vocabulary (List ℕ)). itemsOf ps ++ ((pe by chooseFor link w pe .how) ∷ [])) (sym (st .tables))
+    items-are = chosen-append link started ps (pe ∷ []) ∙ ap (λ (w : Vocabulary Octets). itemsOf ps ++ ((pe by chooseFor link w pe .how) ∷ [])) (sym (st .tables))
 
     -- an event whose other tests are passed
     module _ (go : goesOn v ev ≡ true) (sd : Said pe) (deep : (opens (v .mode) ev && leb (link .depth) (v .level)) ≡ false) (few : InLimits link (chooseFor link (pv .tables) pe .tables)) where
@@ -180,12 +181,12 @@ module _ (text : List ℕ) where
             at-is = at-then;
             tables = words-next ∙ sym tables-are;
             order = rw words-next (record { fit = few; ranged = ranged-for link (pv .tables) pe (st .order .ranged) });
-            ahead = subst (λ (u : State (List ℕ)). Ahead (u .mode) (announced es)) (sym state-then) (ahead-next a (announced es) pv pe (announced-on text e es));
+            ahead = subst (λ (u : State Octets). Ahead (u .mode) (announced es)) (sym state-then) (ahead-next a (announced es) pv pe (announced-on text e es));
             sane = subst Sane (sym state-then) (Tree.sane-on a pv pe (st .sane) goes-plain);
             forth = λ tail f d.
-                subst (λ (u : State (List ℕ)). Tree.Rest u tail) (sym state-then)
+                subst (λ (u : State Octets). Tree.Rest u tail) (sym state-then)
                 (Tree.on a pv pe tail (st .sane) (st .forth (pe ∷ tail) (sym (next-is text e es)) (rw append-assoc at d)) (λ s. f ∙ sym (announced-start text e es s)));
-            back = λ tail r. rw append-assoc (st .back (pe ∷ tail) (Tree.back a pv pe tail goes-plain (subst (λ (u : State (List ℕ)). Tree.Rest u tail) state-then r)));
+            back = λ tail r. rw append-assoc (st .back (pe ∷ tail) (Tree.back a pv pe tail goes-plain (subst (λ (u : State Octets). Tree.Rest u tail) state-then r)));
           })
 
     -- the verdict: the event is right, and the writer goes on behind it; or its first fault
@@ -320,7 +321,7 @@ module _ (text : List ℕ) where
       abbrev item : WroteItem
       item = wi short room before e es at v st
 
-      abbrev own : List ℕ
+      abbrev own : Octets
       own = hs short room before e es at v st
 
       regrouped : (before ++ (e ∷ [])) ++ es ≡ before ++ (e ∷ es)
@@ -333,10 +334,10 @@ module _ (text : List ℕ) where
       in-front b ks (written items rest z) j =
           let f = Begun.front b (j .0 .0) in
           let c = choice-plain link text (announced (e ∷ es)) v (eventOf (e .kind) e) in
-          let same = ap₂ (λ (x : Item (List ℕ)) (l : List (Item (List ℕ))). x ∷ l) (ap (λ (h : E.Choice). plainOf text e by h) c)
-          (j .1 ∙ ap (λ (w : Vocabulary (List ℕ)). chosen link w (plains text es)) (words-next short room before e es at v st)) in (
-            subst (λ (l : List (Item (List ℕ))). Knows at (plainState text v) (l) (own ++ rest) (plainState text z) (map (plainState text) (item .state ∷ ks)))
-                (ap (λ (h : E.Choice). (plainOf text e by h) ∷ map (plain text) items) (sym c)) (f .0, f .1 ∙ ap (λ (l : List (State (List ℕ))). plainState text (item .state) ∷ l) (j .0 .1)),
+          let same = ap₂ (λ (x : Item Octets) (l : List (Item Octets)). x ∷ l) (ap (λ (h : E.Choice). plainOf text e by h) c)
+          (j .1 ∙ ap (λ (w : Vocabulary Octets). chosen link w (plains text es)) (words-next short room before e es at v st)) in (
+            subst (λ (l : List (Item Octets)). Knows at (plainState text v) (l) (own ++ rest) (plainState text z) (map (plainState text) (item .state ∷ ks)))
+                (ap (λ (h : E.Choice). (plainOf text e by h) ∷ map (plain text) items) (sym c)) (f .0, f .1 ∙ ap (λ (l : List (State Octets)). plainState text (item .state) ∷ l) (j .0 .1)),
             same,
             rw regrouped at (j .2),
           )

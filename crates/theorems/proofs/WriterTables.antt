@@ -7,6 +7,7 @@ use mathlib.Core.Option.{Option, none, some}
 use mathlib.Core.List.{List, [], _∷_, _++_, map}
 use lib.Dec.{eqb}
 use lib.ListN.{length}
+use Rattle.format.specs.Octets.{Octets, Halves}
 use Rattle.format.specs.Events as E
 use Rattle.format.specs.Events.{Name, How, spelled, numbered, NameHow, Item, _by_}
 use Rattle.format.specs.Tables.{StringTable, PREFIX, NAMESPACE-NAME, LOCAL-NAME, OTHER-NCNAME, ATTRIBUTE-VALUE, CONTENT-CHARACTER-CHUNK, OTHER-STRING, Vocabulary, strings, names, Limits, link}
@@ -40,7 +41,7 @@ WroteString t v x w = Adds v (ofString t x (w .how)) (w .tables)
 abbrev WrotePart : StringTable → Vocabulary Located → Option Located → Wrote (Option How) → Type 0
 WrotePart t v x w = Adds v (ofOption empty t x (w .how)) (w .tables)
 
-module _ (text : List ℕ) where
+module _ (text : Octets) where
   id-adds : (t : StringTable) (v : Vocabulary Located) (x : Located) → WroteString t v x (writeId text t v x)
   unfolding writeId
   id-adds t v x =
@@ -101,7 +102,7 @@ module _ (text : List ℕ) where
     AddsAll v (written items hs z) = Adds v (acts empty items) (z .tables)
     AddsAll v (refusal n p) = Unit {0}
 
-    plus-adds : {v w : Vocabulary Located} (i : Item Located) (hs : List ℕ) → Adds v (ofItem empty i) w → (r : Result) → AddsAll w r → AddsAll v (plus i hs r)
+    plus-adds : {v w : Vocabulary Located} (i : Item Located) (hs : Halves) → Adds v (ofItem empty i) w → (r : Result) → AddsAll w r → AddsAll v (plus i hs r)
     plus-adds i hs f (written items rest z) g = adds-both f g
     plus-adds i hs f (refusal n p) g = tt
 
@@ -124,7 +125,7 @@ module _ (text : List ℕ) where
           (judge L text room at v e w hs)
 
 -- ---- a document
-pub strings-written : (text : List ℕ) (room : ℕ) (es : List Event) (items : List (Item Located)) (hs : List ℕ) (z : State Located) → writing text room es ≡ written items hs z
+pub strings-written : (text : Octets) (room : ℕ) (es : List Event) (items : List (Item Located)) (hs : Halves) (z : State Located) → writing text room es ≡ written items hs z
     → (t : StringTable) → strings (z .tables) t ≡ strings start t ++ madeIn t (acts empty items)
 unfolding writing beginning
 strings-written text room es items hs z e = subst (AddsAll text link start) e (run-adds text link room es (2 * length header) (beginning start) 0) .then

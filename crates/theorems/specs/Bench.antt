@@ -3,6 +3,7 @@ use Prim.Native.Nat.{ℕ}
 use mathlib.Core.Path.{_≡_, refl}
 use mathlib.Core.Option.{none, some}
 use mathlib.Core.List.{List, [], _∷_, _++_, map}
+use Rattle.format.specs.Octets.{Octets}
 use Rattle.format.specs.Events.{Name, Event, Namespace, Start, Attribute, Text, End, Item, eventMap}
 use Rattle.format.specs.Tables.{Triple, Vocabulary, xmlPrefix, xmlNamespace}
 use Rattle.format.specs.Document.{header}
@@ -33,20 +34,20 @@ use Rattle.writer.specs.Writing as WWriting
 
 -- A document, the events and the tables that it stands for; or octets, the refusal's number and its place.
 pub data Case : Type 0 where
-  document : List ℕ → List (Event (List ℕ)) → Vocabulary (List ℕ) → Case
-  refused : List ℕ → (number place : ℕ) → Case
+  document : Octets → List (Event Octets) → Vocabulary Octets → Case
+  refused : Octets → (number place : ℕ) → Case
 
 -- What reading finds: events and tables, and what writing these events, with the document as text area, gives; or a refusal.
 pub data Found : Type 0 where
-  found : List (Event (List ℕ)) → Vocabulary (List ℕ) → List ℕ → Vocabulary (List ℕ) → Found
+  found : List (Event Octets) → Vocabulary Octets → Octets → Vocabulary Octets → Found
   number : ℕ → ℕ → Found
 
-abbrev pub both : List ℕ → List (Item Located) → Vocabulary Located → WWriting.Result → Found
+abbrev pub both : Octets → List (Item Located) → Vocabulary Located → WWriting.Result → Found
 both s is v (WWriting.written js hs z) =
     found (map (λ (i : Item Located). eventMap (octetsOf s) (i .event)) is) (plainTables s v) (header ++ WWriting.joined hs) (plainTables s (z .tables))
 both s is v (WWriting.refusal n p) = number n p
 
-abbrev pub read : List ℕ → RReading.Result → Found
+abbrev pub read : Octets → RReading.Result → Found
 read s (RReading.accepted is m) = both s is (m .state .tables) (WWriting.writing s 16384 (map (λ (i : Item Located). recordOf (i .event)) is))
 read s (RReading.refusal n p) = number n p
 
@@ -59,33 +60,33 @@ wants (document s es v) = found es v s v
 wants (refused s n p) = number n p
 
 -- Words of the cases.
-abbrev a : List ℕ
+abbrev a : Octets
 a = 0x61 ∷ []
 
-abbrev b : List ℕ
+abbrev b : Octets
 b = 0x62 ∷ []
 
-abbrev c : List ℕ
+abbrev c : Octets
 c = 0x63 ∷ []
 
-abbrev u : List ℕ
+abbrev u : Octets
 u = 0x75 ∷ []
 
-abbrev hi : List ℕ
+abbrev hi : Octets
 hi = 0x68 ∷ 0x69 ∷ []
 
-abbrev local : List ℕ → Name (List ℕ)
+abbrev local : Octets → Name Octets
 local x = record { prefix = none; namespace = none; local = x }
 
 abbrev triple : ℕ → ℕ → ℕ → Triple
 triple p n l = record { prefix = p; namespace = n; local = l }
 
 -- The tables: namespaces behind the built-in one, local names, values, chunks, names of elements and of attributes.
-abbrev tables : (namespaces locals values chunks : List (List ℕ)) (elements attributes : List Triple) → Vocabulary (List ℕ)
+abbrev tables : (namespaces locals values chunks : List Octets) (elements attributes : List Triple) → Vocabulary Octets
 tables ns ls vs cs es ts =
     record { prefixes = xmlPrefix ∷ []; namespaces = xmlNamespace ∷ ns; locals = ls; ncnames = []; uris = []; values = vs; chunks = cs; others = []; elements = es; attributes = ts }
 
-abbrev behindHeader : List ℕ → List ℕ
+abbrev behindHeader : Octets → Octets
 behindHeader x = 0xE0 ∷ 0x00 ∷ 0x00 ∷ 0x01 ∷ 0x00 ∷ x
 
 abbrev pub cases : List Case

@@ -5,6 +5,7 @@ use mathlib.Core.Path.{_≡_}
 use mathlib.Core.Logic.{_↔_}
 use mathlib.Core.List.{List, [], _++_, map}
 use lib.ListN.{length, replicate}
+use Rattle.format.specs.Octets.{Octets}
 use Rattle.format.specs.Refusals.{SIZE, TEXT, FULL, DEPTH, ROOM, EVENT}
 use Rattle.format.specs.Events.{Item}
 use Rattle.format.specs.Tables.{StringTable, Vocabulary, strings}
@@ -39,15 +40,15 @@ pub data WriterNumber : ℕ → Type 0 where
   room : WriterNumber ROOM
   event : WriterNumber EVENT
 
-pub data CheckAnswers (s : List ℕ) : ℕ → Type 0 where
+pub data CheckAnswers (s : Octets) : ℕ → Type 0 where
   passes : CheckAnswers s 0
   fails : {n p : ℕ} → ReaderNumber n → (n ≡ ROOM → ⊥) → p ≤ length s → CheckAnswers s (p * 32 + n)
 
-pub data ReadAnswers (s : List ℕ) (room table : ℕ) (o : Read.Outcome) : Type 0 where
+pub data ReadAnswers (s : Octets) (room table : ℕ) (o : Read.Outcome) : Type 0 where
   accepts : o .told .number ≡ 0 → o .told .place ≡ 0 → ReadAnswers s room table o
   refuses : {n p : ℕ} → ReaderNumber n → p ≤ length s → o .told ≡ toldRefused n p → o .row ≡ replicate room blank → o .tables ≡ replicate table 0 → ReadAnswers s room table o
 
-pub data ReadWordsAnswer (s : List ℕ) (r t c : ℕ) (w : ReadWords.Words) : Type 0 where
+pub data ReadWordsAnswer (s : Octets) (r t c : ℕ) (w : ReadWords.WordsLeft) : Type 0 where
   accepts : w .answer % 2 ^ 32 ≡ 0 → ReadWordsAnswer s r t c w
   refuses : {n p : ℕ} → ReaderNumber n → p ≤ length s → w .answer ≡ p * 32 + n → w .records ≡ replicate r 0 → w .tables ≡ replicate t 0 → w .counts ≡ replicate c 0 → ReadWordsAnswer s r t c w
 
@@ -55,7 +56,7 @@ pub data WriteAnswers (es : List Event) (room table : ℕ) (o : Write.Outcome) :
   accepts : o .told .number ≡ 0 → o .told .place ≡ 0 → WriteAnswers es room table o
   refuses : {n p : ℕ} → WriterNumber n → p ≤ length es → o .told ≡ toldRefused n p → o .out ≡ replicate room 0 → o .tables ≡ replicate table 0 → WriteAnswers es room table o
 
-pub data WriteWordsAnswer (es : List Event) (r t c : ℕ) (w : WriteWords.Words) : Type 0 where
+pub data WriteWordsAnswer (es : List Event) (r t c : ℕ) (w : WriteWords.WordsLeft) : Type 0 where
   accepts : w .answer % 2 ^ 32 ≡ 0 → WriteWordsAnswer es r t c w
   refuses : {n p : ℕ} → WriterNumber n → p ≤ length es → w .answer ≡ p * 32 + n → w .out ≡ replicate r 0 → w .tables ≡ replicate t 0 → w .counts ≡ replicate c 0 → WriteWordsAnswer es r t c w
 
@@ -63,7 +64,7 @@ pub data WriteWordsAnswer (es : List Event) (r t c : ℕ) (w : WriteWords.Words)
 -- For these items, which the rules write by the derivation w, the call left their records, blank ones behind them, and their tables; its answer has the counts. Each
 -- record is as 01's "Events" has it; each spelled string has the place at which the rules write it, and each number names an entry made earlier or built in, at its
 -- very place. The tables hold what is built in and what the events made, each entry at its very place.
-pub record HandsOut (s : List ℕ) (room : ℕ) (items : List (Item (List ℕ))) (z : State (List ℕ)) (w : Writes items z s) (o : Read.Outcome) : Type 0 where
+pub record HandsOut (s : Octets) (room : ℕ) (items : List (Item Octets)) (z : State Octets) (w : Writes items z s) (o : Read.Outcome) : Type 0 where
   pub events : List (Item Located)
   pub tables : Vocabulary Located
   pub answer : o .told ≡ toldAccepted (length items) (entriesOf (z .tables))
@@ -76,17 +77,17 @@ pub record HandsOut (s : List ℕ) (room : ℕ) (items : List (Item (List ℕ)))
   pub earlier : Known empty (strings start) (λ t. []) (acts empty events)
   pub tables-made : MadeBy empty start (acts empty events) tables
 
-pub record Demand3 (s : List ℕ) (room table : ℕ) (o : Read.Outcome) : Type 0 where
+pub record Demand3 (s : Octets) (room table : ℕ) (o : Read.Outcome) : Type 0 where
   -- what the rules write is accepted, if there is a record for each event and the right table room, and this is handed out
-  pub accepts : (items : List (Item (List ℕ))) (z : State (List ℕ)) (w : Writes items z s) → length items ≤ room → table ≡ tableWords → HandsOut s room items z w o
+  pub accepts : (items : List (Item Octets)) (z : State Octets) (w : Writes items z s) → length items ≤ room → table ≡ tableWords → HandsOut s room items z w o
   -- and nothing else is accepted
-  pub only : o .told .number ≡ 0 → (items : List (Item (List ℕ))) × (z : State (List ℕ)) × Writes items z s × (length items ≤ room) × (table ≡ tableWords)
+  pub only : o .told .number ≡ 0 → (items : List (Item Octets)) × (z : State Octets) × Writes items z s × (length items ≤ room) × (table ≡ tableWords)
   -- there is one such pair
-  pub one-pair : (items others : List (Item (List ℕ))) (y z : State (List ℕ)) → Writes items y s → Writes others z s → (items ≡ others) × (y ≡ z)
+  pub one-pair : (items others : List (Item Octets)) (y z : State Octets) → Writes items y s → Writes others z s → (items ≡ others) × (y ≡ z)
 
 -- ---- DEMAND 2: the writer accepts whatever 01 gives it no number to refuse, and writes it as the rules do, with 01's choices; reading it gives back what was given.
 -- 01 gives no number to refuse these records over this text area, with this room; s is the document that the rules write from them, and z what they know at its end.
-pub record Acceptable (es : List Event) (text : List ℕ) (room table : ℕ) (s : List ℕ) (z : State (List ℕ)) : Type 0 where
+pub record Acceptable (es : List Event) (text : Octets) (room table : ℕ) (s : Octets) (z : State Octets) : Type 0 where
   pub text-size : length text ≤ 16384
   pub table-room : table ≡ tableWords
   pub well-made : All (WellMade text) es
@@ -94,9 +95,9 @@ pub record Acceptable (es : List Event) (text : List ℕ) (room table : ℕ) (s 
   pub fits : length s ≤ room
 
 -- The writer's definition writes them as these octets, and knows this at the end.
-pub record Wrote (es : List Event) (text : List ℕ) (room : ℕ) (s : List ℕ) (z : State (List ℕ)) : Type 0 where
+pub record Wrote (es : List Event) (text : Octets) (room : ℕ) (s : Octets) (z : State Octets) : Type 0 where
   pub items : List (Item Located)
-  pub halves : List ℕ
+  pub halves : Octets
   pub last : State Located
   pub is : Write.writing text room es ≡ Write.written items halves last
   pub octets : header ++ Write.joined halves ≡ s
@@ -104,7 +105,7 @@ pub record Wrote (es : List Event) (text : List ℕ) (room : ℕ) (s : List ℕ)
 
 -- The call left these octets, 0 behind them, and tables that are these as octets; its answer has their counts. The items are the records given, with 01's choices;
 -- the tables of strings hold what is built in and what these items made, each entry at the very place that its record gave. (A name is numbers, so it has no place.)
-pub record LeavesWritten (es : List Event) (text : List ℕ) (room : ℕ) (s : List ℕ) (z : State (List ℕ)) (o : Write.Outcome) : Type 0 where
+pub record LeavesWritten (es : List Event) (text : Octets) (room : ℕ) (s : Octets) (z : State Octets) (o : Write.Outcome) : Type 0 where
   pub items : List (Item Located)
   pub tables : Vocabulary Located
   pub answer : o .told ≡ toldAccepted (length s) (entriesOf (z .tables))
@@ -116,50 +117,50 @@ pub record LeavesWritten (es : List Event) (text : List ℕ) (room : ℕ) (s : L
   pub strings-made : (t : StringTable) → strings tables t ≡ strings start t ++ madeIn t (acts empty items)
 
 -- 01 refuses them so.
-pub data RefusedBy (es : List Event) (text : List ℕ) (room table : ℕ) : (number place : ℕ) → Type 0 where
+pub data RefusedBy (es : List Event) (text : Octets) (room table : ℕ) : (number place : ℕ) → Type 0 where
   text-too-long : 16384 < length text → RefusedBy es text room table SIZE 0
   wrong-table-room : length text ≤ 16384 → (table ≡ tableWords → ⊥) → RefusedBy es text room table ROOM 0
   at-events : {n p : ℕ} → length text ≤ 16384 → table ≡ tableWords → Refused text room es n p → RefusedBy es text room table n p
 
-pub record Demand2 (es : List Event) (text : List ℕ) (room table : ℕ) (o : Write.Outcome) : Type 0 where
+pub record Demand2 (es : List Event) (text : Octets) (room table : ℕ) (o : Write.Outcome) : Type 0 where
   -- what 01 gives no number to refuse is accepted, as the rules write it
-  pub accepts : (s : List ℕ) (z : State (List ℕ)) → Acceptable es text room table s z → LeavesWritten es text room s z o
+  pub accepts : (s : Octets) (z : State Octets) → Acceptable es text room table s z → LeavesWritten es text room s z o
   -- and nothing else is
-  pub only : o .told .number ≡ 0 → (s : List ℕ) × (z : State (List ℕ)) × Acceptable es text room table s z
+  pub only : o .told .number ≡ 0 → (s : Octets) × (z : State Octets) × Acceptable es text room table s z
   -- reading it, with a record for each event, hands out the events that were given, and the same tables
-  pub back : (s : List ℕ) (z : State (List ℕ)) (a : Acceptable es text room table s z) (records : ℕ) → length es ≤ records
+  pub back : (s : Octets) (z : State Octets) (a : Acceptable es text room table s z) (records : ℕ) → length es ≤ records
       → HandsOut s records (itemsOf (plains text es)) z (a .writes) (Read.readOf s records tableWords)
   -- each refusal, its number and its place, is 01's
   pub refuses : (n p : ℕ) → (o .told ≡ toldRefused n p) ↔ RefusedBy es text room table n p
 
 -- In words: what the row call would leave, and r % 13 words of 0 behind its records.
-pub record InReadWords (r : ℕ) (o : Read.Outcome) (w : ReadWords.Words) : Type 0 where
+pub record InReadWords (r : ℕ) (o : Read.Outcome) (w : ReadWords.WordsLeft) : Type 0 where
   pub answer : w .answer ≡ wholeWord (o .told)
   pub records : w .records ≡ rowWords (o .row) ++ replicate (r % 13) 0
   pub tables : w .tables ≡ o .tables
   pub counts : w .counts ≡ o .told .counts
 
-pub record InWriteWords (o : Write.Outcome) (w : WriteWords.Words) : Type 0 where
+pub record InWriteWords (o : Write.Outcome) (w : WriteWords.WordsLeft) : Type 0 where
   pub answer : w .answer ≡ wholeWord (o .told)
   pub out : w .out ≡ o .out
   pub tables : w .tables ≡ o .tables
   pub counts : w .counts ≡ o .told .counts
 
 -- What the word calls owe: the same, in words, with 10 words for the counts.
-pub record Demand3Words (s : List ℕ) (r t c : ℕ) (w : ReadWords.Words) : Type 0 where
+pub record Demand3Words (s : Octets) (r t c : ℕ) (w : ReadWords.WordsLeft) : Type 0 where
   -- what the rules write is accepted, if there are 13 words for each event and the right room for tables and counts, and this is handed out
-  pub accepts : (items : List (Item (List ℕ))) (z : State (List ℕ)) (u : Writes items z s) → length items ≤ r / 13 → t ≡ tableWords → c ≡ 10
+  pub accepts : (items : List (Item Octets)) (z : State Octets) (u : Writes items z s) → length items ≤ r / 13 → t ≡ tableWords → c ≡ 10
       → (o : Read.Outcome) × HandsOut s (r / 13) items z u o × InReadWords r o w
   -- and nothing else is accepted
-  pub only : w .answer % 2 ^ 32 ≡ 0 → (items : List (Item (List ℕ))) × (z : State (List ℕ)) × Writes items z s × (length items ≤ r / 13) × (t ≡ tableWords) × (c ≡ 10)
+  pub only : w .answer % 2 ^ 32 ≡ 0 → (items : List (Item Octets)) × (z : State Octets) × Writes items z s × (length items ≤ r / 13) × (t ≡ tableWords) × (c ≡ 10)
 
 -- 01 refuses so the records of words: SIZE, then the room of the counts, then as it refuses the records.
-pub data WordsRefusedBy (es : List Event) (text : List ℕ) (r t c : ℕ) : (number place : ℕ) → Type 0 where
+pub data WordsRefusedBy (es : List Event) (text : Octets) (r t c : ℕ) : (number place : ℕ) → Type 0 where
   text-too-long : 16384 < length text → WordsRefusedBy es text r t c SIZE 0
   wrong-count-room : length text ≤ 16384 → (c ≡ 10 → ⊥) → WordsRefusedBy es text r t c ROOM 0
   as-records : {n p : ℕ} → c ≡ 10 → RefusedBy es text r t n p → WordsRefusedBy es text r t c n p
 
-pub record Demand2Words (es : List Event) (text : List ℕ) (r t c : ℕ) (w : WriteWords.Words) : Type 0 where
-  pub accepts : (s : List ℕ) (z : State (List ℕ)) → Acceptable es text r t s z → c ≡ 10 → (o : Write.Outcome) × LeavesWritten es text r s z o × InWriteWords o w
-  pub only : w .answer % 2 ^ 32 ≡ 0 → (c ≡ 10) × ((s : List ℕ) × (z : State (List ℕ)) × Acceptable es text r t s z)
+pub record Demand2Words (es : List Event) (text : Octets) (r t c : ℕ) (w : WriteWords.WordsLeft) : Type 0 where
+  pub accepts : (s : Octets) (z : State Octets) → Acceptable es text r t s z → c ≡ 10 → (o : Write.Outcome) × LeavesWritten es text r s z o × InWriteWords o w
+  pub only : w .answer % 2 ^ 32 ≡ 0 → (c ≡ 10) × ((s : Octets) × (z : State Octets) × Acceptable es text r t s z)
   pub refuses : (n p : ℕ) → 1 ≤ n → n < 32 → (w .answer ≡ p * 32 + n) ↔ WordsRefusedBy es text r t c n p

@@ -7,6 +7,7 @@ use mathlib.Core.Bool.{Bool, true, false}
 use mathlib.Core.Option.{Option, none, some}
 use mathlib.Core.List.{List, [], _∷_}
 use lib.ListN.{length}
+use Rattle.format.specs.Octets.{Octets}
 use Rattle.format.specs.Events.{Name, Event, Namespace, Start, Attribute, Text, Comment, Instruction, End, How, spelled, numbered, NameHow, inParts, byNumber}
 use Rattle.format.specs.Events.{Choice, forNamespace, forStart, forAttribute, forText, forComment, forInstruction, forEnd, Item}
 use Rattle.format.specs.Tables.{StringTable, PREFIX, NAMESPACE-NAME, LOCAL-NAME, OTHER-NCNAME, ATTRIBUTE-VALUE, CONTENT-CHARACTER-CHUNK, OTHER-STRING}
@@ -15,49 +16,49 @@ use Rattle.format.specs.Strings.{keeping}
 
 -- `PermitsId t v x h n w`: with the tables v, the identifying string x of table t may be written as h says; its number is n, and the tables are w then. Spelled where the table does
 -- not hold it, and then it is added (7.13.7 b); or the number, from 1, of any entry that is this very string (7.13.7 a).
-pub data PermitsId (t : StringTable) (v : Vocabulary (List ℕ)) (x : List ℕ) : How → ℕ → Vocabulary (List ℕ) → Type 0 where
+pub data PermitsId (t : StringTable) (v : Vocabulary Octets) (x : Octets) : How → ℕ → Vocabulary Octets → Type 0 where
   id-new : holds (strings v t) x ≡ false → PermitsId t v x (spelled true) (suc (length (strings v t))) (adding v t x)
   id-entry : {k : ℕ} → Entry (strings v t) k [] x → PermitsId t v x (numbered (suc k)) (suc k) v
 
 -- One that may be absent; then its number is 0.
-pub data PermitsIfAny (t : StringTable) (v : Vocabulary (List ℕ)) : Option (List ℕ) → Option How → ℕ → Vocabulary (List ℕ) → Type 0 where
+pub data PermitsIfAny (t : StringTable) (v : Vocabulary Octets) : Option Octets → Option How → ℕ → Vocabulary Octets → Type 0 where
   not-there : PermitsIfAny t v none none 0 v
-  there : {x : List ℕ} {h : How} {n : ℕ} {w : Vocabulary (List ℕ)} → PermitsId t v x h n w → PermitsIfAny t v (some x) (some h) n w
+  there : {x : Octets} {h : How} {n : ℕ} {w : Vocabulary Octets} → PermitsId t v x h n w → PermitsIfAny t v (some x) (some h) n w
 
 -- A chunk, `PermitsString t v x h w`: spelled, also where the table holds it, and added or not, as one likes (7.14.7 b); or the number of any entry that is this very string (7.14.7 a).
-pub data PermitsString (t : StringTable) (v : Vocabulary (List ℕ)) (x : List ℕ) : How → Vocabulary (List ℕ) → Type 0 where
+pub data PermitsString (t : StringTable) (v : Vocabulary Octets) (x : Octets) : How → Vocabulary Octets → Type 0 where
   string-spelled : (added : Bool) → PermitsString t v x (spelled added) (keeping added v t x)
   string-entry : {k : ℕ} → Entry (strings v t) k [] x → PermitsString t v x (numbered (suc k)) v
 
 -- A value, comment or content may be empty: number 0 (7.14.6). It is not spelled then, so no table ever holds an empty string, and 0 is the only way to write one. Else it is as a chunk.
-pub data PermitsValue (t : StringTable) (v : Vocabulary (List ℕ)) : List ℕ → How → Vocabulary (List ℕ) → Type 0 where
+pub data PermitsValue (t : StringTable) (v : Vocabulary Octets) : Octets → How → Vocabulary Octets → Type 0 where
   value-none : PermitsValue t v [] (numbered 0) v
-  value-spelled : {x : List ℕ} (added : Bool) → 0 < length x → PermitsValue t v x (spelled added) (keeping added v t x)
-  value-entry : {x : List ℕ} {k : ℕ} → Entry (strings v t) k [] x → PermitsValue t v x (numbered (suc k)) v
+  value-spelled : {x : Octets} (added : Bool) → 0 < length x → PermitsValue t v x (spelled added) (keeping added v t x)
+  value-entry : {x : Octets} {k : ℕ} → Entry (strings v t) k [] x → PermitsValue t v x (numbered (suc k)) v
 
 -- A name: by its parts, each as above, where the table does not hold the triple of their numbers, and then it is added (7.16.7.3, 7.16.7.5); or the number of any entry whose triple
 -- names this very name (7.16.7.2).
-pub data PermitsName (t : NameTable) (v : Vocabulary (List ℕ)) : Name (List ℕ) → NameHow → Vocabulary (List ℕ) → Type 0 where
-  name-parts : {p n : Option (List ℕ)} {l : List ℕ} {hp hn : Option How} {hl : How} {kp kn kl : ℕ} {v₁ v₂ v₃ : Vocabulary (List ℕ)}
+pub data PermitsName (t : NameTable) (v : Vocabulary Octets) : Name Octets → NameHow → Vocabulary Octets → Type 0 where
+  name-parts : {p n : Option Octets} {l : Octets} {hp hn : Option How} {hl : How} {kp kn kl : ℕ} {v₁ v₂ v₃ : Vocabulary Octets}
       → PermitsIfAny PREFIX v p hp kp v₁ → PermitsIfAny NAMESPACE-NAME v₁ n hn kn v₂ → PermitsId LOCAL-NAME v₂ l hl kl v₃
       → holdsName (names v₃ t) (record { prefix = kp; namespace = kn; local = kl }) ≡ false
       → PermitsName t v (record { prefix = p; namespace = n; local = l }) (inParts hp hn hl) (addingName v₃ t (record { prefix = kp; namespace = kn; local = kl }))
   name-entry : {k : ℕ} {x : Triple} → Entry (names v t) k noTriple x → PermitsName t v (nameOf v [] x) (byNumber (suc k)) v
 
 -- `Permits v e c w`: with the tables v, the choice c may be made for the event e, and the tables are w then.
-pub data Permits (v : Vocabulary (List ℕ)) : Event (List ℕ) → Choice → Vocabulary (List ℕ) → Type 0 where
-  a-declaration : {p n : Option (List ℕ)} {hp hn : Option How} {kp kn : ℕ} {v₁ w : Vocabulary (List ℕ)} → PermitsIfAny PREFIX v p hp kp v₁ → PermitsIfAny NAMESPACE-NAME v₁ n hn kn w
+pub data Permits (v : Vocabulary Octets) : Event Octets → Choice → Vocabulary Octets → Type 0 where
+  a-declaration : {p n : Option Octets} {hp hn : Option How} {kp kn : ℕ} {v₁ w : Vocabulary Octets} → PermitsIfAny PREFIX v p hp kp v₁ → PermitsIfAny NAMESPACE-NAME v₁ n hn kn w
       → Permits v (Namespace p n) (forNamespace hp hn) w
-  a-start : {x : Name (List ℕ)} {h : NameHow} {w : Vocabulary (List ℕ)} → PermitsName ELEMENT-NAME v x h w → Permits v (Start x) (forStart h) w
-  an-attribute : {x : Name (List ℕ)} {y : List ℕ} {h : NameHow} {g : How} {v₁ w : Vocabulary (List ℕ)} → PermitsName ATTRIBUTE-NAME v x h v₁ → PermitsValue ATTRIBUTE-VALUE v₁ y g w
+  a-start : {x : Name Octets} {h : NameHow} {w : Vocabulary Octets} → PermitsName ELEMENT-NAME v x h w → Permits v (Start x) (forStart h) w
+  an-attribute : {x : Name Octets} {y : Octets} {h : NameHow} {g : How} {v₁ w : Vocabulary Octets} → PermitsName ATTRIBUTE-NAME v x h v₁ → PermitsValue ATTRIBUTE-VALUE v₁ y g w
       → Permits v (Attribute x y) (forAttribute h g) w
-  a-chunk : {y : List ℕ} {h : How} {w : Vocabulary (List ℕ)} → PermitsString CONTENT-CHARACTER-CHUNK v y h w → Permits v (Text y) (forText h) w
-  a-comment : {y : List ℕ} {h : How} {w : Vocabulary (List ℕ)} → PermitsValue OTHER-STRING v y h w → Permits v (Comment y) (forComment h) w
-  an-instruction : {x y : List ℕ} {h g : How} {k : ℕ} {v₁ w : Vocabulary (List ℕ)} → PermitsId OTHER-NCNAME v x h k v₁ → PermitsValue OTHER-STRING v₁ y g w
+  a-chunk : {y : Octets} {h : How} {w : Vocabulary Octets} → PermitsString CONTENT-CHARACTER-CHUNK v y h w → Permits v (Text y) (forText h) w
+  a-comment : {y : Octets} {h : How} {w : Vocabulary Octets} → PermitsValue OTHER-STRING v y h w → Permits v (Comment y) (forComment h) w
+  an-instruction : {x y : Octets} {h g : How} {k : ℕ} {v₁ w : Vocabulary Octets} → PermitsId OTHER-NCNAME v x h k v₁ → PermitsValue OTHER-STRING v₁ y g w
       → Permits v (Instruction x y) (forInstruction h g) w
   an-end : Permits v End forEnd v
 
 -- Item by item.
-pub data PermitsAll : Vocabulary (List ℕ) → List (Item (List ℕ)) → Vocabulary (List ℕ) → Type 0 where
-  no-item : {v : Vocabulary (List ℕ)} → PermitsAll v [] v
-  an-item : {v u w : Vocabulary (List ℕ)} {i : Item (List ℕ)} {items : List (Item (List ℕ))} → Permits v (i .event) (i .choice) u → PermitsAll u items w → PermitsAll v (i ∷ items) w
+pub data PermitsAll : Vocabulary Octets → List (Item Octets) → Vocabulary Octets → Type 0 where
+  no-item : {v : Vocabulary Octets} → PermitsAll v [] v
+  an-item : {v u w : Vocabulary Octets} {i : Item Octets} {items : List (Item Octets)} → Permits v (i .event) (i .choice) u → PermitsAll u items w → PermitsAll v (i ∷ items) w

@@ -3,6 +3,7 @@ use Prim.Native.Nat.{ℕ, suc, _+_, _-_, _/_}
 use mathlib.Core.Option.{Option, none, some}
 use mathlib.Core.List.{List, [], _∷_, _++_}
 use lib.ListN.{length}
+use Rattle.format.specs.Octets.{Octets, Halves}
 use Rattle.format.specs.Events.{Name, How, spelled, numbered, NameHow, inParts, byNumber, Choice, forNamespace, forStart, forAttribute, forText, forComment, forInstruction, forEnd, Item}
 use Rattle.format.specs.Tables.{Vocabulary, Limits}
 use Rattle.format.specs.Names.{NameLayout, Named, in-parts, by-number, Declared, declared}
@@ -42,26 +43,26 @@ allSpelled [] = []
 allSpelled (i ∷ items) = itemSpelled i ++ allSpelled items
 
 -- ---- where the rules spell them: the string x is the end of its field o, which stands at octet k
-abbrev pub inField : (k : ℕ) → How → (x o : List ℕ) → List Located
+abbrev pub inField : (k : ℕ) → How → (x o : Octets) → List Located
 inField k (spelled added) x o = stretch (k + length o - length x) (length x) ∷ []
 inField k (numbered n) x o = []
 
-abbrev pub inOption : (k : ℕ) → Option How → Option (List ℕ) → (o : List ℕ) → List Located
+abbrev pub inOption : (k : ℕ) → Option How → Option Octets → (o : Octets) → List Located
 inOption k none x o = []
 inOption k (some h) none o = []
 inOption k (some h) (some x) o = inField k h x o
 
 module _ {L : Limits} where
   -- the fields of a name, a declaration and an item that stand at octet k
-  abbrev pub inName : (k : ℕ) {q : NameLayout} {lead : ℕ} {v w : Vocabulary (List ℕ)} {x : Name (List ℕ)} {h : NameHow} {o : List ℕ} → Named L q lead v x h o w → List Located
+  abbrev pub inName : (k : ℕ) {q : NameLayout} {lead : ℕ} {v w : Vocabulary Octets} {x : Name Octets} {h : NameHow} {o : Octets} → Named L q lead v x h o w → List Located
   inName k (in-parts {p = p} {n = n} {l = l} {hp = hp} {hn = hn} {hl = hl} {op = op} {on = on} {ol = ol} paired up un ul new room) =
       inOption (suc k) hp p op ++ (inOption (suc k + length op) hn n on ++ inField (suc k + length op + length on) hl l ol)
   inName k (by-number small fits en) = []
 
-  abbrev pub inDeclared : (k : ℕ) {v w : Vocabulary (List ℕ)} {p n : Option (List ℕ)} {hp hn : Option How} {o : List ℕ} → Declared L v p n hp hn o w → List Located
+  abbrev pub inDeclared : (k : ℕ) {v w : Vocabulary Octets} {p n : Option Octets} {hp hn : Option How} {o : Octets} → Declared L v p n hp hn o w → List Located
   inDeclared k (declared {p = p} {n = n} {hp = hp} {hn = hn} {op = op} {on = on} up un) = inOption (suc k) hp p op ++ inOption (suc k + length op) hn n on
 
-  abbrev pub inItem : (k : ℕ) {v w : State (List ℕ)} {i : Item (List ℕ)} {o : List ℕ} → ItemWrittenAs L v i o w → List Located
+  abbrev pub inItem : (k : ℕ) {v w : State Octets} {i : Item Octets} {o : Octets} → ItemWrittenAs L v i o w → List Located
   inItem k (o-start a md may deep u) = inName k u
   inItem k (o-first-namespace md may deep u) = inDeclared (suc k) u
   inItem k (o-namespace md u) = inDeclared k u
@@ -72,7 +73,7 @@ module _ {L : Limits} where
   inItem k (o-instruction {x = x} {y = y} {h = h} {g = g} {o₁ = o₁} {o₂ = o₂} md u₁ u₂) = inField (suc k) h x o₁ ++ inField (suc k + length o₁) g y o₂
 
   -- and of a document; an item starts with the next whole octet
-  unfoldable pub spelledIn : {at : ℕ} {v z : State (List ℕ)} {items : List (Item (List ℕ))} {hs : List ℕ} → Written L at v items hs z → List Located
+  unfoldable pub spelledIn : {at : ℕ} {v z : State Octets} {items : List (Item Octets)} {hs : Halves} → Written L at v items hs z → List Located
   spelledIn (document-end md lv rt) = []
   spelledIn (attributes-end md rest) = spelledIn rest
   spelledIn (element-end md lv rest) = spelledIn rest

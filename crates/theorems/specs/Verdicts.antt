@@ -4,6 +4,7 @@ use mathlib.Core.Path.{_≡_}
 use mathlib.Core.Bool.{true}
 use mathlib.Core.List.{List, [], _∷_, _++_, map}
 use lib.ListN.{length}
+use Rattle.format.specs.Octets.{Octets}
 use Rattle.format.specs.Refusals.{TEXT, FULL, DEPTH, ROOM, EVENT}
 use Rattle.format.specs.Text.{isText}
 use Rattle.format.specs.Events as E
@@ -19,63 +20,63 @@ use Rattle.write_names.specs.Chosen.{chosen, tablesAfter}
 use Rattle.writer.specs.Events.{eventOf}
 
 -- The plain event of a record over a text area; those of a list.
-abbrev pub plainOf : List ℕ → Event → E.Event (List ℕ)
+abbrev pub plainOf : Octets → Event → E.Event Octets
 plainOf text e = eventMap (octetsOf text) (eventOf (e .kind) e)
 
-abbrev pub plains : List ℕ → List Event → List (E.Event (List ℕ))
+abbrev pub plains : Octets → List Event → List (E.Event Octets)
 plains text es = map (plainOf text) es
 
 -- A plain list with 01's choices.
-abbrev pub itemsOf : List (E.Event (List ℕ)) → List (Item (List ℕ))
+abbrev pub itemsOf : List (E.Event Octets) → List (Item Octets)
 itemsOf es = chosen link started es
 
 -- The rules write these items as one document, however deep it is and however long, and these are the tables then.
-pub record WrittenAs (items : List (Item (List ℕ))) (tables : Vocabulary (List ℕ)) : Type 0 where
-  pub octets : List ℕ
-  pub last : State (List ℕ)
-  pub writes : (depth size : ℕ) → deepest 0 (map (λ (i : Item (List ℕ)). i .event) items) ≤ depth → length octets ≤ size → Document (standard depth size) header started items last octets
+pub record WrittenAs (items : List (Item Octets)) (tables : Vocabulary Octets) : Type 0 where
+  pub octets : Octets
+  pub last : State Octets
+  pub writes : (depth size : ℕ) → deepest 0 (map (λ (i : Item Octets). i .event) items) ≤ depth → length octets ≤ size → Document (standard depth size) header started items last octets
   pub known : last .tables ≡ tables
 
 -- The rules write these events, with 01's choices, as one document, however deep it is and however long: within every limit on open elements and octets that
 -- it keeps. The limit on the entries of a table is the standard's own.
-pub record WrittenWidely (es : List (E.Event (List ℕ))) : Type 0 where
-  pub octets : List ℕ
-  pub last : State (List ℕ)
+pub record WrittenWidely (es : List (E.Event Octets)) : Type 0 where
+  pub octets : Octets
+  pub last : State Octets
   pub writes : (depth size : ℕ) → deepest 0 es ≤ depth → length octets ≤ size → Document (standard depth size) header started (itemsOf es) last octets
   pub tables : last .tables ≡ tablesAfter link started es
 
 -- What is written of these events is a document of the link, or it is over one of the link's three limits: nothing else keeps it off the link.
-pub data OrPasses (es : List (E.Event (List ℕ))) (last : State (List ℕ)) (octets : List ℕ) : Type 0 where
+pub data OrPasses (es : List (E.Event Octets)) (last : State Octets) (octets : Octets) : Type 0 where
   on-the-link : Writes (itemsOf es) last octets → OrPasses es last octets
   over-depth : link .depth < deepest 0 es → OrPasses es last octets
   over-entries : (InLimits link (tablesAfter link started es) → ⊥) → OrPasses es last octets
   over-octets : link .octets < length octets → OrPasses es last octets
 
 -- The header and these items, filled up to octets, fit the output lent and the limit of a document.
-pub record FitsIn (room : ℕ) (items : List (Item (List ℕ))) : Type 0 where
-  pub halves : List ℕ
-  pub last : State (List ℕ)
+pub record FitsIn (room : ℕ) (items : List (Item Octets)) : Type 0 where
+  pub halves : Octets
+  pub last : State Octets
   pub are : Begun link (2 * length header) (beginning started) items halves last
   pub fit : aligned (2 * length header + length halves) / 2 ≤ min room (link .octets)
 
 -- The rules write these items behind the header, but what they write does not fit.
-pub record Overflows (room : ℕ) (items : List (Item (List ℕ))) : Type 0 where
-  pub halves : List ℕ
-  pub last : State (List ℕ)
+pub record Overflows (room : ℕ) (items : List (Item Octets)) : Type 0 where
+  pub halves : Octets
+  pub last : State Octets
   pub are : Begun link (2 * length header) (beginning started) items halves last
   pub over : min room (link .octets) < aligned (2 * length header + length halves) / 2
 
 -- The rules write the document of these items, and it fits the output lent.
-pub record WrittenIn (room : ℕ) (items : List (Item (List ℕ))) : Type 0 where
-  pub octets : List ℕ
-  pub last : State (List ℕ)
+pub record WrittenIn (room : ℕ) (items : List (Item Octets)) : Type 0 where
+  pub octets : Octets
+  pub last : State Octets
   pub writes : Writes items last octets
   pub fit : length octets ≤ room
 
-module _ (text : List ℕ) (room : ℕ) where
+module _ (text : Octets) (room : ℕ) where
   -- The event e behind the events `before` and all these: 01's tests, in its order. A test that fails gives the number beside it.
   module _ (before : List Event) (e : Event) where
-    abbrev pub upTo : List (E.Event (List ℕ))
+    abbrev pub upTo : List (E.Event Octets)
     upTo = plains text before ++ (plainOf text e ∷ [])
 
     -- EVENT: a record as under "Events", with which some document's list goes on
@@ -84,7 +85,7 @@ module _ (text : List ℕ) (room : ℕ) where
 
     -- TEXT: its strings are text
     abbrev pub IsText : Type 0
-    IsText = All (λ (x : List ℕ). isText x ≡ true) (stringsOf (plainOf text e))
+    IsText = All (λ (x : Octets). isText x ≡ true) (stringsOf (plainOf text e))
 
     -- DEPTH: it opens no element where as many are open as may be
     abbrev pub IsShallow : Type 0

@@ -5,6 +5,7 @@ use mathlib.Core.Option.{Option, none, some}
 use mathlib.Core.List.{List, [], _∷_, _++_, map}
 use lib.ListN.{length}
 use lib.Dec.{eqb, ltb, leb}
+use Rattle.format.specs.Octets.{Octets}
 use Rattle.format.specs.Numbers.{pick, lengths, spell, c25}
 use Rattle.format.specs.Events.{Name, How, spelled, numbered, NameHow, inParts, byNumber}
 use Rattle.format.specs.Tables.{StringTable, PREFIX, NAMESPACE-NAME, LOCAL-NAME, Triple, Vocabulary, strings, names, adding, addingName, Limits}
@@ -15,27 +16,27 @@ use Rattle.tables.specs.Search.{numberIn, numberOfTriple}
 
 -- What a field is written as: its octets, how, the tables then; and the string's number, where it has one.
 pub record Wrote (H : Type 0) : Type 0 where
-  pub octets : List ℕ
+  pub octets : Octets
   pub how : H
   pub number : ℕ
   pub tables : Vocabulary Located
 
 -- An identifying string (C.13): numbered if its table holds it, else spelled and added.
-unfoldable pub writeId : List ℕ → StringTable → Vocabulary Located → Located → Wrote How
+unfoldable pub writeId : Octets → StringTable → Vocabulary Located → Located → Wrote How
 writeId text t v x =
     let k : ℕ = numberIn (map (octetsOf text) (strings v t)) (octetsOf text x) in
     pick (eqb k 0)
     (record { octets = withLength (lengths 2) 0 (octetsOf text x); how = spelled true; number = suc (length (strings v t)); tables = adding v t x })
     (record { octets = spell c25 0x80 (k - 1); how = numbered k; number = k; tables = v })
 
-unfoldable pub writeOptional : List ℕ → StringTable → Vocabulary Located → Option Located → Wrote (Option How)
+unfoldable pub writeOptional : Octets → StringTable → Vocabulary Located → Option Located → Wrote (Option How)
 writeOptional text t v none = record { octets = []; how = none; number = 0; tables = v }
 writeOptional text t v (some x) =
     let w : Wrote How = writeId text t v x in
     record { octets = w .octets; how = some (w .how); number = w .number; tables = w .tables }
 
 -- A name (C.17, C.18), behind the bits `lead`: by number if its table holds the triple, else in parts and added.
-unfoldable pub writeName : NameLayout → ℕ → List ℕ → Vocabulary Located → Name Located → Wrote NameHow
+unfoldable pub writeName : NameLayout → ℕ → Octets → Vocabulary Located → Name Located → Wrote NameHow
 writeName q lead text v x =
     let p : Wrote (Option How) = writeOptional text PREFIX v (x .prefix) in
     let n : Wrote (Option How) = writeOptional text NAMESPACE-NAME (p .tables) (x .namespace) in
@@ -53,13 +54,13 @@ writeName q lead text v x =
 
 module _ (L : Limits) where
   -- A string of 1 to 5 octets is added where its table has room.
-  unfoldable pub worthAdding : {S : Type 0} → List S → List ℕ → Bool
+  unfoldable pub worthAdding : {S : Type 0} → List S → Octets → Bool
   worthAdding table x = leb (length x) 5 && ltb (length table) (L .entries)
 
   -- C.14, C.15: numbered if its table holds it, else spelled.
-  unfoldable pub writeLiteral : Layout → List ℕ → StringTable → Vocabulary Located → Located → Wrote How
+  unfoldable pub writeLiteral : Layout → Octets → StringTable → Vocabulary Located → Located → Wrote How
   writeLiteral q text t v x =
-      let o : List ℕ = octetsOf text x in
+      let o : Octets = octetsOf text x in
       let k : ℕ = numberIn (map (octetsOf text) (strings v t)) o in
       let added : Bool = worthAdding (strings v t) o in
       pick (eqb k 0)
@@ -67,7 +68,7 @@ module _ (L : Limits) where
       (record { octets = spell (q .numberForms) (q .numberedBits) (k - 1); how = numbered k; number = k; tables = v })
 
   -- A value, comment or content: FF for the empty string.
-  unfoldable pub writeValue : List ℕ → StringTable → Vocabulary Located → Located → Wrote How
+  unfoldable pub writeValue : Octets → StringTable → Vocabulary Located → Located → Wrote How
   writeValue text t v x =
       pick (eqb (length (octetsOf text x)) 0) (record { octets = 0xFF ∷ []; how = numbered 0; number = 0; tables = v }) (writeLiteral c14 text t v x)
 

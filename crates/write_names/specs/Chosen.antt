@@ -5,6 +5,7 @@ use mathlib.Core.Option.{Option, none, some}
 use mathlib.Core.List.{List, [], _∷_}
 use lib.ListN.{length}
 use lib.Dec.{eqb}
+use Rattle.format.specs.Octets.{Octets}
 use Rattle.format.specs.Numbers.{pick}
 use Rattle.format.specs.Events.{Name, Event, Namespace, Start, Attribute, Text, Comment, Instruction, End, How, spelled, numbered, NameHow, inParts, byNumber}
 use Rattle.format.specs.Events.{Choice, forNamespace, forStart, forAttribute, forText, forComment, forInstruction, forEnd, Item, _by_}
@@ -18,24 +19,24 @@ use Rattle.write_names.specs.Choices.{worthAdding}
 pub record Chose (H : Type 0) : Type 0 where
   pub how : H
   pub number : ℕ
-  pub tables : Vocabulary (List ℕ)
+  pub tables : Vocabulary Octets
 
 -- An identifying string: the lowest number where its table holds it; else spelled, and added.
-unfoldable pub chooseId : StringTable → Vocabulary (List ℕ) → List ℕ → Chose How
+unfoldable pub chooseId : StringTable → Vocabulary Octets → Octets → Chose How
 chooseId t v x =
     let k : ℕ = numberIn (strings v t) x in
     pick (eqb k 0)
     (record { how = spelled true; number = suc (length (strings v t)); tables = adding v t x })
     (record { how = numbered k; number = k; tables = v })
 
-unfoldable pub chooseOptional : StringTable → Vocabulary (List ℕ) → Option (List ℕ) → Chose (Option How)
+unfoldable pub chooseOptional : StringTable → Vocabulary Octets → Option Octets → Chose (Option How)
 chooseOptional t v none = record { how = none; number = 0; tables = v }
 chooseOptional t v (some x) =
     let c : Chose How = chooseId t v x in
     record { how = some (c .how); number = c .number; tables = c .tables }
 
 -- A name: its own lowest number where its table holds its triple; else by its parts, and added.
-unfoldable pub chooseName : NameTable → Vocabulary (List ℕ) → Name (List ℕ) → Chose NameHow
+unfoldable pub chooseName : NameTable → Vocabulary Octets → Name Octets → Chose NameHow
 chooseName t v x =
     let p : Chose (Option How) = chooseOptional PREFIX v (x .prefix) in
     let n : Chose (Option How) = chooseOptional NAMESPACE-NAME (p .tables) (x .namespace) in
@@ -48,7 +49,7 @@ chooseName t v x =
 
 module _ (L : Limits) where
   -- A chunk, value, comment or content: the lowest number where its table holds it; else spelled, and added if it is short and its table has room.
-  unfoldable pub chooseLiteral : StringTable → Vocabulary (List ℕ) → List ℕ → Chose How
+  unfoldable pub chooseLiteral : StringTable → Vocabulary Octets → Octets → Chose How
   chooseLiteral t v x =
       let k : ℕ = numberIn (strings v t) x in
       let added : Bool = worthAdding L (strings v t) x in
@@ -57,10 +58,10 @@ module _ (L : Limits) where
       (record { how = numbered k; number = k; tables = v })
 
   -- A value, comment or content may be empty: number 0.
-  unfoldable pub chooseValue : StringTable → Vocabulary (List ℕ) → List ℕ → Chose How
+  unfoldable pub chooseValue : StringTable → Vocabulary Octets → Octets → Chose How
   chooseValue t v x = pick (eqb (length x) 0) (record { how = numbered 0; number = 0; tables = v }) (chooseLiteral t v x)
 
-  unfoldable pub chooseFor : Vocabulary (List ℕ) → Event (List ℕ) → Chose Choice
+  unfoldable pub chooseFor : Vocabulary Octets → Event Octets → Chose Choice
   chooseFor v (Namespace p n) =
       let a : Chose (Option How) = chooseOptional PREFIX v p in
       let b : Chose (Option How) = chooseOptional NAMESPACE-NAME (a .tables) n in
@@ -85,10 +86,10 @@ module _ (L : Limits) where
   chooseFor v End = record { how = forEnd; number = 0; tables = v }
 
   -- The events with 01's choices, and the tables behind them.
-  unfoldable pub chosen : Vocabulary (List ℕ) → List (Event (List ℕ)) → List (Item (List ℕ))
+  unfoldable pub chosen : Vocabulary Octets → List (Event Octets) → List (Item Octets)
   chosen v [] = []
   chosen v (e ∷ es) = (e by chooseFor v e .how) ∷ chosen (chooseFor v e .tables) es
 
-  unfoldable pub tablesAfter : Vocabulary (List ℕ) → List (Event (List ℕ)) → Vocabulary (List ℕ)
+  unfoldable pub tablesAfter : Vocabulary Octets → List (Event Octets) → Vocabulary Octets
   tablesAfter v [] = v
   tablesAfter v (e ∷ es) = tablesAfter (chooseFor v e .tables) es

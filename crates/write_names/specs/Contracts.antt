@@ -6,6 +6,7 @@ use mathlib.Core.Option.{Option}
 use mathlib.Core.List.{List, [], _∷_, _++_, map}
 use lib.ListN.{length}
 use lib.Dec.{eqb}
+use Rattle.format.specs.Octets.{Octets, Words}
 use Rattle.format.specs.Numbers.{pick, lengths}
 use Rattle.format.specs.Events.{Name, How, Choice, forNamespace}
 use Rattle.format.specs.Tables.{StringTable, PREFIX, NAMESPACE-NAME, LOCAL-NAME, Triple, Vocabulary, strings, names, link}
@@ -35,7 +36,7 @@ Begins x [] = ⊥
 Begins x (y ∷ ys) = y ≡ x
 
 -- The tables of a text area in lent words are in order.
-pub record InOrder (text : List ℕ) (c : Counts) (w : List ℕ) : Type 0 where
+pub record InOrder (text : Octets) (c : Counts) (w : Words) : Type 0 where
   pub size : length text ≤ 16384
   pub room : length w ≡ tableWords
   pub counted : Counted c
@@ -45,7 +46,7 @@ pub record InOrder (text : List ℕ) (c : Counts) (w : List ℕ) : Type 0 where
   pub namespace : Begins builtInNamespace (vocabulary c w .namespaces)
 
 -- The string of an event is one that a table of identifying strings may hold: a stretch that is not empty and lies in the text area, or the table's built-in one.
-abbrev pub Suits : List ℕ → ℕ → EventString → Type 0
+abbrev pub Suits : Octets → ℕ → EventString → Type 0
 Suits text table Absent = Unit {0}
 Suits text table Empty = ⊥
 Suits text table (Stretch p n) = (0 < n) × (p + n ≤ length text)
@@ -53,7 +54,7 @@ Suits text table XmlPrefix = table ≡ 0
 Suits text table XmlNamespace = table ≡ 1
 
 -- The string may be a value, a comment or a content: empty, or a stretch as above.
-abbrev pub Fills : List ℕ → EventString → Type 0
+abbrev pub Fills : Octets → EventString → Type 0
 Fills text Absent = ⊥
 Fills text Empty = Unit {0}
 Fills text (Stretch p n) = (0 < n) × (p + n ≤ length text)
@@ -61,7 +62,7 @@ Fills text XmlPrefix = ⊥
 Fills text XmlNamespace = ⊥
 
 -- The same for a string that may not be empty.
-abbrev pub Spells : List ℕ → EventString → Type 0
+abbrev pub Spells : Octets → EventString → Type 0
 Spells text Absent = ⊥
 Spells text Empty = ⊥
 Spells text (Stretch p n) = (0 < n) × (p + n ≤ length text)
@@ -69,7 +70,7 @@ Spells text XmlPrefix = ⊥
 Spells text XmlNamespace = ⊥
 
 -- A string's number in its table; 0 where it has none, or there is no string.
-unfoldable pub heldAs : List ℕ → StringTable → Vocabulary Located → EventString → ℕ
+unfoldable pub heldAs : Octets → StringTable → Vocabulary Located → EventString → ℕ
 heldAs text t v Absent = 0
 heldAs text t v Empty = numberIn (map (octetsOf text) (strings v t)) []
 heldAs text t v (Stretch p n) = numberIn (map (octetsOf text) (strings v t)) (octetsOf text (locatedOf (Stretch p n)))
@@ -77,10 +78,10 @@ heldAs text t v XmlPrefix = numberIn (map (octetsOf text) (strings v t)) (octets
 heldAs text t v XmlNamespace = numberIn (map (octetsOf text) (strings v t)) (octetsOf text builtInNamespace)
 
 -- A spelled string of C.14 or C.15: its length from bit `bit` behind the bits `lead`, and `add` more where it is added; and the tables then.
-unfoldable pub spelledOctets : (bit lead add : ℕ) → List ℕ → List Located → Located → List ℕ
+unfoldable pub spelledOctets : (bit lead add : ℕ) → Octets → List Located → Located → Octets
 spelledOctets n lead add text table x = withLength (lengths n) (lead + add * bit (worthAdding link table (octetsOf text x))) (octetsOf text x)
 
-unfoldable pub spelledWords : List ℕ → StringTable → Vocabulary Located → Located → Vocabulary Located
+unfoldable pub spelledWords : Octets → StringTable → Vocabulary Located → Located → Vocabulary Located
 spelledWords text t v x = keeping (worthAdding link (strings v t) (octetsOf text x)) v t x
 
 -- The name of three strings.
@@ -88,7 +89,7 @@ abbrev pub namedOf : Parts → Name Located
 namedOf x = record { prefix = optionalOf (x .prefix); namespace = optionalOf (x .namespace); local = locatedOf (x .local) }
 
 -- k are the numbers that a name's strings have.
-pub record Held (text : List ℕ) (v : Vocabulary Located) (x : Parts) (k : Row) : Type 0 where
+pub record Held (text : Octets) (v : Vocabulary Located) (x : Parts) (k : Row) : Type 0 where
   pub prefix : k .a ≡ heldAs text PREFIX v (x .prefix)
   pub namespace : k .b ≡ heldAs text NAMESPACE-NAME v (x .namespace)
   pub local : k .c ≡ heldAs text LOCAL-NAME v (x .local)
@@ -99,40 +100,40 @@ unfoldable pub numberThen : (n : ℕ) → EventString → (k : ℕ) → ℕ
 numberThen n x k = pick (eqb k 0) (pick (eqb (stringTag x) 0) 0 (suc n)) k
 
 -- The numbers that a name's strings have once they are written; and the name's own number, 0 if it has none.
-unfoldable pub tripleFor : List ℕ → Vocabulary Located → Name Located → Triple
+unfoldable pub tripleFor : Octets → Vocabulary Located → Name Located → Triple
 tripleFor text v x =
     let p = writeOptional text PREFIX v (x .prefix) in
     let n = writeOptional text NAMESPACE-NAME (p .tables) (x .namespace) in
     record { prefix = p .number; namespace = n .number; local = writeId text LOCAL-NAME (n .tables) (x .local) .number }
 
-unfoldable pub nameHeldAs : NameLayout → List ℕ → Vocabulary Located → Name Located → ℕ
+unfoldable pub nameHeldAs : NameLayout → Octets → Vocabulary Located → Name Located → ℕ
 nameHeldAs q text v x = numberOfTriple (names v (q .table)) (tripleFor text v x)
 
 -- A row became an entry of its table; or the table is full.
-abbrev pub Tripled : Here → List ℕ → (table : ℕ) → Row → W.Wrote → List ℕ → Type 0
+abbrev pub Tripled : Here → Words → (table : ℕ) → Row → W.Wrote → Words → Type 0
 Tripled h w table x (Put r) w′ =
     (countOf (h .counts) table < 256) × (r ≡ record { at = h .at; counts = oneMore (h .counts) table })
     × (w′ ≡ stored w table (countOf (h .counts) table) (x .a) (x .b) (x .c))
 Tripled h w table x Full w′ = 256 ≤ countOf (h .counts) table
 
 -- A prefix and a namespace behind the octet `first`; a namespace declaration (C.12) begins with 110011pn.
-unfoldable pub pairBehind : (first : ℕ) → List ℕ → Vocabulary Located → (prefix namespace : Option Located) → Wrote Choice
+unfoldable pub pairBehind : (first : ℕ) → Octets → Vocabulary Located → (prefix namespace : Option Located) → Wrote Choice
 pairBehind first text v p n =
     let x : Wrote (Option How) = writeOptional text PREFIX v p in
     let y : Wrote (Option How) = writeOptional text NAMESPACE-NAME (x .tables) n in
     record { octets = first ∷ (x .octets ++ y .octets); how = forNamespace (x .how) (y .how); number = 0; tables = y .tables }
 
-unfoldable pub declaredBy : List ℕ → Vocabulary Located → (prefix namespace : Option Located) → Wrote Choice
+unfoldable pub declaredBy : Octets → Vocabulary Located → (prefix namespace : Option Located) → Wrote Choice
 declaredBy text v p n = pairBehind (0xCC + 2 * has p + has n) text v p n
 
 -- What was put from `at` on stands for the definition's octets, and the tables are the definition's; at most `most` octets were put.
-pub record Stands (text out : List ℕ) (at most : ℕ) (h : Here) (out′ w : List ℕ) (octets : List ℕ) (v : Vocabulary Located) : Type 0 where
+pub record Stands (text out : Octets) (at most : ℕ) (h : Here) (out′ : Octets) (w : Words) (octets : Octets) (v : Vocabulary Located) : Type 0 where
   pub puts : Puts out at (h .at) out′ octets
   pub few : h .at ≤ at + most
   pub tables : vocabulary (h .counts) w ≡ v
   pub order : InOrder text (h .counts) w
 
 -- Or a table is full, and the definition's has an entry too many.
-abbrev pub Meets : {H : Type 0} → List ℕ → List ℕ → (at most : ℕ) → W.Wrote → List ℕ → List ℕ → Wrote H → Type 0
+abbrev pub Meets : {H : Type 0} → Octets → Octets → (at most : ℕ) → W.Wrote → Octets → Words → Wrote H → Type 0
 Meets text out at most (Put h) out′ w d = Stands text out at most h out′ w (d .octets) (d .tables)
 Meets text out at most Full out′ w d = within link (d .tables) ≡ false

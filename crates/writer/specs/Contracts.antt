@@ -1,9 +1,9 @@
 -- Contracts of the code, not definitions to be believed. How the code's state stands for the writer's definition, and what it judges of an event before anything is written.
 use Prim.Native.Nat.{ℕ, _+_, _<_, _≤_}
 use mathlib.Core.Bool.{_&&_}
-use mathlib.Core.List.{List}
 use lib.ListN.{length}
 use lib.Dec.{leb}
+use Rattle.format.specs.Octets.{Octets}
 use Rattle.format.specs.Numbers.{pick}
 use Rattle.format.specs.Tables.{Vocabulary, link}
 use Rattle.format.specs.Items as F
@@ -28,7 +28,7 @@ abbrev pub stateOf : State → Vocabulary Located → F.State Located
 stateOf st v = record { tables = v; level = st .level; root = st .root; mode = modeOf (st .mode) }
 
 -- A string that is a stretch is not empty and lies in the text area.
-abbrev pub Lies : List ℕ → EventString → Type 0
+abbrev pub Lies : Octets → EventString → Type 0
 Lies text Absent = Unit {0}
 Lies text Empty = Unit {0}
 Lies text (Stretch p n) = (0 < n) × (p + n ≤ length text)
@@ -36,14 +36,14 @@ Lies text XmlPrefix = Unit {0}
 Lies text XmlNamespace = Unit {0}
 
 -- Each string of a record is so.
-pub record Placed (text : List ℕ) (e : Event) : Type 0 where
+pub record Placed (text : Octets) (e : Event) : Type 0 where
   pub prefix : Lies text (e .prefix)
   pub namespace : Lies text (e .namespace)
   pub name : Lies text (e .name)
   pub value : Lies text (e .value)
 
 -- What is wrong with an event before anything is written: not well made or not in its place (16), not text (9), too deep (13); 0 if nothing is.
-unfoldable pub faultOf : List ℕ → F.State Located → Event → ℕ
+unfoldable pub faultOf : Octets → F.State Located → Event → ℕ
 faultOf text v e =
     pick (wellMade text (e .kind) e && goesOn v (eventOf (e .kind) e))
     (pick (allText text (eventOf (e .kind) e))

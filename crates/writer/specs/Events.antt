@@ -1,10 +1,10 @@
 -- Which event records the writer takes: strings as 01 allows them, in a text area, and events with which a document goes on. Anything else is EVENT (16).
-use Prim.Native.Nat.{ℕ, _+_}
+use Prim.Native.Nat.{_+_}
 use mathlib.Core.Bool.{Bool, true, false, not, _&&_, _||_}
 use mathlib.Core.Option.{Option, none, some}
-use mathlib.Core.List.{List}
 use lib.ListN.{length}
 use lib.Dec.{ltb, leb}
+use Rattle.format.specs.Octets.{Octets}
 use Rattle.format.specs.Text.{isText}
 use Rattle.format.specs.Events as E
 use Rattle.format.specs.Items.{Mode, content, declaring, listing, State, mayStart}
@@ -24,21 +24,21 @@ isAbsent XmlPrefix = false
 isAbsent XmlNamespace = false
 
 -- A stretch is not empty and lies in the text area.
-abbrev pub isStretch : List ℕ → EventString → Bool
+abbrev pub isStretch : Octets → EventString → Bool
 isStretch text Absent = false
 isStretch text Empty = false
 isStretch text (Stretch p n) = ltb 0 n && leb (p + n) (length text)
 isStretch text XmlPrefix = false
 isStretch text XmlNamespace = false
 
-abbrev pub isPrefix : List ℕ → EventString → Bool
+abbrev pub isPrefix : Octets → EventString → Bool
 isPrefix text Absent = true
 isPrefix text Empty = false
 isPrefix text (Stretch p n) = isStretch text (Stretch p n)
 isPrefix text XmlPrefix = true
 isPrefix text XmlNamespace = false
 
-abbrev pub isNamespace : List ℕ → EventString → Bool
+abbrev pub isNamespace : Octets → EventString → Bool
 isNamespace text Absent = true
 isNamespace text Empty = false
 isNamespace text (Stretch p n) = isStretch text (Stretch p n)
@@ -46,7 +46,7 @@ isNamespace text XmlPrefix = false
 isNamespace text XmlNamespace = true
 
 -- A value, comment or content may be empty.
-abbrev pub isValue : List ℕ → EventString → Bool
+abbrev pub isValue : Octets → EventString → Bool
 isValue text Absent = false
 isValue text Empty = true
 isValue text (Stretch p n) = isStretch text (Stretch p n)
@@ -54,14 +54,14 @@ isValue text XmlPrefix = false
 isValue text XmlNamespace = false
 
 -- A name's strings: a prefix only with a namespace.
-unfoldable pub isName : List ℕ → Event → Bool
+unfoldable pub isName : Octets → Event → Bool
 isName text e = isPrefix text (e .prefix) && (isNamespace text (e .namespace) && (isStretch text (e .name) && (isAbsent (e .prefix) || not (isAbsent (e .namespace)))))
 
 unfoldable pub noName : Event → Bool
 noName e = isAbsent (e .prefix) && isAbsent (e .namespace)
 
 -- The strings of a record are as its kind has them.
-unfoldable pub wellMade : List ℕ → Kind → Event → Bool
+unfoldable pub wellMade : Octets → Kind → Event → Bool
 wellMade text Blank e = false
 wellMade text Namespace e = isPrefix text (e .prefix) && (isNamespace text (e .namespace) && (isAbsent (e .name) && isAbsent (e .value)))
 wellMade text Start e = isName text e && isAbsent (e .value)
@@ -117,14 +117,14 @@ goesOn v (E.Instruction x y) = amongChildren (v .mode)
 goesOn v E.End = amongChildren (v .mode) && ltb 0 (v .level)
 
 -- Every string of the event is text (9).
-abbrev pub optionalText : List ℕ → Option Located → Bool
+abbrev pub optionalText : Octets → Option Located → Bool
 optionalText text none = true
 optionalText text (some x) = isText (octetsOf text x)
 
-unfoldable pub nameText : List ℕ → E.Name Located → Bool
+unfoldable pub nameText : Octets → E.Name Located → Bool
 nameText text x = optionalText text (x .prefix) && (optionalText text (x .namespace) && isText (octetsOf text (x .local)))
 
-unfoldable pub allText : List ℕ → E.Event Located → Bool
+unfoldable pub allText : Octets → E.Event Located → Bool
 allText text (E.Namespace p n) = optionalText text p && optionalText text n
 allText text (E.Start x) = nameText text x
 allText text (E.Attribute x y) = nameText text x && isText (octetsOf text y)

@@ -2,9 +2,9 @@
 use Prim.Native.Nat.{ℕ, _+_, _-_, _*_, _/_, _<_, _≤_}
 use mathlib.Core.Path.{_≡_}
 use mathlib.Core.Bool.{Bool, true, false, not, _&&_}
-use mathlib.Core.List.{List}
 use lib.ListN.{length, set}
 use lib.Dec.{leb}
+use Rattle.format.specs.Octets.{Octets, Words}
 use Rattle.format.specs.Numbers.{pick}
 use Rattle.format.specs.Events as E
 use Rattle.format.specs.Tables.{link}
@@ -38,12 +38,12 @@ abbrev pub listEnded : Bool → State → State
 listEnded true st = record { at = st .at + 1; level = st .level; root = st .root; mode = Content; counts = st .counts }
 listEnded false st = st
 
-abbrev pub endPut : Bool → (out : List ℕ) (at : ℕ) → List ℕ
+abbrev pub endPut : Bool → (out : Octets) (at : ℕ) → Octets
 endPut true out at = set out (at / 2) (endOctet at)
 endPut false out at = out
 
 -- What an event of this kind is written from: it is well made, and the state is one that its item may follow.
-pub record Fit (text : List ℕ) (st : State) (w : List ℕ) (k : Kind) (e : Event) : Type 0 where
+pub record Fit (text : Octets) (st : State) (w : Words) (k : Kind) (e : Event) : Type 0 where
   pub order : InOrder text (st .counts) w
   pub at : st .at ≤ 32769
   pub shallow : st .level + coming (st .mode) ≤ 32
@@ -76,12 +76,12 @@ Near (Put h) = h .at ≤ 200000
 Near Full = Unit {0}
 
 -- From the half `at` to the half `next`: an end, or an item's octets from the next whole octet.
-abbrev pub Laid : (end : Bool) → (out : List ℕ) (at next : ℕ) (out′ os : List ℕ) → Type 0
+abbrev pub Laid : (end : Bool) → (out : Octets) (at next : ℕ) (out′ os : Octets) → Type 0
 Laid true out at next out′ os = (next ≡ at + 1) × (out′ ≡ set out (at / 2) (endOctet at))
 Laid false out at next out′ os = Puts out (aligned at / 2) (next / 2) out′ os × (next ≡ 2 * (next / 2)) × (1 ≤ length os)
 
 -- The item of the event is in the output, behind the end owed, and the writer stands behind it.
-pub record Landed (text : List ℕ) (a : Bool) (st : State) (out w : List ℕ) (e : E.Event Located) (next : State) (out′ w′ : List ℕ) : Type 0 where
+pub record Landed (text : Octets) (a : Bool) (st : State) (out : Octets) (w : Words) (e : E.Event Located) (next : State) (out′ : Octets) (w′ : Words) : Type 0 where
   pub laid : Laid (isEnd e) out (st .at) (next .at) out′ (writeItem link text a (known st w) e .octets)
   pub near : next .at ≤ 400000
   pub state : known next w′ ≡ writeItem link text a (known st w) e .state
@@ -89,10 +89,10 @@ pub record Landed (text : List ℕ) (a : Bool) (st : State) (out w : List ℕ) (
   pub shallow : next .level + coming (next .mode) ≤ 32
 
 -- Or a table is full, and the definition's has an entry too many.
-abbrev pub Lands : List ℕ → Bool → State → List ℕ → List ℕ → E.Event Located → Step → List ℕ → List ℕ → Type 0
+abbrev pub Lands : Octets → Bool → State → Octets → Words → E.Event Located → Step → Octets → Words → Type 0
 Lands text a st out w e (On next) out′ w′ = Landed text a st out w e next out′ w′
 Lands text a st out w e (Stop n) out′ w′ = (n ≡ FULL) × (within link (writeItem link text a (known st w) e .state .tables) ≡ false)
 
 -- The state, if what is written up to it fits; else the refusal 14.
-unfoldable pub holding : List ℕ → (room : ℕ) → State → Step
+unfoldable pub holding : Octets → (room : ℕ) → State → Step
 holding text room st = pick (fits link text room (st .at)) (On st) (Stop ROOM)

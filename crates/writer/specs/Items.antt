@@ -2,7 +2,8 @@
 use Prim.Native.Nat.{ℕ, _+_, _*_}
 use mathlib.Core.Bool.{Bool, true}
 use mathlib.Core.Option.{Option}
-use mathlib.Core.List.{List, [], _∷_, _++_}
+use mathlib.Core.List.{[], _∷_, _++_}
+use Rattle.format.specs.Octets.{Octets}
 use Rattle.format.specs.Events as E
 use Rattle.format.specs.Events.{Choice, forNamespace, forStart, forAttribute, forText, forComment, forInstruction, forEnd, How, NameHow}
 use Rattle.format.specs.Tables.{PREFIX, NAMESPACE-NAME, OTHER-NCNAME, ATTRIBUTE-VALUE, CONTENT-CHARACTER-CHUNK, OTHER-STRING, Limits}
@@ -14,17 +15,17 @@ use Rattle.tables.specs.Located.{Located}
 use Rattle.write_names.specs.Choices.{Wrote, writeId, writeOptional, writeName, writeLiteral, writeValue}
 
 pub record WroteItem : Type 0 where
-  pub octets : List ℕ
+  pub octets : Octets
   pub choice : Choice
   pub state : State Located
 
 -- The octet in front of an element's first declaration, and F0 behind its last.
-abbrev pub beforeDeclaration : Mode → Bool → List ℕ
+abbrev pub beforeDeclaration : Mode → Bool → Octets
 beforeDeclaration content a = (64 * bit a + 0x38) ∷ []
 beforeDeclaration (declaring b) a = []
 beforeDeclaration (listing any) a = []
 
-abbrev pub beforeName : Mode → List ℕ
+abbrev pub beforeName : Mode → Octets
 beforeName content = []
 beforeName (declaring b) = 0xF0 ∷ []
 beforeName (listing any) = []
@@ -35,7 +36,7 @@ nameLead content a = 64 * bit a
 nameLead (declaring b) a = 0
 nameLead (listing any) a = 0
 
-module _ (L : Limits) (text : List ℕ) where
+module _ (L : Limits) (text : Octets) where
   -- The end of an attribute list is behind us: the mode is content or declaring or, for an attribute, listing. An End has no octets of its own.
   unfoldable pub writeItem : Bool → State Located → E.Event Located → WroteItem
   writeItem a v (E.Namespace p n) =

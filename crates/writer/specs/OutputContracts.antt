@@ -1,22 +1,23 @@
 -- Contracts of the code, not definitions to be believed. What the lent output holds while a document is written: the code clears it first and leaves out what it has no room for.
 use Prim.Native.Nat.{ℕ, _+_, _%_}
 use mathlib.Core.Path.{_≡_}
-use mathlib.Core.List.{List, [], _∷_, _++_}
+use mathlib.Core.List.{[], _∷_, _++_}
 use lib.ListN.{length, replicate}
 use lib.Dec.{eqb}
 use lib.Seq.{sets}
+use Rattle.format.specs.Octets.{Octets, Halves}
 use Rattle.format.specs.Numbers.{pick}
 use Rattle.format.specs.Document.{header}
 use Rattle.writer.specs.Writing.{joined}
 
 -- The last of these halves is an end.
-pub record Ended (hs : List ℕ) : Type 0 where
-  pub before : List ℕ
+pub record Ended (hs : Halves) : Type 0 where
+  pub before : Octets
   pub is : hs ≡ before ++ (15 ∷ [])
 
 -- The output, of `room` octets, holds the header and these halves, as far as it reaches, and 0 behind them; `at` is the half behind them. Items are whole
 -- octets, so only an end leaves the last octet half filled: the next end has to keep that half.
-pub record Holds (room : ℕ) (hs : List ℕ) (at : ℕ) (out : List ℕ) : Type 0 where
+pub record Holds (room : ℕ) (hs : Halves) (at : ℕ) (out : Octets) : Type 0 where
   pub behind : at ≡ 10 + length hs
   pub is : out ≡ sets (replicate room 0) 0 (header ++ joined hs)
   pub ends : at % 2 ≡ 1 → Ended hs
@@ -26,6 +27,6 @@ unfoldable pub endOctet : ℕ → ℕ
 endOctet at = pick (eqb (at % 2) 0) 0xF0 0xFF
 
 -- The halves ks are written behind hs, which ended at the half `at`; `next` is the half behind them.
-pub record Grown (room : ℕ) (hs ks : List ℕ) (at next : ℕ) (out : List ℕ) : Type 0 where
+pub record Grown (room : ℕ) (hs ks : Halves) (at next : ℕ) (out : Octets) : Type 0 where
   pub holds : Holds room (hs ++ ks) (at + length ks) out
   pub place : next ≡ at + length ks

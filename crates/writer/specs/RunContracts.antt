@@ -5,6 +5,7 @@ use mathlib.Core.Bool.{Bool, false}
 use mathlib.Core.List.{List, _∷_, _++_}
 use lib.ListN.{length, drop}
 use lib.Dec.{ltb}
+use Rattle.format.specs.Octets.{Octets, Halves, Words}
 use Rattle.format.specs.Tables.{link}
 use Rattle.format.specs.Items.{Mode, content, declaring, listing}
 use Rattle.format.specs.Document.{header}
@@ -34,18 +35,18 @@ Foretold (declaring a) b = a ≡ b
 Foretold (listing any) b = Unit {0}
 
 -- What a call leaves whose run wrote the halves hs and then comes out so.
-abbrev pub behind : List ℕ → Result → (room : ℕ) → Outcome
+abbrev pub behind : Halves → Result → (room : ℕ) → Outcome
 behind hs (written is ks z) room = accepting (header ++ joined (hs ++ ks)) (z .tables) room
 behind hs (refusal n p) room = refusing n p room tableWords
 
 -- What a run's answer leaves in `room` octets and `table` words: on a refusal, nothing.
-abbrev pub remains : (room table : ℕ) → Answer → (out tables : List ℕ) → Outcome
+abbrev pub remains : (room table : ℕ) → Answer → (out : Octets) (tables : Words) → Outcome
 remains room table (Accepted n c) out tables = record { answer = Accepted n c; told = told (Accepted n c); out = out; tables = tables }
 remains room table (Refused n p) out tables = refusing n p room table
 
 -- Behind i of the events es; out and w are the output and the table words. Each event took a half.
-pub record Underway (text : List ℕ) (room : ℕ) (es : List Event) (i : ℕ) (st : State) (out w : List ℕ) : Type 0 where
-  pub hs : List ℕ
+pub record Underway (text : Octets) (room : ℕ) (es : List Event) (i : ℕ) (st : State) (out : Octets) (w : Words) : Type 0 where
+  pub hs : Halves
   pub holds : Holds room hs (st .at) out
   pub ready : Ready text st w
   pub bit-known : Foretold (modeOf (st .mode)) (announced (drop i es))
@@ -53,9 +54,9 @@ pub record Underway (text : List ℕ) (room : ℕ) (es : List Event) (i : ℕ) (
   pub leads : behind hs (run link text room (st .at) (known st w) i (drop i es)) room ≡ outcome (writing text room es) room
 
 -- The document's end behind i events came out as the definition says; out and out′ are the output before and then.
-abbrev pub Finishes : (room : ℕ) → State → List ℕ → ℕ → Answer → List ℕ → Type 0
+abbrev pub Finishes : (room : ℕ) → State → Octets → ℕ → Answer → Octets → Type 0
 Finishes room st out i r out′ =
-    (text w hs : List ℕ) → Ready text st w → Holds room hs (st .at) out → remains room tableWords r out′ w ≡ behind hs (finish link text room (st .at) (known st w) i) room
+    (text : Octets) (w : Words) (hs : Halves) → Ready text st w → Holds room hs (st .at) out → remains room tableWords r out′ w ≡ behind hs (finish link text room (st .at) (known st w) i) room
 
 -- ---- phases: where a run stands between two records
 -- There is a further record, number i of n, and it is to be written.
@@ -79,12 +80,12 @@ bitOf (Declaring b) a = b
 bitOf (Listing any) a = a
 
 -- Behind i of the events es, with `room` octets of output and `table` table words lent, which are out and w.
-abbrev pub Going : List Event → List ℕ → (room table i : ℕ) → Phase → (out w : List ℕ) → Type 0
+abbrev pub Going : List Event → Octets → (room table i : ℕ) → Phase → (out : Octets) (w : Words) → Type 0
 Going es text room table i (Onward st) out w = (length text ≤ 16384) × (table ≡ tableWords) × Underway text room es i st out w
 Going es text room table i (Halted k p) out w = refusing k p room table ≡ writeOf es text room table
 
 -- What the step with event i asks, and the end behind i events.
-abbrev pub Steady : List ℕ → ℕ → Phase → List ℕ → Type 0
+abbrev pub Steady : Octets → ℕ → Phase → Words → Type 0
 Steady text i (Onward st) w = Ready text st w × (i + 10 ≤ st .at)
 Steady text i (Halted k p) w = Unit {0}
 
@@ -93,15 +94,15 @@ Bounded i (Onward st) = (st .at ≤ 32768) × (i ≤ 32768)
 Bounded i (Halted k p) = Unit {0}
 
 -- The event e, number i, was taken: p, out and w became p′, out′ and w′.
-abbrev pub Turns : List ℕ → (room table i : ℕ) → Phase → (out w : List ℕ) → Event → Bool → Phase → (out′ w′ : List ℕ) → Type 0
+abbrev pub Turns : Octets → (room table i : ℕ) → Phase → (out : Octets) (w : Words) → Event → Bool → Phase → (out′ : Octets) (w′ : Words) → Type 0
 Turns text room table i p out w e a p′ out′ w′ =
     (es : List Event) → Going es text room table i p out w → drop i es ≡ e ∷ drop (suc i) es → a ≡ announced (drop (lookFrom p i (length es)) es) → Going es text room table (i + 1) p′ out′ w′
 
 -- What the records came to, once no further one is to be written; the lent room behind it is blanked after that.
-abbrev pub Ends : (room i : ℕ) → Phase → List ℕ → Answer → List ℕ → Type 0
+abbrev pub Ends : (room i : ℕ) → Phase → Octets → Answer → Octets → Type 0
 Ends room i p out r out′ =
-    (es : List Event) (text w : List ℕ) → Going es text room (length w) i p out w → goesOn p i (length es) ≡ false → remains room (length w) r out′ w ≡ writeOf es text room (length w)
+    (es : List Event) (text : Octets) (w : Words) → Going es text room (length w) i p out w → goesOn p i (length es) ≡ false → remains room (length w) r out′ w ≡ writeOf es text room (length w)
 
-abbrev pub Settles : (room table i : ℕ) → Phase → (out w : List ℕ) → Answer → (out′ w′ : List ℕ) → Type 0
+abbrev pub Settles : (room table i : ℕ) → Phase → (out : Octets) (w : Words) → Answer → (out′ : Octets) (w′ : Words) → Type 0
 Settles room table i p out w r out′ w′ =
-    (es : List Event) (text : List ℕ) → Going es text room table i p out w → goesOn p i (length es) ≡ false → Leaves r out′ w′ (writeOf es text room table)
+    (es : List Event) (text : Octets) → Going es text room table i p out w → goesOn p i (length es) ≡ false → Leaves r out′ w′ (writeOf es text room table)

@@ -2,7 +2,7 @@
 use Prim.Native.Nat.{ℕ, _+_, _<_, _≤_}
 use mathlib.Core.Path.{_≡_}
 use mathlib.Core.Bool.{Bool}
-use mathlib.Core.List.{List}
+use Rattle.format.specs.Octets.{Octets, Halves, Words}
 use Rattle.format.specs.Tables.{link}
 use Rattle.format.specs.Items as F
 use Rattle.tables.specs.Located.{Located}
@@ -27,34 +27,34 @@ coming (Declaring a) = 1
 coming (Listing any) = 0
 
 -- The writer stands where a document fits its limits, and the tables in lent words are in order.
-pub record Ready (text : List ℕ) (st : State) (w : List ℕ) : Type 0 where
+pub record Ready (text : Octets) (st : State) (w : Words) : Type 0 where
   pub order : InOrder text (st .counts) w
   pub at : st .at ≤ 32768
   pub shallow : st .level + coming (st .mode) ≤ 32
 
 -- What is known where the writer stands, with tables in lent words.
-abbrev pub known : State → List ℕ → F.State Located
+abbrev pub known : State → Words → F.State Located
 known st w = stateOf st (vocabulary (st .counts) w)
 
 -- What an event is written as from there, and its halves: `a` says whether its element's Start is followed by an attribute.
-unfoldable pub itemOf : List ℕ → Bool → F.State Located → Event → WroteItem
+unfoldable pub itemOf : Octets → Bool → F.State Located → Event → WroteItem
 itemOf text a v e = writeItem link text a (settled v (eventOf (e .kind) e)) (eventOf (e .kind) e)
 
-unfoldable pub halvesFor : List ℕ → (room : ℕ) → Bool → ℕ → F.State Located → Event → List ℕ
+unfoldable pub halvesFor : Octets → (room : ℕ) → Bool → ℕ → F.State Located → Event → Halves
 halvesFor text room a at v e = halvesOf link text room at v (eventOf (e .kind) e) (itemOf text a v e)
 
-unfoldable pub verdict : List ℕ → (room : ℕ) → Bool → ℕ → F.State Located → Event → ℕ
+unfoldable pub verdict : Octets → (room : ℕ) → Bool → ℕ → F.State Located → Event → ℕ
 verdict text room a at v e = judge link text room at v e (itemOf text a v e) (halvesFor text room a at v e)
 
 -- The event is in the output, and the writer stands behind it; out and w were the output and the table words before, out′ and w′ are those then.
-pub record Went (text : List ℕ) (room : ℕ) (a : Bool) (st : State) (out w : List ℕ) (e : Event) (next : State) (out′ w′ : List ℕ) : Type 0 where
+pub record Went (text : Octets) (room : ℕ) (a : Bool) (st : State) (out : Octets) (w : Words) (e : Event) (next : State) (out′ : Octets) (w′ : Words) : Type 0 where
   pub judged : verdict text room a (st .at) (known st w) e ≡ 0
   pub state : known next w′ ≡ itemOf text a (known st w) e .state
-  pub grown : (hs : List ℕ) → Holds room hs (st .at) out → Grown room hs (halvesFor text room a (st .at) (known st w) e) (st .at) (next .at) out′
+  pub grown : (hs : Halves) → Holds room hs (st .at) out → Grown room hs (halvesFor text room a (st .at) (known st w) e) (st .at) (next .at) out′
   pub ready : Ready text next w′
   pub onward : st .at < next .at
 
 -- Or it is refused by the definition's number.
-abbrev pub Steps : List ℕ → (room : ℕ) → Bool → State → List ℕ → List ℕ → Event → Step → List ℕ → List ℕ → Type 0
+abbrev pub Steps : Octets → (room : ℕ) → Bool → State → Octets → Words → Event → Step → Octets → Words → Type 0
 Steps text room a st out w e (On next) out′ w′ = Went text room a st out w e next out′ w′
 Steps text room a st out w e (Stop n) out′ w′ = (verdict text room a (st .at) (known st w) e ≡ n) × (1 ≤ n) × (n ≤ 16)

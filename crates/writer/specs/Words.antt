@@ -1,8 +1,8 @@
 -- Writing from words and into them, for callers that have no enums: what a writer leaves, as words.
 use Prim.Native.Nat.{ℕ}
-use mathlib.Core.List.{List}
 use lib.ListN.{length, replicate}
 use lib.Dec.{eqb, leb}
+use Rattle.format.specs.Octets.{Octets, Words}
 use Rattle.format.specs.Numbers.{pick}
 use Rattle.format.specs.Refusals.{SIZE, ROOM}
 use Rattle.tables.specs.Told.{wholeWord}
@@ -14,27 +14,27 @@ use Rattle.writer.specs.Writing.{told, Outcome, writeOf}
 abbrev pub answerWord : Answer → ℕ
 answerWord a = wholeWord (told a)
 
-abbrev pub countWords : Answer → List ℕ
+abbrev pub countWords : Answer → Words
 countWords a = told a .counts
 
 -- What a call answers and leaves: the answer, every octet of the output, every word for tables and counts.
-pub record Words : Type 0 where
+pub record WordsLeft : Type 0 where
   pub answer : ℕ
-  pub out : List ℕ
-  pub tables : List ℕ
-  pub counts : List ℕ
+  pub out : Octets
+  pub tables : Words
+  pub counts : Words
 
-abbrev pub leaving : ℕ → (out tables counts : List ℕ) → Words
+abbrev pub leaving : ℕ → (out : Octets) (tables counts : Words) → WordsLeft
 leaving answer out tables counts = record { answer = answer; out = out; tables = tables; counts = counts }
 
-abbrev pub nothing : (number room tables counts : ℕ) → Words
+abbrev pub nothing : (number room tables counts : ℕ) → WordsLeft
 nothing k r t c = leaving k (replicate r 0) (replicate t 0) (replicate c 0)
 
-unfoldable pub inWords : Outcome → Words
+unfoldable pub inWords : Outcome → WordsLeft
 inWords o = leaving (answerWord (o .answer)) (o .out) (o .tables) (countWords (o .answer))
 
 -- From the records of these words over this text area, with r octets of output and t and c words for tables and counts lent: SIZE (1), then the room of the
 -- counts, which are the tables' (14), both at place 0; then what writing with r octets and t table words leaves.
-unfoldable pub writeWords : List ℕ → List ℕ → (r t c : ℕ) → Words
+unfoldable pub writeWords : Words → Octets → (r t c : ℕ) → WordsLeft
 writeWords records text r t c =
     pick (leb (length text) 16384) (pick (eqb c 10) (inWords (writeOf (recordsOf records) text r t)) (nothing ROOM r t c)) (nothing SIZE r t c)

@@ -5,6 +5,7 @@ use mathlib.Core.Bool.{Bool, true, false, not, _&&_}
 use mathlib.Core.List.{List, [], _∷_, _++_}
 use lib.ListN.{length, replicate}
 use lib.Dec.{eqb, leb}
+use Rattle.format.specs.Octets.{Octets, Halves, Words}
 use Rattle.format.specs.Numbers.{pick}
 use Rattle.format.specs.Events as E
 use Rattle.format.specs.Events.{Item, _by_}
@@ -36,10 +37,10 @@ announced (e ∷ es) =
 
 -- Items with their choices, the halves they are written as, and what is known at the end; or the refusal and the event's number.
 pub data Result : Type 0 where
-  written : List (Item Located) → List ℕ → State Located → Result
+  written : List (Item Located) → Halves → State Located → Result
   refusal : (number place : ℕ) → Result
 
-abbrev pub plus : Item Located → List ℕ → Result → Result
+abbrev pub plus : Item Located → Halves → Result → Result
 plus i hs (written is rest z) = written (i ∷ is) (hs ++ rest) z
 plus i hs (refusal n p) = refusal n p
 
@@ -72,23 +73,23 @@ opens m (E.Instruction x y) = false
 opens m E.End = false
 
 -- The end of an attribute list is owed before the next event that is no attribute; then the list is behind us.
-unfoldable pub owed : {S : Type 0} → Mode → E.Event S → List ℕ
+unfoldable pub owed : {S : Type 0} → Mode → E.Event S → Halves
 owed m e = pick (isListing m && not (isAttribute e)) (15 ∷ []) []
 
 unfoldable pub settled : {S : Type 0} → State S → E.Event S → State S
 settled v e = pick (isListing (v .mode) && not (isAttribute e)) (moved v (v .tables) content) v
 
-module _ (L : Limits) (text : List ℕ) (room : ℕ) where
+module _ (L : Limits) (text : Octets) (room : ℕ) where
   -- So many halves, in whole octets, fit the output lent and the limit of a document.
   unfoldable pub fits : ℕ → Bool
   fits at = leb (aligned at / 2) (min room (L .octets))
 
   -- An event's halves from the half `at`: the end owed; then 1111 for an End, or the octets from the next whole octet.
-  unfoldable pub halvesOf : ℕ → State Located → E.Event Located → WroteItem → List ℕ
+  unfoldable pub halvesOf : ℕ → State Located → E.Event Located → WroteItem → Halves
   halvesOf at v e w = owed (v .mode) e ++ pick (isEnd e) (15 ∷ []) (pad (at + length (owed (v .mode) e)) ++ halves (w .octets))
 
   -- One event: not well made or not in its place (16), not text (9), too deep (13), a table full (12), no room (14).
-  unfoldable pub judge : ℕ → State Located → Event → WroteItem → List ℕ → ℕ
+  unfoldable pub judge : ℕ → State Located → Event → WroteItem → Halves → ℕ
   judge at v e w hs =
       pick (wellMade text (e .kind) e && goesOn v (eventOf (e .kind) e))
       (pick (allText text (eventOf (e .kind) e))
@@ -109,7 +110,7 @@ module _ (L : Limits) (text : List ℕ) (room : ℕ) where
   run at v i [] = finish at v i
   run at v i (e ∷ es) =
       let w : WroteItem = writeItem L text (announced (e ∷ es)) (settled v (eventOf (e .kind) e)) (eventOf (e .kind) e) in
-      let hs : List ℕ = halvesOf at v (eventOf (e .kind) e) w in
+      let hs : Halves = halvesOf at v (eventOf (e .kind) e) w in
       elim (judge at v e w hs) [
         | zero ↦ plus (eventOf (e .kind) e by w .choice) hs (run (at + length hs) (w .state) (suc i) es)
         | suc n ↦ refusal (suc n) i
@@ -120,14 +121,14 @@ module _ (L : Limits) (text : List ℕ) (room : ℕ) where
   trace at v [] = []
   trace at v (e ∷ es) =
       let w : WroteItem = writeItem L text (announced (e ∷ es)) (settled v (eventOf (e .kind) e)) (eventOf (e .kind) e) in
-      let hs : List ℕ = halvesOf at v (eventOf (e .kind) e) w in
+      let hs : Halves = halvesOf at v (eventOf (e .kind) e) w in
       elim (judge at v e w hs) [
         | zero ↦ w .state ∷ trace (at + length hs) (w .state) es
         | suc n ↦ []
       ]
 
 -- Octets of halves.
-unfoldable pub joined : List ℕ → List ℕ
+unfoldable pub joined : Halves → Octets
 joined [] = []
 joined (h ∷ []) = (16 * h) ∷ []
 joined (h ∷ l ∷ hs) = (16 * h + l) ∷ joined hs
@@ -141,18 +142,18 @@ told (Refused k p) = toldRefused k p
 pub record Outcome : Type 0 where
   pub answer : A.Answer
   pub told : Told
-  pub out : List ℕ
-  pub tables : List ℕ
+  pub out : Octets
+  pub tables : Words
 
 -- A call answered and left this.
-abbrev pub Leaves : A.Answer → (out tables : List ℕ) → Outcome → Type 0
+abbrev pub Leaves : A.Answer → (out : Octets) (tables : Words) → Outcome → Type 0
 Leaves r out tables o = (r ≡ o .answer) × (told r ≡ o .told) × (out ≡ o .out) × (tables ≡ o .tables)
 
 -- A refusal blanks all the room that was lent.
 abbrev pub refusing : ℕ → ℕ → ℕ → ℕ → Outcome
 refusing n p room table = record { answer = Refused n p; told = toldRefused n p; out = replicate room 0; tables = replicate table 0 }
 
-abbrev pub accepting : List ℕ → Vocabulary Located → ℕ → Outcome
+abbrev pub accepting : Octets → Vocabulary Located → ℕ → Outcome
 accepting s v room =
     record {
       answer = Accepted (length s) (countsOf v);
@@ -166,15 +167,15 @@ outcome (written is hs z) room = accepting (header ++ joined hs) (z .tables) roo
 outcome (refusal n p) room = refusing n p room tableWords
 
 -- On the link, from these events over this text area, with so much output lent: the header is event 0's.
-unfoldable pub writing : List ℕ → ℕ → List Event → Result
+unfoldable pub writing : Octets → ℕ → List Event → Result
 writing text room es = run link text room (2 * length header) (beginning start) 0 es
 
 -- And what is known after each of them.
-unfoldable pub knownWriting : List ℕ → ℕ → List Event → List (State Located)
+unfoldable pub knownWriting : Octets → ℕ → List Event → List (State Located)
 knownWriting text room es = trace link text room (2 * length header) (beginning start) es
 
 -- Writing on the link, with `room` octets of output and `table` table words lent: SIZE (1), then the table room (14), both at place 0, then the events.
-unfoldable pub writeOf : List Event → List ℕ → (room table : ℕ) → Outcome
+unfoldable pub writeOf : List Event → Octets → (room table : ℕ) → Outcome
 writeOf es text room table =
     pick (leb (length text) 16384)
     (pick (eqb table tableWords) (outcome (writing text room es) room) (refusing ROOM 0 room table))
