@@ -40,8 +40,8 @@ item-group at o hs ks = simp append-assoc
 
 -- What is written, in two: the items xs, and the rest of the document.
 pub record Split (L : Limits) (at : ℕ) (v : State Octets) (xs ys : List (Item Octets)) (hs : Halves) (z : State Octets) : Type 0 where
-  pub front-halves : Octets
-  pub rest-halves : Octets
+  pub front-halves : Halves
+  pub rest-halves : Halves
   pub mid : State Octets
   pub begun : Begun L at v xs front-halves mid
   pub rest : Written L (at + length front-halves) mid ys rest-halves z

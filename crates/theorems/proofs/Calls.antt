@@ -9,7 +9,7 @@ use native.Mathlib.Omega.{arith}
 use lib.ListN.{length}
 use lib.Dec.{eqb, leb}
 use borrow.Author.Tests.{leb-true}
-use Rattle.format.specs.Octets.{Octets, AreOctets}
+use Rattle.format.specs.Octets.{Octets, Words, AreOctets}
 use Rattle.format.specs.Numbers.{pick}
 use Rattle.format.specs.Events.{Item}
 use Rattle.format.specs.Tables.{link}
@@ -147,7 +147,7 @@ module _ (s : Octets) (bytes : AreOctets s) where
 
 -- 16. DEMAND 1: what a call answers and leaves depends on the octets, and on how much room is lent, but not on what stood in it: e and t before one call, f and u
 --     before another.
-module _ (s : Octets) (e f : List Event) (t u : Octets) (a b : Answer) (e′ f′ : List Event) (t′ u′ : Octets) where
+module _ (s : Octets) (e f : List Event) (t u : Words) (a b : Answer) (e′ f′ : List Event) (t′ u′ : Words) where
   pub whatever-stood : length e ≡ length f → length t ≡ length u → Leaves a e′ t′ (readOf s (length e) (length t)) → Leaves b f′ u′ (readOf s (length f) (length u))
       → (a ≡ b) × (e′ ≡ f′) × (t′ ≡ u′)
   whatever-stood l m x y = let y′ = rw (← l, ← m) at y in (x .0 ∙ sym (y′ .0), x .2 ∙ sym (y′ .2), x .3 ∙ sym (y′ .3))
@@ -158,7 +158,7 @@ pub read-twice : (s : Octets) (e e′ e″ : List Event) (t t′ t″ : Octets) 
 read-twice s e e′ e″ t t′ t″ a b l m x y = whatever-stood s e′ e t′ t b a e″ e′ t″ t′ l m y x
 
 --     The same of reading into words.
-pub words-whatever-stood : (s r q t u c d : Octets) (a b : ℕ) (r′ q′ t′ u′ c′ d′ : Octets) → length r ≡ length q → length t ≡ length u → length c ≡ length d
+pub words-whatever-stood : (s : Octets) (r q t u c d : Words) (a b : ℕ) (r′ q′ t′ u′ c′ d′ : Words) → length r ≡ length q → length t ≡ length u → length c ≡ length d
     → leaving a r′ t′ c′ ≡ readWords s (length r) (length t) (length c) → leaving b q′ u′ d′ ≡ readWords s (length q) (length u) (length d)
     → leaving a r′ t′ c′ ≡ leaving b q′ u′ d′
 words-whatever-stood s r q t u c d a b r′ q′ t′ u′ c′ d′ l m n x y = x ∙ rw (l, m, n) (sym y)

@@ -55,7 +55,7 @@ module _ (s : Octets) (bytes : AreOctets s) where
         (λ n. ReadAnswers.refuses {n = 14} {p = 0} (omega arith, omega arith) (omega arith) refl refl refl))
         (λ y. ReadAnswers.refuses {n = 1} {p = 0} (omega arith, omega arith) (omega arith) refl refl refl)
 
-  module _ (e f : List Event) (t u : Octets) (a b : ReadAnswer.Answer) (e′ f′ : List Event) (t′ u′ : Octets) where
+  module _ (e f : List Event) (t u : Words) (a b : ReadAnswer.Answer) (e′ f′ : List Event) (t′ u′ : Words) where
     pub demand-1-read : length e ≡ length f → length t ≡ length u
         → Read.Leaves a e′ t′ (Read.readOf s (length e) (length t)) → Read.Leaves b f′ u′ (Read.readOf s (length f) (length u))
         → ((a ≡ b) × (e′ ≡ f′) × (t′ ≡ u′)) × ReadAnswers s (length e) (length t) (Read.readOf s (length e) (length t))
@@ -79,7 +79,7 @@ module _ (s : Octets) (bytes : AreOctets s) where
               (ReadWordsAnswer.refuses {n = 14} {p = 0} (omega arith, omega arith) (omega arith) refl refl refl refl)
         ]
 
-  module _ (r q t u c d : Octets) (a b : ℕ) (r′ q′ t′ u′ c′ d′ : Octets) where
+  module _ (r q t u c d : Words) (a b : ℕ) (r′ q′ t′ u′ c′ d′ : Words) where
     pub demand-1-read-words : length r ≡ length q → length t ≡ length u → length c ≡ length d
         → ReadWords.leaving a r′ t′ c′ ≡ ReadWords.readWords s (length r) (length t) (length c) → ReadWords.leaving b q′ u′ d′ ≡ ReadWords.readWords s (length q) (length u) (length d)
         → (ReadWords.leaving a r′ t′ c′ ≡ ReadWords.leaving b q′ u′ d′) × ReadWordsAnswer s (length r) (length t) (length c) (ReadWords.readWords s (length r) (length t) (length c))
@@ -113,7 +113,7 @@ module _ (es : List Event) (text : Octets) where
         (λ n. WriteAnswers.refuses {p = 0} WriterNumber.room (omega arith) refl refl refl))
         (λ y. WriteAnswers.refuses {p = 0} WriterNumber.size (omega arith) refl refl refl)
 
-  module _ (o p t u : Octets) (a b : WriteAnswer.Answer) (o′ p′ t′ u′ : Octets) where
+  module _ (o p : Octets) (t u : Words) (a b : WriteAnswer.Answer) (o′ p′ : Octets) (t′ u′ : Words) where
     pub demand-1-write : length o ≡ length p → length t ≡ length u
         → Write.Leaves a o′ t′ (Write.writeOf es text (length o) (length t)) → Write.Leaves b p′ u′ (Write.writeOf es text (length p) (length u))
         → ((a ≡ b) × (o′ ≡ p′) × (t′ ≡ u′)) × WriteAnswers es (length o) (length t) (Write.writeOf es text (length o) (length t))
@@ -138,7 +138,7 @@ module _ (records : Words) (text : Octets) where
               (λ l. WriteWordsAnswer.refuses {p = 0} WriterNumber.room (omega arith) refl refl refl refl)
         ]
 
-  module _ (o p t u c d : Octets) (a b : ℕ) (o′ p′ t′ u′ c′ d′ : Octets) where
+  module _ (o p : Octets) (t u c d : Words) (a b : ℕ) (o′ p′ : Octets) (t′ u′ c′ d′ : Words) where
     pub demand-1-write-words : length o ≡ length p → length t ≡ length u → length c ≡ length d
         → WriteWords.leaving a o′ t′ c′ ≡ WriteWords.writeWords records text (length o) (length t) (length c) → WriteWords.leaving b p′ u′ d′ ≡ WriteWords.writeWords records text (length p) (length u) (length d)
         → (WriteWords.leaving a o′ t′ c′ ≡ WriteWords.leaving b p′ u′ d′)

@@ -8,7 +8,7 @@ use native.Mathlib.Omega.{arith}
 use borrow.Author.Tests.{lt-leb}
 use lib.Dec.{leb}
 use lib.ListN.{length, length-map}
-use Rattle.format.specs.Octets.{Octets}
+use Rattle.format.specs.Octets.{Octets, Halves}
 use Rattle.format.specs.Numbers.{top}
 use Rattle.format.specs.Events.{Event, Namespace, Start, Attribute, Text, Comment, Instruction, End, Item, IsDocument, openThen, deepest, stringsOf}
 use Rattle.format.specs.Tables.{Vocabulary, Limits, link, standard, InLimits}
@@ -58,7 +58,7 @@ deep-on depth a v e es h = rw (level-is a v e) (omega arith)
 -- ---- what is left of a document can be written, from wherever a document comes
 -- The halves that the items are written as, and what is known then: these tables.
 pub record CanWrite (L : Limits) (at : ℕ) (v : State Octets) (items : List (Item Octets)) (tables : Vocabulary Octets) : Type 0 where
-  pub halves : Octets
+  pub halves : Halves
   pub last : State Octets
   pub rule : Written L at v items halves last
   pub known : last .tables ≡ tables

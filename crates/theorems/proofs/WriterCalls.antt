@@ -176,13 +176,13 @@ module _ (records : Words) (text : Octets) (r t : ℕ) where
   words-written c n e = by-words c n (leb (length text) 16384) (eqb c 10) e
 
 -- 21. DEMAND 1: what a call answers and leaves depends on the records and the text, and on how much room is lent, but not on what stood in it.
-module _ (es : List Event) (text o p t u : Octets) (a b : Answer) (o′ p′ t′ u′ : Octets) where
+module _ (es : List Event) (text o p : Octets) (t u : Words) (a b : Answer) (o′ p′ : Octets) (t′ u′ : Words) where
   pub write-whatever-stood : length o ≡ length p → length t ≡ length u → Leaves a o′ t′ (writeOf es text (length o) (length t)) → Leaves b p′ u′ (writeOf es text (length p) (length u))
       → (a ≡ b) × (o′ ≡ p′) × (t′ ≡ u′)
   write-whatever-stood l m x y = let y′ = rw (← l, ← m) at y in (x .0 ∙ sym (y′ .0), x .2 ∙ sym (y′ .2), x .3 ∙ sym (y′ .3))
 
 --     The same of writing from words.
-pub written-whatever-stood : (records : Words) (text o p t u c d : Octets) (a b : ℕ) (o′ p′ t′ u′ c′ d′ : Octets) → length o ≡ length p → length t ≡ length u → length c ≡ length d
+pub written-whatever-stood : (records : Words) (text o p : Octets) (t u c d : Words) (a b : ℕ) (o′ p′ : Octets) (t′ u′ c′ d′ : Words) → length o ≡ length p → length t ≡ length u → length c ≡ length d
     → leaving a o′ t′ c′ ≡ writeWords records text (length o) (length t) (length c) → leaving b p′ u′ d′ ≡ writeWords records text (length p) (length u) (length d)
     → leaving a o′ t′ c′ ≡ leaving b p′ u′ d′
 written-whatever-stood records text o p t u c d a b o′ p′ t′ u′ c′ d′ l m n x y = x ∙ rw (l, m, n) (sym y)

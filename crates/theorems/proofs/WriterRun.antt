@@ -9,7 +9,7 @@ use native.Mathlib.Omega.{arith}
 use borrow.Author.Tests.{leb-true, leb-false, le-leb, lt-leb, eqb-true}
 use lib.Dec.{eqb, leb}
 use lib.ListN.{length, length-append}
-use Rattle.format.specs.Octets.{Octets}
+use Rattle.format.specs.Octets.{Octets, Halves}
 use Rattle.format.specs.Numbers.{pick, top}
 use Rattle.format.specs.Events as E
 use Rattle.format.specs.Events.{Item, _by_, IsDocument, BeginsDocument, openAfter, declaresLast, isDeclaration, isStart, opensElement}
@@ -51,7 +51,7 @@ Knows at v items hs z ks = (w : Written link at v items hs z) × (knownAfter lin
 module _ (text : Octets) where
   -- Where the writer stands behind the plain events ps, with es ahead.
   pub record Stands (ps : List (E.Event Octets)) (at : ℕ) (v : State Located) (es : List Event) : Type 0 where
-    pub halves : Octets
+    pub halves : Halves
     pub begun : Begun link (2 * length header) (beginning started) (itemsOf ps) halves (plainState text v)
     pub at-is : at ≡ 2 * length header + length halves
     pub tables : plainTables text (v .tables) ≡ tablesAfter link started ps

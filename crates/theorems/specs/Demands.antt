@@ -5,7 +5,7 @@ use mathlib.Core.Path.{_≡_}
 use mathlib.Core.Logic.{_↔_}
 use mathlib.Core.List.{List, [], _++_, map}
 use lib.ListN.{length, replicate}
-use Rattle.format.specs.Octets.{Octets}
+use Rattle.format.specs.Octets.{Octets, Halves}
 use Rattle.format.specs.Refusals.{SIZE, TEXT, FULL, DEPTH, ROOM, EVENT}
 use Rattle.format.specs.Events.{Item}
 use Rattle.format.specs.Tables.{StringTable, Vocabulary, strings}
@@ -97,7 +97,7 @@ pub record Acceptable (es : List Event) (text : Octets) (room table : ℕ) (s : 
 -- The writer's definition writes them as these octets, and knows this at the end.
 pub record Wrote (es : List Event) (text : Octets) (room : ℕ) (s : Octets) (z : State Octets) : Type 0 where
   pub items : List (Item Located)
-  pub halves : Octets
+  pub halves : Halves
   pub last : State Located
   pub is : Write.writing text room es ≡ Write.written items halves last
   pub octets : header ++ Write.joined halves ≡ s

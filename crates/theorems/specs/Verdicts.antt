@@ -4,7 +4,7 @@ use mathlib.Core.Path.{_≡_}
 use mathlib.Core.Bool.{true}
 use mathlib.Core.List.{List, [], _∷_, _++_, map}
 use lib.ListN.{length}
-use Rattle.format.specs.Octets.{Octets}
+use Rattle.format.specs.Octets.{Octets, Halves}
 use Rattle.format.specs.Refusals.{TEXT, FULL, DEPTH, ROOM, EVENT}
 use Rattle.format.specs.Text.{isText}
 use Rattle.format.specs.Events as E
@@ -54,14 +54,14 @@ pub data OrPasses (es : List (E.Event Octets)) (last : State Octets) (octets : O
 
 -- The header and these items, filled up to octets, fit the output lent and the limit of a document.
 pub record FitsIn (room : ℕ) (items : List (Item Octets)) : Type 0 where
-  pub halves : Octets
+  pub halves : Halves
   pub last : State Octets
   pub are : Begun link (2 * length header) (beginning started) items halves last
   pub fit : aligned (2 * length header + length halves) / 2 ≤ min room (link .octets)
 
 -- The rules write these items behind the header, but what they write does not fit.
 pub record Overflows (room : ℕ) (items : List (Item Octets)) : Type 0 where
-  pub halves : Octets
+  pub halves : Halves
   pub last : State Octets
   pub are : Begun link (2 * length header) (beginning started) items halves last
   pub over : min room (link .octets) < aligned (2 * length header + length halves) / 2
