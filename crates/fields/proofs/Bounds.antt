@@ -1,17 +1,17 @@
 -- What every answer keeps to: an accepted number has its bounds and ends within the octets, a refusal stands at the field.
 -- Assumes nothing.
 use mathlib.Core.Path.{_≡_, refl}
-use mathlib.Core.List.{List, [], _∷_}
+use mathlib.Core.List.{List, [], _∷_, map}
 use Prim.Native.Nat.{ℕ, _+_, _-_, _*_, _%_, _^_, _≤_, _<_}
 use native.Mathlib.Omega.{arith}
 use borrow.Author.Tests.{ltb-true, leb-true}
 use lib.Dec.{ltb, leb}
 use lib.ListN.{length, getD}
-use Rattle.format.specs.Numbers.{Form, form}
+use Rattle.format.specs.Numbers.{Form}
 use Rattle.fields.specs.declared.Cursor.{Cursor}
 use Rattle.fields.specs.declared.Number.{Number}
 use Rattle.fields.specs.declared.Number.the-variants.{Got, Refused}
-use Rattle.fields.specs.Fields.{valueFrom, behind, readIn, fieldAt}
+use Rattle.fields.specs.Fields.{valueFrom, behind, Share, share, shareOf, readIn, fieldAt}
 use Rattle.fields.proofs.Laws.{picks}
 
 module _ (top : ℕ) (s : List ℕ) (at : ℕ) where
@@ -35,17 +35,17 @@ module _ (top : ℕ) (s : List ℕ) (at : ℕ) where
   lower low size (Got n c) k = omega arith
   lower low size (Refused r p) k = k
 
-  read-kept : (fs : List Form) (low b : ℕ) → Kept low (readIn fs top low s at b)
+  read-kept : (fs : List Share) (low b : ℕ) → Kept low (readIn fs top low s at b)
   unfolding readIn
   read-kept [] low b = (omega arith, refl)
-  read-kept (form room more size ∷ fs) low b =
+  read-kept (share room more size ∷ fs) low b =
       picks (Kept low) (ltb (b * 256 ^ more) size) _ _ (λ t. behind-kept b more low size)
       (λ t. picks (Kept low) (ltb b room) _ _ (λ u. (omega arith, refl)) (λ u. lower low size (readIn fs top (low + size) s at (b - room)) (read-kept fs (low + size) (b - room))))
 
   module _ (fs : List Form) (bit : ℕ) where
     field-kept : Kept 1 (fieldAt fs top bit s at)
     unfolding fieldAt
-    field-kept = picks (Kept 1) (ltb at (length s)) _ _ (λ t. read-kept fs 1 (getD s at 0 % 2 ^ (9 - bit))) (λ t. (omega arith, refl))
+    field-kept = picks (Kept 1) (ltb at (length s)) _ _ (λ t. read-kept (map shareOf fs) 1 (getD s at 0 % 2 ^ (9 - bit))) (λ t. (omega arith, refl))
 
     pub field-got : {n : ℕ} {c : Cursor} → fieldAt fs top bit s at ≡ Got n c → (1 ≤ n) × (n ≤ top) × (at < c .at) × (c .at ≤ length s)
     field-got e = rw e at field-kept

@@ -1,7 +1,7 @@
 -- What the reading of a field is, by cases: a law for each way out of the code.
 -- Assumes nothing.
 use mathlib.Core.Path.{_≡_, refl}
-use mathlib.Core.List.{List, [], _∷_}
+use mathlib.Core.List.{List, [], _∷_, map}
 use Prim.Native.Nat.{ℕ, zero, suc, _+_, _-_, _*_, _%_, _^_, _≤_, _<_}
 use native.Mathlib.Nat.{pow-suc, lt-of-lt-of-le, pow-le-pow-right}
 use native.Mathlib.Omega.{arith}
@@ -9,10 +9,10 @@ use native.Mathlib.Numerals.{add-one}
 use borrow.Author.Tests.{lt-ltb, le-ltb, le-leb, lt-leb}
 use lib.Dec.{lit<}
 use lib.ListN.{length, getD, take, drop}
-use Rattle.format.specs.Numbers.{Form, form, sizes}
+use Rattle.format.specs.Numbers.{Form}
 use Rattle.fields.specs.declared.Number.the-variants.{Got, Refused}
-use Rattle.fields.specs.Fields.{valueFrom, behind, readIn, fieldAt}
-use Rattle.fields.proofs.Laws.{rooms, Roomy, past-room}
+use Rattle.fields.specs.Fields.{valueFrom, behind, Share, share, shareOf, readIn, fieldAt}
+use Rattle.fields.proofs.Laws.{sizesIn, roomsIn, Roomy, past-room}
 
 -- ---- the octets behind the first one
 
@@ -58,19 +58,19 @@ module _ (s : List ℕ) (at x more low size top : ℕ) where
 
 -- ---- the first octet
 
--- k forms are passed over
-passed : (k : ℕ) (fs : List Form) (top low : ℕ) (s : List ℕ) (at b x : ℕ) → Roomy (take k fs) → b ≡ rooms (take k fs) + x
-    → readIn fs top low s at b ≡ readIn (drop k fs) top (low + sizes (take k fs)) s at x
-unfolding readIn rooms sizes
+-- k shares are passed over
+passed : (k : ℕ) (fs : List Share) (top low : ℕ) (s : List ℕ) (at b x : ℕ) → Roomy (take k fs) → b ≡ roomsIn (take k fs) + x
+    → readIn fs top low s at b ≡ readIn (drop k fs) top (low + sizesIn (take k fs)) s at x
+unfolding readIn roomsIn sizesIn
 passed zero fs top low s at b x ok e =
     let k : b ≡ x = omega arith in
     let l : low ≡ low + 0 = omega arith in
     rw (k, ← l)
 passed (suc k) [] top low s at b x ok e = refl
-passed (suc k) (form room more size ∷ fs) top low s at b x ok e =
+passed (suc k) (share room more size ∷ fs) top low s at b x ok e =
     let r1 : room ≤ b = omega arith in
     let r2 = past-room _ _ _ _ (ok .0) r1 in
-    let l : low + (size + sizes (take k fs)) ≡ low + size + sizes (take k fs) = omega arith in
+    let l : low + (size + sizesIn (take k fs)) ≡ low + size + sizesIn (take k fs) = omega arith in
     rw (le-ltb _ _ r2, le-ltb _ _ r1, l) (passed k fs top (low + size) s at (b - room) x (ok .1) (omega arith))
 
 module _ (top bit : ℕ) (s : List ℕ) (at : ℕ) (fs : List Form) where
@@ -78,17 +78,17 @@ module _ (top bit : ℕ) (s : List ℕ) (at : ℕ) (fs : List Form) where
   unfolding fieldAt
   field-missing h = rw (le-ltb _ _ h)
 
-  module _ (h : at < length s) (k : ℕ) (ok : Roomy (take k fs)) where
-    from-form : (x : ℕ) → getD s at 0 % 2 ^ (9 - bit) ≡ rooms (take k fs) + x → fieldAt fs top bit s at ≡ readIn (drop k fs) top (1 + sizes (take k fs)) s at x
+  module _ (gs : List Share) (are : map shareOf fs ≡ gs) (h : at < length s) (k : ℕ) (ok : Roomy (take k gs)) where
+    from-form : (x : ℕ) → getD s at 0 % 2 ^ (9 - bit) ≡ roomsIn (take k gs) + x → fieldAt fs top bit s at ≡ readIn (drop k gs) top (1 + sizesIn (take k gs)) s at x
     unfolding fieldAt
-    from-form x e = rw (lt-ltb _ _ h) (passed k fs top 1 s at _ x ok e)
+    from-form x e = rw (lt-ltb _ _ h, are) (passed k gs top 1 s at _ x ok e)
 
-    pub field-code : drop k fs ≡ [] → rooms (take k fs) ≤ getD s at 0 % 2 ^ (9 - bit) → Refused 5 at ≡ fieldAt fs top bit s at
+    pub field-code : drop k gs ≡ [] → roomsIn (take k gs) ≤ getD s at 0 % 2 ^ (9 - bit) → Refused 5 at ≡ fieldAt fs top bit s at
     unfolding readIn
-    field-code d g = rw (from-form (getD s at 0 % 2 ^ (9 - bit) - rooms (take k fs)) (omega arith), d)
+    field-code d g = rw (from-form (getD s at 0 % 2 ^ (9 - bit) - roomsIn (take k gs)) (omega arith), d)
 
-    module _ (room more size : ℕ) (gs : List Form) (d : drop k fs ≡ form room more size ∷ gs) (x : ℕ) (e : getD s at 0 % 2 ^ (9 - bit) ≡ rooms (take k fs) + x) where
-      pub field-form : (low many : ℕ) → low ≡ 1 + sizes (take k fs) → many ≡ size → x * 256 ^ more < size → behind s at x more low many top ≡ fieldAt fs top bit s at
+    module _ (room more size : ℕ) (ss : List Share) (d : drop k gs ≡ share room more size ∷ ss) (x : ℕ) (e : getD s at 0 % 2 ^ (9 - bit) ≡ roomsIn (take k gs) + x) where
+      pub field-form : (low many : ℕ) → low ≡ 1 + sizesIn (take k gs) → many ≡ size → x * 256 ^ more < size → behind s at x more low many top ≡ fieldAt fs top bit s at
       unfolding readIn
       field-form low many l m g = rw (from-form x e, d, lt-ltb _ _ g, l, m)
 

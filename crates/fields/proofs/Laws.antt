@@ -1,4 +1,4 @@
--- Reading what was spelled gives it back, and what reading accepts is what `spell` writes: once, over any list of forms.
+-- Reading what was spelled gives it back, and what reading accepts is what is spelled: once, over any list of shares.
 -- Assumes nothing.
 use mathlib.Core.Path.{_≡_, refl, sym, ap, ap₂, _∙_}
 use mathlib.Core.Bool.{Bool, true, false}
@@ -13,26 +13,36 @@ use lib.Dec.{ltb, leb, lit<}
 use lib.ListN.{length, getD, take, drop, length-append}
 use lib.Seq.{getD-append-seam, append-snoc, drop-cons}
 use Rattle.format.specs.Octets.{AreOctets}
-use Rattle.format.specs.Numbers.{pick, Form, form, octets, spell, sizes}
+use Rattle.format.specs.Numbers.{pick, octets}
 use Rattle.fields.specs.declared.Cursor.{Cursor}
 use Rattle.fields.specs.declared.Number.{Number}
 use Rattle.fields.specs.declared.Number.the-variants.{Got, Refused}
-use Rattle.fields.specs.Fields.{valueFrom, behind, readIn}
+use Rattle.fields.specs.Fields.{valueFrom, behind, Share, share, readIn}
 
 pub case : {X : Type 0} (a b : ℕ) → (a < b → X) → (b ≤ a → X) → X
 case a b f g = elim (decLt a b) [ yes h ↦ f h | no h ↦ g (omega arith) ]
 
--- how many values of the first octet's bits the forms take
-unfoldable pub rooms : List Form → ℕ
-rooms [] = 0
-rooms (form room more size ∷ fs) = room + rooms fs
+-- how many numbers the shares have
+unfoldable pub sizesIn : List Share → ℕ
+sizesIn [] = 0
+sizesIn (share room more size ∷ fs) = size + sizesIn fs
 
--- each form has room for what it spells
-abbrev pub Roomy : List Form → Type 0
+-- how many values of the first octet's bits they take
+unfoldable pub roomsIn : List Share → ℕ
+roomsIn [] = 0
+roomsIn (share room more size ∷ fs) = room + roomsIn fs
+
+-- each has room for its numbers
+abbrev pub Roomy : List Share → Type 0
 Roomy [] = Unit {0}
-Roomy (form room more size ∷ fs) = (size ≤ room * 256 ^ more) × Roomy fs
+Roomy (share room more size ∷ fs) = (size ≤ room * 256 ^ more) × Roomy fs
 
-pos256 : (m : ℕ) → 0 < 256 ^ m
+-- the value v from 0 on, by shares: each holds the value less what those before it have; `lead` has the codes of those before it
+unfoldable pub spellIn : List Share → ℕ → ℕ → List ℕ
+spellIn [] lead v = []
+spellIn (share room more size ∷ fs) lead v = pick (ltb v size) ((lead + v / 256 ^ more) ∷ octets more v) (spellIn fs (lead + room) (v - size))
+
+pub pos256 : (m : ℕ) → 0 < 256 ^ m
 pos256 zero = lit< tt
 pos256 (suc m) = let h = pos256 m in rw (pow-suc 256 m) (omega arith)
 
@@ -89,19 +99,19 @@ behind-octets more size v low top first pre rest h t =
     rw (lt-ltb _ _ q, e, lt-ltb _ _ h, le-leb _ _ t, p)
 
 -- the first octet holds at least what it held already
-pub first-ge : (fs : List Form) (lead v : ℕ) → v < sizes fs → lead ≤ getD (spell fs lead v) 0 0
-unfolding spell sizes
+pub first-ge : (fs : List Share) (lead v : ℕ) → v < sizesIn fs → lead ≤ getD (spellIn fs lead v) 0 0
+unfolding spellIn sizesIn
 first-ge [] lead v h = omega arith
-first-ge (form room more size ∷ fs) lead v h =
+first-ge (share room more size ∷ fs) lead v h =
     case v size (λ y. rw (lt-ltb v size y) (omega arith))
     (λ n. rw (le-ltb v size n) (let i = first-ge fs (lead + room) (v - size) (omega arith) in omega arith))
 
-pub read-spelled : (fs : List Form) (top low lead v : ℕ) (pre rest : List ℕ) → Roomy fs → v < sizes fs → low + v ≤ top
-    → readIn fs top low (pre ++ (spell fs lead v ++ rest)) (length pre) (getD (spell fs lead v) 0 0 - lead)
-    ≡ Got (low + v) (record { at = length pre + length (spell fs lead v) })
-unfolding readIn spell sizes
+pub read-spelled : (fs : List Share) (top low lead v : ℕ) (pre rest : List ℕ) → Roomy fs → v < sizesIn fs → low + v ≤ top
+    → readIn fs top low (pre ++ (spellIn fs lead v ++ rest)) (length pre) (getD (spellIn fs lead v) 0 0 - lead)
+    ≡ Got (low + v) (record { at = length pre + length (spellIn fs lead v) })
+unfolding readIn spellIn sizesIn
 read-spelled [] top low lead v pre rest ok h t = absurd (omega arith)
-read-spelled (form room more size ∷ fs) top low lead v pre rest ok h t =
+read-spelled (share room more size ∷ fs) top low lead v pre rest ok h t =
     case v size
     (λ y.
     let b : lead + v / 256 ^ more - lead ≡ v / 256 ^ more = omega arith in
@@ -110,7 +120,7 @@ read-spelled (form room more size ∷ fs) top low lead v pre rest ok h t =
     rw (lt-ltb v size y, b, lt-ltb _ _ sp, n) (behind-octets more size v low top (lead + v / 256 ^ more) pre rest y t))
     (λ n.
     let i = first-ge fs (lead + room) (v - size) (omega arith) in
-    let w : List ℕ = spell fs (lead + room) (v - size) in
+    let w : List ℕ = spellIn fs (lead + room) (v - size) in
     let r1 : room ≤ getD w 0 0 - lead = omega arith in
     let r2 = past-room _ _ _ _ (ok .0) r1 in
     let e : getD w 0 0 - lead - room ≡ getD w 0 0 - (lead + room) = omega arith in
@@ -147,15 +157,15 @@ never : {X : Type 0} (r p n : ℕ) (c : Cursor) → Refused r p ≡ Got n c → 
 never r p n c e = let z : _≡_ {A = ℕ} 0 1 = cc in absurd (omega arith)
 
 -- what was accepted at `at`, with b in the field's bits of the octet there: n is low + v, m octets follow, and all of them are how v is written
-pub record Spelled (fs : List Form) (top low lead : ℕ) (s : List ℕ) (at b n : ℕ) (c : Cursor) : Type 0 where
+pub record Spelled (fs : List Share) (top low lead : ℕ) (s : List ℕ) (at b n : ℕ) (c : Cursor) : Type 0 where
   pub v : ℕ
   pub m : ℕ
   pub is : n ≡ low + v
-  pub small : v < sizes fs
+  pub small : v < sizesIn fs
   pub under : n ≤ top
   pub room : at + m < length s
   pub next : c .at ≡ at + 1 + m
-  pub written : spell fs lead v ≡ (lead + b) ∷ take m (drop (at + 1) s)
+  pub written : spellIn fs lead v ≡ (lead + b) ∷ take m (drop (at + 1) s)
 
 behind-back : (more size top low : ℕ) (s : List ℕ) (at x n : ℕ) (c : Cursor) → AreOctets s
     → behind s at x more low size top ≡ Got n c
@@ -177,11 +187,11 @@ behind-back more size top low s at x n c bytes e =
     (λ t2 e2. never 6 at n c e2))
     (λ t1 e1. never 2 at n c e1)
 
-pub accepted : (fs : List Form) (top low lead : ℕ) (s : List ℕ) (at b n : ℕ) (c : Cursor) → AreOctets s
+pub accepted : (fs : List Share) (top low lead : ℕ) (s : List ℕ) (at b n : ℕ) (c : Cursor) → AreOctets s
     → readIn fs top low s at b ≡ Got n c → Spelled fs top low lead s at b n c
-unfolding readIn spell sizes
+unfolding readIn spellIn sizesIn
 accepted [] top low lead s at b n c bytes e = never 5 at n c e
-accepted (form room more size ∷ fs) top low lead s at b n c bytes e =
+accepted (share room more size ∷ fs) top low lead s at b n c bytes e =
     picked (ltb (b * 256 ^ more) size) _ _ _ e
     (λ t1 e1.
     let t = behind-back more size top low s at b n c bytes e1 in
@@ -195,5 +205,5 @@ accepted (form room more size ∷ fs) top low lead s at b n c bytes e =
     let ib : lead + room + (b - room) ≡ lead + b = omega arith in
     let no : size ≤ size + i .v = omega arith in
     let isn : n ≡ low + size + i .v = i .is in
-    let ism : i .v < sizes fs = i .small in
+    let ism : i .v < sizesIn fs = i .small in
     record { v = size + i .v; m = i .m; is = omega arith; small = omega arith; under = i .under; room = i .room; next = i .next; written = rw (le-ltb _ _ no, iv, i .written, ib) }))

@@ -1,10 +1,11 @@
 pub mod Laws
+pub mod Puts
+pub mod Forms
 pub mod RoundTrip
 pub mod Bounds
 pub mod Cases
 pub mod FirstOctet
 pub mod Numbers
 pub mod Lengths
-pub mod Puts
 pub mod Spelled
 pub mod Text

@@ -63,7 +63,7 @@ module _ (os : List ℕ) (i : ℕ) {out₀ out : List ℕ} {at : ℕ} (p : Puts 
 
 -- ---- which octet is the next one
 
-pow8 : (k : ℕ) → 256 ^ k ≡ 2 ^ (8 * k)
+pub pow8 : (k : ℕ) → 256 ^ k ≡ 2 ^ (8 * k)
 pow8 zero = refl
 pow8 (suc k) = let z : 8 * suc k ≡ 8 * k + 8 = omega arith in rw (pow-suc 256 k, pow8 k, z, pow-add 2 (8 * k) 8)
 

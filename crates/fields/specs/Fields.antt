@@ -1,10 +1,10 @@
 -- What reading a number or a length finds at a place: the value and the place behind it, or a refusal (2 TRUNCATED, 5 CODE, 6 PADDING, 7 RANGE).
 use Prim.Native.Nat.{ℕ, zero, suc, _+_, _-_, _*_, _/_, _%_, _^_}
-use mathlib.Core.List.{List, [], _∷_}
+use mathlib.Core.List.{List, [], _∷_, map}
 use lib.ListN.{length, getD}
 use lib.Dec.{ltb, leb}
 use Rattle.format.specs.Octets.{Octets}
-use Rattle.format.specs.Numbers.{pick, Form, form}
+use Rattle.format.specs.Numbers.{pick, Form, form, behindFirst}
 use Rattle.format.specs.Refusals.{TRUNCATED, CODE, PADDING, RANGE}
 use Rattle.fields.specs.declared.Number.{Number}
 use Rattle.fields.specs.declared.Number.the-variants.{Got, Refused}
@@ -29,17 +29,25 @@ behind s at x more low size top =
     (Refused PADDING at))
     (Refused TRUNCATED at)
 
+-- What reading needs of a form: of the values that the field's bits of the first octet can have, the next `room` are behind its code; `more` octets follow; it
+-- writes `size` numbers.
+pub data Share : Type 0 where
+  share : (room more size : ℕ) → Share
+
+unfoldable pub shareOf : Form → Share
+shareOf (form code zeros bits low) = share (2 ^ (zeros + bits - 8 * behindFirst code zeros bits)) (behindFirst code zeros bits) (2 ^ bits)
+
 -- b is what the field's bits of the first octet hold: the form that spells a value with b there reads on; padding in the first octet (6); no form has it (5).
 -- `low` is the lowest number that the forms left can spell.
-unfoldable pub readIn : List Form → ℕ → ℕ → Octets → ℕ → ℕ → Number
+unfoldable pub readIn : List Share → ℕ → ℕ → Octets → ℕ → ℕ → Number
 readIn [] top low s at b = Refused CODE at
-readIn (form room more size ∷ fs) top low s at b =
+readIn (share room more size ∷ fs) top low s at b =
     pick (ltb (b * 256 ^ more) size) (behind s at b more low size top)
     (pick (ltb b room) (Refused PADDING at) (readIn fs top (low + size) s at (b - room)))
 
 -- The number or length that starts at bit `bit` of the octet at `at`: missing (2), then as its forms say.
 unfoldable pub fieldAt : List Form → ℕ → ℕ → Octets → ℕ → Number
-fieldAt fs top bit s at = pick (ltb at (length s)) (readIn fs top 1 s at (getD s at 0 % 2 ^ (9 - bit))) (Refused TRUNCATED at)
+fieldAt fs top bit s at = pick (ltb at (length s)) (readIn (map shareOf fs) top 1 s at (getD s at 0 % 2 ^ (9 - bit))) (Refused TRUNCATED at)
 
 -- Above every length: a length has no top.
 abbrev pub noTop : ℕ

@@ -51,7 +51,7 @@ fn put_form(out: &mut [u8], at: usize, lead: u64, v: u64, more: usize) -> usize
 // C.22, C.23, C.24: the length n from `bit` on, in an octet that holds `lead` before it. Each form counts on where the one before it ends.
 pub fn put_length(out: &mut [u8], at: usize, bit: u32, lead: u8, n: usize) -> usize
     requires { ⌜ (at < 2 ^ 32) × (1 ≤ bit) × (bit ≤ 7) × (lead + 2 ^ (9 - bit) ≤ 256) × (1 ≤ n) × (n ≤ 2 ^ 32) ⌝ }
-    ensures { λ r. ⌜ Puts (now (out .entry)) at r (now (out .exit)) (spell (lengths bit) lead (n - 1)) × (r ≤ at + 5) ⌝ }
+    ensures { λ r. ⌜ Puts (now (out .entry)) at r (now (out .exit)) (spell (lengths bit) lead n) × (r ≤ at + 5) ⌝ }
 {
     let first = wide(lead);
     let short = values(8 - bit);
@@ -70,7 +70,7 @@ pub fn put_length(out: &mut [u8], at: usize, bit: u32, lead: u8, n: usize) -> us
 // C.27, C.28: the number n from `bit` on, in an octet that holds `lead` before it.
 pub fn put_number(out: &mut [u8], at: usize, bit: u32, lead: u8, n: u32) -> usize
     requires { ⌜ (at < 2 ^ 32) × (1 ≤ bit) × (bit ≤ 6) × (lead + 2 ^ (9 - bit) ≤ 256) × (1 ≤ n) × (n ≤ top) ⌝ }
-    ensures { λ r. ⌜ Puts (now (out .entry)) at r (now (out .exit)) (spell (numbers bit) lead (n - 1)) × (r ≤ at + 4) ⌝ }
+    ensures { λ r. ⌜ Puts (now (out .entry)) at r (now (out .exit)) (spell (numbers bit) lead n) × (r ≤ at + 4) ⌝ }
 {
     let first = wide(lead);
     let short = values(8 - bit);
@@ -95,7 +95,7 @@ pub fn put_number(out: &mut [u8], at: usize, bit: u32, lead: u8, n: u32) -> usiz
 // C.25: the number n from bit 2 on, in an octet that holds `lead` before it.
 pub fn put_number_at_bit_2(out: &mut [u8], at: usize, lead: u8, n: u32) -> usize
     requires { ⌜ (at < 2 ^ 32) × (lead + 128 ≤ 256) × (1 ≤ n) × (n ≤ top) ⌝ }
-    ensures { λ r. ⌜ Puts (now (out .entry)) at r (now (out .exit)) (spell c25 lead (n - 1)) × (r ≤ at + 3) ⌝ }
+    ensures { λ r. ⌜ Puts (now (out .entry)) at r (now (out .exit)) (spell c25 lead n) × (r ≤ at + 3) ⌝ }
 {
     let first = wide(lead);
     let mut v = n as u64 - 1;

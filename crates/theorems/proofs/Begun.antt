@@ -153,17 +153,17 @@ length-pick : (b : Bool) (x y : Octets) → length (pick b x y) ≡ pick b (leng
 length-pick true x y = refl
 length-pick false x y = refl
 
-spell-size : (fs : List Form) (lead lead′ k : ℕ) → length (spell fs lead k) ≡ length (spell fs lead′ k)
+spell-size : (fs : List Form) (lead lead′ n : ℕ) → length (spell fs lead n) ≡ length (spell fs lead′ n)
 unfolding spell
-spell-size [] lead lead′ k = refl
-spell-size (form room more size ∷ fs) lead lead′ k = simp (length-pick, spell-size fs (lead + room) (lead′ + room) (k - size))
+spell-size [] lead lead′ n = refl
+spell-size (form code zeros bits low ∷ fs) lead lead′ n = simp (length-pick, spell-size fs lead lead′ n)
 
 module _ {L : Limits} where
   -- and so are a name's
   behind-bits : {q : NameLayout} {lead : ℕ} {v w : Vocabulary Octets} {x : Name Octets} {h : NameHow} {o : Octets} (lead′ : ℕ)
       → Named L q lead v x h o w → (o′ : Octets) × Named L q lead′ v x h o′ w × (length o ≡ length o′)
   behind-bits lead′ (in-parts lone up un ul new room) = (_, in-parts lone up un ul new room, refl)
-  behind-bits {q} {lead} lead′ (by-number {k = k} small fits en) = (_, by-number small fits en, spell-size (q .numberForms) lead lead′ k)
+  behind-bits {q} {lead} lead′ (by-number {k = k} small fits en) = (_, by-number small fits en, spell-size (q .numberForms) lead lead′ (suc k))
 
   octets-alike : {v v′ w w′ : State Octets} {i : Item Octets} {o o′ : Octets} → Alike v v′ → ItemWrittenAs L v i o w → ItemWrittenAs L v′ i o′ w′
       → (length o ≡ length o′) × Alike w w′

@@ -10,7 +10,7 @@ use lib.Dec.{eqb, ltb, leb}
 use lib.ListN.{length, getD, length-append, List·getD-append}
 use lib.Seq.{getD-append-seam}
 use Rattle.format.specs.Octets.{Octets}
-use Rattle.format.specs.Numbers.{pick, coded, spell, sizes, lengths, c25, top}
+use Rattle.format.specs.Numbers.{pick, spell, sizes, lengths, c25, top}
 use Rattle.format.specs.Events.{Name, How, spelled, numbered, NameHow, inParts, byNumber}
 use Rattle.format.specs.Tables.{StringTable, PREFIX, NAMESPACE-NAME, LOCAL-NAME, NameTable, ELEMENT-NAME, ATTRIBUTE-NAME, Triple, noTriple, Vocabulary, strings, names, place, extended, adding, addingName, holdsName, Entry, partOf, nameOf, Limits, InLimits}
 use Rattle.format.specs.Strings.{withLength, Spelling, bit, Layout, c14, keeping, Identifying, id-spelled, id-numbered, Optional, absent, present, Literal, literal-spelled, literal-numbered, Value, value-empty, value}
@@ -78,7 +78,7 @@ one-longer v t x =
 -- ---- the octets of a string or a name, from how it is written
 abbrev pub idOctets : Octets → How → Octets
 idOctets x (spelled added) = withLength (lengths 2) 0 x
-idOctets x (numbered k) = spell c25 0x80 (k - 1)
+idOctets x (numbered k) = spell c25 0x80 k
 
 abbrev pub optionalOctets : Option Octets → Option How → Octets
 optionalOctets none h = []
@@ -87,7 +87,7 @@ optionalOctets (some x) (some h) = idOctets x h
 
 abbrev pub literalOctets : Layout → Octets → How → Octets
 literalOctets q x (spelled added) = withLength (lengths (q .lengthBit)) (q .spelledBits + q .addBit * bit added) x
-literalOctets q x (numbered k) = spell (q .numberForms) (q .numberedBits) (k - 1)
+literalOctets q x (numbered k) = spell (q .numberForms) (q .numberedBits) k
 
 abbrev pub valueOctets : Octets → How → Octets
 valueOctets x (spelled added) = literalOctets c14 x (spelled added)
@@ -97,7 +97,7 @@ valueOctets x (numbered (suc k)) = literalOctets c14 x (numbered (suc k))
 abbrev pub nameOctets : NameLayout → ℕ → Name Octets → NameHow → Octets
 nameOctets q lead x (inParts hp hn hl) =
     (lead + q .inPartsBits + 2 * has (x .prefix) + has (x .namespace)) ∷ (optionalOctets (x .prefix) hp ++ (optionalOctets (x .namespace) hn ++ idOctets (x .local) hl))
-nameOctets q lead x (byNumber k) = spell (q .numberForms) lead (k - 1)
+nameOctets q lead x (byNumber k) = spell (q .numberForms) lead k
 
 -- ---- an identifying string is held, or new: 01's choice is a permitted one
 abbrev IdCase : StringTable → Vocabulary Octets → Octets → Chose How → Type 0
@@ -126,7 +126,7 @@ id-grows {t} {v} {x = x} (id-new h) = adding-grows v t x
 
 module _ (L : Limits) (small : L .entries ≤ top) where
   pub id-rule : {t : StringTable} {v w : Vocabulary Octets} {x : Octets} {h : How} {n : ℕ} → Spelling x → InLimits L w → PermitsId t v x h n w → Identifying L t v x h n (idOctets x h) w
-  id-rule {t} {v} sp f (id-entry {k = j} en) = let z : suc j - 1 ≡ j = omega arith in let a = f .few t in let h = en .made in rw z (id-numbered {k = j} (omega arith) en)
+  id-rule {t} {v} sp f (id-entry {k = j} en) = let a = f .few t in let h = en .made in id-numbered {k = j} (omega arith) en
   id-rule {t} {v} {x = x} sp f (id-new h) = let o = one-longer v t x in let a = f .few t in id-spelled sp h (omega arith)
 
 -- one that may be absent
@@ -189,10 +189,9 @@ module _ (L : Limits) (small : L .entries ≤ top) where
   pub literal-rule : {q : Layout} {t : StringTable} {v w : Vocabulary Octets} {x : Octets} {h : How} → top ≤ sizes (q .numberForms) → Spelling x → InLimits L w
       → PermitsString t v x h w → Literal L q t v x h (literalOctets q x h) w
   literal-rule {t = t} big sp f (string-entry {k = j} en) =
-      let z : suc j - 1 ≡ j = omega arith in
       let a = f .few t in
       let h = en .made in
-      rw z (literal-numbered {k = j} (omega arith) (omega arith) en)
+      literal-numbered {k = j} (omega arith) (omega arith) en
   literal-rule {t = t} {v = v} {x = x} big sp f (string-spelled added) = literal-spelled sp (had-room added v t x f)
 
 -- ---- values
@@ -225,14 +224,13 @@ literal-value (lit-new r) = refl
 
 module _ (L : Limits) (small : L .entries ≤ top) where
   pub value-rule : {t : StringTable} {v w : Vocabulary Octets} {x : Octets} {h : How} → SpellingIfSome x → InLimits L w → PermitsValue t v x h w → Value L t v x h (valueOctets x h) w
-  unfolding c14 sizes coded c25
+  unfolding c14 sizes c25
   value-rule sp f value-none = value-empty
   value-rule {t} {v} {x = x} sp f (value-spelled added long) = value (literal-spelled (sp long) (had-room L small added v t x f))
   value-rule {t} sp f (value-entry {k = j} en) =
-      let z : suc j - 1 ≡ j = omega arith in
       let a = f .few t in
       let h = en .made in
-      rw z (value (literal-numbered {k = j} (omega arith) (omega arith) en))
+      value (literal-numbered {k = j} (omega arith) (omega arith) en)
 
 -- ---- names: the numbers of a triple are of entries that are there
 pub record InRange {S : Type 0} (v : Vocabulary S) (x : Triple) : Type 0 where
@@ -414,10 +412,9 @@ pub record NameSaid (x : Name Octets) : Type 0 where
 module _ (L : Limits) (small : L .entries ≤ top) (q : NameLayout) (big : top ≤ sizes (q .numberForms)) (lead : ℕ) where
   pub name-rule : {v w : Vocabulary Octets} {x : Name Octets} {h : NameHow} → NameSaid x → InLimits L w → PermitsName (q .table) v x h w → Named L q lead v x h (nameOctets q lead x h) w
   name-rule s f (name-entry {k = j} en) =
-      let z : suc j - 1 ≡ j = omega arith in
       let a = f .few-names (q .table) in
       let h = en .made in
-      rw z (by-number {k = j} (omega arith) (omega arith) en)
+      by-number {k = j} (omega arith) (omega arith) en
   name-rule s f (name-parts {kp = kp} {kn = kn} {kl = kl} {v₃ = w} up un ul new) =
       let y : Triple = record { prefix = kp; namespace = kn; local = kl } in
       let fl = fits-before (adding-name-grows w (q .table) y) f in

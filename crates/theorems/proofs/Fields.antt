@@ -2,7 +2,7 @@
 use mathlib.Core.Path.{_≡_, refl, sym, ap, ap₂, _∙_, subst}
 use mathlib.Core.Bool.{true}
 use mathlib.Core.List.{List, _++_, append-assoc}
-use Prim.Native.Nat.{ℕ, suc, _+_, _-_, _*_, _^_, _≤_, _<_}
+use Prim.Native.Nat.{ℕ, _+_, _-_, _*_, _^_, _≤_, _<_}
 use native.Mathlib.Omega.{arith}
 use borrow.Author.Tests.{le-leb}
 use lib.ListN.{length, getD, take, drop, length-append}
@@ -14,7 +14,7 @@ use Rattle.format.specs.Strings.{withLength, Spelling}
 use Rattle.fields.specs.declared.Number.{Number}
 use Rattle.fields.specs.declared.Number.the-variants.{Got as Num, Refused as NoNum}
 use Rattle.fields.specs.Fields.{fieldAt, noTop}
-use Rattle.fields.proofs.Laws.{rooms, Roomy}
+use Rattle.fields.proofs.Forms.{rooms, Ordered}
 use Rattle.tables.specs.Located.{Located, stretch, octetsOf, plainTables}
 use Rattle.read_names.specs.Strings.{Got, got, refused, then, number, spelling}
 use Rattle.read_items.specs.Items.{Step, stop, into}
@@ -66,13 +66,13 @@ module _ (s : Octets) where
       let l = stretch-length s next n t1 in
       let i = r .is in
       let sm = r .small in
-      let z : r .v ≡ length x - 1 = omega arith in
-      let h : drop k s ≡ (spell fs base (length x - 1) ++ x) ++ drop (next + n) s =
+      let z : n ≡ length x = omega arith in
+      let h : drop k s ≡ (spell fs base (length x) ++ x) ++ drop (next + n) s =
       r .here ∙ ap₂ (λ (u : ℕ) (y : Octets). spell fs base u ++ y) z (stretch-sound s next n)
-      ∙ sym (append-assoc (spell fs base (length x - 1)) x (drop (next + n) s)) in
+      ∙ sym (append-assoc (spell fs base (length x)) x (drop (next + n) s)) in
       let q = r .next-is in
       let zw = ap (λ (u : ℕ). length (spell fs base u)) z in
-      let la = length-append (spell fs base (length x - 1)) x in
+      let la = length-append (spell fs base (length x)) x in
       f (record { some = omega arith; fits = omega arith; formed = t2 }) h (omega arith) t1
 
 -- ---- complete
@@ -99,22 +99,20 @@ module _ (s : Octets) where
     pub high : getD s k 0 < base + rooms fs
     pub here : k < length s
 
-  pub spelt : (fs : List Form) (bit lead base k : ℕ) (x rest : Octets) → Roomy fs → rooms fs ≤ 2 ^ (9 - bit) → longest ≤ sizes fs → base ≡ lead * 2 ^ (9 - bit) → Spelling x
+  pub spelt : (fs : List Form) (bit lead base k : ℕ) (x rest : Octets) → Ordered fs → rooms fs ≤ 2 ^ (9 - bit) → longest ≤ sizes fs → base ≡ lead * 2 ^ (9 - bit) → Spelling x
       → drop k s ≡ withLength fs base x ++ rest → Spelt fs bit base k x
   spelt fs bit lead base k x rest ok r sz bl sp d =
-      let w : Words = spell fs base (length x - 1) in
+      let w : Words = spell fs base (length x) in
       let d1 : drop k s ≡ w ++ (x ++ rest) = d ∙ append-assoc w x rest in
       let p = sp .some in
       let f = sp .fits in
-      let q : length x - 1 < sizes fs = omega arith in
-      let z : suc (length x - 1) ≡ length x = omega arith in
-      let n = num-complete s fs noTop bit lead base (length x - 1) k (x ++ rest) ok r q (omega arith) bl d1 in
-      let o = num-first s fs base (length x - 1) k (x ++ rest) ok q d1 in
+      let n = num-complete s fs noTop bit lead base (length x) k (x ++ rest) ok r p (omega arith) (omega arith) bl d1 in
+      let o = num-first s fs base (length x) k (x ++ rest) ok p (omega arith) d1 in
       let y = stretch-complete s (k + length w) (length x) x rest refl p (drop-past s k w (x ++ rest) d1) in
       let la = length-append w x in
       record {
         next = k + length w;
-        num = n ∙ ap (λ (u : ℕ). Num u (record { at = k + length w })) z;
+        num = n;
         text-is = y .0;
         room = y .1;
         end-is = omega arith;

@@ -10,7 +10,7 @@ use lib.Dec.{eqb, ltb, leb}
 use lib.ListN.{length, getD, drop, length-append}
 use lib.Seq.{drop-cons}
 use Rattle.format.specs.Octets.{Octets}
-use Rattle.format.specs.Numbers.{pick, coded, numbers, c25, top, longest}
+use Rattle.format.specs.Numbers.{pick, behindFirst, numbers, c25, top, longest}
 use Rattle.format.specs.Events.{Name, Namespace, Start, Attribute, Text, Comment, Instruction, How, NameHow, forNamespace, forStart, forAttribute, forText, forComment, forInstruction, Item, _by_, eventMap}
 use Rattle.format.specs.Tables.{OTHER-NCNAME, ATTRIBUTE-VALUE, CONTENT-CHARACTER-CHUNK, OTHER-STRING, Vocabulary, Limits}
 use Rattle.format.specs.Strings.{bit, c15, Value}
@@ -19,8 +19,9 @@ use Rattle.format.specs.Items.{Mode, content, declaring, listing, State, maySta
 use Rattle.fields.specs.declared.Cursor.{Cursor}
 use Rattle.fields.specs.declared.Number.{Number}
 use Rattle.fields.specs.declared.Number.the-variants.{Got as Num, Refused as NoNum}
-use Rattle.fields.specs.Fields.{readIn, fieldAt}
-use Rattle.fields.proofs.Laws.{case, rooms}
+use Rattle.fields.specs.Fields.{shareOf, readIn, fieldAt}
+use Rattle.fields.proofs.Laws.{case, roomsIn}
+use Rattle.fields.proofs.Forms.{shares, rooms}
 use Rattle.tables.specs.Located.{Located, plain, plainTables, plainState}
 use Rattle.read_names.specs.Strings.{Got, idAt, literalAt, valueAt}
 use Rattle.read_names.specs.Names.{NameRead, lonePrefix, partsAt, numberedAt, nameAt, declaredAt}
@@ -57,8 +58,8 @@ unfolding namePadding
 parts-unpadded b lo hi = rw (ne-eqb (b / 8) 6 (omega arith), ne-eqb (b / 4) 14 (omega arith))
 
 -- 110 and then not 000 is no number
-padded-refused : (s : Octets) (k b : ℕ) → 48 < b → b < 56 → readIn (numbers 3) top 1 s k b ≡ NoNum 6 k
-unfolding readIn numbers coded
+padded-refused : (s : Octets) (k b : ℕ) → 48 < b → b < 56 → readIn (shares (numbers 3)) top 1 s k b ≡ NoNum 6 k
+unfolding readIn shareOf behindFirst numbers
 padded-refused s k b lo hi =
     rw (
       le-ltb (b * 1) 32 (omega arith),
@@ -141,7 +142,7 @@ module _ (L : Limits) (s : Octets) (bytes : (i : ℕ) → getD s i 0 < 256) (sho
       test-not P (stop 6 k) (fault s 6 k refl kl) (namePadding b) _
       λ t0. test P (stop 15 k) (fault s 15 k refl kl) (mayStart v) _
       λ t1. either-lt P b 0x38 _ _
-      (λ h1. in-step s P (λ c p f. f) (NameR L s bytes short ofElement (64 * bit a)) k (v .tables) (numberedAt L ofElement s k (v .tables)) (numbered-sound L s bytes short ofElement (64 * bit a) k (v .tables) kl (omega arith)) _
+      (λ h1. in-step s P (λ c p f. f) (NameR L s bytes short ofElement (64 * bit a)) k (v .tables) (numberedAt L ofElement s k (v .tables)) (numbered-sound L s bytes short ofElement element-shape (64 * bit a) k (v .tables) kl (omega arith)) _
       λ x next w r. test-lt P (stop 13 k) (fault s 13 k refl kl) (v .level) (L .depth) _
       λ t2. start-read a (64 * bit a) k k [] v refl (omega arith) kl (λ x hw os w u. o-start a md t1 t2 u) x next w r)
       λ h1. test-not P (stop 15 k) (fault s 15 k refl kl) (leb 0x3C b && lonePrefix b) _
@@ -170,7 +171,7 @@ module _ (L : Limits) (s : Octets) (bytes : (i : ℕ) → getD s i 0 < 256) (sho
       λ h2. test-lt P (stop 6 j) (fault s 6 j refl jl) o 0x40 _
       λ h3. test-not P (stop 6 j) (fault s 6 j refl jl) (namePadding o) _
       λ h4. start-sound a 0 j k (0xF0 ∷ []) v d (omega arith) jl rule (nameAt L ofElement s o j (v .tables))
-      (name-sound L s bytes short ofElement 0 o j (v .tables) (λ y. omega arith) (λ y. omega arith) h1)
+      (name-sound L s bytes short ofElement element-shape 0 o j (v .tables) (λ y. omega arith) (λ y. omega arith) h1)
 
   attribute-sound : (any : Bool) (k : ℕ) (v : State Located) → k ≤ length s → v .mode ≡ listing any → Took k v (attributeAt L s k v)
   unfolding attributeAt eventMap ofAttribute
@@ -181,7 +182,7 @@ module _ (L : Limits) (s : Octets) (bytes : (i : ℕ) → getD s i 0 < 256) (sho
       λ h. test-lt P (stop 5 k) (fault s 5 k refl kl) o 0x80 _
       λ h1. test-lt P (stop 6 k) (fault s 6 k refl kl) o 0x7C _
       λ h2. in-step s P (λ c p f. f) (NameR L s bytes short ofAttribute 0) k (v .tables) (nameAt L ofAttribute s o k (v .tables))
-      (name-sound L s bytes short ofAttribute 0 o k (v .tables) (λ y. omega arith) (λ y. omega arith) h) _
+      (name-sound L s bytes short ofAttribute attribute-shape 0 o k (v .tables) (λ y. omega arith) (λ y. omega arith) h) _
       λ x k₁ w₁ r₁. in-step s P (λ c p f. f) (ValueR L s bytes short ATTRIBUTE-VALUE) k₁ w₁ (valueAt L s ATTRIBUTE-VALUE k₁ w₁) (value-sound L s bytes short ATTRIBUTE-VALUE k₁ w₁ (r₁ .inside)) _
       λ y k₂ w₂ r₂.
       let n1 = r₁ .next-is in
@@ -278,7 +279,7 @@ module _ (L : Limits) (s : Octets) where
       ∙ pick-yes (ltb (getD s k 0) 0x80) _ _ (lt-ltb (getD s k 0) 0x80 (omega arith)) ∙ ap (λ (y : ℕ). elementAt L s k y true v) z
 
   chunk-goes : (k : ℕ) (v : State Located) → 0 < v .level → c15 .spelledBits ≤ getD s k 0 → getD s k 0 < c15 .numberedBits + rooms (c15 .numberForms) → k < length s → childAt L s k v ≡ chunkAt L s k v
-  unfolding childAt c15 rooms coded numbers
+  unfolding childAt c15 roomsIn shareOf behindFirst numbers
   chunk-goes k v lev lo hi l =
       pick-yes (ltb k (length s)) _ _ (lt-ltb k (length s) l)
       ∙ pick-no (ltb (getD s k 0) 0x40) _ _ (le-ltb (getD s k 0) 0x40 (omega arith))
@@ -321,7 +322,7 @@ module _ (L : Limits) (s : Octets) where
 
   element-hit : (a : Bool) (k : ℕ) (v : State Located) {x : Name Octets} {h : NameHow} {os : Octets} {w : Vocabulary Octets} {p : List Located} → mayStart v ≡ true → v .level < L .depth → k < length s
       → NameHit L s ofElement (64 * bit a) k (v .tables) x h os w p → StartHit a k v x h os w p (childAt L s k v)
-  unfolding elementAt ofElement rooms coded numbers
+  unfolding elementAt ofElement roomsIn shareOf behindFirst numbers
   element-hit a k v {os = os} may deep l (hit-numbered o oc hi n c e hit) =
       let z : getD s k 0 % 64 ≡ o = let b1 = one-bit a in omega arith in
       record {
@@ -343,7 +344,7 @@ module _ (L : Limits) (s : Octets) where
 
   named-hit : (a : Bool) (k : ℕ) (v : State Located) {x : Name Octets} {h : NameHow} {os : Octets} {w : Vocabulary Octets} {p : List Located} → k < length s
       → NameHit L s ofElement 0 k (v .tables) x h os w p → StartHit a k v x h os w p (namedAt L s k a v)
-  unfolding namedAt nameAt ofElement rooms coded numbers
+  unfolding namedAt nameAt ofElement roomsIn shareOf behindFirst numbers
   named-hit a k v l (hit-numbered o oc hi n c e hit) =
       let q : getD s k 0 ≡ o = omega arith in
       rw (lt-ltb k (length s) l, q, ne-eqb (o % 64 / 4) 14 (omega arith), lt-ltb o 0x40 (omega arith), number-unpadded s k o n c e (omega arith) hi, lt-ltb o 0x3C (omega arith)) (start-of a k v _ hit)
@@ -354,12 +355,12 @@ module _ (L : Limits) (s : Octets) where
   -- an attribute's name
   attribute-hit : (k : ℕ) (v : Vocabulary Located) {x : Name Octets} {h : NameHow} {os : Octets} {w : Vocabulary Octets} {p : List Located} → NameHit L s ofAttribute 0 k v x h os w p
       → Hit s (NameQ L s x h p) (k + length os) w (nameAt L ofAttribute s (getD s k 0) k v) × (getD s k 0 < 0x7C)
-  unfolding nameAt ofAttribute rooms coded c25
+  unfolding nameAt ofAttribute roomsIn shareOf behindFirst c25
   attribute-hit k v (hit-numbered o oc hi n c e hit) = (rw (lt-ltb (getD s k 0) 0x78 (omega arith)) hit, omega arith)
   attribute-hit k v (hit-parts o oc lo hi lone hit) = let q : getD s k 0 ≡ o = omega arith in (rw (q, le-ltb o 0x78 lo) hit, omega arith)
 
   name-first : (a : Bool) {k : ℕ} {v : Vocabulary Located} {x : Name Octets} {h : NameHow} {os : Octets} {w : Vocabulary Octets} {p : List Located} → NameHit L s ofElement (64 * bit a) k v x h os w p → getD s k 0 < 0x80
-  unfolding ofElement rooms coded numbers
+  unfolding ofElement roomsIn shareOf behindFirst numbers
   name-first a (hit-numbered o oc hi n c e hit) = let b1 = one-bit a in omega arith
   name-first a (hit-parts o oc lo hi lone hit) = let b1 = one-bit a in omega arith
 

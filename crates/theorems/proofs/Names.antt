@@ -10,15 +10,17 @@ use lib.Dec.{eqb, leb}
 use lib.ListN.{length, getD, drop, length-append}
 use lib.Seq.{drop-cons}
 use Rattle.format.specs.Octets.{Octets}
-use Rattle.format.specs.Numbers.{coded, spell, numbers, c25, top, longest}
+use Rattle.format.specs.Numbers.{behindFirst, spell, numbers, c25, top, longest}
 use Rattle.format.specs.Events.{Name, nameMap, How, NameHow, inParts, byNumber}
 use Rattle.format.specs.Tables.{PREFIX, NAMESPACE-NAME, LOCAL-NAME, Triple, noTriple, Vocabulary, names, addingName, holdsName, Entry, nameOf, Limits}
 use Rattle.format.specs.Strings.{bit, Identifying, Optional}
 use Rattle.format.specs.Names.{has, NameLayout, ofElement, ofAttribute, Named, in-parts, by-number, Declared, declared}
 use Rattle.fields.specs.declared.Cursor.{Cursor}
 use Rattle.fields.specs.declared.Number.the-variants.{Got as Num}
-use Rattle.fields.specs.Fields.{fieldAt}
-use Rattle.fields.proofs.Laws.{rooms, Roomy}
+use Rattle.fields.specs.Fields.{shareOf, fieldAt}
+use Rattle.fields.proofs.Laws.{roomsIn}
+use Rattle.fields.proofs.Forms.{rooms, Ordered}
+use Rattle.fields.proofs.Numbers.{c25-ordered, numbers-ordered}
 use Rattle.fields.proofs.RoundTrip.{some-first}
 use Rattle.tables.specs.Located.{Located, empty, octetsOf, plainTables}
 use Rattle.read_names.specs.Strings.{Got, refused, idAt, optionalAt}
@@ -70,17 +72,17 @@ has-one (some p) = omega arith
 
 -- where the fields of a name stand in its first octet
 pub record NameShape (q : NameLayout) : Type 0 where
-  pub numbers-ok : Roomy (q .numberForms)
+  pub numbers-ok : Ordered (q .numberForms)
   pub numbers-fit : rooms (q .numberForms) ≤ 2 ^ (9 - nameBit (q .table))
   pub even : q .inPartsBits % 4 ≡ 0
 
 pub element-shape : NameShape ofElement
-unfolding ofElement rooms coded numbers
-element-shape = record { numbers-ok = omega arith; numbers-fit = omega arith; even = refl }
+unfolding ofElement roomsIn shareOf behindFirst numbers
+element-shape = record { numbers-ok = numbers-ordered 3 (omega arith) (omega arith); numbers-fit = omega arith; even = refl }
 
 pub attribute-shape : NameShape ofAttribute
-unfolding ofAttribute rooms coded c25
-attribute-shape = record { numbers-ok = omega arith; numbers-fit = omega arith; even = refl }
+unfolding ofAttribute roomsIn shareOf behindFirst c25
+attribute-shape = record { numbers-ok = c25-ordered; numbers-fit = omega arith; even = refl }
 
 -- ---- what is read is what the rules write
 module _ (L : Limits) (s : Octets) (bytes : (i : ℕ) → getD s i 0 < 256) (short : length s ≤ longest) where
@@ -90,11 +92,11 @@ module _ (L : Limits) (s : Octets) (bytes : (i : ℕ) → getD s i 0 < 256) (sho
   three-parts : (k : ℕ) (a b c : Octets) (k₁ k₂ k₃ : ℕ) → drop k s ≡ a ++ drop k₁ s → drop k₁ s ≡ b ++ drop k₂ s → drop k₂ s ≡ c ++ drop k₃ s → drop k s ≡ (a ++ (b ++ c)) ++ drop k₃ s
   three-parts k a b c k₁ k₂ k₃ p q r = p ∙ ap (λ (l : Octets). a ++ l) (q ∙ ap (λ (l : Octets). b ++ l) r) ∙ simp append-assoc
 
-  pub numbered-sound : (q : NameLayout) (lead k : ℕ) (v : Vocabulary Located) → k ≤ length s → getD s k 0 ≡ lead + getD s k 0 % 2 ^ (9 - nameBit (q .table)) → Ok s (NameR q lead) k v (numberedAt L q s k v)
+  pub numbered-sound : (q : NameLayout) → NameShape q → (lead k : ℕ) (v : Vocabulary Located) → k ≤ length s → getD s k 0 ≡ lead + getD s k 0 % 2 ^ (9 - nameBit (q .table)) → Ok s (NameR q lead) k v (numberedAt L q s k v)
   unfolding numberedAt octetsOf
-  numbered-sound q lead k v kl z =
+  numbered-sound q g lead k v kl z =
       let P : Got NameRead → Type 0 = Ok s (NameR q lead) k v in
-      on-number s P (λ c p f. f) (q .numberForms) top lead k (fieldAt (q .numberForms) top (nameBit (q .table)) s k) (num-sound s bytes (q .numberForms) top (nameBit (q .table)) lead k kl z) _
+      on-number s P (λ c p f. f) (q .numberForms) top lead k (fieldAt (q .numberForms) top (nameBit (q .table)) s k) (num-sound s bytes (q .numberForms) (g .numbers-ok) top (nameBit (q .table)) lead k kl z) _
       λ n next r. test-le P (refused 10 k) (fault s 10 k refl kl) n (length (names v (q .table))) _
       λ t1.
       let i = r .is in
@@ -103,8 +105,8 @@ module _ (L : Limits) (s : Octets) (bytes : (i : ℕ) → getD s i 0 < 256) (sho
       let x : Triple = getD (names v (q .table)) (n - 1) noTriple in
       let en : Entry (names v (q .table)) (r .v) noTriple x = record { made = omega arith; is = ap (λ (m : ℕ). getD (names v (q .table)) m noTriple) (sym e) } in
       record {
-        octets = spell (q .numberForms) lead (r .v);
-        rule = subst₂ (λ (m : ℕ) (y : Name Octets). Named L q lead (plainTables s v) y (byNumber m) (spell (q .numberForms) lead (r .v)) (plainTables s v)) (sym i) (sym (name-map (octetsOf s) v empty x))
+        octets = spell (q .numberForms) lead n;
+        rule = subst₂ (λ (m : ℕ) (y : Name Octets). Named L q lead (plainTables s v) y (byNumber m) (spell (q .numberForms) lead m) (plainTables s v)) (sym i) (sym (name-map (octetsOf s) v empty x))
             (by-number (omega arith) (r .small) (rw (names-map (octetsOf s) v (q .table)) en));
         here = r .here;
         next-is = r .next-is;
@@ -144,11 +146,11 @@ module _ (L : Limits) (s : Octets) (bytes : (i : ℕ) → getD s i 0 < 256) (sho
       }
 
   -- b is the name's part of its first octet
-  pub name-sound : (q : NameLayout) (lead b k : ℕ) (v : Vocabulary Located) → (b < q .inPartsBits → getD s k 0 ≡ lead + getD s k 0 % 2 ^ (9 - nameBit (q .table)))
+  pub name-sound : (q : NameLayout) → NameShape q → (lead b k : ℕ) (v : Vocabulary Located) → (b < q .inPartsBits → getD s k 0 ≡ lead + getD s k 0 % 2 ^ (9 - nameBit (q .table)))
       → (q .inPartsBits ≤ b → getD s k 0 ≡ lead + q .inPartsBits + b % 4) → k < length s → Ok s (NameR q lead) k v (nameAt L q s b k v)
   unfolding nameAt
-  name-sound q lead b k v f g h =
-      either-lt (Ok s (NameR q lead) k v) b (q .inPartsBits) _ _ (λ y. numbered-sound q lead k v (omega arith) (f y)) (λ y. parts-sound q lead b k v (g y) h)
+  name-sound q shape lead b k v f g h =
+      either-lt (Ok s (NameR q lead) k v) b (q .inPartsBits) _ _ (λ y. numbered-sound q shape lead k v (omega arith) (f y)) (λ y. parts-sound q lead b k v (g y) h)
 
   abbrev pub DeclaredR : Vocabulary Octets → DeclaredRead → Octets → Vocabulary Octets → Type 0
   DeclaredR v b o w = Declared L v (Option·map (octetsOf s) (b .prefix)) (Option·map (octetsOf s) (b .namespace)) (b .prefixHow) (b .namespaceHow) o w
@@ -226,10 +228,10 @@ module _ (L : Limits) (s : Octets) where
       (u : Named L q lead (plainTables s v) x h os w) → drop k s ≡ os ++ rest → NameHit q lead k v x h os w (inName k u) × (0 < length os) × (k < length s)
   unfolding numberedAt octetsOf
   name-complete q g times lead k e v rest (by-number {k = j} {x = x} small fits en) d =
-      let f = num-first s (q .numberForms) lead j k rest (g .numbers-ok) fits d in
+      let f = num-first s (q .numberForms) lead (suc j) k rest (g .numbers-ok) (omega arith) fits d in
       let lo = f .0 in
       let hi = f .1 in
-      let n = num-complete s (q .numberForms) top (nameBit (q .table)) times lead j k rest (g .numbers-ok) (g .numbers-fit) fits (omega arith) e d in
+      let n = num-complete s (q .numberForms) top (nameBit (q .table)) times lead (suc j) k rest (g .numbers-ok) (g .numbers-fit) (omega arith) fits (omega arith) e d in
       let here = rw (names-map (octetsOf s) v (q .table)) at en in
       let m = here .made in
       let z : suc j - 1 ≡ j = omega arith in (
@@ -242,7 +244,7 @@ module _ (L : Limits) (s : Octets) where
               state = refl;
               what = (name-map (octetsOf s) v empty _ ∙ ap (λ (y : Triple). nameOf (plainTables s v) [] y) (ap (λ (u : ℕ). getD (names v (q .table)) u noTriple) z ∙ here .is), refl, refl);
             })),
-        some-first (q .numberForms) lead j fits,
+        some-first (q .numberForms) lead (suc j) (g .numbers-ok) (omega arith) fits,
         f .2,
       )
   name-complete q g times lead k e v rest (in-parts {p = p} {n = n} {l = l} {hp = hp} {hn = hn} {hl = hl} {kp = kp} {kn = kn} {kl = kl} {op = op} {on = on} {ol = ol} {v₁ = w₁} {v₂ = w₂} {v₃ = w₃} paired up un ul new room) d =

@@ -9,10 +9,11 @@ use lib.Seq.{drop-cons, length-take-le}
 use Rattle.format.specs.Octets.{Octets, Words}
 use Rattle.fields.specs.declared.Number.{Number}
 use Rattle.fields.specs.declared.Number.the-variants.{Got as Num, Refused as NoNum}
-use Rattle.format.specs.Numbers.{Form, form, spell, sizes}
-use Rattle.fields.specs.Fields.{valueFrom, behind, readIn, fieldAt}
-use Rattle.fields.proofs.Laws.{rooms, Roomy, accepted, first-ge}
-use Rattle.fields.proofs.RoundTrip.{first-lt, some-first, field-write}
+use Rattle.format.specs.Numbers.{Form, spell, sizes}
+use Rattle.fields.specs.Fields.{valueFrom, behind, Share, share, readIn, fieldAt}
+use Rattle.fields.proofs.Laws.{spellIn, accepted}
+use Rattle.fields.proofs.Forms.{shares, rooms, Ordered, sizes-are, spell-is}
+use Rattle.fields.proofs.RoundTrip.{some-first, first-within, field-write}
 use Rattle.theorems.proofs.Lists.{Fault, fault, test, test-lt, either, drop-add, drop-head}
 
 pub record NumRead (s : Octets) (fs : List Form) (top base k n next : ℕ) : Type 0 where
@@ -20,8 +21,8 @@ pub record NumRead (s : Octets) (fs : List Form) (top base k n next : ℕ) : Typ
   pub is : n ≡ suc v
   pub small : v < sizes fs
   pub under : n ≤ top
-  pub here : drop k s ≡ spell fs base v ++ drop next s
-  pub next-is : next ≡ k + length (spell fs base v)
+  pub here : drop k s ≡ spell fs base n ++ drop next s
+  pub next-is : next ≡ k + length (spell fs base n)
   pub inside : next ≤ length s
 
 abbrev pub NumOk : Octets → List Form → ℕ → ℕ → ℕ → Number → Type 0
@@ -40,29 +41,31 @@ behind-refusable s at x more low size top h =
     λ t1. test (Refusable s) (NoNum 6 at) (fault s 6 at refl h) (ltb (valueFrom s (at + 1) x more) size) _
     λ t2. test (Refusable s) (NoNum 7 at) (fault s 7 at refl h) (leb (low + valueFrom s (at + 1) x more) top) _ λ t3. tt
 
-read-refusable : (fs : List Form) (s : Octets) (top low at b : ℕ) → at ≤ length s → Refusable s (readIn fs top low s at b)
+read-refusable : (fs : List Share) (s : Octets) (top low at b : ℕ) → at ≤ length s → Refusable s (readIn fs top low s at b)
 unfolding readIn
 read-refusable [] s top low at b h = fault s 5 at refl h
-read-refusable (form room more size ∷ fs) s top low at b h =
+read-refusable (share room more size ∷ fs) s top low at b h =
     either (Refusable s) (ltb (b * 256 ^ more) size) _ _ (λ t. behind-refusable s at b more low size top h)
     (λ t. either (Refusable s) (ltb b room) _ _ (λ u. fault s 6 at refl h) (λ u. read-refusable fs s top (low + size) at (b - room) h))
 
 module _ (s : Octets) (bytes : (i : ℕ) → getD s i 0 < 256) where
   -- `base` is what stands before the field in its first octet
-  read-sound : (fs : List Form) (top base k b : ℕ) → k < length s → getD s k 0 ≡ base + b → (a : Number) → readIn fs top 1 s k b ≡ a → NumOk s fs top base k a
-  read-sound fs top base k b h z (NoNum c p) e = subst (Refusable s) e (read-refusable fs s top 1 k b (omega arith))
-  read-sound fs top base k b h z (Num n c) e =
-      let a = accepted fs top 1 base s k b n c bytes e in
+  read-sound : (fs : List Form) → Ordered fs → (top base k b : ℕ) → k < length s → getD s k 0 ≡ base + b → (a : Number) → readIn (shares fs) top 1 s k b ≡ a → NumOk s fs top base k a
+  read-sound fs ok top base k b h z (NoNum c p) e = subst (Refusable s) e (read-refusable (shares fs) s top 1 k b (omega arith))
+  read-sound fs ok top base k b h z (Num n c) e =
+      let a = accepted (shares fs) top 1 base s k b n c bytes e in
       let one : k + 1 ≡ suc k = omega arith in
       let m : ℕ = a .m in
-      let w : spell fs base (a .v) ≡ getD s k 0 ∷ take m (drop (suc k) s) = a .written ∙ ap₂ (λ (x y : ℕ). x ∷ take m (drop y s)) (sym z) one in
+      let i : n ≡ suc (a .v) = let q = a .is in omega arith in
+      let before : n - 1 ≡ a .v = omega arith in
+      let w : spell fs base n ≡ getD s k 0 ∷ take m (drop (suc k) s) = spell-is fs base n ok (omega arith) ∙ ap (λ (x : ℕ). spellIn (shares fs) base x) before ∙ a .written ∙ ap₂ (λ (x y : ℕ). x ∷ take m (drop y s)) (sym z) one in
       let nx : c .at ≡ suc k + m = let q = a .next in omega arith in
       let rm = a .room in
       let lt : length (take m (drop (suc k) s)) ≡ m = length-take-le m (drop (suc k) s) (let q = length-drop (suc k) s in omega arith) in
       record {
         v = a .v;
-        is = let q = a .is in omega arith;
-        small = a .small;
+        is = i;
+        small = let q = a .small in let z = sizes-are fs in omega arith;
         under = a .under;
         here =
             drop-cons s k 0 h
@@ -72,38 +75,35 @@ module _ (s : Octets) (bytes : (i : ℕ) → getD s i 0 < 256) where
         inside = omega arith;
       }
 
-  pub num-sound : (fs : List Form) (top bit base k : ℕ) → k ≤ length s → getD s k 0 ≡ base + getD s k 0 % 2 ^ (9 - bit) → NumOk s fs top base k (fieldAt fs top bit s k)
+  pub num-sound : (fs : List Form) → Ordered fs → (top bit base k : ℕ) → k ≤ length s → getD s k 0 ≡ base + getD s k 0 % 2 ^ (9 - bit) → NumOk s fs top base k (fieldAt fs top bit s k)
   unfolding fieldAt
-  num-sound fs top bit base k kl z =
+  num-sound fs ok top bit base k kl z =
       test-lt (NumOk s fs top base k) (NoNum 2 k) (fault s 2 k refl kl) k (length s) _
-      λ h. read-sound fs top base k (getD s k 0 % 2 ^ (9 - bit)) h z (readIn fs top 1 s k (getD s k 0 % 2 ^ (9 - bit))) refl
+      λ h. read-sound fs ok top base k (getD s k 0 % 2 ^ (9 - bit)) h z (readIn (shares fs) top 1 s k (getD s k 0 % 2 ^ (9 - bit))) refl
 
-pub num-complete : (s : Octets) (fs : List Form) (top bit lead base v k : ℕ) (t : Octets) → Roomy fs → rooms fs ≤ 2 ^ (9 - bit) → v < sizes fs → suc v ≤ top → base ≡ lead * 2 ^ (9 - bit)
-    → drop k s ≡ spell fs base v ++ t → fieldAt fs top bit s k ≡ Num (suc v) (record { at = k + length (spell fs base v) })
-num-complete s fs top bit lead base v k t ok r h u bl d =
-    let w : Words = spell fs base v in
-    let some = some-first fs base v h in
+pub num-complete : (s : Octets) (fs : List Form) (top bit lead base n k : ℕ) (t : Octets) → Ordered fs → rooms fs ≤ 2 ^ (9 - bit) → 1 ≤ n → n ≤ sizes fs → n ≤ top → base ≡ lead * 2 ^ (9 - bit)
+    → drop k s ≡ spell fs base n ++ t → fieldAt fs top bit s k ≡ Num n (record { at = k + length (spell fs base n) })
+num-complete s fs top bit lead base n k t ok r p h u bl d =
+    let w : Words = spell fs base n in
+    let some = some-first fs base n ok p h in
     let l1 = length-append w t in
     let l2 = length-drop k s in
     let l3 = ap length d in
     let lt : length (take k s) ≡ k = length-take-le k s (omega arith) in
     let e : s ≡ take k s ++ (w ++ t) = sym (take-append-drop k s) ∙ ap (λ (l : Octets). take k s ++ l) d in
-    let q : fieldAt fs top bit (take k s ++ (w ++ t)) (length (take k s)) ≡ Num (1 + v) (record { at = length (take k s) + length w }) =
-    rw bl (field-write fs top bit lead v (take k s) t ok r h (omega arith)) in
-    let one : 1 + v ≡ suc v = omega arith in
-    ap₂ (λ (l : Octets) (x : ℕ). fieldAt fs top bit l x) e (sym lt) ∙ q ∙ ap₂ (λ (x y : ℕ). Num x (record { at = y + length w })) one lt
+    let q : fieldAt fs top bit (take k s ++ (w ++ t)) (length (take k s)) ≡ Num n (record { at = length (take k s) + length w }) = rw bl (field-write fs top bit lead n (take k s) t ok r p h u) in
+    ap₂ (λ (l : Octets) (x : ℕ). fieldAt fs top bit l x) e (sym lt) ∙ q ∙ ap (λ (y : ℕ). Num n (record { at = y + length w })) lt
 
 -- the first octet
-pub num-first : (s : Octets) (fs : List Form) (base v k : ℕ) (t : Octets) → Roomy fs → v < sizes fs → drop k s ≡ spell fs base v ++ t
+pub num-first : (s : Octets) (fs : List Form) (base n k : ℕ) (t : Octets) → Ordered fs → 1 ≤ n → n ≤ sizes fs → drop k s ≡ spell fs base n ++ t
     → (base ≤ getD s k 0) × (getD s k 0 < base + rooms fs) × (k < length s)
-num-first s fs base v k t ok h d = go (spell fs base v) refl
+num-first s fs base n k t ok p h d = go (spell fs base n) refl
   where
-    go : (w : Words) → spell fs base v ≡ w → (base ≤ getD s k 0) × (getD s k 0 < base + rooms fs) × (k < length s)
-    go [] e = absurd (let q = some-first fs base v h in let z = ap length e in omega arith)
+    go : (w : Words) → spell fs base n ≡ w → (base ≤ getD s k 0) × (getD s k 0 < base + rooms fs) × (k < length s)
+    go [] e = absurd (let q = some-first fs base n ok p h in let z = ap length e in omega arith)
     go (o ∷ w) e =
         let a = drop-head s k o (w ++ t) (d ∙ ap (λ (l : Octets). l ++ t) e) in
-        let x = first-ge fs base v h in
-        let y = first-lt fs base v ok h in
-        let z : getD (spell fs base v) 0 0 ≡ o = ap (λ (l : Octets). getD l 0 0) e in
+        let x = first-within fs base n ok p h in
+        let z : getD (spell fs base n) 0 0 ≡ o = ap (λ (l : Octets). getD l 0 0) e in
         let b = a .1 in
         (omega arith, omega arith, a .0)

@@ -9,7 +9,7 @@ use borrow.Author.Tests.{ne-eqb}
 use lib.Dec.{eqb}
 use lib.ListN.{length}
 use Rattle.format.specs.Octets.{Octets}
-use Rattle.format.specs.Numbers.{coded, sizes, numbers, c25, top}
+use Rattle.format.specs.Numbers.{sizes, numbers, c25, top}
 use Rattle.format.specs.Events.{Name, Event, Namespace, Start, Attribute, Text, Comment, Instruction, End, How, NameHow, Item, _by_, Choice, forStart}
 use Rattle.format.specs.Tables.{StringTable, PREFIX, NAMESPACE-NAME, LOCAL-NAME, OTHER-NCNAME, ATTRIBUTE-VALUE, CONTENT-CHARACTER-CHUNK, OTHER-STRING, NameTable, ELEMENT-NAME, ATTRIBUTE-NAME, Vocabulary, strings, place, extended, adding, Limits, InLimits}
 use Rattle.format.specs.Strings.{Spelling, bit, c15, Literal}
@@ -217,15 +217,15 @@ octets-by C a v End r = refl
 -- A permitted choice is what the rules write.
 module _ (L : Limits) (small : L .entries ≤ top) where
   element-rule : (lead : ℕ) {v w : Vocabulary Octets} {x : Name Octets} {h : NameHow} → NameSaid x → InLimits L w → PermitsName ELEMENT-NAME v x h w → Named L ofElement lead v x h (nameOctets ofElement lead x h) w
-  unfolding ofElement sizes coded numbers
+  unfolding ofElement sizes numbers
   element-rule lead s f u = name-rule L small ofElement (omega arith) lead s f u
 
   attribute-rule : {v w : Vocabulary Octets} {x : Name Octets} {h : NameHow} → NameSaid x → InLimits L w → PermitsName ATTRIBUTE-NAME v x h w → Named L ofAttribute 0 v x h (nameOctets ofAttribute 0 x h) w
-  unfolding ofAttribute sizes coded c25
+  unfolding ofAttribute sizes c25
   attribute-rule s f u = name-rule L small ofAttribute (omega arith) 0 s f u
 
   chunk-rule : {v w : Vocabulary Octets} {y : Octets} {h : How} → Spelling y → InLimits L w → PermitsString CONTENT-CHARACTER-CHUNK v y h w → Literal L c15 CONTENT-CHARACTER-CHUNK v y h (literalOctets c15 y h) w
-  unfolding c15 sizes coded numbers
+  unfolding c15 sizes numbers
   chunk-rule s f u = literal-rule L small (omega arith) s f u
 
   -- the strings of a declaration

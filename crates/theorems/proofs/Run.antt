@@ -25,6 +25,8 @@ use Rattle.reader.specs.Reading.{Result, accepted, refusal, plus, turn, Mark, m
 use Rattle.tables.proofs.Found.{both-true}
 use Rattle.theorems.specs.Places.{itemSpelled, allSpelled, inItem, spelledIn}
 use Rattle.theorems.proofs.Lists.{Refusal, Fault, fault, test, either, either-lt, not-true, drop-head, drop-past, ends-sound, ends-complete, pads-sound, pads-complete, halves-drop, halves-length, halves-sound, halves-complete, align-is, aligned-ge, aligned-in, pad-length}
+use Rattle.theorems.proofs.Strings.{Shape, shape15}
+use Rattle.theorems.proofs.Names.{NameShape, element-shape, attribute-shape}
 use Rattle.theorems.proofs.Items.{Took, item-sound, item-complete}
 
 -- ---- an item has octets, and opens one element at most
@@ -34,25 +36,25 @@ NotShort (accepted is m) = Unit {0}
 NotShort (refusal c p) = c ≡ 14 → ⊥
 
 module _ {L : Limits} where
-  named-some : {q : NameLayout} {lead : ℕ} {v w : Vocabulary Octets} {x : Name Octets} {h : NameHow} {o : Octets} → Named L q lead v x h o w → 0 < length o
-  named-some (in-parts paired up un ul new room) = omega arith
-  named-some {q} {lead} (by-number {k = k} small fits en) = some-first (q .numberForms) lead k fits
+  named-some : {q : NameLayout} (g : NameShape q) {lead : ℕ} {v w : Vocabulary Octets} {x : Name Octets} {h : NameHow} {o : Octets} → Named L q lead v x h o w → 0 < length o
+  named-some g (in-parts paired up un ul new room) = omega arith
+  named-some {q} g {lead} (by-number {k = k} small fits en) = some-first (q .numberForms) lead (suc k) (g .numbers-ok) (omega arith) fits
 
   declared-some : {v w : Vocabulary Octets} {p n : Option Octets} {hp hn : Option How} {o : Octets} → Declared L v p n hp hn o w → 0 < length o
   declared-some (declared up un) = omega arith
 
-  literal-some : {q : Layout} {t : StringTable} {v w : Vocabulary Octets} {x : Octets} {h : How} {o : Octets} → Literal L q t v x h o w → 0 < length o
-  literal-some {q} (literal-spelled {x = x} {added = a} sp room) =
-      let p = sp .some in let l = length-append (spell (lengths (q .lengthBit)) (q .spelledBits + q .addBit * bit a) (length x - 1)) x in omega arith
-  literal-some {q} (literal-numbered {k = k} small fits en) = some-first (q .numberForms) (q .numberedBits) k fits
+  literal-some : {q : Layout} (g : Shape q) {t : StringTable} {v w : Vocabulary Octets} {x : Octets} {h : How} {o : Octets} → Literal L q t v x h o w → 0 < length o
+  literal-some {q} g (literal-spelled {x = x} {added = a} sp room) =
+      let p = sp .some in let l = length-append (spell (lengths (q .lengthBit)) (q .spelledBits + q .addBit * bit a) (length x)) x in omega arith
+  literal-some {q} g (literal-numbered {k = k} small fits en) = some-first (q .numberForms) (q .numberedBits) (suc k) (g .numbers-ok) (omega arith) fits
 
   octets-some : {v w : State Octets} {i : Item Octets} {o : Octets} → ItemWrittenAs L v i o w → (0 < length o) × (w .level ≤ suc (v .level))
-  octets-some (o-start a md may deep u) = (named-some u, omega arith)
+  octets-some (o-start a md may deep u) = (named-some element-shape u, omega arith)
   octets-some (o-first-namespace md may deep u) = (omega arith, omega arith)
   octets-some (o-namespace md u) = (declared-some u, omega arith)
   octets-some (o-named-start md u) = (omega arith, omega arith)
-  octets-some (o-attribute {o₁ = o1} {o₂ = o2} md u1 u2) = let p = named-some u1 in let l = length-append o1 o2 in (omega arith, omega arith)
-  octets-some (o-text md lev u) = (literal-some u, omega arith)
+  octets-some (o-attribute {o₁ = o1} {o₂ = o2} md u1 u2) = let p = named-some attribute-shape u1 in let l = length-append o1 o2 in (omega arith, omega arith)
+  octets-some (o-text md lev u) = (literal-some shape15 u, omega arith)
   octets-some (o-comment md u) = (omega arith, omega arith)
   octets-some (o-instruction md u1 u2) = (omega arith, omega arith)
 

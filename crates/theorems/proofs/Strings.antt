@@ -10,13 +10,16 @@ use lib.Dec.{ltb}
 use lib.ListN.{length, getD, drop, length-append, List·getD-eq-default}
 use lib.Seq.{drop-cons}
 use Rattle.format.specs.Octets.{Octets}
-use Rattle.format.specs.Numbers.{coded, spell, sizes, lengths, numbers, c25, top, longest}
+use Rattle.format.specs.Numbers.{behindFirst, spell, sizes, lengths, numbers, c25, top, longest}
 use Rattle.format.specs.Events.{How, spelled, numbered}
 use Rattle.format.specs.Tables.{StringTable, Vocabulary, strings, adding, holds, Entry, Limits}
 use Rattle.format.specs.Strings.{withLength, Spelling, bit, Layout, c14, c15, keeping, Identifying, id-spelled, id-numbered, Optional, absent, present, Literal, literal-spelled, literal-numbered, Value, value-empty, value}
 use Rattle.format.specs.Names.{has}
-use Rattle.fields.specs.Fields.{fieldAt, noTop}
-use Rattle.fields.proofs.Laws.{case, rooms, Roomy}
+use Rattle.fields.specs.Fields.{shareOf, fieldAt, noTop}
+use Rattle.fields.proofs.Laws.{case, roomsIn}
+use Rattle.fields.proofs.Forms.{rooms, Ordered}
+use Rattle.fields.proofs.Numbers.{c25-ordered, numbers-ordered}
+use Rattle.fields.proofs.Lengths.{lengths-ordered}
 use Rattle.fields.proofs.RoundTrip.{some-first}
 use Rattle.tables.specs.Located.{Located, empty, stretch, octetsOf, plainTables}
 use Rattle.read_names.specs.Strings.{Got, got, refused, IdRead, OptionalRead, StringRead, idAt, optionalAt, numberBit, spelledAt, literalAt, valueAt}
@@ -28,7 +31,7 @@ use Rattle.theorems.proofs.Fields.{Ok, on-number, on-field, spelling-so
 
 -- every length has its octets, wherever they start
 long-enough : (bit : ℕ) → longest ≤ sizes (lengths bit)
-unfolding sizes lengths coded
+unfolding sizes lengths
 long-enough bit = omega arith
 
 module _ (s : Octets) where
@@ -53,9 +56,9 @@ pub record Shape (q : Layout) : Type 0 where
   pub lead-is : (a : Bool) → q .spelledBits + q .addBit * bit a ≡ lead a * 2 ^ (9 - q .lengthBit)
   pub numbered-lead : ℕ
   pub numbered-is : q .numberedBits ≡ numbered-lead * 2 ^ (9 - numberBit q)
-  pub lengths-ok : Roomy (lengths (q .lengthBit))
+  pub lengths-ok : Ordered (lengths (q .lengthBit))
   pub lengths-fit : rooms (lengths (q .lengthBit)) ≤ 2 ^ (9 - q .lengthBit)
-  pub numbers-ok : Roomy (q .numberForms)
+  pub numbers-ok : Ordered (q .numberForms)
   pub numbers-fit : rooms (q .numberForms) ≤ 2 ^ (9 - numberBit q)
   pub apart : 2 ^ (9 - q .lengthBit) ≤ q .addBit
   pub above : q .spelledBits + q .addBit + 2 ^ (9 - q .lengthBit) ≤ q .numberedBits
@@ -74,16 +77,16 @@ lead14-is true = refl
 lead14-is false = refl
 
 pub shape14 : Shape c14
-unfolding c14 rooms coded lengths c25 lead14-is
+unfolding c14 roomsIn shareOf behindFirst lengths c25 lead14-is
 shape14 =
     record {
       lead = lead14;
       lead-is = lead14-is;
       numbered-lead = 1;
       numbered-is = refl;
-      lengths-ok = omega arith;
+      lengths-ok = lengths-ordered 5 (omega arith) (omega arith);
       lengths-fit = omega arith;
-      numbers-ok = omega arith;
+      numbers-ok = c25-ordered;
       numbers-fit = omega arith;
       apart = omega arith;
       above = omega arith;
@@ -103,16 +106,16 @@ lead15-is true = refl
 lead15-is false = refl
 
 pub shape15 : Shape c15
-unfolding c15 rooms coded lengths numbers lead15-is
+unfolding c15 roomsIn shareOf behindFirst lengths numbers lead15-is
 shape15 =
     record {
       lead = lead15;
       lead-is = lead15-is;
       numbered-lead = 5;
       numbered-is = refl;
-      lengths-ok = omega arith;
+      lengths-ok = lengths-ordered 7 (omega arith) (omega arith);
       lengths-fit = omega arith;
-      numbers-ok = omega arith;
+      numbers-ok = numbers-ordered 4 (omega arith) (omega arith);
       numbers-fit = omega arith;
       apart = omega arith;
       above = omega arith;
@@ -135,7 +138,7 @@ module _ (L : Limits) (s : Octets) (bytes : (i : ℕ) → getD s i 0 < 256) (sho
       let len = length-strings (octetsOf s) v t in
       either-lt P (getD s k 0) 0x80 _ _
       (λ h1. on-number s P (λ c p f. f) (lengths 2) noTop 0 k (fieldAt (lengths 2) noTop 2 s k)
-      (num-sound s bytes (lengths 2) noTop 2 0 k kl (omega arith)) _
+      (num-sound s bytes (lengths 2) (lengths-ordered 2 (omega arith) (omega arith)) noTop 2 0 k kl (omega arith)) _
       λ n next r. spelling-sound s short P (λ c p f. f) (lengths 2) 0 k n next kl r _
       λ sp d l ll. test-not P (refused 11 k) (fault s 11 k refl kl) (holds (map (octetsOf s) (strings v t)) (octetsOf s (stretch next n))) _
       λ t1. test-lt P (refused 12 k) (fault s 12 k refl kl) (length (strings v t)) (L .entries) _
@@ -147,14 +150,14 @@ module _ (L : Limits) (s : Octets) (bytes : (i : ℕ) → getD s i 0 < 256) (sho
         inside = ll;
       })
       (λ h1. on-number s P (λ c p f. f) c25 top 0x80 k (fieldAt c25 top 2 s k)
-      (num-sound s bytes c25 top 2 0x80 k kl (omega arith)) _
+      (num-sound s bytes c25 c25-ordered top 2 0x80 k kl (omega arith)) _
       λ n next r. test-le P (refused 10 k) (fault s 10 k refl kl) n (length (strings v t)) _
       λ t1.
       let i = r .is in
       let u = r .under in
       record {
-        octets = spell c25 0x80 (r .v);
-        rule = subst (λ (m : ℕ). Identifying L t (plainTables s v) (octetsOf s (getD (strings v t) (n - 1) empty)) (numbered m) m (spell c25 0x80 (r .v)) (plainTables s v)) (sym i)
+        octets = spell c25 0x80 n;
+        rule = subst (λ (m : ℕ). Identifying L t (plainTables s v) (octetsOf s (getD (strings v t) (n - 1) empty)) (numbered m) m (spell c25 0x80 m) (plainTables s v)) (sym i)
             (id-numbered (omega arith) (entry-sound s v t n (r .v) i t1));
         here = r .here;
         next-is = r .next-is;
@@ -179,15 +182,15 @@ module _ (L : Limits) (s : Octets) (bytes : (i : ℕ) → getD s i 0 < 256) (sho
   or-true true b e f = e
   or-true false b e f = let z : false ≡ true = f in cc
 
-  spelled-sound : (q : Layout) (t : StringTable) (k : ℕ) (added : Bool) (v : Vocabulary Located) → k ≤ length s
+  spelled-sound : (q : Layout) → Ordered (lengths (q .lengthBit)) → (t : StringTable) (k : ℕ) (added : Bool) (v : Vocabulary Located) → k ≤ length s
       → getD s k 0 ≡ q .spelledBits + q .addBit * bit added + getD s k 0 % 2 ^ (9 - q .lengthBit) → Ok s (LiteralR q t) k v (spelledAt L q s t k added v)
   unfolding spelledAt
-  spelled-sound q t k added v kl z =
+  spelled-sound q ok t k added v kl z =
       let P : Got StringRead → Type 0 = Ok s (LiteralR q t) k v in
       let base : ℕ = q .spelledBits + q .addBit * bit added in
       let len = length-strings (octetsOf s) v t in
       on-number s P (λ c p f. f) (lengths (q .lengthBit)) noTop base k (fieldAt (lengths (q .lengthBit)) noTop (q .lengthBit) s k)
-      (num-sound s bytes (lengths (q .lengthBit)) noTop (q .lengthBit) base k kl z) _
+      (num-sound s bytes (lengths (q .lengthBit)) ok noTop (q .lengthBit) base k kl z) _
       λ n next r. spelling-sound s short P (λ c p f. f) (lengths (q .lengthBit)) base k n next kl r _
       λ sp d l ll. test P (refused 12 k) (fault s 12 k refl kl) (not added || ltb (length (strings v t)) (L .entries)) _
       λ t1. record {
@@ -205,19 +208,19 @@ module _ (L : Limits) (s : Octets) (bytes : (i : ℕ) → getD s i 0 < 256) (sho
   literal-sound q g t k v kl lo hi =
       let P : Got StringRead → Type 0 = Ok s (LiteralR q t) k v in
       let o : ℕ = getD s k 0 in
-      either-lt P o (q .spelledBits + 2 ^ (9 - q .lengthBit)) _ _ (λ h. spelled-sound q t k false v kl (g .low o lo h))
+      either-lt P o (q .spelledBits + 2 ^ (9 - q .lengthBit)) _ _ (λ h. spelled-sound q (g .lengths-ok) t k false v kl (g .low o lo h))
       λ h1. test-ge P (refused 8 k) (fault s 8 k refl kl) o (q .spelledBits + q .addBit) _
-      λ h2. either-lt P o (q .spelledBits + q .addBit + 2 ^ (9 - q .lengthBit)) _ _ (λ h. spelled-sound q t k true v kl (g .high o h2 h))
+      λ h2. either-lt P o (q .spelledBits + q .addBit + 2 ^ (9 - q .lengthBit)) _ _ (λ h. spelled-sound q (g .lengths-ok) t k true v kl (g .high o h2 h))
       λ h3. test-ge P (refused 8 k) (fault s 8 k refl kl) o (q .numberedBits) _
       λ h4. on-number s P (λ c p f. f) (q .numberForms) top (q .numberedBits) k (fieldAt (q .numberForms) top (numberBit q) s k)
-      (num-sound s bytes (q .numberForms) top (numberBit q) (q .numberedBits) k kl (g .num o h4 hi)) _
+      (num-sound s bytes (q .numberForms) (g .numbers-ok) top (numberBit q) (q .numberedBits) k kl (g .num o h4 hi)) _
       λ n next r. test-le P (refused 10 k) (fault s 10 k refl kl) n (length (strings v t)) _
       λ t1.
       let i = r .is in
       let u = r .under in
       record {
-        octets = spell (q .numberForms) (q .numberedBits) (r .v);
-        rule = subst (λ (m : ℕ). Literal L q t (plainTables s v) (octetsOf s (getD (strings v t) (n - 1) empty)) (numbered m) (spell (q .numberForms) (q .numberedBits) (r .v)) (plainTables s v)) (sym i)
+        octets = spell (q .numberForms) (q .numberedBits) n;
+        rule = subst (λ (m : ℕ). Literal L q t (plainTables s v) (octetsOf s (getD (strings v t) (n - 1) empty)) (numbered m) (spell (q .numberForms) (q .numberedBits) m) (plainTables s v)) (sym i)
             (literal-numbered (omega arith) (r .small) (entry-sound s v t n (r .v) i t1));
         here = r .here;
         next-is = r .next-is;
@@ -255,9 +258,9 @@ module _ (L : Limits) (s : Octets) where
 
   pub id-complete : (t : StringTable) (k : ℕ) (v : Vocabulary Located) {x : Octets} {h : How} {n : ℕ} {o : Octets} {w : Vocabulary Octets} (rest : Octets)
       → Identifying L t (plainTables s v) x h n o w → drop k s ≡ o ++ rest → Hit s (IdQ x h n (inField k h x o)) (k + length o) w (idAt L s t k v)
-  unfolding idAt octetsOf rooms sizes coded lengths c25
+  unfolding idAt octetsOf roomsIn shareOf behindFirst sizes lengths c25
   id-complete t k v rest (id-spelled {x = x} sp new room) d =
-      let e = spelt s (lengths 2) 2 0 0 k x rest (omega arith) (omega arith) (long-enough 2) refl sp d in
+      let e = spelt s (lengths 2) 2 0 0 k x rest (lengths-ordered 2 (omega arith) (omega arith)) (omega arith) (long-enough 2) refl sp d in
       let hi = e .high in
       let len = length-strings (octetsOf s) v t in
       let fresh : holds (map (octetsOf s) (strings v t)) x ≡ false = rw (strings-map (octetsOf s) v t) at new in
@@ -272,9 +275,9 @@ module _ (L : Limits) (s : Octets) where
         what = (e .text-is, refl, ap suc (sym len), ap (λ (p : ℕ). stretch p (length x) ∷ []) (omega arith));
       }))
   id-complete t k v rest (id-numbered {x = x} {k = j} small en) d =
-      let o = num-first s c25 0x80 j k rest (omega arith) (omega arith) d in
+      let o = num-first s c25 0x80 (suc j) k rest c25-ordered (omega arith) (omega arith) d in
       let lo = o .0 in
-      let n = num-complete s c25 top 2 1 0x80 j k rest (omega arith) (omega arith) (omega arith) (omega arith) refl d in
+      let n = num-complete s c25 top 2 1 0x80 (suc j) k rest c25-ordered (omega arith) (omega arith) (omega arith) (omega arith) refl d in
       let y = entry-complete s v t j x en in
       rw (le-ltb (getD s k 0) 0x80 lo, n, le-leb (suc j) (length (strings v t)) (y .0))
       (record { b = record { string = getD (strings v t) (suc j - 1) empty; how = numbered (suc j); number = suc j }; v = v; goes = refl; state = refl; what = (y .1, refl, refl, refl) })
@@ -348,7 +351,7 @@ module _ (L : Limits) (s : Octets) where
       let ab = g .above in
       let un = g .under in
       let p = sp .some in
-      let la = length-append (spell (lengths (q .lengthBit)) (q .spelledBits + q .addBit * 0) (length x - 1)) x in
+      let la = length-append (spell (lengths (q .lengthBit)) (q .spelledBits + q .addBit * 0) (length x)) x in
       record { hit = rw (lt-ltb (getD s k 0) (q .spelledBits + 2 ^ (9 - q .lengthBit)) (omega arith)) (c .0); low = omega arith; high = omega arith; last = omega arith; some = omega arith; here = c .1 .here }
   literal-complete q g t k v rest (literal-spelled {x = x} {added = true} sp room) d =
       let c = spelled-complete q g t k v true x rest sp room d in
@@ -359,7 +362,7 @@ module _ (L : Limits) (s : Octets) where
       let ap2 = g .apart in
       let un = g .under in
       let p = sp .some in
-      let la = length-append (spell (lengths (q .lengthBit)) (q .spelledBits + q .addBit * 1) (length x - 1)) x in
+      let la = length-append (spell (lengths (q .lengthBit)) (q .spelledBits + q .addBit * 1) (length x)) x in
       record {
         hit = rw (le-ltb (getD s k 0) (q .spelledBits + 2 ^ (9 - q .lengthBit)) (omega arith), le-ltb (getD s k 0) (q .spelledBits + q .addBit) (omega arith), lt-ltb (getD s k 0) (q .spelledBits + q .addBit + 2 ^ (9 - q .lengthBit)) (omega arith)) (c .0);
         low = omega arith;
@@ -369,13 +372,13 @@ module _ (L : Limits) (s : Octets) where
         here = c .1 .here;
       }
   literal-complete q g t k v rest (literal-numbered {x = x} {k = j} small fits en) d =
-      let o = num-first s (q .numberForms) (q .numberedBits) j k rest (g .numbers-ok) fits d in
+      let o = num-first s (q .numberForms) (q .numberedBits) (suc j) k rest (g .numbers-ok) (omega arith) fits d in
       let lo = o .0 in
       let hi = o .1 in
       let ab = g .above in
       let ap2 = g .apart in
       let un = g .under in
-      let n = num-complete s (q .numberForms) top (numberBit q) (g .numbered-lead) (q .numberedBits) j k rest (g .numbers-ok) (g .numbers-fit) fits (omega arith) (g .numbered-is) d in
+      let n = num-complete s (q .numberForms) top (numberBit q) (g .numbered-lead) (q .numberedBits) (suc j) k rest (g .numbers-ok) (g .numbers-fit) (omega arith) fits (omega arith) (g .numbered-is) d in
       let y = entry-complete s v t j x en in
       record {
         hit = rw (le-ltb (getD s k 0) (q .spelledBits + 2 ^ (9 - q .lengthBit)) (omega arith), le-ltb (getD s k 0) (q .spelledBits + q .addBit) (omega arith), le-ltb (getD s k 0) (q .spelledBits + q .addBit + 2 ^ (9 - q .lengthBit)) (omega arith), le-ltb (getD s k 0) (q .numberedBits) lo, n, le-leb (suc j) (length (strings v t)) (y .0))
@@ -383,7 +386,7 @@ module _ (L : Limits) (s : Octets) where
         low = omega arith;
         high = omega arith;
         last = omega arith;
-        some = some-first (q .numberForms) (q .numberedBits) j fits;
+        some = some-first (q .numberForms) (q .numberedBits) (suc j) (g .numbers-ok) (omega arith) fits;
         here = o .2;
       }
 

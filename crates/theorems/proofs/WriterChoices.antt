@@ -65,7 +65,7 @@ module _ (text : Octets) where
           number = suc (length (names (l .tables) (q .table)));
           tables = addingName (l .tables) (q .table) y;
         })
-        (record { octets = spell (q .numberForms) lead (numberOfTriple (names (l .tables) (q .table)) y - 1); how = byNumber (numberOfTriple (names (l .tables) (q .table)) y); number = numberOfTriple (names (l .tables) (q .table)) y; tables = v }))
+        (record { octets = spell (q .numberForms) lead (numberOfTriple (names (l .tables) (q .table)) y); how = byNumber (numberOfTriple (names (l .tables) (q .table)) y); number = numberOfTriple (names (l .tables) (q .table)) y; tables = v }))
         (pick (eqb (numberOfTriple (names (l′ .tables) (q .table)) y′) 0)
         (record { how = inParts (p′ .how) (n′ .how) (l′ .how); number = suc (length (names (l′ .tables) (q .table))); tables = addingName (l′ .tables) (q .table) y′ })
         (record { how = byNumber (numberOfTriple (names (l′ .tables) (q .table)) y′); number = numberOfTriple (names (l′ .tables) (q .table)) y′; tables = plainTables text v }))

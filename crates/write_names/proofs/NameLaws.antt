@@ -175,7 +175,7 @@ module _ (q : NameLayout) (lead : ℕ) (text : List ℕ) (v : Vocabulary Located
   number-is = rw (names-kept text v (q .table) (x .prefix) (x .namespace) (x .local))
 
   module _ (k : ℕ) (is : k ≡ nameHeldAs q text v x) (n : k ≡ 0 → ⊥) where
-    numbered-octets : writeName q lead text v x .octets ≡ spell (q .numberForms) lead (k - 1)
+    numbered-octets : writeName q lead text v x .octets ≡ spell (q .numberForms) lead k
     unfolding writeName tripleFor
     numbered-octets = let z = number-is in rw (z, ← is, ne-eqb k 0 n)
 
@@ -195,7 +195,7 @@ module _ (q : NameLayout) (lead : ℕ) (text : List ℕ) (v : Vocabulary Located
     parts-words = let z = number-is in rw (z, ← new)
 
 pub name-numbered : (text w : List ℕ) (c : Counts) (t lead : ℕ) (order : InOrder text c w) (x : Parts) (n : ℕ) → n ≡ nameHeldAs (layoutOf t) text (vocabulary c w) (namedOf x) → (n ≡ 0 → ⊥)
-    → {out out′ : List ℕ} {at r : ℕ} → Puts out at r out′ (spell (layoutOf t .numberForms) lead (n - 1)) × (r ≤ at + 4)
+    → {out out′ : List ℕ} {at r : ℕ} → Puts out at r out′ (spell (layoutOf t .numberForms) lead n) × (r ≤ at + 4)
     → Stands text out at 49168 (record { at = r; counts = c }) out′ w (writeName (layoutOf t) lead text (vocabulary c w) (namedOf x) .octets)
     (writeName (layoutOf t) lead text (vocabulary c w) (namedOf x) .tables)
 name-numbered text w c t lead order x n is ne p =

@@ -148,7 +148,7 @@ held-is text t v XmlNamespace h = refl
 
 -- ---- a spelled string
 pub puts-spelled : (n lead : ℕ) (text : List ℕ) (place size : ℕ) {at r q : ℕ} {out out₁ out₂ : List ℕ} → place + size ≤ length text → length text ≤ 16384
-    → Puts out at r out₁ (spell (lengths n) lead (size - 1)) × (r ≤ at + 5) → Puts out₁ r q out₂ (take size (drop place text))
+    → Puts out at r out₁ (spell (lengths n) lead size) × (r ≤ at + 5) → Puts out₁ r q out₂ (take size (drop place text))
     → Puts out at q out₂ (withLength (lengths n) lead (octetsOf text (stretch place size))) × (q ≤ at + 16389)
 unfolding octetsOf
 puts-spelled n lead text place size h short a b =
@@ -176,7 +176,7 @@ module _ (text w : List ℕ) (c : Counts) (order : InOrder text c w) {out out′
 
 -- ---- an identifying string: k is its number
 module _ (text : List ℕ) (t : StringTable) (v : Vocabulary Located) (x : Located) (k : ℕ) (is : k ≡ numberIn (map (octetsOf text) (strings v t)) (octetsOf text x)) where
-  numbered-is : (k ≡ 0 → ⊥) → writeId text t v x ≡ record { octets = spell c25 0x80 (k - 1); how = numbered k; number = k; tables = v }
+  numbered-is : (k ≡ 0 → ⊥) → writeId text t v x ≡ record { octets = spell c25 0x80 k; how = numbered k; number = k; tables = v }
   unfolding writeId
   numbered-is n = rw (← is, ne-eqb k 0 n)
 
@@ -189,7 +189,7 @@ module _ (text w : List ℕ) (c : Counts) (t : ℕ) (order : InOrder text c w) (
   held-number : k ≡ numberIn (map (octetsOf text) (strings (vocabulary c w) (tableOf t))) (octetsOf text (locatedOf x))
   held-number = held ∙ held-is text (tableOf t) (vocabulary c w) x there
 
-  pub id-numbered : (k ≡ 0 → ⊥) → {out out′ : List ℕ} {at r : ℕ} → Puts out at r out′ (spell c25 0x80 (k - 1)) × (r ≤ at + 3)
+  pub id-numbered : (k ≡ 0 → ⊥) → {out out′ : List ℕ} {at r : ℕ} → Puts out at r out′ (spell c25 0x80 k) × (r ≤ at + 3)
       → Stands text out at 16389 (record { at = r; counts = c }) out′ w (writeId text (tableOf t) (vocabulary c w) (locatedOf x) .octets) (writeId text (tableOf t) (vocabulary c w) (locatedOf x) .tables)
   id-numbered n p = rw (numbered-is text (tableOf t) (vocabulary c w) (locatedOf x) k held-number n) (stands-put text w c order (p .0) (let l = p .1 in omega arith))
 
@@ -300,7 +300,7 @@ module _ (text w : List ℕ) (c : Counts) (t : ℕ) (order : InOrder text c w) (
     number-is : k ≡ numberIn (map (octetsOf text) (strings (vocabulary c w) (tableOf t))) (octetsOf text (locatedOf x))
     number-is = held ∙ held-is text (tableOf t) (vocabulary c w) x (spells-stretch text x spells .3)
 
-    literal-numbered : (k ≡ 0 → ⊥) → {out out′ : List ℕ} {at r : ℕ} → Puts out at r out′ (spell (q .numberForms) (q .numberedBits) (k - 1)) → r ≤ at + 16389
+    literal-numbered : (k ≡ 0 → ⊥) → {out out′ : List ℕ} {at r : ℕ} → Puts out at r out′ (spell (q .numberForms) (q .numberedBits) k) → r ≤ at + 16389
         → Stands text out at 16389 (record { at = r; counts = c }) out′ w (writeLiteral link q text (tableOf t) (vocabulary c w) (locatedOf x) .octets)
         (writeLiteral link q text (tableOf t) (vocabulary c w) (locatedOf x) .tables)
     unfolding writeLiteral
@@ -321,7 +321,7 @@ module _ (text w : List ℕ) (c : Counts) (t : ℕ) (order : InOrder text c w) (
         let l = f .1 in
         rw (f .0, part-length text (stringPlace x) (stringSize x) (f .2), ne-eqb (stringSize x) 0 n)
 
-    pub value-numbered : (stringSize x ≡ 0 → ⊥) → (k ≡ 0 → ⊥) → {out out′ : List ℕ} {at r : ℕ} → Puts out at r out′ (spell c25 0x80 (k - 1)) × (r ≤ at + 3)
+    pub value-numbered : (stringSize x ≡ 0 → ⊥) → (k ≡ 0 → ⊥) → {out out′ : List ℕ} {at r : ℕ} → Puts out at r out′ (spell c25 0x80 k) × (r ≤ at + 3)
         → Stands text out at 16389 (record { at = r; counts = c }) out′ w (writeValue link text (tableOf t) (vocabulary c w) (locatedOf x) .octets)
         (writeValue link text (tableOf t) (vocabulary c w) (locatedOf x) .tables)
     unfolding c14
@@ -340,7 +340,7 @@ unfolding writeValue octetsOf
 value-empty text w c t order x fills z e = rw (fills-empty text x fills z) (stands-put text w c order (puts-one e) (omega arith))
 
 module _ (text w : List ℕ) (c : Counts) (order : InOrder text c w) (x : EventString) (spells : Spells text x) (k : ℕ) (held : k ≡ heldAs text (tableOf 6) (vocabulary c w) x) where
-  pub chunk-numbered : (k ≡ 0 → ⊥) → {out out′ : List ℕ} {at r : ℕ} → Puts out at r out′ (spell (numbers 4) 0xA0 (k - 1)) × (r ≤ at + 4)
+  pub chunk-numbered : (k ≡ 0 → ⊥) → {out out′ : List ℕ} {at r : ℕ} → Puts out at r out′ (spell (numbers 4) 0xA0 k) × (r ≤ at + 4)
       → Stands text out at 16389 (record { at = r; counts = c }) out′ w (writeLiteral link c15 text CONTENT-CHARACTER-CHUNK (vocabulary c w) (locatedOf x) .octets)
       (writeLiteral link c15 text CONTENT-CHARACTER-CHUNK (vocabulary c w) (locatedOf x) .tables)
   unfolding c15 tableOf

@@ -27,7 +27,7 @@ writeId text t v x =
     let k : ℕ = numberIn (map (octetsOf text) (strings v t)) (octetsOf text x) in
     pick (eqb k 0)
     (record { octets = withLength (lengths 2) 0 (octetsOf text x); how = spelled true; number = suc (length (strings v t)); tables = adding v t x })
-    (record { octets = spell c25 0x80 (k - 1); how = numbered k; number = k; tables = v })
+    (record { octets = spell c25 0x80 k; how = numbered k; number = k; tables = v })
 
 unfoldable pub writeOptional : Octets → StringTable → Vocabulary Located → Option Located → Wrote (Option How)
 writeOptional text t v none = record { octets = []; how = none; number = 0; tables = v }
@@ -50,7 +50,7 @@ writeName q lead text v x =
       number = suc (length (names (l .tables) (q .table)));
       tables = addingName (l .tables) (q .table) triple;
     })
-    (record { octets = spell (q .numberForms) lead (k - 1); how = byNumber k; number = k; tables = v })
+    (record { octets = spell (q .numberForms) lead k; how = byNumber k; number = k; tables = v })
 
 module _ (L : Limits) where
   -- A string of 1 to 5 octets is added where its table has room.
@@ -65,7 +65,7 @@ module _ (L : Limits) where
       let added : Bool = worthAdding (strings v t) o in
       pick (eqb k 0)
       (record { octets = withLength (lengths (q .lengthBit)) (q .spelledBits + q .addBit * bit added) o; how = spelled added; number = 0; tables = keeping added v t x })
-      (record { octets = spell (q .numberForms) (q .numberedBits) (k - 1); how = numbered k; number = k; tables = v })
+      (record { octets = spell (q .numberForms) (q .numberedBits) k; how = numbered k; number = k; tables = v })
 
   -- A value, comment or content: FF for the empty string.
   unfoldable pub writeValue : Octets → StringTable → Vocabulary Located → Located → Wrote How

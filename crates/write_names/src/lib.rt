@@ -121,7 +121,7 @@ fn in_parts(table: usize) -> u8
 // The number of a name of table 8 or 9, C.27 or C.25.
 fn put_name_number(out: &mut [u8], at: usize, table: usize, lead: u8, n: u32) -> usize
     requires { ⌜ (at ≤ 1000000) × (lead ≤ 0x80) × (1 ≤ n) × (n ≤ 256) ⌝ }
-    ensures { λ r. ⌜ Puts (now (out .entry)) at r (now (out .exit)) (spell (layoutOf table .numberForms) lead (n - 1)) × (r ≤ at + 4) ⌝ }
+    ensures { λ r. ⌜ Puts (now (out .entry)) at r (now (out .exit)) (spell (layoutOf table .numberForms) lead n) × (r ≤ at + 4) ⌝ }
 {
     if table == ELEMENT_NAME {
         return put_number(out, at, 3, lead, n);

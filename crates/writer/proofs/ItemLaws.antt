@@ -2,15 +2,15 @@
 -- Assumes nothing.
 use mathlib.Core.Path.{_≡_, refl, subst, _∙_}
 use mathlib.Core.Bool.{Bool, true, false, not, _&&_}
-use mathlib.Core.List.{List, [], _∷_, _++_, map}
+use mathlib.Core.List.{List, _++_, map}
 use Prim.Native.Nat.{ℕ, _+_, _-_, _*_, _/_, _≤_, _<_, min}
 use native.Mathlib.Nat.{le-min}
 use native.Mathlib.Numerals.{add-one}
 use native.Mathlib.Omega.{arith}
-use borrow.Author.Tests.{lt-ltb, le-ltb, le-leb, lt-leb, leb-false}
+use borrow.Author.Tests.{le-leb, lt-leb, eqb-false, leb-false}
 use lib.Dec.{eqb, leb}
 use lib.ListN.{length, set, length-append, length-map}
-use Rattle.format.specs.Numbers.{Form, form, coded, numbers, c25, spell, sizes, pick}
+use Rattle.format.specs.Numbers.{numbers, c25, sizes, pick}
 use Rattle.format.specs.Events as E
 use Rattle.format.specs.Events.{Choice}
 use Rattle.format.specs.Tables.{StringTable, PREFIX, NAMESPACE-NAME, LOCAL-NAME, ATTRIBUTE-VALUE, CONTENT-CHARACTER-CHUNK, OTHER-STRING, Vocabulary, strings, names, adding, place, link}
@@ -19,8 +19,10 @@ use Rattle.format.specs.Names.{NameLayout, ofElement, ofAttribute}
 use Rattle.format.specs.Items as F
 use Rattle.format.specs.Document.{aligned}
 use Rattle.fields.specs.PutContracts.{Puts}
-use Rattle.fields.proofs.Laws.{case}
+use Rattle.fields.proofs.Forms.{Ordered}
+use Rattle.fields.proofs.Numbers.{numbers-ordered, c25-ordered}
 use Rattle.fields.proofs.Puts.{puts-one, puts-append, part-length}
+use Rattle.fields.proofs.RoundTrip.{some-first}
 use Rattle.tables.specs.Located.{Located, octetsOf}
 use Rattle.tables.specs.Search.{numberIn, numberOfTriple}
 use Rattle.tables.specs.Rows.{tableOf, vocabulary}
@@ -151,14 +153,8 @@ meets-near text out at most (Put h) out′ w′ d l s = let f = s .few in omega 
 meets-near text out at most Full out′ w′ d l s = tt
 
 -- ---- an item has an octet
-spell-some : (fs : List Form) (lead v : ℕ) → v < sizes fs → 1 ≤ length (spell fs lead v)
-unfolding spell sizes
-spell-some [] lead v h = absurd (omega arith)
-spell-some (form room more size ∷ fs) lead v h =
-    case v size (λ y. rw (lt-ltb v size y) (omega arith)) (λ n. rw (le-ltb v size n) (spell-some fs (lead + room) (v - size) (omega arith)))
-
 sizes-4 : 256 ≤ sizes (numbers 4)
-unfolding sizes numbers coded
+unfolding sizes numbers
 sizes-4 = omega arith
 
 spelled-some : (text : List ℕ) (x : EventString) → Spells text x → 1 ≤ length (octetsOf text (locatedOf x))
@@ -174,15 +170,21 @@ module _ (text : List ℕ) (v : Vocabulary Located) (x : Located) (some : 1 ≤ 
       let m = number-within (map (octetsOf text) (strings v CONTENT-CHARACTER-CHUNK)) (octetsOf text x) in
       let n = length-map (strings v CONTENT-CHARACTER-CHUNK) (octetsOf text) in
       let z = sizes-4 in
-      rw q (spell-some (numbers 4) 0xA0 (numberIn (map (octetsOf text) (strings v CONTENT-CHARACTER-CHUNK)) (octetsOf text x) - 1) (omega arith))
+      let k : ℕ = numberIn (map (octetsOf text) (strings v CONTENT-CHARACTER-CHUNK)) (octetsOf text x) in
+      let p : k ≡ 0 → ⊥ = eqb-false k 0 q in
+      rw q (some-first (numbers 4) 0xA0 k (numbers-ordered 4 (omega arith) (omega arith)) (omega arith) (omega arith))
 
-sizes-name : (t : ℕ) → 256 ≤ sizes (layoutOf t .numberForms)
-unfolding layoutOf sizes numbers c25 coded ofElement ofAttribute
-sizes-name t = by (eqb t 8)
+-- the numbers of names: their forms are in order, and enough
+abbrev Wide : NameLayout → Type 0
+Wide q = Ordered (q .numberForms) × (256 ≤ sizes (q .numberForms))
+
+wide-name : (t : ℕ) → Wide (layoutOf t)
+unfolding layoutOf sizes numbers c25 ofElement ofAttribute
+wide-name t = by (eqb t 8)
   where
-    by : (b : Bool) → 256 ≤ sizes (pick b ofElement ofAttribute .numberForms)
-    by true = omega arith
-    by false = omega arith
+    by : (b : Bool) → Wide (pick b ofElement ofAttribute)
+    by true = (numbers-ordered 3 (omega arith) (omega arith), omega arith)
+    by false = (c25-ordered, omega arith)
 
 -- the name's number once its strings are written
 abbrev numberThen : NameLayout → List ℕ → Vocabulary Located → E.Name Located → ℕ
@@ -191,14 +193,17 @@ numberThen q text v x =
     let n = writeOptional text NAMESPACE-NAME (p .tables) (x .namespace) in
     numberOfTriple (names (writeId text LOCAL-NAME (n .tables) (x .local) .tables) (q .table)) (tripleFor text v x)
 
-module _ (q : NameLayout) (lead : ℕ) (text : List ℕ) (v : Vocabulary Located) (x : E.Name Located) (wide : 256 ≤ sizes (q .numberForms)) (few : length (names v (q .table)) ≤ 256) where
+module _ (q : NameLayout) (lead : ℕ) (text : List ℕ) (v : Vocabulary Located) (x : E.Name Located) (wide : Wide q) (few : length (names v (q .table)) ≤ 256) where
   name-by : (b : Bool) → eqb (numberThen q text v x) 0 ≡ b → 1 ≤ length (writeName q lead text v x .octets)
   unfolding writeName tripleFor
   name-by true e = rw e (omega arith)
   name-by false e =
       let kept = names-kept text v (q .table) (x .prefix) (x .namespace) (x .local) in
       let m = name-number-within (names v (q .table)) (tripleFor text v x) in
-      rw (e, kept) (spell-some (q .numberForms) lead (numberOfTriple (names v (q .table)) (tripleFor text v x) - 1) (omega arith))
+      let z = wide .1 in
+      let k : ℕ = numberOfTriple (names v (q .table)) (tripleFor text v x) in
+      let p : k ≡ 0 → ⊥ = eqb-false k 0 (rw kept at e) in
+      rw (e, kept) (some-first (q .numberForms) lead k (wide .0) (omega arith) (omega arith))
 
 -- ---- a value as the item's last string: its table has room or is left alone
 module _ (text : List ℕ) (t : StringTable) (v : Vocabulary Located) (x : Located) (same : within link (adding v t x) ≡ within link v) where
@@ -299,7 +304,7 @@ module _ (text : List ℕ) (a : Bool) (st : State) (w : List ℕ) (e : Event) wh
     start-some =
         let n = length-names (st .counts) w 8 (omega arith) (omega arith) in
         let c = fit .order .counted 8 in
-        let o = name-by (layoutOf 8) (nameLead (modeOf (st .mode)) a) text (vocabulary (st .counts) w) (nameOf e) (sizes-name 8) (omega arith) _ refl in
+        let o = name-by (layoutOf 8) (nameLead (modeOf (st .mode)) a) text (vocabulary (st .counts) w) (nameOf e) (wide-name 8) (omega arith) _ refl in
         simp length-append (omega arith)
 
     pub start-lands : (name : Parts) → name ≡ record { prefix = e .prefix; namespace = e .namespace; local = e .name } → (r : W.Wrote) (out′ w′ : List ℕ)
@@ -321,7 +326,7 @@ module _ (text : List ℕ) (a : Bool) (st : State) (w : List ℕ) (e : Event) wh
     attribute-some =
         let n = length-names (st .counts) w 9 (omega arith) (omega arith) in
         let c = fit .order .counted 9 in
-        let o = name-by (layoutOf 9) 0 text (vocabulary (st .counts) w) (nameOf e) (sizes-name 9) (omega arith) _ refl in
+        let o = name-by (layoutOf 9) 0 text (vocabulary (st .counts) w) (nameOf e) (wide-name 9) (omega arith) _ refl in
         simp length-append (omega arith)
 
     pub attribute-full : within link (writeName (layoutOf 9) 0 text (vocabulary (st .counts) w) (namedOf name) .tables) ≡ false

@@ -36,7 +36,7 @@ behind-requires c κs = search needs
 
 returns-2 : tie.Need-returns-2
 unfolding lengths
-returns-2 c = c .behind .ensures ∙ at-least _ _ _ (omega arith) _ _ (omega arith) (omega arith) (omega arith) (omega arith) (omega arith)
+returns-2 c = c .behind .ensures ∙ at-least _ _ _ (omega arith) _ _ _ (omega arith) (omega arith) (omega arith) (omega arith) (omega arith)
 
 add-bits-2 : tie.Need-add-bits-2
 add-bits-2 c = search needs
@@ -45,7 +45,7 @@ bits-requires-3 : tie.Need-bits-requires-3
 bits-requires-3 c κs = search needs
 
 returns-3 : tie.Need-returns-3
-returns-3 c = length-padding _ _ _ (omega arith) _ (omega arith) (omega arith) (omega arith)
+returns-3 c = length-padding _ _ _ (omega arith) _ (omega arith) (omega arith) (omega arith) (omega arith)
 
 add-bits-3 : tie.Need-add-bits-3
 add-bits-3 c = search needs
@@ -60,7 +60,7 @@ behind-requires-2 : tie.Need-behind-requires-2
 behind-requires-2 c κs = search needs
 
 returns-4 : tie.Need-returns-4
-returns-4 c = c .behind2 .ensures ∙ length-middle _ _ _ (omega arith) _ (omega arith) (omega arith) (omega arith) (omega arith)
+returns-4 c = c .behind2 .ensures ∙ length-middle _ _ _ (omega arith) _ (omega arith) (omega arith) (omega arith) (omega arith) (omega arith)
 
 add-behind-2 : tie.Need-add-behind-2
 add-behind-2 c = search needs
@@ -69,7 +69,7 @@ behind-requires-3 : tie.Need-behind-requires-3
 behind-requires-3 c κs = search needs
 
 returns-5 : tie.Need-returns-5
-returns-5 c = c .behind3 .ensures ∙ length-long _ _ _ (omega arith) _ (omega arith) (omega arith) (omega arith) (omega arith) (omega arith)
+returns-5 c = c .behind3 .ensures ∙ length-long _ _ _ (omega arith) _ (omega arith) (omega arith) (omega arith) (omega arith) (omega arith) (omega arith)
 
 pub length-spec : {M : Type 1} → statement M
 length-spec =

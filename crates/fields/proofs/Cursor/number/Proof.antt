@@ -36,7 +36,7 @@ behind-requires c κs = search needs
 
 returns-2 : tie.Need-returns-2
 unfolding numbers
-returns-2 c = c .behind .ensures ∙ at-least _ _ _ (omega arith) _ _ (omega arith) (omega arith) (omega arith) (omega arith) (omega arith)
+returns-2 c = c .behind .ensures ∙ at-least _ _ _ (omega arith) _ _ _ (omega arith) (omega arith) (omega arith) (omega arith) (omega arith)
 
 add-bits-2 : tie.Need-add-bits-2
 add-bits-2 c = search needs
@@ -63,7 +63,7 @@ behind-requires-2 : tie.Need-behind-requires-2
 behind-requires-2 c κs = search needs
 
 returns-3 : tie.Need-returns-3
-returns-3 c = c .behind2 .ensures ∙ number-middle _ _ _ (omega arith) _ (omega arith) (omega arith) (omega arith) (omega arith) (omega arith)
+returns-3 c = c .behind2 .ensures ∙ number-middle _ _ _ (omega arith) _ (omega arith) (omega arith) (omega arith) (omega arith) (omega arith) (omega arith)
 
 sub-values-3 : tie.Need-sub-values-3
 sub-values-3 c = search needs
@@ -81,13 +81,13 @@ behind-requires-3 : tie.Need-behind-requires-3
 behind-requires-3 c κs = search needs
 
 returns-4 : tie.Need-returns-4
-returns-4 c = c .behind3 .ensures ∙ number-long _ _ _ (omega arith) _ (omega arith) (omega arith) (omega arith) (omega arith) (omega arith)
+returns-4 c = c .behind3 .ensures ∙ number-long _ _ _ (omega arith) _ (omega arith) (omega arith) (omega arith) (omega arith) (omega arith) (omega arith)
 
 returns-5 : tie.Need-returns-5
-returns-5 c = number-code _ _ _ (omega arith) _ (omega arith) (omega arith) (omega arith) (omega arith) (omega arith)
+returns-5 c = number-code _ _ _ (omega arith) _ (omega arith) (omega arith) (omega arith) (omega arith) (omega arith) (omega arith)
 
 returns-6 : tie.Need-returns-6
-returns-6 c = number-padding _ _ _ (omega arith) _ (omega arith) (omega arith) (omega arith)
+returns-6 c = number-padding _ _ _ (omega arith) _ (omega arith) (omega arith) (omega arith) (omega arith)
 
 add-behind-4 : tie.Need-add-behind-4
 add-behind-4 c = search needs
@@ -102,7 +102,7 @@ behind-requires-4 : tie.Need-behind-requires-4
 behind-requires-4 c κs = search needs
 
 returns-7 : tie.Need-returns-7
-returns-7 c = c .behind4 .ensures ∙ number-longest _ _ _ (omega arith) _ (omega arith) (omega arith) (omega arith) (omega arith)
+returns-7 c = c .behind4 .ensures ∙ number-longest _ _ _ (omega arith) _ (omega arith) (omega arith) (omega arith) (omega arith) (omega arith)
 
 pub number-spec : {M : Type 1} → statement M
 number-spec =

@@ -3,9 +3,9 @@
 use mathlib.Core.Path.{refl}
 use native.Mathlib.Omega.{arith}
 use borrow.Author.Needs.{needs}
-use Rattle.format.specs.Numbers.{sizes}
-use Rattle.fields.proofs.Laws.{rooms}
-use Rattle.fields.proofs.Lengths.{forms, forms-are}
+use Rattle.format.specs.Numbers.{lengths}
+use Rattle.fields.proofs.Laws.{sizesIn, roomsIn}
+use Rattle.fields.proofs.Lengths.{lengths-are, lengths-ordered}
 use Rattle.fields.proofs.Spelled.{puts-form, length-values}
 use Rattle.fields.proofs.put.put_length.Statement.{statement}
 use Rattle.fields.proofs.put.put_length.Tie as tie
@@ -29,11 +29,11 @@ same-length : tie.Need-same-length
 same-length c = search needs
 
 returns : tie.Need-returns
-unfolding sizes rooms
+unfolding sizesIn roomsIn
 returns c =
     let bit = c .before .before .before .before .before .before .before .before .args .bit in
     let q = length-values bit (omega arith) in
-    rw (forms-are bit (omega arith)) (puts-form 4 (forms bit) (omega arith) 0 refl _ _ _ _ (omega arith) (omega arith) (omega arith) (c .before .before .put-form .ensures))
+    puts-form 4 (lengths bit) _ (lengths-ordered bit (omega arith) (omega arith)) (lengths-are bit (omega arith) (omega arith)) (omega arith) 0 refl _ _ _ _ (omega arith) (omega arith) (omega arith) (c .before .before .put-form .ensures)
 
 add-put-form : tie.Need-add-put-form
 add-put-form c = search needs
@@ -45,11 +45,11 @@ same-length-2 : tie.Need-same-length-2
 same-length-2 c = search needs
 
 returns-2 : tie.Need-returns-2
-unfolding sizes rooms
+unfolding sizesIn roomsIn
 returns-2 c =
     let bit = c .before .before .before .before .before .before .before .before .before .args .bit in
     let q = length-values bit (omega arith) in
-    rw (forms-are bit (omega arith)) (puts-form 4 (forms bit) (omega arith) 1 refl _ _ _ _ (omega arith) (omega arith) (omega arith) (c .before .before .put-form2 .ensures))
+    puts-form 4 (lengths bit) _ (lengths-ordered bit (omega arith) (omega arith)) (lengths-are bit (omega arith) (omega arith)) (omega arith) 1 refl _ _ _ _ (omega arith) (omega arith) (omega arith) (c .before .before .put-form2 .ensures)
 
 add-put-form-2 : tie.Need-add-put-form-2
 add-put-form-2 c = search needs
@@ -64,11 +64,11 @@ same-length-3 : tie.Need-same-length-3
 same-length-3 c = search needs
 
 returns-3 : tie.Need-returns-3
-unfolding sizes rooms
+unfolding sizesIn roomsIn
 returns-3 c =
     let bit = c .before .before .before .before .before .before .before .before .before .args .bit in
     let q = length-values bit (omega arith) in
-    rw (forms-are bit (omega arith)) (puts-form 4 (forms bit) (omega arith) 2 refl _ _ _ _ (omega arith) (omega arith) (omega arith) (c .before .before .put-form3 .ensures))
+    puts-form 4 (lengths bit) _ (lengths-ordered bit (omega arith) (omega arith)) (lengths-are bit (omega arith) (omega arith)) (omega arith) 2 refl _ _ _ _ (omega arith) (omega arith) (omega arith) (c .before .before .put-form3 .ensures)
 
 pub put-length-spec : {M : Type 1} → statement M
 put-length-spec =

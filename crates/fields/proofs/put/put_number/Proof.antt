@@ -4,9 +4,9 @@ use mathlib.Core.Path.{refl}
 use Prim.Native.Nat.{ℕ, _+_, _/_, _<_}
 use native.Mathlib.Omega.{arith}
 use borrow.Author.Needs.{needs}
-use Rattle.format.specs.Numbers.{sizes}
-use Rattle.fields.proofs.Laws.{rooms}
-use Rattle.fields.proofs.Numbers.{forms, forms-are, number-values}
+use Rattle.format.specs.Numbers.{numbers}
+use Rattle.fields.proofs.Laws.{sizesIn, roomsIn}
+use Rattle.fields.proofs.Numbers.{numbers-are, numbers-ordered, number-values}
 use Rattle.fields.proofs.Spelled.{puts-form}
 use Rattle.fields.proofs.put.put_number.Statement.{statement}
 use Rattle.fields.proofs.put.put_number.Tie as tie
@@ -34,11 +34,11 @@ same-length : tie.Need-same-length
 same-length c = search needs
 
 returns : tie.Need-returns
-unfolding sizes rooms
+unfolding sizesIn roomsIn
 returns c =
     let bit = c .before .before .before .before .before .before .before .before .args .bit in
     let q = number-values bit (omega arith) in
-    rw (forms-are bit (omega arith)) (puts-form 3 (forms bit) (omega arith) 0 refl _ _ _ _ (omega arith) (omega arith) (omega arith) (c .before .before .put-form .ensures))
+    puts-form 3 (numbers bit) _ (numbers-ordered bit (omega arith) (omega arith)) (numbers-are bit (omega arith) (omega arith)) (omega arith) 0 refl _ _ _ _ (omega arith) (omega arith) (omega arith) (c .before .before .put-form .ensures)
 
 sub-values-2 : tie.Need-sub-values-2
 sub-values-2 c = search needs
@@ -56,11 +56,11 @@ same-length-2 : tie.Need-same-length-2
 same-length-2 c = search needs
 
 returns-2 : tie.Need-returns-2
-unfolding sizes rooms
+unfolding sizesIn roomsIn
 returns-2 c =
     let bit = c .before .before .before .before .before .before .before .before .before .before .args .bit in
     let q = number-values bit (omega arith) in
-    rw (forms-are bit (omega arith)) (puts-form 3 (forms bit) (omega arith) 1 refl _ _ _ _ (omega arith) (omega arith) (omega arith) (c .before .before .put-form2 .ensures))
+    puts-form 3 (numbers bit) _ (numbers-ordered bit (omega arith) (omega arith)) (numbers-are bit (omega arith) (omega arith)) (omega arith) 1 refl _ _ _ _ (omega arith) (omega arith) (omega arith) (c .before .before .put-form2 .ensures)
 
 sub-values-3 : tie.Need-sub-values-3
 sub-values-3 c = search needs
@@ -81,11 +81,11 @@ same-length-3 : tie.Need-same-length-3
 same-length-3 c = search needs
 
 returns-3 : tie.Need-returns-3
-unfolding sizes rooms
+unfolding sizesIn roomsIn
 returns-3 c =
     let bit = c .before .before .before .before .before .before .before .before .before .before .before .before .args .bit in
     let q = number-values bit (omega arith) in
-    rw (forms-are bit (omega arith)) (puts-form 3 (forms bit) (omega arith) 2 refl _ _ _ _ (omega arith) (omega arith) (omega arith) (c .before .before .put-form3 .ensures))
+    puts-form 3 (numbers bit) _ (numbers-ordered bit (omega arith) (omega arith)) (numbers-are bit (omega arith) (omega arith)) (omega arith) 2 refl _ _ _ _ (omega arith) (omega arith) (omega arith) (c .before .before .put-form3 .ensures)
 
 add-put-form-4 : tie.Need-add-put-form-4
 add-put-form-4 c = search needs
@@ -100,11 +100,11 @@ same-length-4 : tie.Need-same-length-4
 same-length-4 c = search needs
 
 returns-4 : tie.Need-returns-4
-unfolding sizes rooms
+unfolding sizesIn roomsIn
 returns-4 c =
     let bit = c .before .before .before .before .before .before .before .before .before .before .before .before .args .bit in
     let q = number-values bit (omega arith) in
-    rw (forms-are bit (omega arith)) (puts-form 3 (forms bit) (omega arith) 3 refl _ _ _ _ (omega arith) (omega arith) (omega arith) (c .before .before .put-form4 .ensures))
+    puts-form 3 (numbers bit) _ (numbers-ordered bit (omega arith) (omega arith)) (numbers-are bit (omega arith) (omega arith)) (omega arith) 3 refl _ _ _ _ (omega arith) (omega arith) (omega arith) (c .before .before .put-form4 .ensures)
 
 pub put-number-spec : {M : Type 1} → statement M
 put-number-spec =

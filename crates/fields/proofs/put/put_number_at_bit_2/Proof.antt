@@ -3,8 +3,9 @@
 use mathlib.Core.Path.{refl}
 use native.Mathlib.Omega.{arith}
 use borrow.Author.Needs.{needs}
-use Rattle.format.specs.Numbers.{coded, c25, sizes}
-use Rattle.fields.proofs.Laws.{rooms}
+use Rattle.format.specs.Numbers.{c25}
+use Rattle.fields.proofs.Laws.{sizesIn, roomsIn}
+use Rattle.fields.proofs.Numbers.{c25-are, c25-ordered}
 use Rattle.fields.proofs.Spelled.{puts-form}
 use Rattle.fields.proofs.put.put_number_at_bit_2.Statement.{statement}
 use Rattle.fields.proofs.put.put_number_at_bit_2.Tie as tie
@@ -22,8 +23,8 @@ same-length : tie.Need-same-length
 same-length c = search needs
 
 returns : tie.Need-returns
-unfolding c25 coded sizes rooms
-returns c = puts-form 2 c25 (omega arith) 0 refl _ _ _ _ (omega arith) (omega arith) (omega arith) (c .before .before .put-form .ensures)
+unfolding sizesIn roomsIn
+returns c = puts-form 2 c25 _ c25-ordered c25-are (omega arith) 0 refl _ _ _ _ (omega arith) (omega arith) (omega arith) (c .before .before .put-form .ensures)
 
 add-put-form : tie.Need-add-put-form
 add-put-form c = search needs
@@ -35,8 +36,8 @@ same-length-2 : tie.Need-same-length-2
 same-length-2 c = search needs
 
 returns-2 : tie.Need-returns-2
-unfolding c25 coded sizes rooms
-returns-2 c = puts-form 2 c25 (omega arith) 1 refl _ _ _ _ (omega arith) (omega arith) (omega arith) (c .before .before .put-form2 .ensures)
+unfolding sizesIn roomsIn
+returns-2 c = puts-form 2 c25 _ c25-ordered c25-are (omega arith) 1 refl _ _ _ _ (omega arith) (omega arith) (omega arith) (c .before .before .put-form2 .ensures)
 
 add-put-form-2 : tie.Need-add-put-form-2
 add-put-form-2 c = search needs
@@ -48,8 +49,8 @@ same-length-3 : tie.Need-same-length-3
 same-length-3 c = search needs
 
 returns-3 : tie.Need-returns-3
-unfolding c25 coded sizes rooms
-returns-3 c = puts-form 2 c25 (omega arith) 2 refl _ _ _ _ (omega arith) (omega arith) (omega arith) (c .before .before .put-form3 .ensures)
+unfolding sizesIn roomsIn
+returns-3 c = puts-form 2 c25 _ c25-ordered c25-are (omega arith) 2 refl _ _ _ _ (omega arith) (omega arith) (omega arith) (c .before .before .put-form3 .ensures)
 
 pub put-number-at-bit-2-spec : {M : Type 1} → statement M
 put-number-at-bit-2-spec =
