@@ -8,4 +8,5 @@ pub mod FirstOctet
 pub mod Numbers
 pub mod Lengths
 pub mod Spelled
-pub mod Text
+pub mod Utf8
+pub mod Characters

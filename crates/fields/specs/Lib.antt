@@ -1,3 +1,3 @@
 pub mod Fields
 pub mod PutContracts
-pub mod Text
+pub mod Utf8

@@ -8,9 +8,8 @@ ghost use Prim.Native.Nat.{_+_, _-_, _^_, _<_, _≤_};
 ghost use lib.Dec.{leb};
 ghost use lib.ListN.{length, take, drop};
 ghost use Rattle.format.specs.Numbers.{lengths, numbers, c25, top};
-ghost use Rattle.format.specs.Text.{isText};
 ghost use Rattle.fields.specs.Fields.{bitsOf, valueFrom, behind, fieldAt, noTop};
-ghost use Rattle.fields.specs.Text.{within, fromFirst, character, higher, highestOf};
+ghost use Rattle.fields.specs.Utf8.{isText, fromFirst, character, higher, highestOf};
 
 pub const TRUNCATED: u32 = 2;
 
@@ -186,7 +185,7 @@ struct Within {
 
 impl Within {
     fn coming(left: u8, low: u8, high: u8) -> Within
-        ensures { λ r. ⌜ within r ≡ record { left = left; low = low; high = high } ⌝ }
+        ensures { λ r. ⌜ r ≡ record { left = left; low = low; high = high } ⌝ }
     {
         Within { left, low, high }
     }
@@ -195,7 +194,7 @@ impl Within {
     // Without a loop: where `self` is known, as in `character`, only the comparisons that it needs are left.
     fn from_first(self, s: &[u8], i: usize, to: usize) -> usize
         requires { ⌜ (i < to) × (to ≤ length (now s)) × (1 ≤ self .left) × (self .left ≤ 3) ⌝ }
-        ensures { λ r. ⌜ r ≡ fromFirst (within self) (take (to - (i + 1)) (drop (i + 1) (now (s .entry)))) ⌝ }
+        ensures { λ r. ⌜ r ≡ fromFirst self (take (to - (i + 1)) (drop (i + 1) (now (s .entry)))) ⌝ }
     {
         let n = self.left as usize;
         if to - i <= n {

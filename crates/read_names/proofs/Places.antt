@@ -9,7 +9,7 @@ use borrow.Author.Tests.{ltb-true, leb-true, eqb-true}
 use lib.Dec.{eqb, ltb, leb}
 use lib.ListN.{length, getD, take, drop}
 use Rattle.format.specs.Numbers.{Form, lengths, c25, top}
-use Rattle.format.specs.Text.{isText}
+use Rattle.fields.specs.Utf8.{isText}
 use Rattle.format.specs.Tables.{StringTable, PREFIX, NAMESPACE-NAME, LOCAL-NAME, Vocabulary, strings, holds, names, holdsName, Limits}
 use Rattle.format.specs.Strings.{Layout, c14}
 use Rattle.format.specs.Names.{NameLayout}

@@ -12,7 +12,7 @@ use lib.Dec.{ltb, leb, eqb}
 use lib.ListN.{length, getD, set, take, drop, List·getD-eq-default}
 use lib.Seq.{length-sets}
 use Rattle.format.specs.Numbers.{pick, Form, lengths, numbers, c25, top}
-use Rattle.format.specs.Text.{isText}
+use Rattle.fields.specs.Utf8.{isText}
 use Rattle.format.specs.Events.{spelled, numbered}
 use Rattle.format.specs.Tables.{Triple, Vocabulary, strings, names, adding, holds, link}
 use Rattle.format.specs.Strings.{Layout, c14, c15, keeping}

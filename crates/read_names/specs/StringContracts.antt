@@ -5,7 +5,7 @@ use lib.ListN.{length, take, drop}
 use lib.Dec.{ltb, leb}
 use Rattle.format.specs.Octets.{Octets, Words}
 use Rattle.format.specs.Numbers.{pick}
-use Rattle.format.specs.Text.{isText}
+use Rattle.fields.specs.Utf8.{isText}
 use Rattle.format.specs.Strings.{Layout}
 use Rattle.format.specs.Refusals.{TRUNCATED, TEXT, INDEX, FULL}
 use Rattle.fields.specs.declared.Number.{Number}

@@ -7,7 +7,7 @@ use lib.ListN.{length, getD, take, drop}
 use lib.Dec.{eqb, ltb, leb}
 use Rattle.format.specs.Octets.{Octets}
 use Rattle.format.specs.Numbers.{pick, lengths, c25, top}
-use Rattle.format.specs.Text.{isText}
+use Rattle.fields.specs.Utf8.{isText}
 use Rattle.format.specs.Events.{How, spelled, numbered}
 use Rattle.format.specs.Tables.{StringTable, Vocabulary, strings, adding, holds, Limits}
 use Rattle.format.specs.Strings.{Layout, c14, keeping}

@@ -8,6 +8,7 @@ use native.Mathlib.Omega.{arith}
 use lib.ListN.{length, getD, length-map}
 use Rattle.format.specs.Octets.{Octets, Halves, AreOctets}
 use Rattle.format.specs.Numbers.{top, longest}
+use Rattle.format.specs.Characters.{IsText}
 use Rattle.format.specs.Events as E
 use Rattle.format.specs.Events.{Item, IsDocument, stringsOf}
 use Rattle.format.specs.Tables.{Vocabulary, strings, starting, xmlPrefix, xmlNamespace, Limits, link, standard}
@@ -15,6 +16,7 @@ use Rattle.format.specs.Items.{State}
 use Rattle.format.specs.Document.{beginning, knownAfter, Document, header, started, Writes}
 use Rattle.format.specs.Uses.{acts, Known, MadeBy}
 use Rattle.format.specs.Allowed.{All, Allowed}
+use Rattle.fields.proofs.Characters.{one-list}
 use Rattle.tables.specs.Located.{Located, empty, plain, plainState, start}
 use Rattle.read_items.specs.Items.{Stand}
 use Rattle.reader.specs.Reading.{accepted, refusal, Mark, run, onward, opening, origin, fuelOf, reading, marks, numberOf, checkOf, Accepts}
@@ -143,6 +145,10 @@ a-document items z s w = Tree.is-document w
 -- 9. Their strings are as 01 allows: text; empty only where 01 says so; a prefix only with a namespace.
 pub allowed : (items : List (Item Octets)) (z : State Octets) (s : Octets) → Writes items z s → All (λ (i : Item Octets). Allowed (i .event)) items
 allowed items z s w = Plain.plain-on-link w
+
+--    Text is the octets of one list of characters only.
+pub text-says-one : (x : Octets) (s t : IsText x) → s .says ≡ t .says
+text-says-one x s t = one-list (s .says) (t .says) (s .are) (t .are) (sym (s .octets) ∙ t .octets)
 
 --    RECORDS: so is every record that the reader hands out; its stretches lie in the document, and what is built in stands only where it can.
 pub records-well-made : (s : Octets) (room : ℕ) (events : List (Item Located)) (last : Stand) → reading s room ≡ accepted events last

@@ -1,6 +1,5 @@
 -- What a field's answer means: if it reads, its octets are those that its rule writes (sound); what its rule writes, it reads (complete).
 use mathlib.Core.Path.{_≡_, refl, sym, ap, ap₂, _∙_, subst}
-use mathlib.Core.Bool.{true}
 use mathlib.Core.List.{List, _++_, append-assoc}
 use Prim.Native.Nat.{ℕ, _+_, _-_, _*_, _^_, _≤_, _<_}
 use native.Mathlib.Omega.{arith}
@@ -8,12 +7,14 @@ use borrow.Author.Tests.{le-leb}
 use lib.ListN.{length, getD, take, drop, length-append}
 use Rattle.format.specs.Octets.{Octets, Words}
 use Rattle.format.specs.Numbers.{Form, spell, sizes, longest}
-use Rattle.format.specs.Text.{isText}
+use Rattle.format.specs.Characters.{IsText}
 use Rattle.format.specs.Tables.{Vocabulary}
 use Rattle.format.specs.Strings.{withLength, Spelling}
 use Rattle.fields.specs.declared.Number.{Number}
 use Rattle.fields.specs.declared.Number.the-variants.{Got as Num, Refused as NoNum}
 use Rattle.fields.specs.Fields.{fieldAt, noTop}
+use Rattle.fields.specs.Utf8.{isText}
+use Rattle.fields.proofs.Characters.{text-exact}
 use Rattle.fields.proofs.Forms.{rooms, Ordered}
 use Rattle.tables.specs.Located.{Located, stretch, octetsOf, plainTables}
 use Rattle.read_names.specs.Strings.{Got, got, refused, then, number, spelling}
@@ -73,7 +74,7 @@ module _ (s : Octets) where
       let q = r .next-is in
       let zw = ap (λ (u : ℕ). length (spell fs base u)) z in
       let la = length-append (spell fs base (length x)) x in
-      f (record { some = omega arith; fits = omega arith; formed = t2 }) h (omega arith) t1
+      f (record { some = omega arith; fits = omega arith; formed = text-exact x .0 t2 }) h (omega arith) t1
 
 -- ---- complete
 module _ (s : Octets) where
@@ -121,6 +122,6 @@ module _ (s : Octets) where
         here = o .2;
       }
 
-  pub spelling-is : {C : Type 0} (fs : List Form) (bit base k : ℕ) (x : Octets) (e : Spelt fs bit base k x) (a : Got C) → isText x ≡ true → spelling s k (e .next) (length x) a ≡ a
+  pub spelling-is : {C : Type 0} (fs : List Form) (bit base k : ℕ) (x : Octets) (e : Spelt fs bit base k x) (a : Got C) → IsText x → spelling s k (e .next) (length x) a ≡ a
   unfolding spelling
-  spelling-is fs bit base k x e a t = rw (le-leb (e .next + length x) (length s) (e .room), e .text-is, t)
+  spelling-is fs bit base k x e a t = rw (le-leb (e .next + length x) (length s) (e .room), e .text-is, text-exact x .1 t)

@@ -7,7 +7,7 @@ use mathlib.Core.List.{List, [], _∷_, _++_}
 use native.Mathlib.Omega.{arith}
 use lib.Dec.{eqb}
 use Rattle.format.specs.Octets.{Octets}
-use Rattle.format.specs.Text.{rows, between, first, next, after, isText}
+use Rattle.format.specs.Characters.{utf8s, IsText}
 use Rattle.format.specs.Events.{Name, Event, Namespace, Start, Attribute, Text, Comment, Instruction, End, How, NameHow, Item}
 use Rattle.format.specs.Tables.{StringTable, PREFIX, NAMESPACE-NAME, LOCAL-NAME, OTHER-NCNAME, OTHER-URI, ATTRIBUTE-VALUE, CONTENT-CHARACTER-CHUNK, OTHER-STRING}
 use Rattle.format.specs.Tables.{NameTable, ELEMENT-NAME, ATTRIBUTE-NAME, Triple, noTriple, Vocabulary, strings, names, place, extended, adding, addingName, starting}
@@ -17,6 +17,8 @@ use Rattle.format.specs.Items.{State}
 use Rattle.format.specs.Uses.{sameNames}
 use Rattle.format.specs.Allowed.{Said, SaidIfAny, AllowedName, Allowed, All}
 use Rattle.format.specs.Document.{Writes}
+use Rattle.fields.specs.Utf8.{rows, between, first, next, after, isText}
+use Rattle.fields.proofs.Characters.{text-exact}
 use Rattle.tables.proofs.Laws.{strings-adding, names-adding}
 use Rattle.theorems.proofs.Effects.{IdDone, id-made, id-used, PartDone, no-part, a-part, StringDone, string-made, string-used, ValueDone, empty-value, a-value, NameDone, name-made, name-used}
 use Rattle.theorems.proofs.Effects.{ItemDone, done-namespace, done-start, done-attribute, done-text, done-comment, done-instruction, done-end, Done, no-item, an-item, document-done}
@@ -167,9 +169,9 @@ if-any t (some x) a = a
 as-name : (x : Name Octets) → Parts OfTable [] x → AllowedName x
 as-name x a = record { prefix = if-any PREFIX (x .prefix) (a .prefix); namespace = if-any NAMESPACE-NAME (x .namespace) (a .namespace); local = a .local; not-alone = a .not-alone }
 
-as-text : {t : StringTable} {x : Octets} → OrEmpty OfTable [] t x → isText x ≡ true
-unfolding isText after between
-as-text is-empty = refl
+as-text : {t : StringTable} {x : Octets} → OrEmpty OfTable [] t x → IsText x
+unfolding utf8s
+as-text is-empty = record { says = []; are = tt; octets = refl }
 as-text (not-empty a) = a .1
 
 as-allowed : (e : Event Octets) → Holds OfTable [] e → Allowed e
@@ -183,7 +185,7 @@ as-allowed End a = tt
 
 two-said : Said xmlPrefix × Said xmlNamespace
 unfolding xmlPrefix xmlNamespace rows between first next after isText
-two-said = ((omega arith, refl), (omega arith, refl))
+two-said = ((omega arith, text-exact xmlPrefix .0 refl), (omega arith, text-exact xmlNamespace .0 refl))
 
 pub plain-on-link : {items : List (Item Octets)} {z : State Octets} {s : Octets} → Writes items z s → All (λ i. Allowed (i .event)) items
 plain-on-link {items} w =

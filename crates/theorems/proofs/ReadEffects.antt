@@ -10,7 +10,7 @@ use lib.Dec.{eqb, ltb, leb}
 use lib.ListN.{length, getD, take, drop}
 use Rattle.format.specs.Octets.{Octets}
 use Rattle.format.specs.Numbers.{pick, Form, lengths, c25, top}
-use Rattle.format.specs.Text.{isText}
+use Rattle.fields.specs.Utf8.{isText}
 use Rattle.format.specs.Events.{Namespace, forNamespace, Item, _by_}
 use Rattle.format.specs.Tables.{StringTable, PREFIX, NAMESPACE-NAME, LOCAL-NAME, OTHER-NCNAME, ATTRIBUTE-VALUE, CONTENT-CHARACTER-CHUNK, OTHER-STRING}
 use Rattle.format.specs.Tables.{NameTable, noTriple, Vocabulary, strings, names, holds, holdsName, Entry, Limits, link}

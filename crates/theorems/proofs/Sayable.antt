@@ -1,5 +1,6 @@
 -- The records that the writer takes are those that are well made; their strings, if they are text, can be spelled; and its test of an event is 01's five tests.
 use mathlib.Core.Path.{_≡_, refl, sym, ap₂, subst}
+use mathlib.Core.Logic.{_↔_}
 use mathlib.Core.Bool.{Bool, true, not, _&&_, _||_, or-true}
 use mathlib.Core.Option.{Option, none, some, Option·map}
 use mathlib.Core.List.{List, [], _∷_, _++_, append-assoc}
@@ -11,7 +12,7 @@ use lib.ListN.{length, drop, length-take, length-drop}
 use lib.Seq.{length-take-le}
 use Rattle.format.specs.Octets.{Octets}
 use Rattle.format.specs.Numbers.{longest}
-use Rattle.format.specs.Text.{isText}
+use Rattle.format.specs.Characters.{IsText}
 use Rattle.format.specs.Events as E
 use Rattle.format.specs.Events.{Name, nameMap, eventMap, ifAny, stringsOf}
 use Rattle.format.specs.Tables.{xmlPrefix, xmlNamespace}
@@ -19,6 +20,8 @@ use Rattle.format.specs.Strings.{Spelling}
 use Rattle.format.specs.Names.{has}
 use Rattle.format.specs.Allowed as A
 use Rattle.format.specs.Allowed.{All, SaidIfAny, AllowedName, Allowed}
+use Rattle.fields.specs.Utf8.{isText}
+use Rattle.fields.proofs.Characters.{text-exact}
 use Rattle.events.specs.declared.EventString.{EventString}
 use Rattle.events.specs.declared.EventString.the-variants.{Absent, Empty, Stretch, XmlPrefix, XmlNamespace}
 use Rattle.events.specs.declared.Kind.{Kind}
@@ -262,7 +265,7 @@ Short x = length x ≤ longest
 said-one : (x : Octets) → A.Said x → Short x → Spelling x
 said-one x a b = record { some = a .0; fits = b; formed = a .1 }
 
-said-some : (x : Octets) → isText x ≡ true → Short x → SpellingIfSome x
+said-some : (x : Octets) → IsText x → Short x → SpellingIfSome x
 said-some x a b h = record { some = h; fits = b; formed = a }
 
 said-any : (x : Option Octets) → SaidIfAny x → IfAny Short x → SpellingIfAny x
@@ -281,9 +284,6 @@ said (E.Text y) a b = said-one y a b
 said (E.Comment y) a b = said-some y a b
 said (E.Instruction x y) a b = (said-one x (a .0) (b .0), said-some y (a .1) (b .1))
 said E.End a b = tt
-
-abbrev pub IsText : Octets → Type 0
-IsText x = isText x ≡ true
 
 -- and they are text
 any-is-text : (x : Option Octets) → SaidIfAny x → IfAny IsText x
@@ -307,44 +307,47 @@ module _ (text : Octets) where
   abbrev f : Located → Octets
   f = octetsOf text
 
+  exact : (x : Located) → (isText (f x) ≡ true) ↔ IsText (f x)
+  exact x = text-exact (f x)
+
   -- the writer's test of them
   optional-text : (x : Option Located) → optionalText text x ≡ true → IfAny IsText (Option·map f x)
   optional-text none e = tt
-  optional-text (some x) e = e
+  optional-text (some x) e = exact x .0 e
 
   text-optional : (x : Option Located) → IfAny IsText (Option·map f x) → optionalText text x ≡ true
   text-optional none e = refl
-  text-optional (some x) e = e
+  text-optional (some x) e = exact x .1 e
 
   name-text : (x : Name Located) → nameText text x ≡ true → EachOfName IsText (nameMap f x)
   unfolding nameText
   name-text x e =
       let a = both-true (optionalText text (x .prefix)) _ e in
       let b = both-true (optionalText text (x .namespace)) _ (a .1) in
-      (optional-text (x .prefix) (a .0), optional-text (x .namespace) (b .0), b .1)
+      (optional-text (x .prefix) (a .0), optional-text (x .namespace) (b .0), exact (x .local) .0 (b .1))
 
   text-name : (x : Name Located) → EachOfName IsText (nameMap f x) → nameText text x ≡ true
   unfolding nameText
-  text-name x a = both (text-optional (x .prefix) (a .0)) (both (text-optional (x .namespace) (a .1)) (a .2))
+  text-name x a = both (text-optional (x .prefix) (a .0)) (both (text-optional (x .namespace) (a .1)) (exact (x .local) .1 (a .2)))
 
   pub all-text : (e : E.Event Located) → allText text e ≡ true → Each IsText (eventMap f e)
   unfolding allText eventMap
   all-text (E.Namespace p n) t = let a = both-true (optionalText text p) _ t in (optional-text p (a .0), optional-text n (a .1))
   all-text (E.Start x) t = name-text x t
-  all-text (E.Attribute x y) t = let a = both-true (nameText text x) _ t in (name-text x (a .0), a .1)
-  all-text (E.Text y) t = t
-  all-text (E.Comment y) t = t
-  all-text (E.Instruction x y) t = both-true (isText (f x)) _ t
+  all-text (E.Attribute x y) t = let a = both-true (nameText text x) _ t in (name-text x (a .0), exact y .0 (a .1))
+  all-text (E.Text y) t = exact y .0 t
+  all-text (E.Comment y) t = exact y .0 t
+  all-text (E.Instruction x y) t = let a = both-true (isText (f x)) _ t in (exact x .0 (a .0), exact y .0 (a .1))
   all-text E.End t = tt
 
   pub text-all : (e : E.Event Located) → Each IsText (eventMap f e) → allText text e ≡ true
   unfolding allText eventMap
   text-all (E.Namespace p n) t = both (text-optional p (t .0)) (text-optional n (t .1))
   text-all (E.Start x) t = text-name x t
-  text-all (E.Attribute x y) t = both (text-name x (t .0)) (t .1)
-  text-all (E.Text y) t = t
-  text-all (E.Comment y) t = t
-  text-all (E.Instruction x y) t = both (t .0) (t .1)
+  text-all (E.Attribute x y) t = both (text-name x (t .0)) (exact y .1 (t .1))
+  text-all (E.Text y) t = exact y .1 t
+  text-all (E.Comment y) t = exact y .1 t
+  text-all (E.Instruction x y) t = both (exact x .1 (t .0)) (exact y .1 (t .1))
   text-all E.End t = refl
 
   -- none is longer than the text area, or than the built-in ones

@@ -6,6 +6,7 @@ use Prim.Native.Nat.{ℕ, _+_, _*_, _/_, _≤_, _<_, min}
 use native.Mathlib.Omega.{arith}
 use lib.ListN.{length, length-append}
 use Rattle.format.specs.Octets.{Octets}
+use Rattle.format.specs.Characters.{IsText}
 use Rattle.format.specs.Events as E
 use Rattle.format.specs.Events.{Item, _by_, IsDocument, openAfter, declaresLast, isDeclaration, isStart, opensElement}
 use Rattle.format.specs.Tables.{link, InLimits}
@@ -24,7 +25,7 @@ use Rattle.theorems.proofs.Words.{map-append}
 use Rattle.theorems.proofs.Documents.{is-document}
 use Rattle.theorems.proofs.Plain.{plain-on-link}
 use Rattle.theorems.proofs.Begun as Begun
-use Rattle.theorems.proofs.Sayable.{IsText, in-order, allowed-text}
+use Rattle.theorems.proofs.Sayable.{in-order, allowed-text}
 use Rattle.theorems.proofs.Append.{chosen-append}
 use Rattle.theorems.proofs.Entries.{ranged-started}
 use Rattle.theorems.proofs.RuleTables.{begun-words}

@@ -11,6 +11,7 @@ use lib.Dec.{eqb, leb}
 use lib.ListN.{length, length-append}
 use Rattle.format.specs.Octets.{Octets, Halves}
 use Rattle.format.specs.Numbers.{pick, top}
+use Rattle.format.specs.Characters.{IsText}
 use Rattle.format.specs.Events as E
 use Rattle.format.specs.Events.{Item, _by_, IsDocument, BeginsDocument, openAfter, declaresLast, isDeclaration, isStart, opensElement}
 use Rattle.format.specs.Tables.{Vocabulary, link, InLimits}
@@ -34,7 +35,7 @@ use Rattle.theorems.proofs.Structure as Tree
 use Rattle.theorems.proofs.Structure.{Sane, attributeFirst, stepped}
 use Rattle.theorems.proofs.Begun as Begun
 use Rattle.theorems.proofs.Produced.{Order, Said, rest-for, ranged-for}
-use Rattle.theorems.proofs.Sayable.{made-is, is-made, by-kind, in-order, Each, IsText, all-text, text-all, said, all-short, made-allowed}
+use Rattle.theorems.proofs.Sayable.{made-is, is-made, by-kind, in-order, Each, all-text, text-all, said, all-short, made-allowed}
 use Rattle.theorems.proofs.Step.{Ahead, front-by, next-by, ahead-next}
 use Rattle.theorems.proofs.PlainStep.{opens-map, opens-is, next-is, announced-start, announced-on, next-plain, choice-plain, halves-plain, next-words, within-plain, fits-of, of-fits}
 use Rattle.theorems.proofs.Append.{chosen-append, tables-append}

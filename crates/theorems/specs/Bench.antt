@@ -10,7 +10,6 @@ use Rattle.format.specs.Document.{header}
 use Rattle.tables.specs.Located.{Located, octetsOf, plainTables}
 use Rattle.events.specs.Records.{recordOf}
 use Rattle.format.specs.Numbers as FNumbers
-use Rattle.format.specs.Text as FText
 use Rattle.format.specs.Events as FEvents
 use Rattle.format.specs.Tables as FTables
 use Rattle.format.specs.Strings as FStrings
@@ -18,6 +17,7 @@ use Rattle.format.specs.Names as FNames
 use Rattle.format.specs.Items as FItems
 use Rattle.format.specs.Document as FDocument
 use Rattle.fields.specs.Fields as DFields
+use Rattle.fields.specs.Utf8 as DUtf8
 use Rattle.tables.specs.Counts as TCounts
 use Rattle.tables.specs.Located as TLocated
 use Rattle.tables.specs.Search as TSearch
@@ -117,5 +117,5 @@ cases =
 
 -- Every case is found as it is wanted.
 pub proved : map finds cases ≡ map wants cases
-unfolding FNumbers.lengths FNumbers.numbers FNumbers.c25 FNumbers.octets FNumbers.fromBits FNumbers.behindFirst FNumbers.spell FText.rows FText.astray FText.between FText.first FText.next FText.after FText.isText FEvents.eventMap FTables.strings FTables.names FTables.place FTables.adding FTables.addingName FTables.vocabularyMap FTables.starting FTables.xmlPrefix FTables.xmlNamespace FTables.same FTables.holds FTables.sameTriple FTables.holdsName FTables.nameOf FTables.link FStrings.c14 FStrings.c15 FNames.ofElement FNames.ofAttribute FItems.mayStart FDocument.halves FDocument.pad FDocument.aligned FDocument.beginning FDocument.header DFields.valueFrom DFields.behind DFields.shareOf DFields.readIn DFields.fieldAt TCounts.countsOf TSearch.lowest TSearch.numberIn TSearch.numberOfTriple TLocated.octetsOf TLocated.start ERecords.recordOf RStrings.spelling RStrings.idAt RStrings.optionalAt RStrings.spelledAt RStrings.literalAt RStrings.valueAt RNames.partsAt RNames.numberedAt RNames.nameAt RNames.declaredAt RItems.namePadding RItems.namespaceAt RItems.elementAt RItems.namedAt RItems.attributeAt RItems.chunkAt RItems.commentAt RItems.instructionAt RItems.otherAt RItems.childAt RItems.declaringAt RItems.itemAt RSteps.halfAt RSteps.endsAt RSteps.padsAt RSteps.documentEnd RSteps.endAt RSteps.step RReading.run RReading.sized RReading.opening RReading.reading WEvents.isName WEvents.noName WEvents.wellMade WEvents.eventOf WEvents.goesOn WEvents.nameText WEvents.allText WChoices.writeId WChoices.writeOptional WChoices.writeName WChoices.worthAdding WChoices.writeLiteral WChoices.writeValue WItems.writeItem WChoices.within WWriting.announced WWriting.owed WWriting.settled WWriting.fits WWriting.halvesOf WWriting.judge WWriting.finish WWriting.run WWriting.joined WWriting.writing
+unfolding FNumbers.lengths FNumbers.numbers FNumbers.c25 FNumbers.octets FNumbers.fromBits FNumbers.behindFirst FNumbers.spell FEvents.eventMap FTables.strings FTables.names FTables.place FTables.adding FTables.addingName FTables.vocabularyMap FTables.starting FTables.xmlPrefix FTables.xmlNamespace FTables.same FTables.holds FTables.sameTriple FTables.holdsName FTables.nameOf FTables.link FStrings.c14 FStrings.c15 FNames.ofElement FNames.ofAttribute FItems.mayStart FDocument.halves FDocument.pad FDocument.aligned FDocument.beginning FDocument.header DFields.valueFrom DFields.behind DFields.shareOf DFields.readIn DFields.fieldAt DUtf8.rows DUtf8.astray DUtf8.between DUtf8.first DUtf8.next DUtf8.after DUtf8.isText TCounts.countsOf TSearch.lowest TSearch.numberIn TSearch.numberOfTriple TLocated.octetsOf TLocated.start ERecords.recordOf RStrings.spelling RStrings.idAt RStrings.optionalAt RStrings.spelledAt RStrings.literalAt RStrings.valueAt RNames.partsAt RNames.numberedAt RNames.nameAt RNames.declaredAt RItems.namePadding RItems.namespaceAt RItems.elementAt RItems.namedAt RItems.attributeAt RItems.chunkAt RItems.commentAt RItems.instructionAt RItems.otherAt RItems.childAt RItems.declaringAt RItems.itemAt RSteps.halfAt RSteps.endsAt RSteps.padsAt RSteps.documentEnd RSteps.endAt RSteps.step RReading.run RReading.sized RReading.opening RReading.reading WEvents.isName WEvents.noName WEvents.wellMade WEvents.eventOf WEvents.goesOn WEvents.nameText WEvents.allText WChoices.writeId WChoices.writeOptional WChoices.writeName WChoices.worthAdding WChoices.writeLiteral WChoices.writeValue WItems.writeItem WChoices.within WWriting.announced WWriting.owed WWriting.settled WWriting.fits WWriting.halvesOf WWriting.judge WWriting.finish WWriting.run WWriting.joined WWriting.writing
 proved = refl

@@ -6,7 +6,7 @@ use mathlib.Core.List.{List, [], _∷_, _++_, map}
 use lib.ListN.{length}
 use Rattle.format.specs.Octets.{Octets, Halves}
 use Rattle.format.specs.Refusals.{TEXT, FULL, DEPTH, ROOM, EVENT}
-use Rattle.format.specs.Text.{isText}
+use Rattle.format.specs.Characters.{IsText}
 use Rattle.format.specs.Events as E
 use Rattle.format.specs.Events.{Item, eventMap, IsDocument, BeginsDocument, openAfter, deepest, opensElement, stringsOf}
 use Rattle.format.specs.Tables.{Vocabulary, link, standard, InLimits}
@@ -84,8 +84,8 @@ module _ (text : Octets) (room : ℕ) where
     IsEvent = WellMade text e × BeginsDocument upTo
 
     -- TEXT: its strings are text
-    abbrev pub IsText : Type 0
-    IsText = All (λ (x : Octets). isText x ≡ true) (stringsOf (plainOf text e))
+    abbrev pub AreText : Type 0
+    AreText = All IsText (stringsOf (plainOf text e))
 
     -- DEPTH: it opens no element where as many are open as may be
     abbrev pub IsShallow : Type 0
@@ -101,7 +101,7 @@ module _ (text : Octets) (room : ℕ) where
 
     pub record Right : Type 0 where
       pub is-event : IsEvent
-      pub is-text : IsText
+      pub is-text : AreText
       pub is-shallow : IsShallow
       pub has-entries : HasEntries
       pub has-room : HasRoom
@@ -109,10 +109,10 @@ module _ (text : Octets) (room : ℕ) where
     -- Its first fault.
     pub data Fault : ℕ → Type 0 where
       not-an-event : (IsEvent → ⊥) → Fault EVENT
-      not-text : IsEvent → (IsText → ⊥) → Fault TEXT
-      too-deep : IsEvent → IsText → (IsShallow → ⊥) → Fault DEPTH
-      too-many : IsEvent → IsText → IsShallow → (HasEntries → ⊥) → Fault FULL
-      no-room : IsEvent → IsText → IsShallow → HasEntries → Overflows room (itemsOf upTo) → Fault ROOM
+      not-text : IsEvent → (AreText → ⊥) → Fault TEXT
+      too-deep : IsEvent → AreText → (IsShallow → ⊥) → Fault DEPTH
+      too-many : IsEvent → AreText → IsShallow → (HasEntries → ⊥) → Fault FULL
+      no-room : IsEvent → AreText → IsShallow → HasEntries → Overflows room (itemsOf upTo) → Fault ROOM
 
   -- Each event of the list is right behind those before it.
   abbrev pub AllRight : List Event → Type 0

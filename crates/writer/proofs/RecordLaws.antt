@@ -9,7 +9,7 @@ use native.Mathlib.Decide.{decLt}
 use borrow.Author.Tests.{lt-ltb, le-leb, lt-leb}
 use lib.Dec.{ltb, leb}
 use lib.ListN.{take, drop}
-use Rattle.format.specs.Text.{isText, after, next, first, rows, between}
+use Rattle.fields.specs.Utf8.{isText, after, next, first, rows, between}
 use Rattle.format.specs.Tables.{xmlPrefix, xmlNamespace}
 use Rattle.tables.specs.Located.{stretch, octetsOf}
 use Rattle.events.specs.declared.EventString.{EventString}

@@ -4,7 +4,7 @@ ghost use Prim.Native.Nat.{_+_};
 ghost use mathlib.Core.Bool.{_&&_, _||_};
 ghost use lib.ListN.{length};
 ghost use lib.Dec.{ltb, leb};
-ghost use Rattle.format.specs.Text.{isText};
+ghost use Rattle.fields.specs.Utf8.{isText};
 ghost use Rattle.format.specs.Tables.{Vocabulary, link};
 ghost use Rattle.format.specs.Items.{mayStart};
 ghost use Rattle.tables.specs.Located.{Located, octetsOf};

@@ -3,8 +3,9 @@
 use mathlib.Core.Path.{refl, ap}
 use native.Mathlib.Omega.{arith}
 use borrow.Author.Needs.{needs}
-use Rattle.format.specs.Text.{Within, rows, astray, between, first}
-use Rattle.fields.proofs.Text.{by-row, alone-made, astray-not-made}
+use Rattle.fields.specs.declared.Within.{Within}
+use Rattle.fields.specs.Utf8.{rows, astray, between, first}
+use Rattle.fields.proofs.Utf8.{by-row, alone-made, astray-not-made}
 use Rattle.fields.proofs.character.Statement.{statement}
 use Rattle.fields.proofs.character.Tie as tie
 

@@ -1,7 +1,7 @@
 -- `higher` meets its contract: the test picks.
 -- Assumes nothing.
 use borrow.Author.Tests.{lt-ltb, le-ltb}
-use Rattle.fields.specs.Text.{higher}
+use Rattle.fields.specs.Utf8.{higher}
 use Rattle.fields.proofs.higher.Statement.{statement}
 use Rattle.fields.proofs.higher.Tie as tie
 

@@ -5,8 +5,8 @@ use Prim.Native.Nat.{_-_, _≤_}
 use native.Mathlib.Omega.{arith}
 use borrow.Author.Needs.{needs}
 use lib.ListN.{take, drop}
-use Rattle.fields.specs.Text.{highestOf}
-use Rattle.fields.proofs.Text.{highest-next, highest-end}
+use Rattle.fields.specs.Utf8.{highestOf}
+use Rattle.fields.proofs.Utf8.{highest-next, highest-end}
 use Rattle.fields.proofs.highest.Statement.{statement}
 use Rattle.fields.proofs.highest.Tie as tie
 

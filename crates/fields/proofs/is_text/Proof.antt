@@ -6,8 +6,8 @@ use native.Mathlib.Omega.{arith}
 use borrow.Author.Needs.{needs}
 use borrow.Author.Tests.{eq-eqb, ne-eqb}
 use lib.ListN.{take, drop}
-use Rattle.format.specs.Text.{between, after, isText}
-use Rattle.fields.proofs.Text.{low-text, after-alone, after-character, after-none, after-end}
+use Rattle.fields.specs.Utf8.{between, after, isText}
+use Rattle.fields.proofs.Utf8.{low-text, after-alone, after-character, after-none, after-end}
 use Rattle.fields.proofs.is_text.Statement.{statement}
 use Rattle.fields.proofs.is_text.Tie as tie
 

@@ -11,8 +11,8 @@ use borrow.Author.Tests.{lt-ltb, le-ltb, le-leb, lt-leb, eq-eqb, ne-eqb, eqb-tru
 use lib.Dec.{T, leb, eqb, eqb→eq}
 use lib.ListN.{length, getD, take, drop, length-take, length-drop}
 use lib.Seq.{drop-cons, drop-drop, take-nil}
-use Rattle.format.specs.Text.{Within, rows, astray, between, first, next, after, isText}
-use Rattle.fields.specs.Text.{fromFirst, character, higher, highestOf}
+use Rattle.fields.specs.declared.Within.{Within}
+use Rattle.fields.specs.Utf8.{rows, astray, between, first, next, after, isText, fromFirst, character, higher, highestOf}
 use Rattle.fields.proofs.Laws.{case}
 
 both : (a b : Bool) → T (a && b) → T a × T b
@@ -48,7 +48,7 @@ same-is u v t =
     λ i. record { left = e1 i; low = e2 i; high = e3 i }
 
 -- the table gives u for each of n octets from lo
-by-range : (u : Within) (b lo n : ℕ) → T (every (λ k. same u (first rows k)) lo n) → lo ≤ b → b < lo + n → u ≡ first rows b
+pub by-range : (u : Within) (b lo n : ℕ) → T (every (λ k. same u (first rows k)) lo n) → lo ≤ b → b < lo + n → u ≡ first rows b
 by-range u b lo n t l h = same-is u (first rows b) (in-range (λ k. same u (first rows k)) lo n t b l h)
 
 -- ---- one more octet
@@ -63,28 +63,28 @@ module _ (u : Within) (b : ℕ) where
   next-first e = rw (eq-eqb _ _ e)
 
   module _ (ne : u .left ≡ 0 → ⊥) where
-    next-astray : (leb (u .low) b && leb b (u .high)) ≡ false → astray ≡ next u b
+    pub next-astray : (leb (u .low) b && leb b (u .high)) ≡ false → astray ≡ next u b
     unfolding next
     next-astray h = rw (ne-eqb _ _ ne, h)
 
-    next-more : (leb (u .low) b && leb b (u .high)) ≡ true → more (u .left - 1) ≡ next u b
+    pub next-more : (leb (u .low) b && leb b (u .high)) ≡ true → more (u .left - 1) ≡ next u b
     unfolding next
     next-more h = rw (ne-eqb _ _ ne, h)
 
 -- by what a test says
-told : {X : Type 0} (t : Bool) → (t ≡ true → X) → (t ≡ false → X) → X
+pub told : {X : Type 0} (t : Bool) → (t ≡ true → X) → (t ≡ false → X) → X
 told true f g = f refl
 told false f g = g refl
 
 -- no octets lead back from astray
-stays : (bs : List ℕ) → after astray bs .left ≡ 4
+pub stays : (bs : List ℕ) → after astray bs .left ≡ 4
 unfolding after astray
 stays [] = refl
 stays (b ∷ bs) =
     let n : (leb 1 b && leb b 0) ≡ false = case b 1 (λ h. rw (lt-leb _ _ h)) (λ h. rw (le-leb _ _ h, lt-leb _ _ h)) in
     rw (after, ← next-astray (record { left = 4; low = 1; high = 0 }) b (λ e. omega arith) n) (stays bs)
 
-between-none : between .left ≡ 0
+pub between-none : between .left ≡ 0
 unfolding between
 between-none = refl
 
@@ -135,7 +135,7 @@ unfolding astray
 astray-not-made x = not-made astray x 4 refl (λ z. let f = stays (take 4 x) in omega arith)
 
 -- the first character of a text is there and can be passed; where there is none, it is no text
-some-character : (n : ℕ) (x : List ℕ) → n ≡ character x → (n ≡ 0 → ⊥) → (n ≤ length x) × (after between x .left ≡ after between (drop n x) .left)
+pub some-character : (n : ℕ) (x : List ℕ) → n ≡ character x → (n ≡ 0 → ⊥) → (n ≤ length x) × (after between x .left ≡ after between (drop n x) .left)
 unfolding character fromFirst after
 some-character n [] e h = absurd (h e)
 some-character n (b ∷ bs) e h =
@@ -149,7 +149,7 @@ some-character n (b ∷ bs) e h =
     (omega arith, rw m (rw (add-one k) (rw (after, ← next-first between b between-none) (passed k u bs z)))))
     (λ q. absurd (h (rw q at e)))
 
-no-character : (b : ℕ) (bs : List ℕ) → 0 ≡ character (b ∷ bs) → after between (b ∷ bs) .left ≡ 0 → ⊥
+pub no-character : (b : ℕ) (bs : List ℕ) → 0 ≡ character (b ∷ bs) → after between (b ∷ bs) .left ≡ 0 → ⊥
 unfolding character fromFirst after
 no-character b bs e h =
     let u = first rows b in
