@@ -11,6 +11,13 @@ ghost use Rattle.format.specs.Numbers.{lengths, numbers, c25, top};
 ghost use Rattle.fields.specs.Fields.{bitsOf, valueFrom, behind, fieldAt, noTop};
 ghost use Rattle.fields.specs.Utf8.{isText, fromFirst, character, higher, highestOf};
 
+// The link's version: the octets before the body, which are E0 00 (12.6), version 1 (12.7, 12.9) and no optional part (12.8); where the body starts; octets of the longest document.
+pub const HEADER: [u8; 5] = [0xE0, 0x00, 0x00, 0x01, 0x00];
+
+pub const BODY: usize = HEADER.len();
+
+pub const OCTETS: usize = 16384;
+
 pub const TRUNCATED: u32 = 2;
 
 pub const CODE: u32 = 5;

@@ -2,6 +2,7 @@
 // May depend on all below it.
 ghost use mathlib.Core.Path.{_≡_};
 ghost use lib.ListN.{length};
+ghost use Rattle.format.specs.Tables.{link};
 ghost use Rattle.reader.specs.Reading.{checkOf};
 ghost use Rattle.reader.specs.Words.{leaving, readWords};
 ghost use Rattle.writer.specs.Words.{leaving as written, writeWords};
@@ -10,7 +11,7 @@ ghost use Rattle.writer.specs.Words.{leaving as written, writeWords};
 // No octets: 1, which is SIZE at place 0; 0 would be wrong. E0 00 00 01 00 and nothing behind it: 162, which is TRUNCATED at place 5; 2, without the place, would be wrong.
 #[no_mangle]
 pub extern "C" fn lomphachit_check(octets: &[u8]) -> u32
-    ensures { λ r. ⌜ r ≡ checkOf (now (octets .entry)) ⌝ }
+    ensures { λ r. ⌜ r ≡ checkOf link (now (octets .entry)) ⌝ }
 {
     reader::check(octets)
 }
@@ -25,7 +26,7 @@ pub extern "C" fn lomphachit_read(
     tables: &mut [u32],
     counts: &mut [u32],
 ) -> u64
-    ensures { λ r. ⌜ leaving r (now (records .exit)) (now (tables .exit)) (now (counts .exit)) ≡ readWords (now (octets .entry)) (length (now (records .entry))) (length (now (tables .entry))) (length (now (counts .entry))) ⌝ }
+    ensures { λ r. ⌜ leaving r (now (records .exit)) (now (tables .exit)) (now (counts .exit)) ≡ readWords link (now (octets .entry)) (length (now (records .entry))) (length (now (tables .entry))) (length (now (counts .entry))) ⌝ }
 {
     reader::read_words(octets, records, tables, counts)
 }
@@ -41,7 +42,7 @@ pub extern "C" fn lomphachit_write(
     tables: &mut [u32],
     counts: &mut [u32],
 ) -> u64
-    ensures { λ r. ⌜ written r (now (out .exit)) (now (tables .exit)) (now (counts .exit)) ≡ writeWords (now (records .entry)) (now (text .entry)) (length (now (out .entry))) (length (now (tables .entry))) (length (now (counts .entry))) ⌝ }
+    ensures { λ r. ⌜ written r (now (out .exit)) (now (tables .exit)) (now (counts .exit)) ≡ writeWords link (now (records .entry)) (now (text .entry)) (length (now (out .entry))) (length (now (tables .entry))) (length (now (counts .entry))) ⌝ }
 {
     writer::write_words(records, text, out, tables, counts)
 }

@@ -8,7 +8,7 @@ use borrow.Author.Tests.{ltb-true, eqb-true}
 use lib.Dec.{eqb, ltb, leb}
 use lib.ListN.{length, getD}
 use Rattle.format.specs.Numbers.{pick}
-use Rattle.format.specs.Tables.{OTHER-NCNAME, ATTRIBUTE-VALUE, CONTENT-CHARACTER-CHUNK, OTHER-STRING, Vocabulary, Limits}
+use Rattle.format.specs.Tables.{OTHER-NCNAME, ATTRIBUTE-VALUE, CONTENT-CHARACTER-CHUNK, OTHER-STRING, Vocabulary, Version}
 use Rattle.format.specs.Strings.{c15}
 use Rattle.format.specs.Names.{ofElement, ofAttribute}
 use Rattle.format.specs.Items.{Mode, content, declaring, listing, State, mayStart}
@@ -35,7 +35,7 @@ module _ (s : List ℕ) where
   into-placed (got b next v) f h k = k b next v h
   into-placed (refused n p) f h k = h
 
-  module _ (L : Limits) where
+  module _ (L : Version) where
     -- ---- items
     start-placed : (k : ℕ) (a : Bool) (v : State Located) (g : Got NameRead) → k ≤ length s → Within s g → Placed (startOf L k a v g)
     start-placed k a v g h w = into-placed g _ w λ x next u l. h

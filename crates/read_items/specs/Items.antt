@@ -6,7 +6,7 @@ use lib.Dec.{eqb, ltb, leb}
 use Rattle.format.specs.Octets.{Octets}
 use Rattle.format.specs.Numbers.{pick}
 use Rattle.format.specs.Events.{Namespace, Start, Attribute, Text, Comment, Instruction, forNamespace, forStart, forAttribute, forText, forComment, forInstruction, Item, _by_}
-use Rattle.format.specs.Tables.{OTHER-NCNAME, ATTRIBUTE-VALUE, CONTENT-CHARACTER-CHUNK, OTHER-STRING, Vocabulary, Limits}
+use Rattle.format.specs.Tables.{OTHER-NCNAME, ATTRIBUTE-VALUE, CONTENT-CHARACTER-CHUNK, OTHER-STRING, Vocabulary, Version}
 use Rattle.format.specs.Strings.{c15}
 use Rattle.format.specs.Names.{ofElement, ofAttribute}
 use Rattle.format.specs.Items.{Mode, content, declaring, listing, State, mayStart, knowing, moved, opened}
@@ -39,7 +39,7 @@ octet k v = record { at = 2 * k; state = v }
 unfoldable pub namePadding : ℕ → Bool
 namePadding b = (eqb (b / 8) 6 && not (eqb (b % 8) 0)) || (eqb (b / 4) 14 && not (eqb (b % 4) 0))
 
-module _ (L : Limits) where
+module _ (L : Version) where
   -- A Start whose name is read.
   abbrev pub startOf : ℕ → Bool → State Located → Got NameRead → Step
   startOf k a v g = into g λ x next w. more k (Start (x .name) by forStart (x .how)) (octet next (opened v w a))

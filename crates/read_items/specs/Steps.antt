@@ -6,7 +6,7 @@ use lib.Dec.{eqb, ltb}
 use Rattle.format.specs.Octets.{Octets}
 use Rattle.format.specs.Numbers.{pick}
 use Rattle.format.specs.Events.{End, forEnd, _by_}
-use Rattle.format.specs.Tables.{Limits}
+use Rattle.format.specs.Tables.{Version}
 use Rattle.format.specs.Items.{Mode, content, declaring, listing, moved}
 use Rattle.format.specs.Document.{halves, aligned, closed}
 use Rattle.format.specs.Refusals.{CODE, PADDING, STRUCTURE}
@@ -45,7 +45,7 @@ byHalves content = true
 byHalves (declaring a) = false
 byHalves (listing some) = true
 
-module _ (L : Limits) where
+module _ (L : Version) where
   -- One step: an end, or the item at the next octet behind padding that is right (6).
   unfoldable pub step : Octets → Stand → Step
   step s m =

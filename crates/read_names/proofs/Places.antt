@@ -10,7 +10,7 @@ use lib.Dec.{eqb, ltb, leb}
 use lib.ListN.{length, getD, take, drop}
 use Rattle.format.specs.Numbers.{Form, lengths, c25, top}
 use Rattle.fields.specs.Utf8.{isText}
-use Rattle.format.specs.Tables.{StringTable, PREFIX, NAMESPACE-NAME, LOCAL-NAME, Vocabulary, strings, holds, names, holdsName, Limits}
+use Rattle.format.specs.Tables.{StringTable, PREFIX, NAMESPACE-NAME, LOCAL-NAME, Vocabulary, strings, holds, names, holdsName, Version}
 use Rattle.format.specs.Strings.{Layout, c14}
 use Rattle.format.specs.Names.{NameLayout}
 use Rattle.fields.specs.declared.Number.{Number}
@@ -50,7 +50,7 @@ module _ (s : List ℕ) where
   spelling-within k next n a h f =
       tests Within (leb (next + n) (length s)) _ _ (λ e. tests Within (isText (take n (drop next s))) _ _ (λ _. f (leb-true _ _ e)) (λ _. omega arith)) (λ _. omega arith)
 
-  module _ (L : Limits) where
+  module _ (L : Version) where
     pub id-within : (t : StringTable) (k : ℕ) (v : Vocabulary Located) → k ≤ length s → Within (idAt L s t k v)
     unfolding idAt
     id-within t k v h =

@@ -4,7 +4,7 @@ use lib.ListN.{length}
 use lib.Dec.{ltb}
 use Rattle.format.specs.Octets.{Octets, Words}
 use Rattle.format.specs.Numbers.{pick}
-use Rattle.format.specs.Tables.{NameTable, Triple, Vocabulary, names, addingName, holdsName, Limits}
+use Rattle.format.specs.Tables.{NameTable, Triple, Vocabulary, names, addingName, holdsName, Version}
 use Rattle.format.specs.Refusals.{REPEAT, FULL}
 use Rattle.fields.specs.declared.Number.{Number}
 use Rattle.fields.specs.declared.Number.the-variants.{Got as Num, Refused as NoNum}
@@ -41,7 +41,7 @@ unfoldable pub eventStringsAt : Words → Triple → Parts
 eventStringsAt w x = record { prefix = eventStringAt w 0 (x .prefix); namespace = eventStringAt w 1 (x .namespace); local = eventStringAt w 2 (x .local) }
 
 -- A name in parts whose strings end before `next`: its triple is there already (11), no room in the table (12), both at k.
-unfoldable pub newName : Limits → NameTable → Triple → Parts → (k next : ℕ) → Vocabulary Located → S.Got Parts
+unfoldable pub newName : Version → NameTable → Triple → Parts → (k next : ℕ) → Vocabulary Located → S.Got Parts
 newName L t x y k next v =
     pick (holdsName (names v t) x) (S.refused REPEAT k)
     (pick (ltb (length (names v t)) (L .entries)) (S.got y next (addingName v t x)) (S.refused FULL k))

@@ -7,7 +7,7 @@ use lib.Dec.{eqb, ltb, leb}
 use Rattle.format.specs.Octets.{Octets}
 use Rattle.format.specs.Numbers.{pick, top}
 use Rattle.format.specs.Events.{Name, How, NameHow, inParts, byNumber}
-use Rattle.format.specs.Tables.{PREFIX, NAMESPACE-NAME, LOCAL-NAME, NameTable, ELEMENT-NAME, ATTRIBUTE-NAME, Triple, noTriple, Vocabulary, names, addingName, holdsName, nameOf, Limits}
+use Rattle.format.specs.Tables.{PREFIX, NAMESPACE-NAME, LOCAL-NAME, NameTable, ELEMENT-NAME, ATTRIBUTE-NAME, Triple, noTriple, Vocabulary, names, addingName, holdsName, nameOf, Version}
 use Rattle.format.specs.Names.{NameLayout}
 use Rattle.format.specs.Refusals.{TRUNCATED, CODE, PADDING, INDEX, REPEAT, FULL, STRUCTURE}
 use Rattle.fields.specs.Fields.{fieldAt}
@@ -39,7 +39,7 @@ abbrev pub nameBit : NameTable → ℕ
 nameBit ELEMENT-NAME = 3
 nameBit ATTRIBUTE-NAME = 2
 
-module _ (L : Limits) where
+module _ (L : Version) where
   -- A name in parts, its p and n in the octet b at k: p without n (15); the strings; then the triple is there already (11), no room in the table (12).
   unfoldable pub partsAt : NameLayout → Octets → ℕ → ℕ → Vocabulary Located → Got NameRead
   partsAt q s b k v =

@@ -9,7 +9,7 @@ use Rattle.format.specs.Octets.{Octets}
 use Rattle.format.specs.Numbers.{pick, lengths, c25, top}
 use Rattle.fields.specs.Utf8.{isText}
 use Rattle.format.specs.Events.{How, spelled, numbered}
-use Rattle.format.specs.Tables.{StringTable, Vocabulary, strings, adding, holds, Limits}
+use Rattle.format.specs.Tables.{StringTable, Vocabulary, strings, adding, holds, Version}
 use Rattle.format.specs.Strings.{Layout, c14, keeping}
 use Rattle.format.specs.Refusals.{TRUNCATED, FORMAT, TEXT, INDEX, REPEAT, FULL}
 use Rattle.fields.specs.declared.Number.{Number}
@@ -55,7 +55,7 @@ pub record StringRead : Type 0 where
 abbrev pub numberBit : Layout → ℕ
 numberBit q = q .lengthBit - 3
 
-module _ (L : Limits) where
+module _ (L : Version) where
   -- C.13 at octet k. Spelled: 2, 6, 2, 9, then held already (11), no room in the table (12). Numbered: 2, 5, 2, 7, then beyond the table (10).
   unfoldable pub idAt : Octets → StringTable → ℕ → Vocabulary Located → Got IdRead
   idAt s t k v =

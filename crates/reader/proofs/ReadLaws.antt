@@ -13,7 +13,6 @@ use lib.Seq.{set-at}
 use Rattle.format.specs.Events.{Item}
 use Rattle.format.specs.Numbers.{pick}
 use Rattle.format.specs.Tables.{link}
-use Rattle.format.specs.Document.{header}
 use Rattle.tables.specs.declared.Counts.{Counts}
 use Rattle.tables.specs.Located.{Located, start}
 use Rattle.tables.specs.Counts.{tableWords, countsOf}
@@ -91,7 +90,7 @@ Over room n (Found place e b) = room ≤ n
 Over room n Finished = Unit {0}
 Over room n (Refused k place) = Unit {0}
 
-module _ (s : List ℕ) (room : ℕ) where
+module _ (s : List ℕ) (room body : ℕ) where
   abbrev laidBy : List Event → ℕ → Reached → Outcome
   laidBy acc zero (found p e m k) = refusing 14 p room tableWords
   laidBy acc (suc left) (found p e m k) = laid room (acc ++ (e ∷ [])) (run link s k left m)
@@ -121,7 +120,7 @@ module _ (s : List ℕ) (room : ℕ) where
   laid-none (refusal k p) = refl
 
   abbrev target : Outcome
-  target = outcome (run link s (fuelOf s) room (origin start)) room
+  target = outcome (run link s (fuelOf s) room (origin body (start link))) room
 
   -- n events are in the row zs, and blanks behind them; what is left to do leads to the answer
   pub record Filling (p : Place) (c : Counts) (us : List ℕ) (zs : List Event) (n : ℕ) : Type 0 where
@@ -133,7 +132,7 @@ module _ (s : List ℕ) (room : ℕ) where
     pub spent : n + p .left ≤ 2 * length s + 1
     pub leads : laid room events (run link s (p .left) (room - n) (standAt p c us)) ≡ target
 
-  pub filling-start : 5 ≤ length s → length s ≤ 16384 → (us : List ℕ) → us ≡ replicate tableWords 0 → (zs : List Event) → zs ≡ replicate room blank → Filling (first (length s)) (countsOf start) us zs 0
+  pub filling-start : body ≤ length s → length s ≤ 16384 → (us : List ℕ) → us ≡ replicate tableWords 0 → (zs : List Event) → zs ≡ replicate room blank → Filling (first body (length s)) (countsOf (start link)) us zs 0
   filling-start l h us e zs f =
       let z : room - 0 ≡ room = omega arith in
       record {
@@ -141,9 +140,9 @@ module _ (s : List ℕ) (room : ℕ) where
         counted = refl;
         row = rw z f;
         few = omega arith;
-        good = underway-start s [] 0 l h us e .good;
+        good = underway-start s [] 0 body l h us e .good;
         spent = omega arith;
-        leads = rw (z, start-is s [] 0 us e, add-one) (laid-none (run link s (fuelOf s) room (origin start)));
+        leads = rw (z, start-is s [] 0 body us e, add-one) (laid-none (run link s (fuelOf s) room (origin body (start link))));
       }
 
   module _ (p : Place) (c : Counts) (us : List ℕ) (zs : List Event) (n : ℕ) (u : Filling p c us zs n) (d : Counts) (ws : List ℕ) where
@@ -197,14 +196,14 @@ module _ (s : List ℕ) (room : ℕ) (size : Bool) (is : size ≡ sized link s) 
   unfolding admission
   admits-other e n = rw (said false e, ne-eqb _ _ n)
 
-  pub admits-room : not size ≡ false → room ≡ 7680 → opening link header s ≡ admission s room
+  pub admits-room : not size ≡ false → room ≡ 7680 → opening link s ≡ admission s room
   unfolding admission
   admits-room e q = rw (said false e, eq-eqb _ _ q)
 
 -- ---- what a reading comes to, by what is admitted
 module _ (s : List ℕ) (table : ℕ) where
   abbrev pub Admits : Opening → Type 0
-  Admits onward = (table ≡ tableWords) × (5 ≤ length s) × (length s ≤ 16384)
+  Admits (onward body v) = (table ≡ tableWords) × (body ≤ length s) × (length s ≤ 16384)
   Admits (halt k p) = p ≤ 16384
 
   pub admits : (o : Opening) → o ≡ admission s table → Admits o
@@ -212,27 +211,27 @@ module _ (s : List ℕ) (table : ℕ) where
   admits o e =
       rw e
       (tests Admits (sized link s) _ _
-      (λ _. tests Admits (eqb table tableWords) _ _ (λ b. opened (opening link header s) refl (eqb-true table tableWords b)) (λ _. omega arith))
+      (λ _. tests Admits (eqb table tableWords) _ _ (λ b. opened (opening link s) refl (eqb-true table tableWords b)) (λ _. omega arith))
       (λ _. omega arith))
     where
-      opened : (x : Opening) → x ≡ opening link header s → table ≡ tableWords → Admits x
-      opened onward q b = let k = opens s onward q in (b, k .0, k .1)
+      opened : (x : Opening) → x ≡ opening link s → table ≡ tableWords → Admits x
+      opened (onward body v) q b = let k = opens s (onward body v) q in (b, k .0, k .1)
       opened (halt k p) q b = opens s (halt k p) q .1
 
 module _ (s : List ℕ) (room table : ℕ) where
   abbrev comesTo : Opening → Outcome
-  comesTo onward = outcome (run link s (fuelOf s) room (origin start)) room
+  comesTo (onward body v) = outcome (run link s (fuelOf s) room (origin body v)) room
   comesTo (halt k p) = refusing k p room table
 
-  pub reads : (o : Opening) → o ≡ admission s table → comesTo o ≡ readOf s room table
+  pub reads : (o : Opening) → o ≡ admission s table → comesTo o ≡ readOf link s room table
   unfolding admission readOf reading
   reads o e = rw e (sizes (sized link s) (eqb table tableWords) (λ b. eqb-true table tableWords b))
     where
-      opened : (x : Opening) → table ≡ tableWords → comesTo x ≡ outcome (resultFrom s room x) room
-      opened onward b = refl
+      opened : (x : Opening) → table ≡ tableWords → comesTo x ≡ outcome (resultFrom link s room x) room
+      opened (onward body v) b = refl
       opened (halt k p) b = ap (refusing k p room) b
 
-      sizes : (a b : Bool) → (b ≡ true → table ≡ tableWords) → comesTo (pick a (pick b (opening link header s) (halt 14 0)) (halt 1 0)) ≡ pick a (pick b (outcome (resultFrom s room (opening link header s)) room) (refusing 14 0 room table)) (refusing 1 0 room table)
-      sizes true true f = opened (opening link header s) (f refl)
+      sizes : (a b : Bool) → (b ≡ true → table ≡ tableWords) → comesTo (pick a (pick b (opening link s) (halt 14 0)) (halt 1 0)) ≡ pick a (pick b (outcome (resultFrom link s room (opening link s)) room) (refusing 14 0 room table)) (refusing 1 0 room table)
+      sizes true true f = opened (opening link s) (f refl)
       sizes true false f = refl
       sizes false b f = refl

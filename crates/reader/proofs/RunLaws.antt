@@ -12,7 +12,7 @@ use lib.ListN.{length, getD, take, drop, set, replicate, getD-replicate, length-
 use lib.Seq.{drop-cons, sets}
 use Rattle.format.specs.Events.{Item}
 use Rattle.format.specs.Tables.{NameTable, ELEMENT-NAME, ATTRIBUTE-NAME, names, starting, same, link}
-use Rattle.format.specs.Document.{header, beginning}
+use Rattle.format.specs.Document.{beginning}
 use Rattle.tables.specs.Located.{Located, start}
 use Rattle.tables.specs.Counts.{tableWords, countsOf}
 use Rattle.tables.specs.Rows.{vocabulary}
@@ -36,27 +36,27 @@ use Rattle.reader.specs.RunContracts.{fresh, Ending, ended, faulty, endi
 use Rattle.read_names.proofs.StringLaws.{tests}
 use Rattle.read_items.proofs.Places.{Placed, step-placed}
 
--- ---- the first four octets
-abbrev four : List ℕ
-four = 0xE0 ∷ 0x00 ∷ 0x00 ∷ 0x01 ∷ []
+-- ---- the identification
+abbrev octets : List ℕ
+octets = 0xE0 ∷ 0x00 ∷ 0x00 ∷ 0x01 ∷ 0x00 ∷ []
 
 -- from octet i on
 abbrev pub headedFrom : List ℕ → ℕ → Bool
-headedFrom s i = same (take (4 - i) (drop i s)) (drop i four)
+headedFrom s i = same (take (4 - i) (drop i s)) (take (4 - i) (drop i octets))
 
-pub headed-start : (s : List ℕ) → headedFrom s 0 ≡ same (take 4 s) (take 4 header)
-unfolding header
+pub headed-start : (s : List ℕ) → headedFrom s 0 ≡ same (take 4 s) (link .identification)
+unfolding link
 headed-start s = refl
 
 module _ (s : List ℕ) (i : ℕ) (w : Bool) (h : i < 4) (l : i < length s) (e : headedFrom s i ≡ w) where
-  split : headedFrom s i ≡ (eqb (getD s i 0) (getD four i 0) && headedFrom s (suc i))
+  split : headedFrom s i ≡ (eqb (getD s i 0) (getD octets i 0) && headedFrom s (suc i))
   unfolding same
-  split = let z : 4 - i ≡ suc (4 - suc i) = omega arith in rw (z, drop-cons s i 0 l, drop-cons four i 0 h)
+  split = let z : 4 - i ≡ suc (4 - suc i) = omega arith in rw (z, drop-cons s i 0 l, drop-cons octets i 0 (omega arith))
 
-  pub headed-differs : (getD s i 0 ≡ getD four i 0 → ⊥) → false ≡ w
+  pub headed-differs : (getD s i 0 ≡ getD octets i 0 → ⊥) → false ≡ w
   headed-differs n = rw (ne-eqb _ _ n) at (sym split ∙ e)
 
-  pub headed-next : getD s i 0 ≡ getD four i 0 → headedFrom s (i + 1) ≡ w
+  pub headed-next : getD s i 0 ≡ getD octets i 0 → headedFrom s (i + 1) ≡ w
   headed-next q = rw (add-one i) (rw (eq-eqb _ _ q) at (sym split ∙ e))
 
 pub headed-end : (s : List ℕ) (i : ℕ) (w : Bool) → i ≤ 4 → 4 ≤ i → headedFrom s i ≡ w → true ≡ w
@@ -73,36 +73,36 @@ module _ (s : List ℕ) where
   unfolding sized link
   size-some h = let l : 1 ≤ length s = omega arith in rw (le-leb _ _ l)
 
-  pub open-size : false ≡ sized link s → halt 1 0 ≡ opening link header s
-  unfolding opening
+  pub open-size : false ≡ sized link s → halt 1 0 ≡ opening link s
+  unfolding opening link
   open-size e = rw (← e)
 
   module _ (size : true ≡ sized link s) where
-    pub open-short : length s < 4 → halt 2 0 ≡ opening link header s
-    unfolding opening
+    pub open-short : length s < 4 → halt 2 0 ≡ opening link s
+    unfolding opening link
     open-short h = rw (← size, lt-leb _ _ h)
 
     module _ (l : 4 ≤ length s) where
-      pub open-other : false ≡ same (take 4 s) (take 4 header) → halt 3 0 ≡ opening link header s
-      unfolding opening
+      pub open-other : false ≡ same (take 4 s) (link .identification) → halt 3 0 ≡ opening link s
+      unfolding opening link
       open-other e = rw (← size, le-leb _ _ l, ← e)
 
-      module _ (e : true ≡ same (take 4 s) (take 4 header)) where
-        pub open-four : length s < 5 → halt 2 4 ≡ opening link header s
-        unfolding opening
+      module _ (e : true ≡ same (take 4 s) (link .identification)) where
+        pub open-four : length s < 5 → halt 2 4 ≡ opening link s
+        unfolding opening link
         open-four h = rw (← size, le-leb _ _ l, ← e, lt-leb _ _ h)
 
         module _ (h : 5 ≤ length s) where
-          pub open-padding : 0x80 ≤ getD s 4 0 → halt 6 4 ≡ opening link header s
-          unfolding opening
+          pub open-padding : 0x80 ≤ getD s 4 0 → halt 6 4 ≡ opening link s
+          unfolding opening link
           open-padding b = rw (← size, le-leb _ _ l, ← e, le-leb _ _ h, le-ltb _ _ b)
 
-          pub open-optional : getD s 4 0 < 0x80 → (getD s 4 0 ≡ 0 → ⊥) → halt 4 4 ≡ opening link header s
-          unfolding opening
+          pub open-optional : getD s 4 0 < 0x80 → (getD s 4 0 ≡ 0 → ⊥) → halt 4 4 ≡ opening link s
+          unfolding opening link
           open-optional b n = rw (← size, le-leb _ _ l, ← e, le-leb _ _ h, lt-ltb _ _ b, ne-eqb _ _ n)
 
-          pub open-onward : getD s 4 0 ≡ 0 → onward ≡ opening link header s
-          unfolding opening
+          pub open-onward : getD s 4 0 ≡ 0 → onward 5 (start link) ≡ opening link s
+          unfolding opening link
           open-onward z = rw (← size, le-leb _ _ l, ← e, le-leb _ _ h, z)
 
 -- ---- an event's words
@@ -124,16 +124,16 @@ module _ (w : List ℕ) (n : ℕ) (e : Event) where
 
 -- what every opening keeps to
 abbrev Opens : List ℕ → Opening → Type 0
-Opens s onward = (5 ≤ length s) × (length s ≤ 16384)
+Opens s (onward body v) = (body ≤ length s) × (length s ≤ 16384)
 Opens s (halt k p) = (k ≤ 15) × (p ≤ 16384)
 
-pub opens : (s : List ℕ) (o : Opening) → o ≡ opening link header s → Opens s o
+pub opens : (s : List ℕ) (o : Opening) → o ≡ opening link s → Opens s o
 unfolding opening sized link
 opens s o e =
     rw e
     (tests (Opens s) (leb 1 (length s) && leb (length s) 16384) _ _
     (λ a. tests (Opens s) (leb 4 (length s)) _ _
-    (λ _. tests (Opens s) (same (take 4 s) (take 4 header)) _ _
+    (λ _. tests (Opens s) (same (take 4 s) (link .identification)) _ _
     (λ _. tests (Opens s) (leb 5 (length s)) _ _
     (λ b. tests (Opens s) (ltb (getD s 4 0) 0x80) _ _
     (λ _. tests (Opens s) (eqb (getD s 4 0) 0) _ _ (λ _. (leb-true _ _ b, leb-true (length s) 16384 (both-true (leb 1 (length s)) (leb (length s) 16384) a .1))) (λ _. omega arith))
@@ -203,33 +203,33 @@ placed-seen s I.done h = tt
 placed-seen s (I.stop j p) h = h
 
 -- ---- a run of a document s with records for `room` events, whose words were v
-abbrev whole : List ℕ → ℕ → Result
-whole s room = run link s (fuelOf s) room (origin start)
+abbrev whole : List ℕ → (room body : ℕ) → Result
+whole s room body = run link s (fuelOf s) room (origin body (start link))
 
-module _ (s v : List ℕ) (room : ℕ) where
+module _ (s v : List ℕ) (room body : ℕ) where
   -- there is fuel for `left` steps more, and there were n events; the words of tables and records are t and w
   pub record Underway (left n : ℕ) (st : State) (t w : List ℕ) : Type 0 where
     pub good : Good s st t
     pub fits : n ≤ room
     pub fuel : n + left ≤ 2 * length s + 1
-    pub ends : endingOf n (run link s left (room - n) (standOf st t)) ≡ endingOf 0 (whole s room)
-    pub keeps : 13 * room ≤ length v → keptFrom w n (run link s left (room - n) (standOf st t)) ≡ keptFrom v 0 (whole s room)
+    pub ends : endingOf n (run link s left (room - n) (standOf st t)) ≡ endingOf 0 (whole s room body)
+    pub keeps : 13 * room ≤ length v → keptFrom w n (run link s left (room - n) (standOf st t)) ≡ keptFrom v 0 (whole s room body)
     pub same-length : length w ≡ length v
 
   -- before the first item
-  tables-start : (t : List ℕ) → t ≡ replicate tableWords 0 → vocabulary (countsOf start) t ≡ start
+  tables-start : (t : List ℕ) → t ≡ replicate tableWords 0 → vocabulary (countsOf (start link)) t ≡ start link
   tables-start t e = rw e (vocabulary-start (replicate tableWords 0) (getD-replicate {A = ℕ} tableWords 1 0 0 (lit< tt)) (getD-replicate {A = ℕ} tableWords 769 0 0 (lit< tt)))
 
-  pub start-is : (t : List ℕ) → t ≡ replicate tableWords 0 → standOf fresh t ≡ origin start
+  pub start-is : (t : List ℕ) → t ≡ replicate tableWords 0 → standOf (fresh body) t ≡ origin body (start link)
   unfolding beginning
   start-is t e = rw (tables-start t e)
 
-  ranged-start : (t : NameTable) → Ranged (countsOf start) (names start t)
-  unfolding names start starting
+  ranged-start : (t : NameTable) → Ranged (countsOf (start link)) (names (start link) t)
+  unfolding names start starting link
   ranged-start ELEMENT-NAME = tt
   ranged-start ATTRIBUTE-NAME = tt
 
-  pub underway-start : 5 ≤ length s → length s ≤ 16384 → (t : List ℕ) → t ≡ replicate tableWords 0 → Underway (2 * length s + 1) 0 fresh t v
+  pub underway-start : body ≤ length s → length s ≤ 16384 → (t : List ℕ) → t ≡ replicate tableWords 0 → Underway (2 * length s + 1) 0 (fresh body) t v
   underway-start l h t e =
       let z : room - 0 ≡ room = omega arith in
       record {
@@ -252,8 +252,8 @@ module _ (s v : List ℕ) (room : ℕ) where
         same-length = refl;
       }
 
-module _ {s v : List ℕ} {room left n : ℕ} {st : State} {t w : List ℕ} (u : Underway s v room left n st t w) where
-  pub ran-spent : left ≤ 0 → Ran room v (Refused 2 (st .at / 2)) t w (whole s room)
+module _ {s v : List ℕ} {room body left n : ℕ} {st : State} {t w : List ℕ} (u : Underway s v room body left n st t w) where
+  pub ran-spent : left ≤ 0 → Ran room v (Refused 2 (st .at / 2)) t w (whole s room body)
   unfolding run
   ran-spent h =
       let z : left ≡ 0 = omega arith in
@@ -269,17 +269,17 @@ module _ {s v : List ℕ} {room left n : ℕ} {st : State} {t w : List ℕ} (u :
     unfolding run
     one = let z : left ≡ suc (left - 1) = omega arith in ap (λ (k : ℕ). run link s k (room - n) (standOf st t)) z
 
-    ends-here : endsBy onward-from (standOf st t) n (room - n) (seenStep r t′) ≡ endingOf 0 (whole s room)
+    ends-here : endsBy onward-from (standOf st t) n (room - n) (seenStep r t′) ≡ endingOf 0 (whole s room body)
     ends-here = rw (p .0) (sym (ap (endingOf n) one ∙ turn-ends onward-from (standOf st t) n (room - n) (step link s (standOf st t))) ∙ u .ends)
 
-    kept-here : 13 * room ≤ length v → keptBy onward-from (standOf st t) n w (room - n) (seenStep r t′) ≡ keptFrom v 0 (whole s room)
+    kept-here : 13 * room ≤ length v → keptBy onward-from (standOf st t) n w (room - n) (seenStep r t′) ≡ keptFrom v 0 (whole s room body)
     kept-here k = rw (p .0) (sym (ap (keptFrom w n) one ∙ turn-kept onward-from (standOf st t) n w (room - n) (step link s (standOf st t))) ∙ u .keeps k)
 
     placed-here : PlacedSeen s (seenStep r t′)
     placed-here = rw (p .0) (placed-seen s (step link s (standOf st t)) (step-placed s link (standOf st t) (u .good .at)))
 
     module _ {st′ : State} (q : r ≡ Quiet st′) where
-      pub underway-quiet : Underway s v room (left - 1) n st′ t′ w
+      pub underway-quiet : Underway s v room body (left - 1) n st′ t′ w
       underway-quiet =
           let f = u .fuel in
           record {
@@ -295,7 +295,7 @@ module _ {s v : List ℕ} {room left n : ℕ} {st : State} {t w : List ℕ} (u :
       pub more-place : place ≤ 16384
       more-place = let l : place ≤ length s = rw q at placed-here in let g = u .good .tidy .size in omega arith
 
-      pub underway-more : (n ≡ room → ⊥) → {w′ : List ℕ} → w′ ≡ kept w n e → length w′ ≡ length w → Underway s v room (left - 1) (n + 1) st′ t′ w′
+      pub underway-more : (n ≡ room → ⊥) → {w′ : List ℕ} → w′ ≡ kept w n e → length w′ ≡ length w → Underway s v room body (left - 1) (n + 1) st′ t′ w′
       unfolding kept
       underway-more l k o =
           let f = u .fuel in
@@ -311,13 +311,13 @@ module _ {s v : List ℕ} {room left n : ℕ} {st : State} {t w : List ℕ} (u :
             same-length = o ∙ u .same-length;
           }
 
-      pub ran-full : n ≡ room → Ran room v (Refused 14 place) t′ w (whole s room)
+      pub ran-full : n ≡ room → Ran room v (Refused 14 place) t′ w (whole s room body)
       ran-full l =
           let z : room - n ≡ 0 = omega arith in
           record { is = rw (q, z) at ends-here; small = (omega arith, more-place); settled = tt; keeps = λ _. tt }
 
     module _ (q : r ≡ Done) where
-      pub ran-done : Ran room v (Accepted n (st .counts)) t′ w (whole s room)
+      pub ran-done : Ran room v (Accepted n (st .counts)) t′ w (whole s room body)
       ran-done =
           let same : t′ ≡ t = rw q at (p .1) in
           let g = u .good .tidy .size in
@@ -333,16 +333,16 @@ module _ {s v : List ℕ} {room left n : ℕ} {st : State} {t w : List ℕ} (u :
       pub stop-place : (k ≤ 15) × (place ≤ 16384)
       stop-place = let l : (k ≤ 15) × (place ≤ length s) = rw q at placed-here in let g = u .good .tidy .size in omega arith
 
-      pub ran-stop : Ran room v (Refused k place) t′ w (whole s room)
+      pub ran-stop : Ran room v (Refused k place) t′ w (whole s room body)
       ran-stop = record { is = rw q at ends-here; small = stop-place; settled = tt; keeps = λ _. tt }
 
 -- ---- a document
 module _ (s : List ℕ) {v : List ℕ} {room : ℕ} {r : Answer} {t w : List ℕ} where
-  pub ran-halt : {k place : ℕ} → halt k place ≡ opening link header s → r ≡ Refused k place → Ran room v r t w (reading s room)
+  pub ran-halt : {k place : ℕ} → halt k place ≡ opening link s → r ≡ Refused k place → Ran room v r t w (reading link s room)
   unfolding reading
   ran-halt e q = let o = opens s _ e in rw (← e, q) (record { is = refl; small = o; settled = tt; keeps = λ _. tt })
 
-  pub ran-onward : onward ≡ opening link header s → Ran room v r t w (run link s (fuelOf s) room (origin start)) → Ran room v r t w (reading s room)
+  pub ran-onward : {body : ℕ} → onward body (start link) ≡ opening link s → Ran room v r t w (run link s (fuelOf s) room (origin body (start link))) → Ran room v r t w (reading link s room)
   unfolding reading
   ran-onward e p = rw (← e) p
 
@@ -361,6 +361,6 @@ number-ending : (n : ℕ) (x : Result) → endingNumber (endingOf n x) ≡ numbe
 number-ending n (accepted is m) = refl
 number-ending n (refusal k p) = refl
 
-pub check-is : (s : List ℕ) {v : List ℕ} {r : Answer} {t w : List ℕ} → Ran 32768 v r t w (reading s 32768) → answerNumber r ≡ checkOf s
-unfolding checkOf
-check-is s {r = r} {t} p = number-seen r t ∙ ap endingNumber (p .is) ∙ number-ending 0 (reading s 32768)
+pub check-is : (s : List ℕ) {v : List ℕ} {r : Answer} {t w : List ℕ} → Ran 32768 v r t w (reading link s 32768) → answerNumber r ≡ checkOf link s
+unfolding checkOf link
+check-is s {r = r} {t} p = number-seen r t ∙ ap endingNumber (p .is) ∙ number-ending 0 (reading link s 32768)

@@ -100,16 +100,16 @@ accepted-words r n d w v (accepted is m) e h g k = λ i. leaving (word i) (recor
 
 -- ---- by cases
 module _ (s : List ℕ) (r t c : ℕ) where
-  pub words-size : false ≡ sized link s → nothing 1 r t c ≡ readWords s r t c
+  pub words-size : false ≡ sized link s → nothing 1 r t c ≡ readWords link s r t c
   unfolding readWords
   words-size e = rw (← e)
 
   module _ (size : true ≡ sized link s) where
-    pub words-counts : (c ≡ 10 → ⊥) → nothing 14 r t c ≡ readWords s r t c
+    pub words-counts : (c ≡ 10 → ⊥) → nothing 14 r t c ≡ readWords link s r t c
     unfolding readWords
     words-counts n = rw (← size, ne-eqb _ _ n)
 
-    pub words-tables : (t ≡ tableWords → ⊥) → nothing 14 r t c ≡ readWords s r t c
+    pub words-tables : (t ≡ tableWords → ⊥) → nothing 14 r t c ≡ readWords link s r t c
     unfolding readWords readOf inWords
     words-tables n = elim (ℕ-discrete c 10) [
       | yes b ↦ rw (b, ← size, ne-eqb _ _ n, blank-all r)
@@ -117,23 +117,23 @@ module _ (s : List ℕ) (r t c : ℕ) where
     ]
 
     module _ (a : t ≡ tableWords) (b : c ≡ 10) where
-      fields-first : inWords r (outcome (reading s (r / 13)) (r / 13)) ≡ readWords s r t c
+      fields-first : inWords r (outcome (reading link s (r / 13)) (r / 13)) ≡ readWords link s r t c
       unfolding readWords readOf
       fields-first = rw (← size, eq-eqb _ _ a, eq-eqb _ _ b)
 
       -- a run that came out as y
-      module _ {v : List ℕ} {y : Answer} {w′ v′ : List ℕ} (p : Ran (r / 13) v y w′ v′ (reading s (r / 13))) where
-        pub words-refused : {k place : ℕ} → y ≡ Refused k place → {n : ℕ} → n ≡ answerNumber y → leaving n (replicate r 0) (replicate t 0) (replicate c 0) ≡ readWords s r t c
+      module _ {v : List ℕ} {y : Answer} {w′ v′ : List ℕ} (p : Ran (r / 13) v y w′ v′ (reading link s (r / 13))) where
+        pub words-refused : {k place : ℕ} → y ≡ Refused k place → {n : ℕ} → n ≡ answerNumber y → leaving n (replicate r 0) (replicate t 0) (replicate c 0) ≡ readWords link s r t c
         words-refused {k} {place} q {n} e =
-            let f : faulty k place ≡ endingOf 0 (reading s (r / 13)) = rw q at (p .is) in
+            let f : faulty k place ≡ endingOf 0 (reading link s (r / 13)) = rw q at (p .is) in
             let m : n ≡ place * 32 + k = e ∙ ap answerNumber q in
-            (λ i. leaving (m i) (replicate r 0) (replicate (a i) 0) (replicate (b i) 0)) ∙ refused-words r k place (reading s (r / 13)) f ∙ fields-first
+            (λ i. leaving (m i) (replicate r 0) (replicate (a i) 0) (replicate (b i) 0)) ∙ refused-words r k place (reading link s (r / 13)) f ∙ fields-first
 
-        pub words-accepted : {n : ℕ} {d : Counts} → y ≡ Accepted n d → v ≡ replicate r 0 → {u : List ℕ} → u ≡ listed d → leaving (n * 2 ^ 32 % 2 ^ 64) v′ w′ u ≡ readWords s r t c
+        pub words-accepted : {n : ℕ} {d : Counts} → y ≡ Accepted n d → v ≡ replicate r 0 → {u : List ℕ} → u ≡ listed d → leaving (n * 2 ^ 32 % 2 ^ 64) v′ w′ u ≡ readWords link s r t c
         words-accepted {n} {d} q z l =
-            let f : ended n (vocabulary d w′) ≡ endingOf 0 (reading s (r / 13)) = rw q at (p .is) in
+            let f : ended n (vocabulary d w′) ≡ endingOf 0 (reading link s (r / 13)) = rw q at (p .is) in
             let g : (n ≤ r / 13) × Clean d w′ = rw q at (p .settled) in
             let h : n ≤ 32769 = rw q at (p .small) in
             let x : n * 2 ^ 32 % 2 ^ 64 ≡ n * 2 ^ 32 = omega arith in
-            let k : v′ ≡ keptFrom (replicate r 0) 0 (reading s (r / 13)) = rw (q, z) at (p .keeps (rw (z, length-replicate {A = ℕ} r 0) (omega arith))) in
-            rw (x, l) (accepted-words r n d w′ v′ (reading s (r / 13)) f (g .0) (g .1) k ∙ fields-first)
+            let k : v′ ≡ keptFrom (replicate r 0) 0 (reading link s (r / 13)) = rw (q, z) at (p .keeps (rw (z, length-replicate {A = ℕ} r 0) (omega arith))) in
+            rw (x, l) (accepted-words r n d w′ v′ (reading link s (r / 13)) f (g .0) (g .1) k ∙ fields-first)

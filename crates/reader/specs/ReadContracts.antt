@@ -7,7 +7,6 @@ use lib.Dec.{eqb}
 use Rattle.format.specs.Octets.{Octets, Words}
 use Rattle.format.specs.Numbers.{pick}
 use Rattle.format.specs.Tables.{Vocabulary, link}
-use Rattle.format.specs.Document.{header}
 use Rattle.format.specs.Refusals.{SIZE, ROOM}
 use Rattle.tables.specs.declared.Counts.{Counts}
 use Rattle.tables.specs.Located.{Located}
@@ -34,9 +33,9 @@ stateOf p c = record { at = p .at; level = p .level; root = p .root; mode = p .m
 abbrev pub placeOf : State → ℕ → Place
 placeOf st left = record { at = st .at; level = st .level; root = st .root; mode = st .mode; left = left }
 
--- Before the first item, in a document of so many octets.
-abbrev pub first : ℕ → Place
-first octets = placeOf fresh (2 * octets + 1)
+-- Before the first item of a body, in a document of so many octets.
+abbrev pub first : (body octets : ℕ) → Place
+first body octets = placeOf (fresh body) (2 * octets + 1)
 
 -- A place with counts and tables.
 abbrev pub standAt : Place → Counts → Words → Stand
@@ -92,4 +91,4 @@ settled n m (Refused k p) row tables = refusing k p n m
 
 -- SIZE, then the table room, then the opening.
 unfoldable pub admission : Octets → (room : ℕ) → Opening
-admission s room = pick (sized link s) (pick (eqb room tableWords) (opening link header s) (halt ROOM 0)) (halt SIZE 0)
+admission s room = pick (sized link s) (pick (eqb room tableWords) (opening link s) (halt ROOM 0)) (halt SIZE 0)

@@ -8,9 +8,9 @@ use lib.Dec.{eqb, ltb, leb}
 use Rattle.format.specs.Octets.{Octets, Words}
 use Rattle.format.specs.Numbers.{pick}
 use Rattle.format.specs.Events.{Item}
-use Rattle.format.specs.Tables.{Vocabulary, same, Limits, link}
+use Rattle.format.specs.Tables.{Vocabulary, same, Version}
 use Rattle.format.specs.Items.{State}
-use Rattle.format.specs.Document.{beginning, header}
+use Rattle.format.specs.Document.{beginning}
 use Rattle.format.specs.Refusals.{SIZE, TRUNCATED, HEADER, OPTIONAL-PART, PADDING, ROOM}
 use Rattle.tables.specs.Counts.{countsOf, tableWords, entryWords, wordsOf}
 use Rattle.tables.specs.Kept.{listed}
@@ -51,7 +51,7 @@ marked go (quiet n) = go n
 marked go done = []
 marked go (stop n p) = []
 
-module _ (L : Limits) where
+module _ (L : Version) where
   -- Steps until the document's end, with records for `room` events. `fuel` bounds the steps.
   unfoldable pub run : Octets → (fuel room : ℕ) → Stand → Result
   run s zero room m = refusal TRUNCATED (m .at / 2)
@@ -63,57 +63,59 @@ module _ (L : Limits) where
   trace s (suc fuel) m = marked (λ n. trace s fuel n) (step L s m)
 
 -- SIZE: a document is not empty, and not over the limit.
-unfoldable pub sized : Limits → Octets → Bool
+unfoldable pub sized : Version → Octets → Bool
 sized L s = leb 1 (length s) && leb (length s) (L .octets)
 
--- What stands before the first item: go on, or a refusal.
+-- What stands before the first item: the octet where the body starts, and the tables then; or a refusal.
 pub data Opening : Type 0 where
-  onward : Opening
+  onward : (body : ℕ) → Vocabulary Located → Opening
   halt : (number place : ℕ) → Opening
 
--- SIZE (1). The first four octets: missing (2), others (3). The fifth: missing (2), its padding bit (6), a presence bit (4).
-unfoldable pub opening : Limits → Octets → Octets → Opening
-opening L head s =
+-- SIZE (1). The identification: missing (2), other octets (3). The octet behind it: missing (2), its padding bit (6), a presence bit (4).
+unfoldable pub opening : Version → Octets → Opening
+opening L s =
+    let n : ℕ = length (L .identification) in
     pick (sized L s)
-    (pick (leb 4 (length s))
-    (pick (same (take 4 s) (take 4 head))
-    (pick (leb 5 (length s))
-    (pick (ltb (getD s 4 0) 0x80) (pick (eqb (getD s 4 0) 0) onward (halt OPTIONAL-PART 4)) (halt PADDING 4))
-    (halt TRUNCATED 4))
+    (pick (leb n (length s))
+    (pick (same (take n s) (L .identification))
+    (pick (leb (suc n) (length s))
+    (pick (ltb (getD s n 0) 0x80) (pick (eqb (getD s n 0) 0) (onward (suc n) (start L)) (halt OPTIONAL-PART n)) (halt PADDING n))
+    (halt TRUNCATED n))
     (halt HEADER 0))
     (halt TRUNCATED 0))
     (halt SIZE 0)
 
 -- Before the first item; each step takes a half, so the fuel suffices.
-abbrev pub origin : Vocabulary Located → Stand
-origin tables = record { at = 10; state = beginning tables }
+abbrev pub origin : (body : ℕ) → Vocabulary Located → Stand
+origin body tables = record { at = 2 * body; state = beginning tables }
 
 abbrev pub fuelOf : Octets → ℕ
 fuelOf s = suc (2 * length s)
 
--- On the link, with these octets and records for `room` events: what the opening lets be read.
-abbrev pub resultFrom : Octets → ℕ → Opening → Result
-resultFrom s room onward = run link s (fuelOf s) room (origin start)
-resultFrom s room (halt n p) = refusal n p
+module _ (L : Version) (s : Octets) where
+  -- With these octets and records for `room` events: what the opening lets be read.
+  abbrev pub resultFrom : (room : ℕ) → Opening → Result
+  resultFrom room (onward body tables) = run L s (fuelOf s) room (origin body tables)
+  resultFrom room (halt n p) = refusal n p
 
-unfoldable pub reading : Octets → (room : ℕ) → Result
-reading s room = resultFrom s room (opening link header s)
+  unfoldable pub reading : (room : ℕ) → Result
+  reading room = resultFrom room (opening L s)
 
--- The marks of the events that the document hands out.
-abbrev pub marksFrom : Octets → Opening → List Mark
-marksFrom s onward = trace link s (fuelOf s) (origin start)
-marksFrom s (halt n p) = []
+  -- The marks of the events that the document hands out.
+  abbrev pub marksFrom : Opening → List Mark
+  marksFrom (onward body tables) = trace L s (fuelOf s) (origin body tables)
+  marksFrom (halt n p) = []
 
-unfoldable pub marks : Octets → List Mark
-marks s = marksFrom s (opening link header s)
+  unfoldable pub marks : List Mark
+  marks = marksFrom (opening L s)
 
--- The octets s are accepted, with records for `room` events; these are the items handed out, and this is known at the end, with octets in place of places.
-pub record Accepts (s : Octets) (room : ℕ) (items : List (Item Octets)) (z : State Octets) : Type 0 where
-  pub events : List (Item Located)
-  pub last : Stand
-  pub reads : reading s room ≡ accepted events last
-  pub are : map (plain s) events ≡ items
-  pub end-is : plainState s (last .state) ≡ z
+  -- The octets s are accepted, with records for `room` events; these are the items handed out, and this is known at the end, with octets in place of places.
+  pub record Accepts (room : ℕ) (items : List (Item Octets)) (z : State Octets) : Type 0 where
+    pub events : List (Item Located)
+    pub last : Stand
+    pub reads : reading room ≡ accepted events last
+    pub are : map (plain s) events ≡ items
+    pub end-is : plainState s (last .state) ≡ z
 
 -- What 01's table says of each answer.
 abbrev pub told : A.Answer → Told
@@ -148,11 +150,11 @@ abbrev pub outcome : Result → ℕ → Outcome
 outcome (accepted is m) room = accepting (map (λ (i : Item Located). recordOf (i .event)) is) (m .state .tables) room
 outcome (refusal n p) room = refusing n p room tableWords
 
--- Reading on the link, with `room` event records and `table` table words lent: SIZE, then the table room (14), both at place 0, then the fields.
-unfoldable pub readOf : Octets → (room table : ℕ) → Outcome
-readOf s room table =
-    pick (sized link s)
-    (pick (eqb table tableWords) (outcome (reading s room) room) (refusing ROOM 0 room table))
+-- Reading, with `room` event records and `table` table words lent: SIZE, then the table room (14), both at place 0, then the fields.
+unfoldable pub readOf : Version → Octets → (room table : ℕ) → Outcome
+readOf L s room table =
+    pick (sized L s)
+    (pick (eqb table tableWords) (outcome (reading L s room) room) (refusing ROOM 0 room table))
     (refusing SIZE 0 room table)
 
 -- The number that comes back to C: 0, or the place times 32 plus the refusal's number.
@@ -160,6 +162,6 @@ abbrev pub numberOf : Result → ℕ
 numberOf (accepted is m) = 0
 numberOf (refusal n p) = p * 32 + n
 
--- The check: as a reader with 32,768 event records.
-unfoldable pub checkOf : Octets → ℕ
-checkOf s = numberOf (reading s 32768)
+-- The check: as a reader with an event record for each half of the longest document, which are 32,768 on the link.
+unfoldable pub checkOf : Version → Octets → ℕ
+checkOf L s = numberOf (reading L s (2 * L .octets))

@@ -9,7 +9,7 @@ use lib.Dec.{ltb}
 use Rattle.format.specs.Octets.{Words}
 use Rattle.format.specs.Numbers.{pick}
 use Rattle.format.specs.Events.{Item}
-use Rattle.format.specs.Tables.{Vocabulary}
+use Rattle.format.specs.Tables.{Vocabulary, link}
 use Rattle.tables.specs.Located.{Located, start}
 use Rattle.tables.specs.Counts.{countsOf, tableWords}
 use Rattle.tables.specs.Rows.{vocabulary}
@@ -28,12 +28,12 @@ use Rattle.reader.specs.Reading as R
 use Rattle.reader.specs.Reading.{Result, accepted, refusal, told}
 
 abbrev pub openingOf : Opening → R.Opening
-openingOf Onward = R.onward
+openingOf (Onward body) = R.onward body (start link)
 openingOf (Halt n p) = R.halt n p
 
--- The reader before the first item.
-abbrev pub fresh : State
-fresh = record { at = 10; level = 0; root = false; mode = Content; counts = countsOf start }
+-- The reader before the first item of a body.
+abbrev pub fresh : (body : ℕ) → State
+fresh body = record { at = 2 * body; level = 0; root = false; mode = Content; counts = countsOf (start link) }
 
 -- ---- how a run ends: so many events, and the tables; or a refusal
 pub data Ending : Type 0 where

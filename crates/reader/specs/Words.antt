@@ -5,7 +5,7 @@ use lib.ListN.{replicate}
 use lib.Dec.{eqb}
 use Rattle.format.specs.Octets.{Octets, Words}
 use Rattle.format.specs.Numbers.{pick}
-use Rattle.format.specs.Tables.{link}
+use Rattle.format.specs.Tables.{Version}
 use Rattle.format.specs.Refusals.{SIZE, ROOM}
 use Rattle.tables.specs.Told.{wholeWord}
 use Rattle.events.specs.Words.{rowWords}
@@ -38,5 +38,5 @@ inWords r o = leaving (answerWord (o .answer)) (rowWords (o .row) ++ replicate (
 
 -- With r, t and c words lent for records, tables and counts: SIZE (1), then the room of the counts, which are the tables' (14), both at place 0; then what
 -- reading into r / 13 event records and t table words leaves.
-unfoldable pub readWords : Octets → (r t c : ℕ) → WordsLeft
-readWords s r t c = pick (sized link s) (pick (eqb c 10) (inWords r (readOf s (r / 13) t)) (nothing ROOM r t c)) (nothing SIZE r t c)
+unfoldable pub readWords : Version → Octets → (r t c : ℕ) → WordsLeft
+readWords L s r t c = pick (sized L s) (pick (eqb c 10) (inWords r (readOf L s (r / 13) t)) (nothing ROOM r t c)) (nothing SIZE r t c)

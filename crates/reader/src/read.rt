@@ -68,12 +68,12 @@ fn pause(st: State, left: usize) -> Place
     }
 }
 
-// Before the first item. Each step takes a half of an octet, so these suffice.
-fn begin(octets: usize) -> Place
-    requires { ⌜ octets ≤ 16384 ⌝ }
-    ensures { λ r. ⌜ r ≡ first octets ⌝ }
+// Before the first item of a body. Each step takes a half of an octet, so these suffice.
+fn begin(body: usize, octets: usize) -> Place
+    requires { ⌜ (body ≤ octets) × (octets ≤ 16384) ⌝ }
+    ensures { λ r. ⌜ r ≡ first body octets ⌝ }
 {
-    pause(run::begin(), 2 * octets + 1)
+    pause(run::begin(body), 2 * octets + 1)
 }
 
 // Steps up to the next event: ends that are none are passed over.
@@ -140,12 +140,12 @@ fn finish(a: Next, n: usize, c: Counts) -> Answer
 }
 
 // A document whose opening is read, into a row and tables that are blank.
-fn fill(s: &[u8], events: &mut [Event], tables: &mut [u32]) -> Answer
-    requires { ⌜ (5 ≤ length (now s)) × (length (now s) ≤ 16384) × (now events ≡ replicate (length (now events)) blank) × (now tables ≡ replicate tableWords 0) ⌝ }
-    ensures { λ r. ⌜ settled (length (now (events .entry))) tableWords r (now (events .exit)) (now (tables .exit)) ≡ outcome (run link (now (s .entry)) (fuelOf (now (s .entry))) (length (now (events .entry))) (origin start)) (length (now (events .entry))) ⌝ }
+fn fill(s: &[u8], events: &mut [Event], tables: &mut [u32], body: usize) -> Answer
+    requires { ⌜ (body ≤ length (now s)) × (length (now s) ≤ 16384) × (now events ≡ replicate (length (now events)) blank) × (now tables ≡ replicate tableWords 0) ⌝ }
+    ensures { λ r. ⌜ settled (length (now (events .entry))) tableWords r (now (events .exit)) (now (tables .exit)) ≡ outcome (run link (now (s .entry)) (fuelOf (now (s .entry))) (length (now (events .entry))) (origin body (start link))) (length (now (events .entry))) ⌝ }
 {
     let mut counts = Counts::start();
-    let mut p = begin(s.len());
+    let mut p = begin(body, s.len());
     let mut n = 0;
     let mut a = Next::Finished;
     loop {
@@ -195,13 +195,13 @@ fn admitted(s: &[u8], room: usize) -> Opening
 // Any octets, any room. Nothing of what was in the room before is left in it.
 // Wrong would be: on a refusal, records that are left of events before the fault; on acceptance, counts that go on from those of an earlier document.
 pub fn read(octets: &[u8], events: &mut [Event], tables: &mut [u32]) -> Answer
-    ensures { λ r. ⌜ Leaves r (now (events .exit)) (now (tables .exit)) (readOf (now (octets .entry)) (length (now (events .entry))) (length (now (tables .entry)))) ⌝ }
+    ensures { λ r. ⌜ Leaves r (now (events .exit)) (now (tables .exit)) (readOf link (now (octets .entry)) (length (now (events .entry))) (length (now (tables .entry)))) ⌝ }
 {
     wipe(events, tables);
     match admitted(octets, tables.len()) {
         Opening::Halt(number, place) => run::refused(number, place),
-        Opening::Onward => {
-            let a = fill(octets, events, tables);
+        Opening::Onward(body) => {
+            let a = fill(octets, events, tables, body);
             match a {
                 Answer::Accepted(_, _) => {}
                 Answer::Refused(_, _) => {

@@ -4,7 +4,6 @@ ghost use Prim.Native.Nat.{_+_, _≤_};
 ghost use lib.ListN.{length, take, replicate};
 ghost use lib.Seq.{sets};
 ghost use Rattle.format.specs.Tables.{link, same};
-ghost use Rattle.format.specs.Document.{header};
 ghost use Rattle.tables.specs.Located.{start};
 ghost use Rattle.tables.specs.Counts.{tableWords};
 ghost use Rattle.events.specs.Words.{stringWords};
@@ -28,19 +27,17 @@ const OPTIONAL: u32 = 4;
 
 pub const ROOM: u32 = 14;
 
-// Octets of the longest document; event records that the check counts; words of a record.
-const OCTETS: usize = 16384;
-
-const CHECKED: usize = 32768;
+// Event records that the check counts: one for each half of the longest document; words of a record.
+const CHECKED: usize = 2 * fields::OCTETS;
 
 const RECORD: usize = 13;
 
-// E0 00 (12.6) and version 1 (12.7).
-const FIRST: [u8; 4] = [0xE0, 0x00, 0x00, 0x01];
+// Octets of the identification. Behind them, the header has one more.
+const FIRST: usize = fields::BODY - 1;
 
-// What stands before the first item: go on, or the refusal and its place.
+// What stands before the first item: the octet where the body starts, or the refusal and its place.
 pub enum Opening {
-    Onward,
+    Onward(usize),
     Halt(u32, usize),
 }
 
@@ -50,16 +47,16 @@ pub fn sized(s: &[u8]) -> bool
     if s.len() == 0 {
         return false;
     }
-    s.len() <= OCTETS
+    s.len() <= fields::OCTETS
 }
 
 fn headed(s: &[u8]) -> bool
     requires { ⌜ 4 ≤ length (now s) ⌝ }
-    ensures { λ r. ⌜ r ≡ same (take 4 (now (s .entry))) (take 4 header) ⌝ }
+    ensures { λ r. ⌜ r ≡ same (take 4 (now (s .entry))) (link .identification) ⌝ }
 {
     let mut i = 0;
-    while i < 4 {
-        if s[i] != FIRST[i] {
+    while i < FIRST {
+        if s[i] != fields::HEADER[i] {
             return false;
         }
         i += 1;
@@ -67,38 +64,39 @@ fn headed(s: &[u8]) -> bool
     true
 }
 
-// SIZE, the first four octets, the fifth.
+// SIZE, the identification, the octet behind it.
 pub fn opened(s: &[u8]) -> Opening
-    ensures { λ r. ⌜ openingOf r ≡ opening link header (now (s .entry)) ⌝ }
+    ensures { λ r. ⌜ openingOf r ≡ opening link (now (s .entry)) ⌝ }
 {
     if !sized(s) {
         return Opening::Halt(SIZE, 0);
     }
-    if s.len() < 4 {
+    if s.len() < FIRST {
         return Opening::Halt(fields::TRUNCATED, 0);
     }
     if !headed(s) {
         return Opening::Halt(HEADER, 0);
     }
-    if s.len() < 5 {
-        return Opening::Halt(fields::TRUNCATED, 4);
+    if s.len() < fields::BODY {
+        return Opening::Halt(fields::TRUNCATED, FIRST);
     }
-    let o = s[4];
+    let o = s[FIRST];
     if 0x80 <= o {
-        return Opening::Halt(fields::PADDING, 4);
+        return Opening::Halt(fields::PADDING, FIRST);
     }
     if o != 0 {
-        return Opening::Halt(OPTIONAL, 4);
+        return Opening::Halt(OPTIONAL, FIRST);
     }
-    Opening::Onward
+    Opening::Onward(fields::BODY)
 }
 
-// Before the first item.
-pub fn begin() -> State
-    ensures { λ r. ⌜ r ≡ fresh ⌝ }
+// Before the first item of a body.
+pub fn begin(body: usize) -> State
+    requires { ⌜ body ≤ 16384 ⌝ }
+    ensures { λ r. ⌜ r ≡ fresh body ⌝ }
 {
     State {
-        at: 10,
+        at: 2 * body,
         level: 0,
         root: false,
         mode: Mode::Content,
@@ -144,11 +142,11 @@ pub fn refused(k: u32, p: usize) -> Answer
 }
 
 // Steps until the document's end, with records for `room` events; `records` keeps those for which it has words.
-fn steps(s: &[u8], t: &mut [u32], records: &mut [u32], room: usize) -> Answer
-    requires { ⌜ (5 ≤ length (now s)) × (length (now s) ≤ 16384) × (now t ≡ replicate tableWords 0) ⌝ }
-    ensures { λ r. ⌜ Ran room (now (records .entry)) r (now (t .exit)) (now (records .exit)) (run link (now (s .entry)) (fuelOf (now (s .entry))) room (origin start)) ⌝ }
+fn steps(s: &[u8], t: &mut [u32], records: &mut [u32], room: usize, body: usize) -> Answer
+    requires { ⌜ (body ≤ length (now s)) × (length (now s) ≤ 16384) × (now t ≡ replicate tableWords 0) ⌝ }
+    ensures { λ r. ⌜ Ran room (now (records .entry)) r (now (t .exit)) (now (records .exit)) (run link (now (s .entry)) (fuelOf (now (s .entry))) room (origin body (start link))) ⌝ }
 {
-    let mut st = begin();
+    let mut st = begin(body);
     let mut n = 0;
     let mut left = 2 * s.len() + 1;
     while 0 < left {
@@ -180,11 +178,11 @@ fn steps(s: &[u8], t: &mut [u32], records: &mut [u32], room: usize) -> Answer
 // A document, with tables that are clear.
 fn reading(s: &[u8], t: &mut [u32], records: &mut [u32], room: usize) -> Answer
     requires { ⌜ now t ≡ replicate tableWords 0 ⌝ }
-    ensures { λ r. ⌜ Ran room (now (records .entry)) r (now (t .exit)) (now (records .exit)) (reading (now (s .entry)) room) ⌝ }
+    ensures { λ r. ⌜ Ran room (now (records .entry)) r (now (t .exit)) (now (records .exit)) (reading link (now (s .entry)) room) ⌝ }
 {
     match opened(s) {
         Opening::Halt(k, p) => refused(k, p),
-        Opening::Onward => steps(s, t, records, room),
+        Opening::Onward(body) => steps(s, t, records, room, body),
     }
 }
 
@@ -202,7 +200,7 @@ fn number(a: Answer) -> u32
 // Any octets, as a reader with 32,768 event records, of which none is held.
 // Wrong would be: ROOM, since it needs no records; 0 for a document with octets behind its end, which is STRUCTURE.
 pub fn check(octets: &[u8]) -> u32
-    ensures { λ r. ⌜ r ≡ checkOf (now (octets .entry)) ⌝ }
+    ensures { λ r. ⌜ r ≡ checkOf link (now (octets .entry)) ⌝ }
 {
     let mut t = [0u32; 7680];
     let mut none = [0u32; 0];
@@ -213,7 +211,7 @@ pub fn check(octets: &[u8]) -> u32
 // refusal's number, which leaves every word 0.
 // Wrong would be: on a refusal, tables that are left from before the fault; on acceptance, a word behind the last whole record that stood there before the call.
 pub fn read_words(octets: &[u8], records: &mut [u32], tables: &mut [u32], counts: &mut [u32]) -> u64
-    ensures { λ r. ⌜ leaving r (now (records .exit)) (now (tables .exit)) (now (counts .exit)) ≡ readWords (now (octets .entry)) (length (now (records .entry))) (length (now (tables .entry))) (length (now (counts .entry))) ⌝ }
+    ensures { λ r. ⌜ leaving r (now (records .exit)) (now (tables .exit)) (now (counts .exit)) ≡ readWords link (now (octets .entry)) (length (now (records .entry))) (length (now (tables .entry))) (length (now (counts .entry))) ⌝ }
 {
     let room = records.len() / RECORD;
     tables::clear(records);

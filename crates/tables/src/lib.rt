@@ -5,7 +5,7 @@ ghost use mathlib.Core.Bool.{false};
 ghost use mathlib.Core.List.{map};
 ghost use Prim.Native.Nat.{_+_, _-_, _*_, _<_, _≤_};
 ghost use lib.ListN.{length, getD, replicate};
-ghost use Rattle.format.specs.Tables.{same, sameTriple};
+ghost use Rattle.format.specs.Tables.{link, same, sameTriple};
 ghost use Rattle.tables.specs.Located.{stretch, octetsOf, start};
 ghost use Rattle.tables.specs.Weights.{weight, Small};
 ghost use Rattle.tables.specs.Counts.{countsOf};
@@ -37,7 +37,7 @@ impl Counts {
 
     // PREFIX and NAMESPACE NAME start with their built-in entry, the others empty.
     pub fn start() -> Counts
-        ensures { λ r. ⌜ r ≡ countsOf start ⌝ }
+        ensures { λ r. ⌜ r ≡ countsOf (start link) ⌝ }
     {
         Counts {
             prefix: 1,

@@ -3,10 +3,10 @@ use mathlib.Core.Path.{_≡_, refl, ap}
 use mathlib.Core.List.{List, [], _∷_, _++_}
 use Rattle.format.specs.Octets.{Octets}
 use Rattle.format.specs.Events.{Event, Item, _by_}
-use Rattle.format.specs.Tables.{Vocabulary, Limits}
+use Rattle.format.specs.Tables.{Vocabulary, Version}
 use Rattle.write_names.specs.Chosen.{chooseFor, chosen, tablesAfter}
 
-module _ (C : Limits) where
+module _ (C : Version) where
   pub chosen-append : (v : Vocabulary Octets) (xs ys : List (Event Octets)) → chosen C v (xs ++ ys) ≡ chosen C v xs ++ chosen C (tablesAfter C v xs) ys
   unfolding chosen tablesAfter
   chosen-append v [] ys = refl

@@ -10,7 +10,7 @@ use lib.ListN.{length, length-append}
 use Rattle.format.specs.Octets.{Octets, Halves}
 use Rattle.format.specs.Numbers.{Form, form, pick, spell}
 use Rattle.format.specs.Events.{Name, How, NameHow, Item, isDeclaration, isStart, openThen, openAfter, declaresLast}
-use Rattle.format.specs.Tables.{StringTable, NameTable, Triple, Vocabulary, strings, names, place, adding, addingName, Limits, InLimits}
+use Rattle.format.specs.Tables.{StringTable, NameTable, Triple, Vocabulary, strings, names, place, adding, addingName, Version, InLimits}
 use Rattle.format.specs.Strings.{bit, Identifying, id-spelled, id-numbered, Optional, absent, present, Layout, Literal, literal-spelled, literal-numbered, Value, value-empty, value}
 use Rattle.format.specs.Names.{NameLayout, Named, in-parts, by-number, Declared, declared}
 use Rattle.format.specs.Items.{Mode, content, declaring, listing, State, afterStart, moved, ItemWrittenAs, o-start, o-first-namespace, o-namespace, o-named-start, o-attribute, o-text, o-comment, o-instruction}
@@ -39,7 +39,7 @@ item-group : (at : ℕ) (o : Octets) (hs ks : Halves) → (pad at ++ (halves o +
 item-group at o hs ks = simp append-assoc
 
 -- What is written, in two: the items xs, and the rest of the document.
-pub record Split (L : Limits) (at : ℕ) (v : State Octets) (xs ys : List (Item Octets)) (hs : Halves) (z : State Octets) : Type 0 where
+pub record Split (L : Version) (at : ℕ) (v : State Octets) (xs ys : List (Item Octets)) (hs : Halves) (z : State Octets) : Type 0 where
   pub front-halves : Halves
   pub rest-halves : Halves
   pub mid : State Octets
@@ -47,7 +47,7 @@ pub record Split (L : Limits) (at : ℕ) (v : State Octets) (xs ys : List (Item 
   pub rest : Written L (at + length front-halves) mid ys rest-halves z
   pub are : hs ≡ front-halves ++ rest-halves
 
-module _ {L : Limits} where
+module _ {L : Version} where
   -- ---- what is begun goes on
   pub begun-more : {at : ℕ} {v w z : State Octets} {xs ys : List (Item Octets)} {hs ks : Halves}
       → Begun L at v xs hs w → Begun L (at + length hs) w ys ks z → Begun L at v (xs ++ ys) (hs ++ ks) z
@@ -158,7 +158,7 @@ unfolding spell
 spell-size [] lead lead′ n = refl
 spell-size (form code zeros bits low ∷ fs) lead lead′ n = simp (length-pick, spell-size fs lead lead′ n)
 
-module _ {L : Limits} where
+module _ {L : Version} where
   -- and so are a name's
   behind-bits : {q : NameLayout} {lead : ℕ} {v w : Vocabulary Octets} {x : Name Octets} {h : NameHow} {o : Octets} (lead′ : ℕ)
       → Named L q lead v x h o w → (o′ : Octets) × Named L q lead′ v x h o′ w × (length o ≡ length o′)
@@ -237,7 +237,7 @@ module _ {L : Limits} where
   begun-size {v = v} = begun-alike (alike v)
 
 -- ---- the limits: a table gets an entry where it has room for one, an element opens where it may
-module _ {L : Limits} where
+module _ {L : Version} where
   adding-fits : {v : Vocabulary Octets} (t : StringTable) (x : Octets) → length (strings v t) < L .entries → InLimits L v → InLimits L (adding v t x)
   adding-fits {v} t x room f =
       record {
@@ -315,7 +315,7 @@ start-declares : (a : Bool) → isDeclaring (afterStart a) ≡ false
 start-declares true = refl
 start-declares false = refl
 
-module _ {L : Limits} where
+module _ {L : Version} where
   octets-level : {v w : State Octets} {i : Item Octets} {o : Octets} → ItemWrittenAs L v i o w → w .level ≡ openThen (v .level) (i .event)
   octets-level (o-start a md may deep u) = refl
   octets-level (o-first-namespace md may deep u) = refl

@@ -12,9 +12,9 @@ use borrow.Author.Tests.{leb-true}
 use Rattle.format.specs.Octets.{Octets, Words, AreOctets}
 use Rattle.format.specs.Numbers.{pick}
 use Rattle.format.specs.Events.{Item}
-use Rattle.format.specs.Tables.{link}
+use Rattle.format.specs.Tables.{Version}
 use Rattle.format.specs.Items.{State}
-use Rattle.format.specs.Document.{Writes}
+use Rattle.format.specs.Document.{Document}
 use Rattle.tables.specs.declared.Counts.{Counts}
 use Rattle.tables.specs.Counts.{tableWords}
 use Rattle.tables.specs.Located.{Located, plain, plainState}
@@ -25,49 +25,50 @@ use Rattle.reader.specs.declared.Answer.the-variants.{Accepted, Refused}
 use Rattle.reader.specs.Reading.{Result, accepted, refusal, sized, reading, Outcome, Leaves, refusing, accepting, outcome, readOf, numberOf, checkOf}
 use Rattle.reader.specs.Words.{answerWord, leaving, nothing, inWords, readWords}
 use Rattle.tables.proofs.Found.{both-true}
+use Rattle.theorems.specs.Bounded.{Bounded}
 use Rattle.theorems.proofs.Fits.{accepted-sized}
 use Rattle.theorems.proofs.Document as Whole
 use Rattle.theorems.proofs.Demands.{check-needs-none}
 
 -- The octets are what the rules write, from some items.
-pub record Written (s : Octets) : Type 0 where
+pub record Written (L : Version) (s : Octets) : Type 0 where
   pub items : List (Item Octets)
   pub last : State Octets
-  pub writes : Writes items last s
+  pub writes : Document L items last s
 
 -- A call with this room left the records of these events, blank records behind them, and these tables; and the rules write s from the events.
-pub record Handed (s : Octets) (room : ℕ) (o : Outcome) : Type 0 where
+pub record Handed (L : Version) (s : Octets) (room : ℕ) (o : Outcome) : Type 0 where
   pub events : List (Item Located)
   pub last : State Located
   pub is : o ≡ accepting (map (λ (i : Item Located). recordOf (i .event)) events) (last .tables) room
-  pub writes : Writes (map (plain s) events) (plainState s last) s
+  pub writes : Document L (map (plain s) events) (plainState s last) s
 
-module _ (s : Octets) (bytes : AreOctets s) where
+module _ (L : Version) (ok : Bounded L) (s : Octets) (bytes : AreOctets s) where
   module _ (room : ℕ) where
-    from-result : (a : Result) → Whole.Means s bytes a → (n : ℕ) (c : Counts) → outcome a room .answer ≡ Accepted n c → Handed s room (outcome a room)
+    from-result : (a : Result) → Whole.Means L ok s bytes a → (n : ℕ) (c : Counts) → outcome a room .answer ≡ Accepted n c → Handed L s room (outcome a room)
     from-result (accepted is m) w n c e = record { events = is; last = m .state; is = refl; writes = w }
     from-result (refusal k p) w n c e = absurd (let z : _≡_ {A = ℕ} 0 1 = cc in omega arith)
 
     by-room : (table n : ℕ) (c : Counts) (b d : Bool)
-        → pick b (pick d (outcome (reading s room) room) (refusing 14 0 room table)) (refusing 1 0 room table) .answer ≡ Accepted n c
-        → Handed s room (pick b (pick d (outcome (reading s room) room) (refusing 14 0 room table)) (refusing 1 0 room table))
-    by-room table n c true true e = from-result (reading s room) (Whole.means s bytes room) n c e
+        → pick b (pick d (outcome (reading L s room) room) (refusing 14 0 room table)) (refusing 1 0 room table) .answer ≡ Accepted n c
+        → Handed L s room (pick b (pick d (outcome (reading L s room) room) (refusing 14 0 room table)) (refusing 1 0 room table))
+    by-room table n c true true e = from-result (reading L s room) (Whole.means L ok s bytes room) n c e
     by-room table n c true false e = absurd (let z : _≡_ {A = ℕ} 0 1 = cc in omega arith)
     by-room table n c false d e = absurd (let z : _≡_ {A = ℕ} 0 1 = cc in omega arith)
 
     -- 13. READ ACCEPTS what the rules write, and the events in the row are those.
-    pub read-accepts : (table n : ℕ) (c : Counts) → readOf s room table .answer ≡ Accepted n c → Handed s room (readOf s room table)
+    pub read-accepts : (table n : ℕ) (c : Counts) → readOf L s room table .answer ≡ Accepted n c → Handed L s room (readOf L s room table)
     unfolding readOf
-    read-accepts table n c e = by-room table n c (sized link s) (eqb table tableWords) e
+    read-accepts table n c e = by-room table n c (sized L s) (eqb table tableWords) e
 
     --     And all that the rules write, if there is a record for each event and the table room is right; the events in the row are those of the items, and the
     --     tables in the words those that the rules know at the end.
-    pub written-is-read : (items : List (Item Octets)) (z : State Octets) → Writes items z s → length items ≤ room
-        → (h : Handed s room (readOf s room tableWords)) × (map (plain s) (h .events) ≡ items) × (plainState s (h .last) ≡ z)
+    pub written-is-read : (items : List (Item Octets)) (z : State Octets) → Document L items z s → length items ≤ room
+        → (h : Handed L s room (readOf L s room tableWords)) × (map (plain s) (h .events) ≡ items) × (plainState s (h .last) ≡ z)
     unfolding readOf
     written-is-read items z w h =
-        let a = Whole.accepts s items z w room h in
-        let y = accepted-sized s room (a .events) (a .last) (a .reads) in (
+        let a = Whole.accepts L s items z w room h in
+        let y = accepted-sized L s room (a .events) (a .last) (a .reads) in (
           record {
             events = a .events;
             last = a .last .state;
@@ -78,87 +79,77 @@ module _ (s : Octets) (bytes : AreOctets s) where
           a .end-is,
         )
 
-  from-number : (a : Result) → Whole.Means s bytes a → numberOf a ≡ 0 → Written s
+  from-number : (a : Result) → Whole.Means L ok s bytes a → numberOf a ≡ 0 → Written L s
   from-number (accepted is m) w e = record { items = map (plain s) is; last = plainState s (m .state); writes = w }
   from-number (refusal n p) w e = let h = w .0 in absurd (omega arith)
 
   -- 14. THE CHECK answers 0 for what the rules write, and for nothing else.
-  pub check-accepts : checkOf s ≡ 0 → Written s
+  pub check-accepts : checkOf L s ≡ 0 → Written L s
   unfolding checkOf
-  check-accepts e = from-number (reading s 32768) (Whole.means s bytes 32768) e
+  check-accepts e = from-number (reading L s (2 * L .octets)) (Whole.means L ok s bytes (2 * L .octets)) e
 
-  pub written-is-checked : (items : List (Item Octets)) (z : State Octets) → Writes items z s → checkOf s ≡ 0
+  pub written-is-checked : (items : List (Item Octets)) (z : State Octets) → Document L items z s → checkOf L s ≡ 0
   written-is-checked items z w =
-      let a = Whole.accepts s items z w (32768 + length items) (omega arith) in
-      check-needs-none s bytes (32768 + length items) (omega arith) ∙ ap numberOf (a .reads)
+      let a = Whole.accepts L s items z w (2 * L .octets + length items) (omega arith) in
+      check-needs-none L ok s bytes (2 * L .octets + length items) (omega arith) ∙ ap numberOf (a .reads)
 
   -- 15. READ INTO WORDS: what is accepted is left as the words of what `read` leaves; so the rules write s from the events in these words (13).
   module _ (r t : ℕ) where
     abbrev left : Outcome
-    left = readOf s (r / 13) t
+    left = readOf L s (r / 13) t
 
-    from-refusal : sized link s ≡ true → (a : Result) → Whole.Means s bytes a → (k p : ℕ) → outcome a (r / 13) .answer ≡ Refused k p → (1 ≤ k) × (p * 32 + k < 2 ^ 32)
-    unfolding sized link
-    from-refusal size (accepted is m) w k p e = absurd (let z : _≡_ {A = ℕ} 0 1 = cc in omega arith)
-    from-refusal size (refusal n place) w k p e =
+    from-refusal : (a : Result) → Whole.Means L ok s bytes a → (k p : ℕ) → outcome a (r / 13) .answer ≡ Refused k p → (1 ≤ k) × (k ≤ 15)
+    from-refusal (accepted is m) w k p e = absurd (let z : _≡_ {A = ℕ} 0 1 = cc in omega arith)
+    from-refusal (refusal n place) w k p e =
         let ek : n ≡ k = cc in
-        let ep : place ≡ p = cc in
-        let l : length s ≤ 16384 = leb-true (length s) 16384 (both-true (leb 1 (length s)) (leb (length s) 16384) size .1) in
         let f = w .0 in
         let g = w .1 in
-        let h = w .2 in
         (omega arith, omega arith)
 
-    refused-small : (b d : Bool) → sized link s ≡ b → (k p : ℕ)
-        → pick b (pick d (outcome (reading s (r / 13)) (r / 13)) (refusing 14 0 (r / 13) t)) (refusing 1 0 (r / 13) t) .answer ≡ Refused k p → (1 ≤ k) × (p * 32 + k < 2 ^ 32)
-    refused-small true true size k p e = from-refusal size (reading s (r / 13)) (Whole.means s bytes (r / 13)) k p e
-    refused-small true false size k p e =
-        let ek : 14 ≡ k = cc in
-        let ep : 0 ≡ p = cc in
-        (omega arith, omega arith)
-    refused-small false d size k p e =
-        let ek : 1 ≡ k = cc in
-        let ep : 0 ≡ p = cc in
-        (omega arith, omega arith)
+    refused-small : (b d : Bool) (k p : ℕ)
+        → pick b (pick d (outcome (reading L s (r / 13)) (r / 13)) (refusing 14 0 (r / 13) t)) (refusing 1 0 (r / 13) t) .answer ≡ Refused k p → (1 ≤ k) × (k ≤ 15)
+    refused-small true true k p e = from-refusal (reading L s (r / 13)) (Whole.means L ok s bytes (r / 13)) k p e
+    refused-small true false k p e = let ek : 14 ≡ k = cc in (omega arith, omega arith)
+    refused-small false d k p e = let ek : 1 ≡ k = cc in (omega arith, omega arith)
 
-    by-answer : (n : ℕ) (a : Answer) → left .answer ≡ a → answerWord a ≡ n * 2 ^ 32 → Handed s (r / 13) left
+    by-answer : (n : ℕ) (a : Answer) → left .answer ≡ a → answerWord a ≡ n * 2 ^ 32 → Handed L s (r / 13) left
     unfolding readOf
     by-answer n (Accepted m c) e q = read-accepts (r / 13) t m c e
-    by-answer n (Refused k p) e q = let f = refused-small (sized link s) (eqb t tableWords) refl k p e in absurd (omega arith)
+    by-answer n (Refused k p) e q = let f = refused-small (sized L s) (eqb t tableWords) k p e in absurd (let low = f .0 in let high = f .1 in omega arith)
 
     by-words : (c n : ℕ) (b d : Bool) → pick b (pick d (inWords r left) (nothing 14 r t c)) (nothing 1 r t c) .answer ≡ n * 2 ^ 32
-        → Handed s (r / 13) left × (pick b (pick d (inWords r left) (nothing 14 r t c)) (nothing 1 r t c) ≡ inWords r left)
+        → Handed L s (r / 13) left × (pick b (pick d (inWords r left) (nothing 14 r t c)) (nothing 1 r t c) ≡ inWords r left)
     unfolding inWords
     by-words c n true true e = (by-answer n (left .answer) refl e, refl)
     by-words c n true false e = absurd (omega arith)
     by-words c n false d e = absurd (omega arith)
 
-    pub words-accept : (c n : ℕ) → readWords s r t c .answer ≡ n * 2 ^ 32 → Handed s (r / 13) left × (readWords s r t c ≡ inWords r left)
+    pub words-accept : (c n : ℕ) → readWords L s r t c .answer ≡ n * 2 ^ 32 → Handed L s (r / 13) left × (readWords L s r t c ≡ inWords r left)
     unfolding readWords
-    words-accept c n e = by-words c n (sized link s) (eqb c 10) e
+    words-accept c n e = by-words c n (sized L s) (eqb c 10) e
 
   --     And all that the rules write is, if there are words for each event and the tables' room is right.
-  pub written-is-worded : (items : List (Item Octets)) (z : State Octets) → Writes items z s → (r : ℕ) → length items ≤ r / 13
-      → Handed s (r / 13) (readOf s (r / 13) tableWords) × (readWords s r tableWords 10 ≡ inWords r (readOf s (r / 13) tableWords))
+  pub written-is-worded : (items : List (Item Octets)) (z : State Octets) → Document L items z s → (r : ℕ) → length items ≤ r / 13
+      → Handed L s (r / 13) (readOf L s (r / 13) tableWords) × (readWords L s r tableWords 10 ≡ inWords r (readOf L s (r / 13) tableWords))
   unfolding readWords
   written-is-worded items z w r h =
-      let a = Whole.accepts s items z w (r / 13) h in
-      (written-is-read (r / 13) items z w h .0, rw (accepted-sized s (r / 13) (a .events) (a .last) (a .reads)))
+      let a = Whole.accepts L s items z w (r / 13) h in
+      (written-is-read (r / 13) items z w h .0, rw (accepted-sized L s (r / 13) (a .events) (a .last) (a .reads)))
 
 -- 16. DEMAND 1: what a call answers and leaves depends on the octets, and on how much room is lent, but not on what stood in it: e and t before one call, f and u
 --     before another.
-module _ (s : Octets) (e f : List Event) (t u : Words) (a b : Answer) (e′ f′ : List Event) (t′ u′ : Words) where
-  pub whatever-stood : length e ≡ length f → length t ≡ length u → Leaves a e′ t′ (readOf s (length e) (length t)) → Leaves b f′ u′ (readOf s (length f) (length u))
+module _ (L : Version) (s : Octets) (e f : List Event) (t u : Words) (a b : Answer) (e′ f′ : List Event) (t′ u′ : Words) where
+  pub whatever-stood : length e ≡ length f → length t ≡ length u → Leaves a e′ t′ (readOf L s (length e) (length t)) → Leaves b f′ u′ (readOf L s (length f) (length u))
       → (a ≡ b) × (e′ ≡ f′) × (t′ ≡ u′)
   whatever-stood l m x y = let y′ = rw (← l, ← m) at y in (x .0 ∙ sym (y′ .0), x .2 ∙ sym (y′ .2), x .3 ∙ sym (y′ .3))
 
 --     And a second call on what the first left, whose lengths are what they were, answers and leaves the same.
-pub read-twice : (s : Octets) (e e′ e″ : List Event) (t t′ t″ : Octets) (a b : Answer) → length e′ ≡ length e → length t′ ≡ length t
-    → Leaves a e′ t′ (readOf s (length e) (length t)) → Leaves b e″ t″ (readOf s (length e′) (length t′)) → (b ≡ a) × (e″ ≡ e′) × (t″ ≡ t′)
-read-twice s e e′ e″ t t′ t″ a b l m x y = whatever-stood s e′ e t′ t b a e″ e′ t″ t′ l m y x
+pub read-twice : (L : Version) (s : Octets) (e e′ e″ : List Event) (t t′ t″ : Octets) (a b : Answer) → length e′ ≡ length e → length t′ ≡ length t
+    → Leaves a e′ t′ (readOf L s (length e) (length t)) → Leaves b e″ t″ (readOf L s (length e′) (length t′)) → (b ≡ a) × (e″ ≡ e′) × (t″ ≡ t′)
+read-twice L s e e′ e″ t t′ t″ a b l m x y = whatever-stood L s e′ e t′ t b a e″ e′ t″ t′ l m y x
 
 --     The same of reading into words.
-pub words-whatever-stood : (s : Octets) (r q t u c d : Words) (a b : ℕ) (r′ q′ t′ u′ c′ d′ : Words) → length r ≡ length q → length t ≡ length u → length c ≡ length d
-    → leaving a r′ t′ c′ ≡ readWords s (length r) (length t) (length c) → leaving b q′ u′ d′ ≡ readWords s (length q) (length u) (length d)
+pub words-whatever-stood : (L : Version) (s : Octets) (r q t u c d : Words) (a b : ℕ) (r′ q′ t′ u′ c′ d′ : Words) → length r ≡ length q → length t ≡ length u → length c ≡ length d
+    → leaving a r′ t′ c′ ≡ readWords L s (length r) (length t) (length c) → leaving b q′ u′ d′ ≡ readWords L s (length q) (length u) (length d)
     → leaving a r′ t′ c′ ≡ leaving b q′ u′ d′
-words-whatever-stood s r q t u c d a b r′ q′ t′ u′ c′ d′ l m n x y = x ∙ rw (l, m, n) (sym y)
+words-whatever-stood L s r q t u c d a b r′ q′ t′ u′ c′ d′ l m n x y = x ∙ rw (l, m, n) (sym y)

@@ -12,7 +12,7 @@ use lib.Seq.{getD-append-seam}
 use Rattle.format.specs.Octets.{Octets}
 use Rattle.format.specs.Numbers.{pick, spell, sizes, lengths, c25, top}
 use Rattle.format.specs.Events.{Name, How, spelled, numbered, NameHow, inParts, byNumber}
-use Rattle.format.specs.Tables.{StringTable, PREFIX, NAMESPACE-NAME, LOCAL-NAME, NameTable, ELEMENT-NAME, ATTRIBUTE-NAME, Triple, noTriple, Vocabulary, strings, names, place, extended, adding, addingName, holdsName, Entry, partOf, nameOf, Limits, InLimits}
+use Rattle.format.specs.Tables.{StringTable, PREFIX, NAMESPACE-NAME, LOCAL-NAME, NameTable, ELEMENT-NAME, ATTRIBUTE-NAME, Triple, noTriple, Vocabulary, strings, names, place, extended, adding, addingName, holdsName, Entry, partOf, nameOf, Version, InLimits}
 use Rattle.format.specs.Strings.{withLength, Spelling, bit, Layout, c14, keeping, Identifying, id-spelled, id-numbered, Optional, absent, present, Literal, literal-spelled, literal-numbered, Value, value-empty, value}
 use Rattle.format.specs.Names.{has, NameLayout, Named, in-parts, by-number}
 use Rattle.format.specs.Uses.{sameNames}
@@ -62,7 +62,7 @@ adding-name-grows v t x =
       names-grow = λ u. let e = ap length (names-adding-name v t x u) in let g = extended-grows (sameNames t u) (names v u) x in omega arith;
     }
 
-pub fits-before : {L : Limits} {S : Type 0} {v w : Vocabulary S} → Grows v w → InLimits L w → InLimits L v
+pub fits-before : {L : Version} {S : Type 0} {v w : Vocabulary S} → Grows v w → InLimits L w → InLimits L v
 fits-before g f =
     record {
       few = λ t. let a = g .strings-grow t in let b = f .few t in omega arith;
@@ -124,7 +124,7 @@ pub id-grows : {t : StringTable} {v w : Vocabulary Octets} {x : Octets} {h : How
 id-grows {v = v} (id-entry en) = same-size v
 id-grows {t} {v} {x = x} (id-new h) = adding-grows v t x
 
-module _ (L : Limits) (small : L .entries ≤ top) where
+module _ (L : Version) (small : L .entries ≤ top) where
   pub id-rule : {t : StringTable} {v w : Vocabulary Octets} {x : Octets} {h : How} {n : ℕ} → Spelling x → InLimits L w → PermitsId t v x h n w → Identifying L t v x h n (idOctets x h) w
   id-rule {t} {v} sp f (id-entry {k = j} en) = let a = f .few t in let h = en .made in id-numbered {k = j} (omega arith) en
   id-rule {t} {v} {x = x} sp f (id-new h) = let o = one-longer v t x in let a = f .few t in id-spelled sp h (omega arith)
@@ -147,18 +147,18 @@ abbrev pub SpellingIfAny : Option Octets → Type 0
 SpellingIfAny none = Unit {0}
 SpellingIfAny (some x) = Spelling x
 
-module _ (L : Limits) (small : L .entries ≤ top) where
+module _ (L : Version) (small : L .entries ≤ top) where
   pub optional-rule : {t : StringTable} {v w : Vocabulary Octets} {x : Option Octets} {h : Option How} {n : ℕ} → SpellingIfAny x → InLimits L w → PermitsIfAny t v x h n w
       → Optional L t v x h n (optionalOctets x h) w
   optional-rule sp f not-there = absent
   optional-rule sp f (there c) = present (id-rule L small sp f c)
 
 -- ---- C.14, C.15
-pub data LiteralCase (L : Limits) (t : StringTable) (v : Vocabulary Octets) (x : Octets) : Chose How → Type 0 where
+pub data LiteralCase (L : Version) (t : StringTable) (v : Vocabulary Octets) (x : Octets) : Chose How → Type 0 where
   lit-held : {j : ℕ} → Entry (strings v t) j [] x → LiteralCase L t v x (record { how = numbered (suc j); number = suc j; tables = v })
   lit-new : {added : Bool} → (added ≡ true → length (strings v t) < L .entries) → LiteralCase L t v x (record { how = spelled added; number = 0; tables = keeping added v t x })
 
-module _ (L : Limits) (t : StringTable) (v : Vocabulary Octets) (x : Octets) where
+module _ (L : Version) (t : StringTable) (v : Vocabulary Octets) (x : Octets) where
   literal-from : (k : ℕ) (added : Bool) → numberIn (strings v t) x ≡ k → (added ≡ true → length (strings v t) < L .entries)
       → LiteralCase L t v x (pick (eqb k 0) (record { how = spelled added; number = 0; tables = keeping added v t x }) (record { how = numbered k; number = k; tables = v }))
   literal-from zero added e r = lit-new r
@@ -172,7 +172,7 @@ module _ (L : Limits) (t : StringTable) (v : Vocabulary Octets) (x : Octets) whe
   unfolding chooseLiteral
   literal-case = literal-from (numberIn (strings v t) x) (worthAdding L (strings v t) x) refl worth-room
 
-pub literal-permits : {L : Limits} {t : StringTable} {v : Vocabulary Octets} {x : Octets} {c : Chose How} → LiteralCase L t v x c → PermitsString t v x (c .how) (c .tables)
+pub literal-permits : {L : Version} {t : StringTable} {v : Vocabulary Octets} {x : Octets} {c : Chose How} → LiteralCase L t v x c → PermitsString t v x (c .how) (c .tables)
 literal-permits (lit-held en) = string-entry en
 literal-permits (lit-new {added = a} r) = string-spelled a
 
@@ -180,7 +180,7 @@ pub literal-grows : {t : StringTable} {v w : Vocabulary Octets} {x : Octets} {h 
 literal-grows {v = v} (string-entry en) = same-size v
 literal-grows {t} {v} {x = x} (string-spelled a) = keeping-grows a v t x
 
-module _ (L : Limits) (small : L .entries ≤ top) where
+module _ (L : Version) (small : L .entries ≤ top) where
   -- one that is added had room
   had-room : (added : Bool) (v : Vocabulary Octets) (t : StringTable) (x : Octets) → InLimits L (keeping added v t x) → added ≡ true → length (strings v t) < L .entries
   had-room true v t x f e = let o = one-longer v t x in let a = f .few t in omega arith
@@ -195,16 +195,16 @@ module _ (L : Limits) (small : L .entries ≤ top) where
   literal-rule {t = t} {v = v} {x = x} big sp f (string-spelled added) = literal-spelled sp (had-room added v t x f)
 
 -- ---- values
-pub data ValueCase (L : Limits) (t : StringTable) (v : Vocabulary Octets) (x : Octets) : Chose How → Type 0 where
+pub data ValueCase (L : Version) (t : StringTable) (v : Vocabulary Octets) (x : Octets) : Chose How → Type 0 where
   is-empty : x ≡ [] → ValueCase L t v x (record { how = numbered 0; number = 0; tables = v })
   is-literal : {c : Chose How} → 0 < length x → LiteralCase L t v x c → ValueCase L t v x c
 
-pub value-case : (L : Limits) (t : StringTable) (v : Vocabulary Octets) (x : Octets) → ValueCase L t v x (chooseValue L t v x)
+pub value-case : (L : Version) (t : StringTable) (v : Vocabulary Octets) (x : Octets) → ValueCase L t v x (chooseValue L t v x)
 unfolding chooseValue
 value-case L t v [] = is-empty refl
 value-case L t v (b ∷ x) = rw (ne-eqb (length (b ∷ x)) 0 (λ z. omega arith)) (is-literal (omega arith) (literal-case L t v (b ∷ x)))
 
-pub value-permits : {L : Limits} {t : StringTable} {v : Vocabulary Octets} {x : Octets} {c : Chose How} → ValueCase L t v x c → PermitsValue t v x (c .how) (c .tables)
+pub value-permits : {L : Version} {t : StringTable} {v : Vocabulary Octets} {x : Octets} {c : Chose How} → ValueCase L t v x c → PermitsValue t v x (c .how) (c .tables)
 value-permits (is-empty e) = rw e value-none
 value-permits (is-literal h (lit-held en)) = value-entry en
 value-permits (is-literal h (lit-new {added = a} r)) = value-spelled a h
@@ -218,11 +218,11 @@ value-grows {v = v} (value-entry en) = same-size v
 abbrev pub SpellingIfSome : Octets → Type 0
 SpellingIfSome x = 0 < length x → Spelling x
 
-pub literal-value : {L : Limits} {t : StringTable} {v : Vocabulary Octets} {x : Octets} {c : Chose How} → LiteralCase L t v x c → valueOctets x (c .how) ≡ literalOctets c14 x (c .how)
+pub literal-value : {L : Version} {t : StringTable} {v : Vocabulary Octets} {x : Octets} {c : Chose How} → LiteralCase L t v x c → valueOctets x (c .how) ≡ literalOctets c14 x (c .how)
 literal-value (lit-held en) = refl
 literal-value (lit-new r) = refl
 
-module _ (L : Limits) (small : L .entries ≤ top) where
+module _ (L : Version) (small : L .entries ≤ top) where
   pub value-rule : {t : StringTable} {v w : Vocabulary Octets} {x : Octets} {h : How} → SpellingIfSome x → InLimits L w → PermitsValue t v x h w → Value L t v x h (valueOctets x h) w
   unfolding c14 sizes c25
   value-rule sp f value-none = value-empty
@@ -409,7 +409,7 @@ pub record NameSaid (x : Name Octets) : Type 0 where
   pub local : Spelling (x .local)
   pub pair : has (x .prefix) ≤ has (x .namespace)
 
-module _ (L : Limits) (small : L .entries ≤ top) (q : NameLayout) (big : top ≤ sizes (q .numberForms)) (lead : ℕ) where
+module _ (L : Version) (small : L .entries ≤ top) (q : NameLayout) (big : top ≤ sizes (q .numberForms)) (lead : ℕ) where
   pub name-rule : {v w : Vocabulary Octets} {x : Name Octets} {h : NameHow} → NameSaid x → InLimits L w → PermitsName (q .table) v x h w → Named L q lead v x h (nameOctets q lead x h) w
   name-rule s f (name-entry {k = j} en) =
       let a = f .few-names (q .table) in

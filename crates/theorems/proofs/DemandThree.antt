@@ -10,29 +10,30 @@ use lib.ListN.{length, replicate, length-map}
 use Rattle.format.specs.Octets.{Octets, AreOctets}
 use Rattle.format.specs.Numbers.{pick}
 use Rattle.format.specs.Events.{Item}
-use Rattle.format.specs.Tables.{link}
+use Rattle.format.specs.Tables.{Version}
 use Rattle.format.specs.Items.{State}
-use Rattle.format.specs.Document.{Writes}
+use Rattle.format.specs.Document.{Document}
 use Rattle.tables.specs.Located.{Located, plain, plainState}
 use Rattle.tables.specs.Counts.{tableWords}
 use Rattle.tables.specs.Told.{toldAccepted, entriesOf}
 use Rattle.events.specs.Records.{blank, recordOf}
 use Rattle.reader.specs.Reading.{Result, accepted, refusal, sized, reading, refusing, outcome, readOf, Accepts}
+use Rattle.theorems.specs.Bounded.{Bounded}
 use Rattle.theorems.specs.Demands.{HandsOut, Demand3}
 use Rattle.theorems.proofs.Words.{entries-map}
 use Rattle.theorems.proofs.Document as Whole
 use Rattle.theorems.proofs.Fits.{accepted-fits, accepted-sized}
 use Rattle.theorems.proofs.Demands.{accepted-is-written, one-pair, refused, records-well-made, made-earlier-places, spelled-places, tables-made-places}
 
-module _ (s : Octets) (room table : ℕ) where
-  pub accepts : (items : List (Item Octets)) (z : State Octets) (w : Writes items z s) → length items ≤ room → table ≡ tableWords → HandsOut s room items z w (readOf s room table)
+module _ (L : Version) (s : Octets) (room table : ℕ) where
+  pub accepts : (items : List (Item Octets)) (z : State Octets) (w : Document L items z s) → length items ≤ room → table ≡ tableWords → HandsOut L s room items z w (readOf L s room table)
   unfolding readOf
   accepts items z w h right =
-      let a = Whole.accepts s items z w room h in
+      let a = Whole.accepts L s items z w room h in
       let known : plainState s (a .last .state) ≡ z = a .end-is in
       let is : length (a .events) ≡ length items = sym (length-map (a .events) (plain s)) ∙ ap length (a .are) in
       let as-many : length (map (λ (i : Item Located). recordOf (i .event)) (a .events)) ≡ length items = length-map (a .events) (λ (i : Item Located). recordOf (i .event)) ∙ is in
-      rw (accepted-sized s room (a .events) (a .last) (a .reads), eq-eqb table tableWords right, a .reads)
+      rw (accepted-sized L s room (a .events) (a .last) (a .reads), eq-eqb table tableWords right, a .reads)
       (record {
         events = a .events;
         tables = a .last .state .tables;
@@ -41,26 +42,26 @@ module _ (s : Octets) (room table : ℕ) where
         table-words = refl;
         events-are = a .are;
         tables-are = ap (λ (u : State Octets). u .tables) known;
-        well-made = records-well-made s room (a .events) (a .last) (a .reads);
-        spelled = spelled-places items z s w room h (a .events) (a .last) (a .reads);
-        earlier = made-earlier-places s room (a .events) (a .last) (a .reads);
-        tables-made = tables-made-places s room (a .events) (a .last) (a .reads);
+        well-made = records-well-made L s room (a .events) (a .last) (a .reads);
+        spelled = spelled-places L items z s w room h (a .events) (a .last) (a .reads);
+        earlier = made-earlier-places L s room (a .events) (a .last) (a .reads);
+        tables-made = tables-made-places L s room (a .events) (a .last) (a .reads);
       })
 
-module _ (s : Octets) (bytes : AreOctets s) (room table : ℕ) where
-  only-from : table ≡ tableWords → (r : Result) → reading s room ≡ r → outcome r room .told .number ≡ 0
-      → (items : List (Item Octets)) × (z : State Octets) × Writes items z s × (length items ≤ room) × (table ≡ tableWords)
+module _ (L : Version) (ok : Bounded L) (s : Octets) (bytes : AreOctets s) (room table : ℕ) where
+  only-from : table ≡ tableWords → (r : Result) → reading L s room ≡ r → outcome r room .told .number ≡ 0
+      → (items : List (Item Octets)) × (z : State Octets) × Document L items z s × (length items ≤ room) × (table ≡ tableWords)
   only-from right (accepted is m) q e =
-      let a : Accepts s room (map (plain s) is) (plainState s (m .state)) = record { events = is; last = m; reads = q; are = refl; end-is = refl } in
-      (map (plain s) is, plainState s (m .state), accepted-is-written s bytes room _ _ a, accepted-fits s room _ _ a, right)
-  only-from right (refusal n p) q e = absurd (let k = refused s bytes room n p q .0 in omega arith)
+      let a : Accepts L s room (map (plain s) is) (plainState s (m .state)) = record { events = is; last = m; reads = q; are = refl; end-is = refl } in
+      (map (plain s) is, plainState s (m .state), accepted-is-written L ok s bytes room _ _ a, accepted-fits L s room _ _ a, right)
+  only-from right (refusal n p) q e = absurd (let k = refused L ok s bytes room n p q .0 in omega arith)
 
-  only : (b d : Bool) → eqb table tableWords ≡ d → pick b (pick d (outcome (reading s room) room) (refusing 14 0 room table)) (refusing 1 0 room table) .told .number ≡ 0
-      → (items : List (Item Octets)) × (z : State Octets) × Writes items z s × (length items ≤ room) × (table ≡ tableWords)
-  only true true q e = only-from (eqb-true table tableWords q) (reading s room) refl e
+  only : (b d : Bool) → eqb table tableWords ≡ d → pick b (pick d (outcome (reading L s room) room) (refusing 14 0 room table)) (refusing 1 0 room table) .told .number ≡ 0
+      → (items : List (Item Octets)) × (z : State Octets) × Document L items z s × (length items ≤ room) × (table ≡ tableWords)
+  only true true q e = only-from (eqb-true table tableWords q) (reading L s room) refl e
   only true false q e = absurd (omega arith)
   only false d q e = absurd (omega arith)
 
-  pub demand-3 : Demand3 s room table (readOf s room table)
+  pub demand-3 : Demand3 L s room table (readOf L s room table)
   unfolding readOf
-  demand-3 = record { accepts = accepts s room table; only = only (sized link s) (eqb table tableWords) refl; one-pair = λ items others y z w u. one-pair s bytes items others y z w u }
+  demand-3 = record { accepts = accepts L s room table; only = only (sized L s) (eqb table tableWords) refl; one-pair = λ items others y z w u. one-pair L ok s bytes items others y z w u }

@@ -7,11 +7,12 @@ use mathlib.Core.List.{List, [], _∷_, _++_}
 use native.Mathlib.Omega.{arith}
 use borrow.Author.Tests.{leb-true, leb-false, le-leb, lt-leb, eqb-true, eq-eqb, ne-eqb}
 use lib.Dec.{eqb, leb}
-use lib.ListN.{length, replicate, length-map}
+use lib.ListN.{length, replicate, length-map, length-append}
 use Rattle.format.specs.Octets.{Octets, Halves}
+use Rattle.theorems.proofs.Opening.{header-length}
 use Rattle.format.specs.Numbers.{pick}
 use Rattle.format.specs.Events.{Item}
-use Rattle.format.specs.Tables.{link}
+use Rattle.format.specs.Tables.{Version}
 use Rattle.format.specs.Items.{State}
 use Rattle.format.specs.Document.{header, started}
 use Rattle.format.specs.Allowed.{All}
@@ -21,6 +22,7 @@ use Rattle.tables.specs.Told.{Told, toldAccepted, toldRefused, entriesOf}
 use Rattle.events.specs.declared.Event.{Event}
 use Rattle.events.specs.WellMade.{WellMade}
 use Rattle.writer.specs.Writing.{Result, written, refusal, joined, writing, Outcome, refusing, outcome, writeOf}
+use Rattle.theorems.specs.Bounded.{Bounded}
 use Rattle.theorems.specs.Verdicts.{plainOf, plains, itemsOf, Fault, not-an-event, not-text, too-deep, too-many, no-room, Refused, at-event, too-soon, no-room-for-end}
 use Rattle.theorems.specs.Demands.{Acceptable, Wrote, LeavesWritten, RefusedBy, text-too-long, wrong-table-room, at-events, Demand2}
 use Rattle.tables.proofs.Found.{clash}
@@ -37,23 +39,23 @@ all-from P [] f = tt
 all-from P (x ∷ l) f = (f [] x l refl, all-from P l (λ b y after e. f (x ∷ b) y after (ap (λ (k : List _). x ∷ k) e)))
 
 -- a refusal has a number
-fault-some : {text : Octets} {room : ℕ} {before : List Event} {e : Event} {n : ℕ} → Fault text room before e n → 0 < n
+fault-some : {L : Version} {text : Octets} {room : ℕ} {before : List Event} {e : Event} {n : ℕ} → Fault L text room before e n → 0 < n
 fault-some (not-an-event a) = omega arith
 fault-some (not-text i a) = omega arith
 fault-some (too-deep i t a) = omega arith
 fault-some (too-many i t s a) = omega arith
 fault-some (no-room i t s f a) = omega arith
 
-refused-some : {text : Octets} {room : ℕ} {es : List Event} {n p : ℕ} → Refused text room es n p → 0 < n
+refused-some : {L : Version} {text : Octets} {room : ℕ} {es : List Event} {n p : ℕ} → Refused L text room es n p → 0 < n
 refused-some (at-event after is all f) = fault-some f
 refused-some (too-soon all d) = omega arith
 refused-some (no-room-for-end all d w) = omega arith
 
-module _ (es : List Event) (text : Octets) (room : ℕ) where
-  module _ (short : length text ≤ 16384) where
-    from-written : (items : List (Item Located)) (hs : Halves) (y : State Located) → writing text room es ≡ written items hs y → Acceptable es text room tableWords (header ++ joined hs) (plainState text y)
+module _ (L : Version) (ok : Bounded L) (es : List Event) (text : Octets) (room : ℕ) where
+  module _ (short : length text ≤ L .octets) where
+    from-written : (items : List (Item Located)) (hs : Halves) (y : State Located) → writing L text room es ≡ written items hs y → Acceptable L es text room tableWords (header L ++ joined hs) (plainState text y)
     from-written items hs y q =
-        let m = meant text short room es items hs y q in
+        let m = meant L ok text short room es items hs y q in
         record {
           text-size = short;
           table-room = refl;
@@ -64,23 +66,23 @@ module _ (es : List Event) (text : Octets) (room : ℕ) where
 
     -- OF THE DEFINITION: it writes s, with z known at the end, exactly when the records are well made, the rules write s from their plain events with 01's
     -- choices, z being known then, and s fits.
-    pub writes-exactly : (s : Octets) (z : State Octets) → Wrote es text room s z ↔ Acceptable es text room tableWords s z
+    pub writes-exactly : (s : Octets) (z : State Octets) → Wrote L es text room s z ↔ Acceptable L es text room tableWords s z
     writes-exactly s z = (
-      λ w. subst (λ (u : State Octets). Acceptable es text room tableWords s u) (w .known)
-          (subst (λ (o : Octets). Acceptable es text room tableWords o (plainState text (w .last))) (w .octets) (from-written (w .items) (w .halves) (w .last) (w .is))),
-      λ a. writes-it text room es (a .well-made) z s (a .writes) (a .fits) short,
+      λ w. subst (λ (u : State Octets). Acceptable L es text room tableWords s u) (w .known)
+          (subst (λ (o : Octets). Acceptable L es text room tableWords o (plainState text (w .last))) (w .octets) (from-written (w .items) (w .halves) (w .last) (w .is))),
+      λ a. writes-it L ok text room es (a .well-made) z s (a .writes) (a .fits) short,
     )
 
   module _ (table : ℕ) where
     -- what a call answers, by what is asked first
     abbrev Asked : Bool → Bool → Outcome
-    Asked b d = pick b (pick d (outcome (writing text room es) room) (refusing 14 0 room table)) (refusing 1 0 room table)
+    Asked b d = pick b (pick d (outcome L (writing L text room es) room) (refusing 14 0 room table)) (refusing 1 0 room table)
 
-    accepts : (s : Octets) (z : State Octets) → Acceptable es text room table s z → LeavesWritten es text room s z (writeOf es text room table)
+    accepts : (s : Octets) (z : State Octets) → Acceptable L es text room table s z → LeavesWritten L es text room s z (writeOf L es text room table)
     unfolding writeOf
     accepts s z a =
-        let w = writes-it text room es (a .well-made) z s (a .writes) (a .fits) (a .text-size) in
-        rw (le-leb (length text) 16384 (a .text-size), eq-eqb table tableWords (a .table-room), w .is)
+        let w = writes-it L ok text room es (a .well-made) z s (a .writes) (a .fits) (a .text-size) in
+        rw (le-leb (length text) (L .octets) (a .text-size), eq-eqb table tableWords (a .table-room), w .is)
         (record {
           items = w .items;
           tables = w .last .tables;
@@ -88,31 +90,31 @@ module _ (es : List Event) (text : Octets) (room : ℕ) where
           octets = ap (λ (o : Octets). o ++ replicate (room - length o) 0) (w .octets);
           table-words = refl;
           tables-are = ap (λ (u : State Octets). u .tables) (w .known);
-          given = the-events-given text room es (w .items) (w .halves) (w .last) (w .is);
-          chosen = meant text (a .text-size) room es (w .items) (w .halves) (w .last) (w .is) .chosen-by;
-          strings-made = strings-written text room es (w .items) (w .halves) (w .last) (w .is);
+          given = the-events-given L text room es (w .items) (w .halves) (w .last) (w .is);
+          chosen = meant L ok text (a .text-size) room es (w .items) (w .halves) (w .last) (w .is) .chosen-by;
+          strings-made = strings-written L text room es (w .items) (w .halves) (w .last) (w .is);
         })
 
-    only-from : length text ≤ 16384 → table ≡ tableWords → (r : Result) → writing text room es ≡ r → outcome r room .told .number ≡ 0 → (s : Octets) × (z : State Octets) × Acceptable es text room table s z
-    only-from short right (written items hs y) q e = (header ++ joined hs, plainState text y, rw right (from-written short items hs y q))
-    only-from short right (refusal n p) q e = absurd (let k = refused-some (refused-by text short room es n p q) in omega arith)
+    only-from : length text ≤ L .octets → table ≡ tableWords → (r : Result) → writing L text room es ≡ r → outcome L r room .told .number ≡ 0 → (s : Octets) × (z : State Octets) × Acceptable L es text room table s z
+    only-from short right (written items hs y) q e = (header L ++ joined hs, plainState text y, rw right (from-written short items hs y q))
+    only-from short right (refusal n p) q e = absurd (let k = refused-some (refused-by L ok text short room es n p q) in omega arith)
 
-    only : (b d : Bool) → leb (length text) 16384 ≡ b → eqb table tableWords ≡ d → Asked b d .told .number ≡ 0 → (s : Octets) × (z : State Octets) × Acceptable es text room table s z
-    only true true p q e = only-from (leb-true _ _ p) (eqb-true table tableWords q) (writing text room es) refl e
+    only : (b d : Bool) → leb (length text) (L .octets) ≡ b → eqb table tableWords ≡ d → Asked b d .told .number ≡ 0 → (s : Octets) × (z : State Octets) × Acceptable L es text room table s z
+    only true true p q e = only-from (leb-true _ _ p) (eqb-true table tableWords q) (writing L text room es) refl e
     only true false p q e = absurd (omega arith)
     only false d p q e = absurd (omega arith)
 
     -- the refusals
-    told-from : length text ≤ 16384 → table ≡ tableWords → (n p : ℕ) (r : Result) → writing text room es ≡ r → outcome r room .told ≡ toldRefused n p → RefusedBy es text room table n p
-    unfolding header
-    told-from short right n p (written items hs y) q e = absurd (let k = ap (λ (t : Told). t .count) e in omega arith)
+    told-from : length text ≤ L .octets → table ≡ tableWords → (n p : ℕ) (r : Result) → writing L text room es ≡ r → outcome L r room .told ≡ toldRefused n p → RefusedBy L es text room table n p
+    told-from short right n p (written items hs y) q e =
+        absurd (let k = ap (λ (t : Told). t .count) e in let l = length-append (header L) (joined hs) in let m = header-length L in omega arith)
     told-from short right n p (refusal k i) q e =
         let en : k ≡ n = ap (λ (t : Told). t .number) e in
         let ep : i ≡ p = ap (λ (t : Told). t .place) e in
-        at-events short right (refused-by text short room es n p (q ∙ λ j. refusal (en j) (ep j)))
+        at-events short right (refused-by L ok text short room es n p (q ∙ λ j. refusal (en j) (ep j)))
 
-    refused-told : (n p : ℕ) (b d : Bool) → leb (length text) 16384 ≡ b → eqb table tableWords ≡ d → Asked b d .told ≡ toldRefused n p → RefusedBy es text room table n p
-    refused-told n p true true u q e = told-from (leb-true _ _ u) (eqb-true table tableWords q) n p (writing text room es) refl e
+    refused-told : (n p : ℕ) (b d : Bool) → leb (length text) (L .octets) ≡ b → eqb table tableWords ≡ d → Asked b d .told ≡ toldRefused n p → RefusedBy L es text room table n p
+    refused-told n p true true u q e = told-from (leb-true _ _ u) (eqb-true table tableWords q) n p (writing L text room es) refl e
     refused-told n p true false u q e =
         let en : 14 ≡ n = ap (λ (t : Told). t .number) e in
         let ep : 0 ≡ p = ap (λ (t : Told). t .place) e in
@@ -122,24 +124,24 @@ module _ (es : List Event) (text : Octets) (room : ℕ) where
         let ep : 0 ≡ p = ap (λ (t : Told). t .place) e in
         rw (← en, ← ep) (text-too-long (leb-false _ _ u))
 
-    told-refused : {n p : ℕ} → RefusedBy es text room table n p → writeOf es text room table .told ≡ toldRefused n p
+    told-refused : {n p : ℕ} → RefusedBy L es text room table n p → writeOf L es text room table .told ≡ toldRefused n p
     unfolding writeOf
-    told-refused (text-too-long h) = rw (lt-leb (length text) 16384 h)
-    told-refused (wrong-table-room h no-words) = rw (le-leb (length text) 16384 h, ne-eqb table tableWords no-words)
-    told-refused (at-events {n = n} {p = p} h right r) = rw (le-leb (length text) 16384 h, eq-eqb table tableWords right, refuses-it text h room es n p r)
+    told-refused (text-too-long h) = rw (lt-leb (length text) (L .octets) h)
+    told-refused (wrong-table-room h no-words) = rw (le-leb (length text) (L .octets) h, ne-eqb table tableWords no-words)
+    told-refused (at-events {n = n} {p = p} h right r) = rw (le-leb (length text) (L .octets) h, eq-eqb table tableWords right, refuses-it L ok text h room es n p r)
 
   -- OF THE CALL.
-  pub demand-2 : (table : ℕ) → Demand2 es text room table (writeOf es text room table)
+  pub demand-2 : (table : ℕ) → Demand2 L es text room table (writeOf L es text room table)
   unfolding writeOf
   demand-2 table =
       record {
         accepts = accepts table;
-        only = only table (leb (length text) 16384) (eqb table tableWords) refl refl;
+        only = only table (leb (length text) (L .octets)) (eqb table tableWords) refl refl;
         back = λ s z a records h.
-            Three.accepts s records tableWords (itemsOf (plains text es)) z (a .writes)
-            (let l = ap length (chosen-events link started (plains text es)) in
-            let m = length-map (itemsOf (plains text es)) (λ (i : Item Octets). i .event) in
+            Three.accepts L s records tableWords (itemsOf L (plains text es)) z (a .writes)
+            (let l = ap length (chosen-events L (started L) (plains text es)) in
+            let m = length-map (itemsOf L (plains text es)) (λ (i : Item Octets). i .event) in
             let n = length-map es (plainOf text) in
             omega arith) refl;
-        refuses = λ n p. (refused-told table n p (leb (length text) 16384) (eqb table tableWords) refl refl, told-refused table);
+        refuses = λ n p. (refused-told table n p (leb (length text) (L .octets)) (eqb table tableWords) refl refl, told-refused table);
       }

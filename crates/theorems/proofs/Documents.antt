@@ -6,16 +6,16 @@ use mathlib.Core.List.{List, _∷_, map}
 use borrow.Author.Tests.{lt-ltb}
 use Rattle.format.specs.Octets.{Octets, Halves}
 use Rattle.format.specs.Events.{Event, Namespace, Start, Attribute, Text, Comment, Instruction, End, Item, no-attribute, IsDocument}
-use Rattle.format.specs.Tables.{Vocabulary, Limits}
+use Rattle.format.specs.Tables.{Vocabulary, Version}
 use Rattle.format.specs.Items.{State, mayStart, ItemWrittenAs, o-start, o-first-namespace, o-namespace, o-named-start, o-attribute, o-text, o-comment, o-instruction}
-use Rattle.format.specs.Document.{Written, document-end, attributes-end, element-end, item, Document}
+use Rattle.format.specs.Document.{Written, document-end, attributes-end, element-end, item, Document, started}
 use Rattle.writer.specs.Events.{goesOn}
 use Rattle.theorems.proofs.Structure.{Rest, back, ended-back, all-left}
 
 abbrev pub events : List (Item Octets) → List (Event Octets)
 events items = map (λ (i : Item Octets). i .event) items
 
-module _ {L : Limits} where
+module _ {L : Version} where
   -- an item in front of what is left behind it: the rules go on as `goesOn` does
   fronts : {v w : State Octets} {i : Item Octets} {o : Octets} (es : List (Event Octets)) → ItemWrittenAs L v i o w → Rest w es → Rest v (i .event ∷ es)
   unfolding goesOn mayStart
@@ -35,6 +35,6 @@ module _ {L : Limits} where
   left {v = v} (element-end {items = items} md lv w) = back false v End (events items) (rw md (lt-ltb 0 (v .level) lv)) (left w)
   left (item {items = items} u w) = fronts (events items) u (left w)
 
-  pub is-document : {h : Octets} {start : Vocabulary Octets} {items : List (Item Octets)} {z : State Octets} {s : Octets}
-      → Document L h start items z s → IsDocument (events items)
-  is-document {start = start} {items = items} d = all-left start (events items) .1 (left (d .rule))
+  pub is-document : {items : List (Item Octets)} {z : State Octets} {s : Octets}
+      → Document L items z s → IsDocument (events items)
+  is-document {items = items} d = all-left (started L) (events items) .1 (left (d .rule))

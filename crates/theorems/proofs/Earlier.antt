@@ -8,7 +8,7 @@ use mathlib.Core.List.{List, [], _∷_, _++_, append-assoc, append-nil, map}
 use native.Mathlib.Omega.{arith}
 use lib.Dec.{eqb}
 use Rattle.format.specs.Events.{Name, How, NameHow, Item}
-use Rattle.format.specs.Tables.{StringTable, NameTable, ELEMENT-NAME, ATTRIBUTE-NAME, Triple, noTriple, Vocabulary, strings, names, place, extended}
+use Rattle.format.specs.Tables.{StringTable, NameTable, ELEMENT-NAME, ATTRIBUTE-NAME, Triple, noTriple, Vocabulary, strings, names, place, extended, Version}
 use Rattle.format.specs.Tables.{adding, addingName, starting, Entry, nameOf}
 use Rattle.format.specs.Uses.{sameNames, Act, makes, uses, makesName, usesName, ofString, madeIn, namesMadeIn, ofOption, ofName, noName, ofItem, acts, Known, MadeBy}
 use Rattle.tables.proofs.Laws.{strings-adding, names-adding}
@@ -181,11 +181,11 @@ module _ {S : Type 0} {d : S} where
       one-more : (n : NameTable → List (Name S)) → Meant d v n → Meant d (addingName v t x) (λ u. extended (sameNames t u) (n u) y)
       one-more n a u = rw (names-adding-name v t x u) (mean-extended (sameNames t u) x y (means-kept g m) (mean-kept g (a u)))
 
-  -- at the start the tables hold two strings, and no name
-  no-names : (p u : S) → Meant d (starting p u) (λ t. [])
+  -- at the start the tables hold no name
+  no-names : (L : Version) (p u : S) → Meant d (starting L p u) (λ t. [])
   unfolding names starting
-  no-names p u ELEMENT-NAME = none-mean
-  no-names p u ATTRIBUTE-NAME = none-mean
+  no-names L p u ELEMENT-NAME = none-mean
+  no-names L p u ATTRIBUTE-NAME = none-mean
 
 module _ {S : Type 0} {d : S} {Spelt : S → Type 0} where
   id-does : {t : StringTable} {v w : Vocabulary S} {x : S} {h : How} {n : ℕ} → IdDone d Spelt t v x h n w → Does d v (ofString t x h) w
@@ -222,14 +222,14 @@ module _ {S : Type 0} {d : S} {Spelt : S → Type 0} where
   all-does no-item = none-done
   all-does (an-item u r) = both (item-does u) (all-does r)
 
-  pub earlier : (p u : S) {items : List (Item S)} {z : Vocabulary S} → Done d Spelt (starting p u) items z → Known d (strings (starting p u)) (λ t. []) (acts d items)
-  earlier p u {items} r = subst (Known d (strings (starting p u)) (λ t. [])) (append-nil (acts d items)) (all-does r .before (λ t. []) (no-names p u) [] (λ m b. tt))
+  pub earlier : (L : Version) (p u : S) {items : List (Item S)} {z : Vocabulary S} → Done d Spelt (starting L p u) items z → Known d (strings (starting L p u)) (λ t. []) (acts d items)
+  earlier L p u {items} r = subst (Known d (strings (starting L p u)) (λ t. [])) (append-nil (acts d items)) (all-does r .before (λ t. []) (no-names L p u) [] (λ m b. tt))
 
   -- and at the end what was made, behind that
-  pub made : (p u : S) {items : List (Item S)} {z : Vocabulary S} → Done d Spelt (starting p u) items z → MadeBy d (starting p u) (acts d items) z
+  pub made : (L : Version) (p u : S) {items : List (Item S)} {z : Vocabulary S} → Done d Spelt (starting L p u) items z → MadeBy d (starting L p u) (acts d items) z
   unfolding names starting
-  made p u r =
+  made L p u r =
       record {
         strings-made = all-does r .strings-then .then;
-        names-made = λ t. mean-is (all-does r .names-then (λ t. []) (no-names p u) t) ∙ elim t [ ELEMENT-NAME ↦ refl | ATTRIBUTE-NAME ↦ refl ];
+        names-made = λ t. mean-is (all-does r .names-then (λ t. []) (no-names L p u) t) ∙ elim t [ ELEMENT-NAME ↦ refl | ATTRIBUTE-NAME ↦ refl ];
       }

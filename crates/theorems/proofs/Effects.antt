@@ -9,11 +9,11 @@ use Rattle.format.specs.Octets.{Octets, Halves}
 use Rattle.format.specs.Events.{Name, Namespace, Start, Attribute, Text, Comment, Instruction, End, How, spelled, numbered, NameHow, inParts, byNumber}
 use Rattle.format.specs.Events.{forNamespace, forStart, forAttribute, forText, forComment, forInstruction, forEnd, Item, _by_}
 use Rattle.format.specs.Tables.{StringTable, PREFIX, NAMESPACE-NAME, LOCAL-NAME, OTHER-NCNAME, ATTRIBUTE-VALUE, CONTENT-CHARACTER-CHUNK, OTHER-STRING}
-use Rattle.format.specs.Tables.{NameTable, ELEMENT-NAME, ATTRIBUTE-NAME, Triple, noTriple, Vocabulary, strings, names, adding, addingName, Entry, nameOf, Limits}
+use Rattle.format.specs.Tables.{NameTable, ELEMENT-NAME, ATTRIBUTE-NAME, Triple, noTriple, Vocabulary, strings, names, adding, addingName, Entry, nameOf, Version}
 use Rattle.format.specs.Strings.{keeping, Identifying, id-spelled, id-numbered, Optional, absent, present, Layout, Literal, literal-spelled, literal-numbered, Value, value-empty, value}
 use Rattle.format.specs.Names.{has, NameLayout, ofElement, ofAttribute, Named, in-parts, by-number, Declared, declared}
 use Rattle.format.specs.Items.{State, ItemWrittenAs, o-start, o-first-namespace, o-namespace, o-named-start, o-attribute, o-text, o-comment, o-instruction}
-use Rattle.format.specs.Document.{beginning, Written, document-end, attributes-end, element-end, item, Document}
+use Rattle.format.specs.Document.{beginning, Written, document-end, attributes-end, element-end, item, Document, started}
 use Rattle.format.specs.Allowed.{Said}
 
 -- d is the empty string; Spelt says what strings can be spelled. `IdDone t v x h n w`: where v is known, x is written as h says, n is its number in table t,
@@ -58,7 +58,7 @@ module _ {S : Type 0} (d : S) (Spelt : S → Type 0) where
     an-item : {v : Vocabulary S} {i : Item S} {w z : Vocabulary S} {items : List (Item S)} → ItemDone v i w → Done w items z → Done v (i ∷ items) z
 
 -- ---- the rules do so; what they spell is text, and not empty
-module _ {L : Limits} where
+module _ {L : Version} where
   id-done : {t : StringTable} {v w : Vocabulary Octets} {x : Octets} {h : How} {n : ℕ} {o : Octets} → Identifying L t v x h n o w → IdDone [] Said t v x h n w
   id-done (id-spelled sp new room) = id-made (sp .some, sp .formed)
   id-done (id-numbered small en) = id-used en
@@ -102,7 +102,7 @@ module _ {L : Limits} where
   written-done (element-end md lv w) = an-item done-end (written-done w)
   written-done (item u w) = an-item (octets-done u) (written-done w)
 
-  pub document-done : {h : Octets} {start : Vocabulary Octets} {items : List (Item Octets)} {z : State Octets} {s : Octets}
-      → Document L h start items z s → Done [] Said start items (z .tables)
+  pub document-done : {items : List (Item Octets)} {z : State Octets} {s : Octets}
+      → Document L items z s → Done [] Said (started L) items (z .tables)
   unfolding beginning
   document-done d = written-done (d .rule)

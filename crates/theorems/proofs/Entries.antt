@@ -9,7 +9,7 @@ use lib.Dec.{eqb}
 use lib.ListN.{length, length-append}
 use Rattle.format.specs.Octets.{Octets}
 use Rattle.format.specs.Events.{Name, Event, How, NameHow, Choice, Item}
-use Rattle.format.specs.Tables.{StringTable, PREFIX, NAMESPACE-NAME, LOCAL-NAME, OTHER-NCNAME, OTHER-URI, ATTRIBUTE-VALUE, CONTENT-CHARACTER-CHUNK, OTHER-STRING, NameTable, ELEMENT-NAME, ATTRIBUTE-NAME, Vocabulary, strings, names, place, extended, adding, starting, Limits, InLimits}
+use Rattle.format.specs.Tables.{StringTable, PREFIX, NAMESPACE-NAME, LOCAL-NAME, OTHER-NCNAME, OTHER-URI, ATTRIBUTE-VALUE, CONTENT-CHARACTER-CHUNK, OTHER-STRING, NameTable, ELEMENT-NAME, ATTRIBUTE-NAME, Vocabulary, strings, names, place, extended, adding, starting, Version, InLimits, xmlPrefix, xmlNamespace}
 use Rattle.format.specs.Strings.{bit, keeping}
 use Rattle.format.specs.Document.{started}
 use Rattle.format.specs.Uses.{sameNames}
@@ -118,43 +118,47 @@ all-add (an-item p ps) =
     }
 
 -- 01's choices, along a list
-pub chosen-permitted : (C : Limits) (v : Vocabulary Octets) (es : List (Event Octets)) → Ranged v → PermitsAll v (chosen C v es) (tablesAfter C v es)
+pub chosen-permitted : (C : Version) (v : Vocabulary Octets) (es : List (Event Octets)) → Ranged v → PermitsAll v (chosen C v es) (tablesAfter C v es)
 unfolding chosen tablesAfter
 chosen-permitted C v [] r = no-item
 chosen-permitted C v (e ∷ es) r = an-item (permits-for C v e r) (chosen-permitted C (chooseFor C v e .tables) es (ranged-for C v e r))
 
-pub chosen-events : (C : Limits) (v : Vocabulary Octets) (es : List (Event Octets)) → events (chosen C v es) ≡ es
+pub chosen-events : (C : Version) (v : Vocabulary Octets) (es : List (Event Octets)) → events (chosen C v es) ≡ es
 unfolding chosen
 chosen-events C v [] = refl
 chosen-events C v (e ∷ es) = ap (λ (l : List (Event Octets)). e ∷ l) (chosen-events C (chooseFor C v e .tables) es)
 
 -- ---- from the tables with which every document starts
-few-started : (t : StringTable) → length (strings started t) ≤ 1
+at-most-one : (b : Bool) (x : Octets) → length (extended b [] x) ≤ 1
+at-most-one true x = omega arith
+at-most-one false x = omega arith
+
+few-started : (L : Version) (t : StringTable) → length (strings (started L) t) ≤ 1
 unfolding strings starting
-few-started PREFIX = omega arith
-few-started NAMESPACE-NAME = omega arith
-few-started LOCAL-NAME = omega arith
-few-started OTHER-NCNAME = omega arith
-few-started OTHER-URI = omega arith
-few-started ATTRIBUTE-VALUE = omega arith
-few-started CONTENT-CHARACTER-CHUNK = omega arith
-few-started OTHER-STRING = omega arith
+few-started L PREFIX = at-most-one (L .builtIn) xmlPrefix
+few-started L NAMESPACE-NAME = at-most-one (L .builtIn) xmlNamespace
+few-started L LOCAL-NAME = omega arith
+few-started L OTHER-NCNAME = omega arith
+few-started L OTHER-URI = omega arith
+few-started L ATTRIBUTE-VALUE = omega arith
+few-started L CONTENT-CHARACTER-CHUNK = omega arith
+few-started L OTHER-STRING = omega arith
 
-none-started : (t : NameTable) → length (names started t) ≡ 0
+none-started : (L : Version) (t : NameTable) → length (names (started L) t) ≡ 0
 unfolding names starting
-none-started ELEMENT-NAME = refl
-none-started ATTRIBUTE-NAME = refl
+none-started L ELEMENT-NAME = refl
+none-started L ATTRIBUTE-NAME = refl
 
-pub ranged-started : Ranged started
-ranged-started t k h = absurd (let z = none-started t in omega arith)
+pub ranged-started : (L : Version) → Ranged (started L)
+ranged-started L t k h = absurd (let z = none-started L t in omega arith)
 
 -- a list that is short enough passes no limit
-pub few-after : (L : Limits) {items : List (Item Octets)} {w : Vocabulary Octets} → PermitsAll started items w → length items < L .entries → InLimits L w
+pub few-after : (L : Version) {items : List (Item Octets)} {w : Vocabulary Octets} → PermitsAll (started L) items w → length items < L .entries → InLimits L w
 few-after L ps h =
     let a = all-add ps in
     record {
-      few = λ t. let x = a .few t in let y = few-started t in omega arith;
-      few-names = λ t. let x = a .few-names t in let y = none-started t in omega arith;
+      few = λ t. let x = a .few t in let y = few-started L t in omega arith;
+      few-names = λ t. let x = a .few-names t in let y = none-started L t in omega arith;
     }
 
 -- ---- a limit is kept by every table, or passed by one
@@ -180,7 +184,7 @@ module _ {X : Type 0} (n : ℕ) where
       case n (f ATTRIBUTE-NAME) (passed ATTRIBUTE-NAME) λ b.
       kept (λ t. elim t [ ELEMENT-NAME ↦ a | ATTRIBUTE-NAME ↦ b ])
 
-pub in-limits : (L : Limits) (v : Vocabulary Octets) → Dec (InLimits L v)
+pub in-limits : (L : Version) (v : Vocabulary Octets) → Dec (InLimits L v)
 in-limits L v =
     of-strings (L .entries) (λ t. length (strings v t))
     (λ a.

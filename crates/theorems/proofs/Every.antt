@@ -1,5 +1,5 @@
 -- The rules can write every document with every permitted choice: nothing in them is narrower than 01. So with 01's choices every list of events that is a document is written, and on
--- the link too, unless it is over a limit of the link.
+-- within the limits of a version too, unless it is over one of them.
 use Prim.Native.Nat.{ℕ, _*_, _≤_, _<_}
 use mathlib.Core.Path.{_≡_, refl, sym, ap, subst}
 use mathlib.Core.Bool.{Bool, true, false, _&&_}
@@ -11,14 +11,14 @@ use lib.ListN.{length, length-map}
 use Rattle.format.specs.Octets.{Octets, Halves}
 use Rattle.format.specs.Numbers.{top}
 use Rattle.format.specs.Events.{Event, Namespace, Start, Attribute, Text, Comment, Instruction, End, Item, IsDocument, openThen, deepest, stringsOf}
-use Rattle.format.specs.Tables.{Vocabulary, Limits, link, standard, InLimits}
+use Rattle.format.specs.Tables.{Vocabulary, Version, standard, InLimits, starting}
 use Rattle.format.specs.Items.{State, knowing}
 use Rattle.format.specs.Document.{Written, document-end, beginning, header, started}
 use Rattle.format.specs.Allowed.{All, Allowed}
 use Rattle.write_names.specs.Chosen.{chosen, tablesAfter}
 use Rattle.writer.specs.Writing.{opens, joined}
 use Rattle.fields.proofs.Laws.{case}
-use Rattle.theorems.specs.Verdicts.{WrittenAs, WrittenWidely, OrPasses, on-the-link, over-depth, over-entries, over-octets}
+use Rattle.theorems.specs.Verdicts.{WrittenAs, WrittenWidely, OrPasses, within-limits, over-depth, over-entries, over-octets}
 use Rattle.theorems.specs.Permitted.{Permits, PermitsAll, no-item, an-item}
 use Rattle.theorems.proofs.OneWriting.{later, one-writing, later-start, later-declared}
 use Rattle.theorems.proofs.Wider.{written}
@@ -57,13 +57,13 @@ deep-on depth a v e es h = rw (level-is a v e) (omega arith)
 
 -- ---- what is left of a document can be written, from wherever a document comes
 -- The halves that the items are written as, and what is known then: these tables.
-pub record CanWrite (L : Limits) (at : ℕ) (v : State Octets) (items : List (Item Octets)) (tables : Vocabulary Octets) : Type 0 where
+pub record CanWrite (L : Version) (at : ℕ) (v : State Octets) (items : List (Item Octets)) (tables : Vocabulary Octets) : Type 0 where
   pub halves : Halves
   pub last : State Octets
   pub rule : Written L at v items halves last
   pub known : last .tables ≡ tables
 
-module _ (L : Limits) (small : L .entries ≤ top) where
+module _ (L : Version) (small : L .entries ≤ top) where
   can-write : {w : Vocabulary Octets} (items : List (Item Octets)) (at : ℕ) (v : State Octets) → Rest v (events items) → Sane v → All Said (events items) → deepest (v .level) (events items) ≤ L .depth → InLimits L w
       → Ahead (v .mode) (announcedBy (events items)) → PermitsAll (v .tables) items w → CanWrite L at v items w
   unfolding announcedBy
@@ -86,59 +86,60 @@ sayable : (es : List (Event Octets)) → All Allowed es → All (λ e. All Short
 sayable [] a b = tt
 sayable (e ∷ es) a b = (said e (a .0) (by-kind Short e (b .0)), sayable es (a .1) (b .1))
 
-module _ (items : List (Item Octets)) {w : Vocabulary Octets} (doc : IsDocument (events items)) (allowed : All Allowed (events items)) (short : All (λ e. All Short (stringsOf e)) (events items)) (may : PermitsAll started items w) where
-  from-start : (L : Limits) → L .entries ≤ top → deepest 0 (events items) ≤ L .depth → InLimits L w → CanWrite L (2 * length header) (beginning started) items w
+module _ (L : Version) (items : List (Item Octets)) {w : Vocabulary Octets} (doc : IsDocument (events items)) (allowed : All Allowed (events items)) (short : All (λ e. All Short (stringsOf e)) (events items)) (may : PermitsAll (started L) items w) where
+  -- within the limits of M
+  from-start : (M : Version) → M .entries ≤ top → deepest 0 (events items) ≤ M .depth → InLimits M w → CanWrite M (2 * length (header L)) (beginning (started L)) items w
   unfolding beginning
-  from-start L small shallow i =
-      can-write L small items (2 * length header) (beginning started) (all-left started (events items) .0 doc) (sane-first started) (sayable (events items) allowed short) shallow i tt may
+  from-start M small shallow i =
+      can-write M small items (2 * length (header L)) (beginning (started L)) (all-left (started L) (events items) .0 doc) (sane-first (started L)) (sayable (events items) allowed short) shallow i tt may
 
   -- Every list of items whose events are a document, its strings as 01 allows them, and whose choices are permitted, is written; it only has to be shorter than a table may be.
-  pub every-choice : length items < top → WrittenAs items w
-  unfolding standard
+  pub every-choice : length items < top → WrittenAs L items w
+  unfolding standard starting header
   every-choice few =
-      let c = from-start (standard (deepest 0 (events items)) 0) (omega arith) (omega arith) (few-after (standard (deepest 0 (events items)) 0) may few) in
+      let c = from-start (standard L (deepest 0 (events items)) 0) (omega arith) (omega arith) (few-after (standard L (deepest 0 (events items)) 0) may few) in
       record {
-        octets = header ++ joined (c .halves);
+        octets = header L ++ joined (c .halves);
         last = c .last;
         writes = λ depth size deep long. document-of (written (omega arith) (omega arith) deep (c .rule)) long;
         known = c .known;
       }
 
 -- So every document is, with 01's choices.
-module _ (es : List (Event Octets)) (doc : IsDocument es) (allowed : All Allowed es) (short : All (λ e. All Short (stringsOf e)) es) where
-  abbrev same : events (chosen link started es) ≡ es
-  same = chosen-events link started es
+module _ (L : Version) (es : List (Event Octets)) (doc : IsDocument es) (allowed : All Allowed es) (short : All (λ e. All Short (stringsOf e)) es) where
+  abbrev same : events (chosen L (started L) es) ≡ es
+  same = chosen-events L (started L) es
 
-  abbrev may : PermitsAll started (chosen link started es) (tablesAfter link started es)
-  may = chosen-permitted link started es ranged-started
+  abbrev may : PermitsAll (started L) (chosen L (started L) es) (tablesAfter L (started L) es)
+  may = chosen-permitted L (started L) es (ranged-started L)
 
-  abbrev doc′ : IsDocument (events (chosen link started es))
+  abbrev doc′ : IsDocument (events (chosen L (started L) es))
   doc′ = subst IsDocument (sym same) doc
 
-  abbrev allowed′ : All Allowed (events (chosen link started es))
+  abbrev allowed′ : All Allowed (events (chosen L (started L) es))
   allowed′ = subst (All Allowed) (sym same) allowed
 
-  abbrev short′ : All (λ e. All Short (stringsOf e)) (events (chosen link started es))
+  abbrev short′ : All (λ e. All Short (stringsOf e)) (events (chosen L (started L) es))
   short′ = subst (All (λ e. All Short (stringsOf e))) (sym same) short
 
-  pub every-document : length es < top → WrittenWidely es
+  pub every-document : length es < top → WrittenWidely L es
   every-document few =
-      let l = length-map (chosen link started es) (λ (i : Item Octets). i .event) in
+      let l = length-map (chosen L (started L) es) (λ (i : Item Octets). i .event) in
       let k = ap length same in
-      let c = every-choice (chosen link started es) doc′ allowed′ short′ may (omega arith) in
+      let c = every-choice L (chosen L (started L) es) doc′ allowed′ short′ may (omega arith) in
       record { octets = c .octets; last = c .last; writes = λ depth size deep long. c .writes depth size (rw same deep) long; tables = c .known }
 
-  -- On the link too, unless it is over a limit.
-  pub beyond-the-link : (w : WrittenWidely es) → OrPasses es (w .last) (w .octets)
-  unfolding standard link
-  beyond-the-link w =
-      case (link .depth) (deepest 0 es) over-depth λ shallow.
-      case (link .octets) (length (w .octets)) over-octets λ long.
-      elim (in-limits link (tablesAfter link started es)) [
+  -- Within the version's limits too, unless it is over one.
+  pub beyond-limits : L .entries ≤ top → (w : WrittenWidely L es) → OrPasses L es (w .last) (w .octets)
+  unfolding standard starting header
+  beyond-limits small w =
+      case (L .depth) (deepest 0 es) over-depth λ shallow.
+      case (L .octets) (length (w .octets)) over-octets λ long.
+      elim (in-limits L (tablesAfter L (started L) es)) [
         | no f ↦ over-entries f
         | yes i ↦
-            let d = w .writes (link .depth) (link .octets) shallow long in
-            let c = from-start (chosen link started es) doc′ allowed′ short′ may link (omega arith) (rw same shallow) i in
+            let d = w .writes (L .depth) (L .octets) shallow long in
+            let c = from-start L (chosen L (started L) es) doc′ allowed′ short′ may L small (rw same shallow) i in
             let o = one-writing (d .rule) (written (omega arith) (omega arith) (omega arith) (c .rule)) in
-            on-the-link (record { body = d .body; here = d .here; rule = rw (o .0, o .1) (c .rule); short = long })
+            within-limits (record { body = d .body; here = d .here; rule = rw (o .0, o .1) (c .rule); short = long })
       ]

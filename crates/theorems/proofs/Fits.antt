@@ -7,7 +7,7 @@ use native.Mathlib.Omega.{arith}
 use lib.ListN.{length, length-map}
 use Rattle.format.specs.Octets.{Octets}
 use Rattle.format.specs.Events.{Item}
-use Rattle.format.specs.Tables.{Limits, link}
+use Rattle.format.specs.Tables.{Version}
 use Rattle.format.specs.Items.{State}
 use Rattle.format.specs.Document.{header}
 use Rattle.tables.specs.Located.{Located, plain, start}
@@ -30,28 +30,28 @@ turn-fits go rec room m (quiet n) = rec room n
 turn-fits go rec room m done = omega arith
 turn-fits go rec room m (stop n p) = tt
 
-run-fits : (L : Limits) (s : Octets) (fuel room : ℕ) (m : Stand) → Fits room (run L s fuel room m)
+run-fits : (L : Version) (s : Octets) (fuel room : ℕ) (m : Stand) → Fits room (run L s fuel room m)
 unfolding run
 run-fits L s zero room m = tt
 run-fits L s (suc fuel) room m = turn-fits (λ r n. run L s fuel r n) (λ r n. run-fits L s fuel r n) room m (step L s m)
 
-from-fits : (s : Octets) (room : ℕ) (o : Opening) → Fits room (resultFrom s room o)
-from-fits s room onward = run-fits link s (fuelOf s) room (origin start)
-from-fits s room (halt n p) = tt
+from-fits : (L : Version) (s : Octets) (room : ℕ) (o : Opening) → Fits room (resultFrom L s room o)
+from-fits L s room (onward body tables) = run-fits L s (fuelOf s) room (origin body tables)
+from-fits L s room (halt n p) = tt
 
-pub accepted-fits : (s : Octets) (room : ℕ) (items : List (Item Octets)) (z : State Octets) → Accepts s room items z → length items ≤ room
+pub accepted-fits : (L : Version) (s : Octets) (room : ℕ) (items : List (Item Octets)) (z : State Octets) → Accepts L s room items z → length items ≤ room
 unfolding reading
-accepted-fits s room items z a =
-    let h : length (a .events) ≤ room = subst (Fits room) (a .reads) (from-fits s room (opening link header s)) in
+accepted-fits L s room items z a =
+    let h : length (a .events) ≤ room = subst (Fits room) (a .reads) (from-fits L s room (opening L s)) in
     let l = length-map (a .events) (plain s) in
     let k = ap length (a .are) in
     omega arith
 
 -- and it has a document's size
-sized-is : (s : Octets) (room : ℕ) (is : List (Item Located)) (m : Stand) → reading s room ≡ accepted is m → (b : Bool) → sized link s ≡ b → sized link s ≡ true
+sized-is : (L : Version) (s : Octets) (room : ℕ) (is : List (Item Located)) (m : Stand) → reading L s room ≡ accepted is m → (b : Bool) → sized L s ≡ b → sized L s ≡ true
 unfolding reading opening
-sized-is s room is m r true e = e
-sized-is s room is m r false e = let q = rw e at r in absurd (let z : _≡_ {A = ℕ} 0 1 = cc in omega arith)
+sized-is L s room is m r true e = e
+sized-is L s room is m r false e = let q = rw e at r in absurd (let z : _≡_ {A = ℕ} 0 1 = cc in omega arith)
 
-pub accepted-sized : (s : Octets) (room : ℕ) (is : List (Item Located)) (m : Stand) → reading s room ≡ accepted is m → sized link s ≡ true
-accepted-sized s room is m r = sized-is s room is m r (sized link s) refl
+pub accepted-sized : (L : Version) (s : Octets) (room : ℕ) (is : List (Item Located)) (m : Stand) → reading L s room ≡ accepted is m → sized L s ≡ true
+accepted-sized L s room is m r = sized-is L s room is m r (sized L s) refl

@@ -9,7 +9,7 @@ use lib.ListN.{length}
 use Rattle.format.specs.Octets.{Octets, Halves}
 use Rattle.format.specs.Numbers.{pick}
 use Rattle.format.specs.Events.{Item, _by_}
-use Rattle.format.specs.Tables.{Limits, link}
+use Rattle.format.specs.Tables.{Version}
 use Rattle.format.specs.Items.{State}
 use Rattle.format.specs.Document.{header, beginning}
 use Rattle.events.specs.declared.Event.{Event}
@@ -33,7 +33,7 @@ passed text e goes n q = record-back text (made-is text e (e .kind) refl (from (
 abbrev pub recordsOf : List (Item Located) → List Event
 recordsOf items = map (λ (i : Item Located). recordOf (i .event)) items
 
-module _ (L : Limits) (text : Octets) (room : ℕ) where
+module _ (L : Version) (text : Octets) (room : ℕ) where
   abbrev GivenBack : List Event → Result → Type 0
   GivenBack es (written items hs z) = recordsOf items ≡ es
   GivenBack es (refusal n p) = Unit {0}
@@ -63,6 +63,6 @@ module _ (L : Limits) (text : Octets) (room : ℕ) where
       let hs = halvesOf L text room at v ev w in
       turn-given e es at v i w hs (run L text room (at + length hs) (w .state) (suc i) es) (run-given es (at + length hs) (w .state) (suc i)) (judge L text room at v e w hs) refl
 
-pub given-back : (text : Octets) (room : ℕ) (es : List Event) (items : List (Item Located)) (hs : Halves) (z : State Located) → writing text room es ≡ written items hs z → recordsOf items ≡ es
+pub given-back : (L : Version) (text : Octets) (room : ℕ) (es : List Event) (items : List (Item Located)) (hs : Halves) (z : State Located) → writing L text room es ≡ written items hs z → recordsOf items ≡ es
 unfolding writing
-given-back text room es items hs z e = subst (GivenBack link text room es) e (run-given link text room es (2 * length header) (beginning start) 0)
+given-back L text room es items hs z e = subst (GivenBack L text room es) e (run-given L text room es (2 * length (header L)) (beginning (start L)) 0)

@@ -12,7 +12,7 @@ use lib.Seq.{drop-cons}
 use Rattle.format.specs.Octets.{Octets}
 use Rattle.format.specs.Numbers.{pick, behindFirst, numbers, c25, top, longest}
 use Rattle.format.specs.Events.{Name, Namespace, Start, Attribute, Text, Comment, Instruction, How, NameHow, forNamespace, forStart, forAttribute, forText, forComment, forInstruction, Item, _by_, eventMap}
-use Rattle.format.specs.Tables.{OTHER-NCNAME, ATTRIBUTE-VALUE, CONTENT-CHARACTER-CHUNK, OTHER-STRING, Vocabulary, Limits}
+use Rattle.format.specs.Tables.{OTHER-NCNAME, ATTRIBUTE-VALUE, CONTENT-CHARACTER-CHUNK, OTHER-STRING, Vocabulary, Version}
 use Rattle.format.specs.Strings.{bit, c15, Value}
 use Rattle.format.specs.Names.{ofElement, ofAttribute, Named, Declared}
 use Rattle.format.specs.Items.{Mode, content, declaring, listing, State, mayStart, knowing, moved, opened, ItemWrittenAs, o-start, o-first-namespace, o-namespace, o-named-start, o-attribute, o-text, o-comment, o-instruction}
@@ -85,7 +85,7 @@ number-unpadded s k b n c e z h =
     (λ w. let q : b ≡ 48 = omega arith in rw q))
 
 -- ---- what is read is what the rules write
-module _ (L : Limits) (s : Octets) (bytes : (i : ℕ) → getD s i 0 < 256) (short : length s ≤ longest) where
+module _ (L : Version) (s : Octets) (bytes : (i : ℕ) → getD s i 0 < 256) (short : length s ≤ longest) where
   pub record ItemRead (k : ℕ) (v : State Located) (p : ℕ) (i : Item Located) (n : Stand) : Type 0 where
     pub octets : Octets
     pub rule : ItemWrittenAs L (plainState s v) (plain s i) octets (plainState s (n .state))
@@ -251,7 +251,7 @@ module _ (L : Limits) (s : Octets) (bytes : (i : ℕ) → getD s i 0 < 256) (sho
   item-sound k v (listing any) kl md = attribute-sound any k v kl md
 
 -- ---- what the rules write is read
-module _ (L : Limits) (s : Octets) where
+module _ (L : Version) (s : Octets) where
   -- p is where its strings are spelled
   pub record ItemHit (k : ℕ) (v : State Located) (i : Item Octets) (o : Octets) (w : State Octets) (p : List Located) : Type 0 where
     pub place : ℕ

@@ -6,7 +6,7 @@ use native.Mathlib.Omega.{arith}
 use lib.ListN.{length}
 use Rattle.format.specs.Octets.{Octets, Halves}
 use Rattle.format.specs.Events.{Item}
-use Rattle.format.specs.Tables.{Limits}
+use Rattle.format.specs.Tables.{Version}
 use Rattle.format.specs.Items.{State}
 use Rattle.format.specs.Document.{halves, pad, aligned, Written, document-end, attributes-end, element-end, item, beginning, Document, header, started}
 use Rattle.writer.specs.Writing.{joined}
@@ -41,7 +41,7 @@ join-item : (at : ℕ) (o : Octets) (hs : Halves) → halves (joined hs) ≡ hs 
 unfolding pad
 join-item at o hs k = parity at (λ z. rw z (join-octets o hs k)) (λ z. rw z (λ h. join-two h 0 (halves o ++ hs) (omega arith) (join-octets o hs k)))
 
-joins-from : {L : Limits} {at : ℕ} {v z : State Octets} {items : List (Item Octets)} {hs : Halves} → Written L at v items hs z → Joins (at % 2) hs
+joins-from : {L : Version} {at : ℕ} {v z : State Octets} {items : List (Item Octets)} {hs : Halves} → Written L at v items hs z → Joins (at % 2) hs
 unfolding pad aligned halves joined
 joins-from (document-end {at = at} md lv rt) =
     parity at (λ z. let y : suc at % 2 ≡ 1 = omega arith in rw (z, y)) (λ z. let y : suc at % 2 ≡ 0 = omega arith in rw (z, y) (λ h. join-two h 15 [] (omega arith) refl))
@@ -52,11 +52,10 @@ joins-from (item {at = at} {o = o} {hs = hs} u w) =
     join-item at o hs (rw y at (joins-from w))
 
 -- ---- behind the header
-module _ {L : Limits} {v z : State Octets} {items : List (Item Octets)} {hs : Halves} where
-  pub joins : Written L (2 * length header) v items hs z → halves (joined hs) ≡ hs
-  unfolding header
-  joins w = joins-from w
+module _ {L : Version} {v z : State Octets} {items : List (Item Octets)} {hs : Halves} where
+  pub joins : Written L (2 * length (header L)) v items hs z → halves (joined hs) ≡ hs
+  joins w = let e : 2 * length (header L) % 2 ≡ 0 = omega arith in rw e at (joins-from w)
 
-abbrev pub document-of : {L : Limits} {z : State Octets} {items : List (Item Octets)} {hs : Halves} → Written L (2 * length header) (beginning started) items hs z → length (header ++ joined hs) ≤ L .octets
-    → Document L header started items z (header ++ joined hs)
-document-of {hs = hs} w short = record { body = hs; here = halves-append header (joined hs) ∙ ap (λ (l : Octets). halves header ++ l) (joins w); rule = w; short = short }
+abbrev pub document-of : {L : Version} {z : State Octets} {items : List (Item Octets)} {hs : Halves} → Written L (2 * length (header L)) (beginning (started L)) items hs z → length (header L ++ joined hs) ≤ L .octets
+    → Document L items z (header L ++ joined hs)
+document-of {L} {hs = hs} w short = record { body = hs; here = halves-append (header L) (joined hs) ∙ ap (λ (l : Octets). halves (header L) ++ l) (joins w); rule = w; short = short }

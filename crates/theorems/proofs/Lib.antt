@@ -48,3 +48,4 @@ pub mod DemandOne
 pub mod DemandThree
 pub mod DemandTwo
 pub mod DemandWords
+pub mod OnTheLink

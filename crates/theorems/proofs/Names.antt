@@ -12,7 +12,7 @@ use lib.Seq.{drop-cons}
 use Rattle.format.specs.Octets.{Octets}
 use Rattle.format.specs.Numbers.{behindFirst, spell, numbers, c25, top, longest}
 use Rattle.format.specs.Events.{Name, nameMap, How, NameHow, inParts, byNumber}
-use Rattle.format.specs.Tables.{PREFIX, NAMESPACE-NAME, LOCAL-NAME, Triple, noTriple, Vocabulary, names, addingName, holdsName, Entry, nameOf, Limits}
+use Rattle.format.specs.Tables.{PREFIX, NAMESPACE-NAME, LOCAL-NAME, Triple, noTriple, Vocabulary, names, addingName, holdsName, Entry, nameOf, Version}
 use Rattle.format.specs.Strings.{bit, Identifying, Optional}
 use Rattle.format.specs.Names.{has, NameLayout, ofElement, ofAttribute, Named, in-parts, by-number, Declared, declared}
 use Rattle.fields.specs.declared.Cursor.{Cursor}
@@ -85,7 +85,7 @@ unfolding ofAttribute roomsIn shareOf behindFirst c25
 attribute-shape = record { numbers-ok = c25-ordered; numbers-fit = omega arith; even = refl }
 
 -- ---- what is read is what the rules write
-module _ (L : Limits) (s : Octets) (bytes : (i : ℕ) → getD s i 0 < 256) (short : length s ≤ longest) where
+module _ (L : Version) (s : Octets) (bytes : (i : ℕ) → getD s i 0 < 256) (short : length s ≤ longest) where
   abbrev pub NameR : NameLayout → ℕ → Vocabulary Octets → NameRead → Octets → Vocabulary Octets → Type 0
   NameR q lead v b o w = Named L q lead v (nameMap (octetsOf s) (b .name)) (b .how) o w
 
@@ -183,7 +183,7 @@ module _ (L : Limits) (s : Octets) (bytes : (i : ℕ) → getD s i 0 < 256) (sho
       (λ h2. either-lt P b 0xF0 _ _ (λ y. fault s 5 k refl kl) (λ y. either-eq P b 0xF0 _ _ (λ z. fault s 15 k refl kl) (λ z. fault s 6 k refl kl)))
 
 -- ---- what the rules write is read
-module _ (L : Limits) (s : Octets) where
+module _ (L : Version) (s : Octets) where
   -- p is where its parts are spelled
   abbrev pub NameQ : Name Octets → NameHow → List Located → NameRead → Type 0
   NameQ x h p b = (nameMap (octetsOf s) (b .name) ≡ x) × (b .how ≡ h) × (nameSpelled (b .name) (b .how) ≡ p)

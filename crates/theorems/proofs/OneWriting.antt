@@ -7,13 +7,13 @@ use Prim.Native.Nat.{ℕ, suc, _+_, _*_}
 use native.Mathlib.Omega.{arith}
 use Rattle.format.specs.Octets.{Octets, Halves}
 use Rattle.format.specs.Events.{Name, Event, Namespace, Start, Attribute, Text, Comment, Instruction, End, How, numbered, NameHow, Item, _by_, forEnd, isDeclaration, isStart}
-use Rattle.format.specs.Tables.{StringTable, Vocabulary, addingName, Limits}
+use Rattle.format.specs.Tables.{StringTable, Vocabulary, addingName, Version}
 use Rattle.format.specs.Strings.{bit, Identifying, id-spelled, id-numbered, Optional, absent, present, Layout, Literal, literal-spelled, literal-numbered, Value, value-empty, value}
 use Rattle.format.specs.Names.{has, NameLayout, Named, in-parts, by-number, Declared, declared}
 use Rattle.format.specs.Items.{Mode, content, declaring, listing, State, afterStart, knowing, moved, opened, ItemWrittenAs, o-start, o-first-namespace, o-namespace, o-named-start, o-attribute, o-text, o-comment, o-instruction}
 use Rattle.writer.specs.Writing.{isAttribute}
 use Rattle.tables.proofs.Found.{clash as false-true}
-use Rattle.format.specs.Document.{halves, pad, Written, document-end, attributes-end, element-end, item, Document}
+use Rattle.format.specs.Document.{halves, pad, Written, document-end, attributes-end, element-end, item, Document, header}
 use Rattle.theorems.proofs.Lists.{octet-is}
 
 -- Whether attributes follow is decided by the items: by the next, and behind declarations by the one behind the Start.
@@ -88,7 +88,7 @@ halves-one [] (y ∷ b) e = cc
 halves-one (x ∷ a) [] e = cc
 halves-one (x ∷ a) (y ∷ b) e = ap₂ (λ (z : ℕ) (l : Octets). z ∷ l) (octet-is x y (cc) (cc)) (halves-one a b (cc))
 
-module _ {L : Limits} where
+module _ {L : Version} where
   -- strings: the octets, the number and the tables
   pub identifying-one : {t : StringTable} {v w w′ : Vocabulary Octets} {x : Octets} {h : How} {n n′ : ℕ} {o o′ : Octets}
       → Identifying L t v x h n o w → Identifying L t v x h n′ o′ w′ → (o ≡ o′) × (n ≡ n′) × (w ≡ w′)
@@ -242,9 +242,9 @@ module _ {L : Limits} where
       let r = one-writing w (rw (← (q .0), ← (q .1)) at w′) in
       ((λ j. pad at ++ (halves (q .0 j) ++ r .0 j)), r .1)
 
-  pub one-document : {h : Octets} {start : Vocabulary Octets} {items : List (Item Octets)} {z z′ : State Octets} {s s′ : Octets}
-      → Document L h start items z s → Document L h start items z′ s′
+  pub one-document : {items : List (Item Octets)} {z z′ : State Octets} {s s′ : Octets}
+      → Document L items z s → Document L items z′ s′
       → (s ≡ s′) × (z ≡ z′)
-  one-document {h} {s = s} {s′ = s′} d d′ =
+  one-document {s = s} {s′ = s′} d d′ =
       let r = one-writing (d .rule) (d′ .rule) in
-      (halves-one s s′ (d .here ∙ ap (λ (l : Octets). halves h ++ l) (r .0) ∙ sym (d′ .here)), r .1)
+      (halves-one s s′ (d .here ∙ ap (λ (l : Octets). halves (header L) ++ l) (r .0) ∙ sym (d′ .here)), r .1)

@@ -4,7 +4,7 @@ use mathlib.Core.Option.{Option}
 use mathlib.Core.List.{List}
 use Rattle.format.specs.Octets.{Octets, Halves}
 use Rattle.format.specs.Events.{Name, How, NameHow, Item}
-use Rattle.format.specs.Tables.{StringTable, ELEMENT-NAME, ATTRIBUTE-NAME, Vocabulary, Limits}
+use Rattle.format.specs.Tables.{StringTable, ELEMENT-NAME, ATTRIBUTE-NAME, Vocabulary, Version}
 use Rattle.format.specs.Strings.{Identifying, id-spelled, id-numbered, Optional, absent, present, Layout, Literal, literal-spelled, literal-numbered, Value, value-empty, value}
 use Rattle.format.specs.Names.{NameLayout, ofElement, ofAttribute, Named, in-parts, by-number, declared}
 use Rattle.format.specs.Items.{State, ItemWrittenAs, o-start, o-first-namespace, o-namespace, o-named-start, o-attribute, o-text, o-comment, o-instruction}
@@ -12,7 +12,7 @@ use Rattle.format.specs.Document.{Written, document-end, attributes-end, elemen
 use Rattle.theorems.specs.Permitted.{PermitsId, id-new, id-entry, PermitsIfAny, not-there, there, PermitsString, string-spelled, string-entry, PermitsValue, value-none, value-spelled, value-entry}
 use Rattle.theorems.specs.Permitted.{PermitsName, name-parts, name-entry, Permits, a-declaration, a-start, an-attribute, a-chunk, a-comment, an-instruction, an-end, PermitsAll, no-item, an-item}
 
-module _ {L : Limits} where
+module _ {L : Version} where
   id-may : {t : StringTable} {v w : Vocabulary Octets} {x : Octets} {h : How} {n : ℕ} {o : Octets} → Identifying L t v x h n o w → PermitsId t v x h n w
   id-may (id-spelled sp new room) = id-new new
   id-may (id-numbered small en) = id-entry en

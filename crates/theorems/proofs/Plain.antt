@@ -10,13 +10,13 @@ use Rattle.format.specs.Octets.{Octets}
 use Rattle.format.specs.Characters.{utf8s, IsText}
 use Rattle.format.specs.Events.{Name, Event, Namespace, Start, Attribute, Text, Comment, Instruction, End, How, NameHow, Item}
 use Rattle.format.specs.Tables.{StringTable, PREFIX, NAMESPACE-NAME, LOCAL-NAME, OTHER-NCNAME, OTHER-URI, ATTRIBUTE-VALUE, CONTENT-CHARACTER-CHUNK, OTHER-STRING}
-use Rattle.format.specs.Tables.{NameTable, ELEMENT-NAME, ATTRIBUTE-NAME, Triple, noTriple, Vocabulary, strings, names, place, extended, adding, addingName, starting}
+use Rattle.format.specs.Tables.{NameTable, ELEMENT-NAME, ATTRIBUTE-NAME, Triple, noTriple, Vocabulary, strings, names, place, extended, adding, addingName, starting, Version}
 use Rattle.format.specs.Tables.{xmlPrefix, xmlNamespace, Entry}
 use Rattle.format.specs.Names.{has}
 use Rattle.format.specs.Items.{State}
 use Rattle.format.specs.Uses.{sameNames}
 use Rattle.format.specs.Allowed.{Said, SaidIfAny, AllowedName, Allowed, All}
-use Rattle.format.specs.Document.{Writes}
+use Rattle.format.specs.Document.{Document}
 use Rattle.fields.specs.Utf8.{rows, between, first, next, after, isText}
 use Rattle.fields.proofs.Characters.{text-exact}
 use Rattle.tables.proofs.Laws.{strings-adding, names-adding}
@@ -140,14 +140,18 @@ module _ {S : Type 0} (P : StringTable → S → Type 0) (d : S) where
     all-hold no-item g = tt
     all-hold (an-item u r) g = let a = item-holds u g in (a .0, all-hold r (a .1))
 
-    -- at the start the tables hold two strings, and no name
-    good-start : {p n : S} → P PREFIX p → P NAMESPACE-NAME n → Good (starting p n)
+    -- at the start the tables hold at most two strings, and no name
+    good-start : (L : Version) {p n : S} → P PREFIX p → P NAMESPACE-NAME n → Good (starting L p n)
     unfolding strings names starting
-    good-start {p} {n} a b = record { of-strings = two-strings; of-names = λ t. elim t [ ELEMENT-NAME ↦ tt | ATTRIBUTE-NAME ↦ tt ] }
+    good-start L {p} {n} a b = record { of-strings = two-strings; of-names = λ t. elim t [ ELEMENT-NAME ↦ tt | ATTRIBUTE-NAME ↦ tt ] }
       where
-        two-strings : (t : StringTable) → All (P t) (strings (starting p n) t)
-        two-strings PREFIX = (a, tt)
-        two-strings NAMESPACE-NAME = (b, tt)
+        if-built-in : (t : StringTable) (x : S) → P t x → (b : Bool) → All (P t) (extended b [] x)
+        if-built-in t x h true = (h, tt)
+        if-built-in t x h false = tt
+
+        two-strings : (t : StringTable) → All (P t) (strings (starting L p n) t)
+        two-strings PREFIX = if-built-in PREFIX p a (L .builtIn)
+        two-strings NAMESPACE-NAME = if-built-in NAMESPACE-NAME n b (L .builtIn)
         two-strings LOCAL-NAME = tt
         two-strings OTHER-NCNAME = tt
         two-strings OTHER-URI = tt
@@ -155,8 +159,8 @@ module _ {S : Type 0} (P : StringTable → S → Type 0) (d : S) where
         two-strings CONTENT-CHARACTER-CHUNK = tt
         two-strings OTHER-STRING = tt
 
-    pub holds : {p n : S} {items : List (Item S)} {z : Vocabulary S} → P PREFIX p → P NAMESPACE-NAME n → Done d Spelt (starting p n) items z → All (λ i. Holds (i .event)) items
-    holds a b r = all-hold r (good-start a b)
+    pub holds : (L : Version) {p n : S} {items : List (Item S)} {z : Vocabulary S} → P PREFIX p → P NAMESPACE-NAME n → Done d Spelt (starting L p n) items z → All (λ i. Holds (i .event)) items
+    holds L a b r = all-hold r (good-start L a b)
 
 -- ---- 01's strings
 abbrev OfTable : StringTable → Octets → Type 0
@@ -187,6 +191,6 @@ two-said : Said xmlPrefix × Said xmlNamespace
 unfolding xmlPrefix xmlNamespace rows between first next after isText
 two-said = ((omega arith, text-exact xmlPrefix .0 refl), (omega arith, text-exact xmlNamespace .0 refl))
 
-pub plain-on-link : {items : List (Item Octets)} {z : State Octets} {s : Octets} → Writes items z s → All (λ i. Allowed (i .event)) items
-plain-on-link {items} w =
-    all-so (λ i. Allowed (i .event)) (λ i a. as-allowed (i .event) a) items (holds OfTable [] Said (λ t x a. a) (two-said .0) (two-said .1) (document-done w))
+pub all-allowed : {L : Version} {items : List (Item Octets)} {z : State Octets} {s : Octets} → Document L items z s → All (λ i. Allowed (i .event)) items
+all-allowed {L} {items} w =
+    all-so (λ i. Allowed (i .event)) (λ i a. as-allowed (i .event) a) items (holds OfTable [] Said (λ t x a. a) L (two-said .0) (two-said .1) (document-done w))

@@ -11,7 +11,7 @@ use Rattle.format.specs.Octets.{Octets}
 use Rattle.format.specs.Numbers.{pick}
 use Rattle.format.specs.Events as E
 use Rattle.format.specs.Events.{eventMap, isDeclaration, isStart}
-use Rattle.format.specs.Tables.{StringTable, PREFIX, NAMESPACE-NAME, LOCAL-NAME, OTHER-NCNAME, OTHER-URI, ATTRIBUTE-VALUE, CONTENT-CHARACTER-CHUNK, OTHER-STRING, NameTable, ELEMENT-NAME, ATTRIBUTE-NAME, Vocabulary, strings, names, place, vocabularyMap, Limits, InLimits}
+use Rattle.format.specs.Tables.{StringTable, PREFIX, NAMESPACE-NAME, LOCAL-NAME, OTHER-NCNAME, OTHER-URI, ATTRIBUTE-VALUE, CONTENT-CHARACTER-CHUNK, OTHER-STRING, NameTable, ELEMENT-NAME, ATTRIBUTE-NAME, Vocabulary, strings, names, place, vocabularyMap, Version, InLimits}
 use Rattle.format.specs.Items.{Mode, content, State, moved}
 use Rattle.events.specs.declared.Kind.{Kind}
 use Rattle.events.specs.declared.Kind.the-variants.{Blank, Namespace, Start, Attribute, Chunk, Comment, Instruction, End}
@@ -108,7 +108,7 @@ module _ (text : Octets) where
   announced-on e es t = announced-is e es ∙ later-declared (plainOf text e) (attributeNext es) (announced es) t
 
 -- ---- one event
-module _ (L : Limits) (text : Octets) (a : Bool) (v : State Located) (e : E.Event Located) where
+module _ (L : Version) (text : Octets) (a : Bool) (v : State Located) (e : E.Event Located) where
   abbrev pv : State Octets
   pv = plainState text v
 
@@ -141,7 +141,7 @@ module _ (L : Limits) (text : Octets) (a : Bool) (v : State Located) (e : E.Even
       rw (attribute-map (octetsOf text) e, end-map (octetsOf text) e, same .octets ∙ ap (λ (u : State Octets). octetsBy L a u pe) settled-plain)
 
 -- ---- the tables behind it
-known-words : (L : Limits) (a : Bool) (v : State Octets) (e : E.Event Octets) → knownBy L a v e .tables ≡ chooseFor L (v .tables) e .tables
+known-words : (L : Version) (a : Bool) (v : State Octets) (e : E.Event Octets) → knownBy L a v e .tables ≡ chooseFor L (v .tables) e .tables
 unfolding chooseFor
 known-words L a v (E.Namespace p n) = refl
 known-words L a v (E.Start x) = refl
@@ -151,16 +151,16 @@ known-words L a v (E.Comment y) = refl
 known-words L a v (E.Instruction x y) = refl
 known-words L a v E.End = refl
 
-pub next-words : (L : Limits) (a : Bool) (v : State Octets) (e : E.Event Octets) → nextBy L a v e .tables ≡ chooseFor L (v .tables) e .tables
+pub next-words : (L : Version) (a : Bool) (v : State Octets) (e : E.Event Octets) → nextBy L a v e .tables ≡ chooseFor L (v .tables) e .tables
 next-words L a v e = known-words L a (settled v e) e ∙ ap (λ (u : Vocabulary Octets). chooseFor L u e .tables) (words-settled v e)
 
-pub within-plain : (L : Limits) (text : Octets) (v : Vocabulary Located) → within L (plainTables text v) ≡ within L v
+pub within-plain : (L : Version) (text : Octets) (v : Vocabulary Located) → within L (plainTables text v) ≡ within L v
 unfolding within vocabularyMap
 within-plain L text v =
     rw (length-map (v .prefixes) (octetsOf text), length-map (v .namespaces) (octetsOf text), length-map (v .locals) (octetsOf text), length-map (v .ncnames) (octetsOf text))
 
 -- what is within the limits, by the writer's test and by how it adds
-pub fits-of : (L : Limits) (v : Vocabulary Octets) → within L v ≡ true → Rest L v → InLimits L v
+pub fits-of : (L : Version) (v : Vocabulary Octets) → within L v ≡ true → Rest L v → InLimits L v
 unfolding within strings names place
 fits-of L v e r =
     let a = both-true (leb (length (v .prefixes)) (L .entries)) _ e in
@@ -184,7 +184,7 @@ fits-of L v e r =
     gone e a ELEMENT-NAME = e
     gone e a ATTRIBUTE-NAME = a
 
-pub of-fits : (L : Limits) (v : Vocabulary Octets) → InLimits L v → within L v ≡ true
+pub of-fits : (L : Version) (v : Vocabulary Octets) → InLimits L v → within L v ≡ true
 unfolding within strings names
 of-fits L v f =
     rw (

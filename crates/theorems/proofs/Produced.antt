@@ -11,7 +11,7 @@ use lib.ListN.{length}
 use Rattle.format.specs.Octets.{Octets}
 use Rattle.format.specs.Numbers.{sizes, numbers, c25, top}
 use Rattle.format.specs.Events.{Name, Event, Namespace, Start, Attribute, Text, Comment, Instruction, End, How, NameHow, Item, _by_, Choice, forStart}
-use Rattle.format.specs.Tables.{StringTable, PREFIX, NAMESPACE-NAME, LOCAL-NAME, OTHER-NCNAME, ATTRIBUTE-VALUE, CONTENT-CHARACTER-CHUNK, OTHER-STRING, NameTable, ELEMENT-NAME, ATTRIBUTE-NAME, Vocabulary, strings, place, extended, adding, Limits, InLimits}
+use Rattle.format.specs.Tables.{StringTable, PREFIX, NAMESPACE-NAME, LOCAL-NAME, OTHER-NCNAME, ATTRIBUTE-VALUE, CONTENT-CHARACTER-CHUNK, OTHER-STRING, NameTable, ELEMENT-NAME, ATTRIBUTE-NAME, Vocabulary, strings, place, extended, adding, Version, InLimits}
 use Rattle.format.specs.Strings.{Spelling, bit, c15, Literal}
 use Rattle.format.specs.Names.{has, ofElement, ofAttribute, Named, Declared, declared}
 use Rattle.format.specs.Items.{Mode, content, declaring, listing, State, mayStart, knowing, moved, opened, ItemWrittenAs, o-start, o-first-namespace, o-namespace, o-named-start, o-attribute, o-text, o-comment, o-instruction}
@@ -24,22 +24,22 @@ use Rattle.theorems.proofs.Growing.{strings-adding-name, same-table, ex
 use Rattle.theorems.proofs.Chosen.{Grows, same-size, grows-on, fits-before, idOctets, optionalOctets, literalOctets, valueOctets, nameOctets, id-case, id-grows, id-rule, optional-case, optional-grows, optional-rule, SpellingIfAny, SpellingIfSome, LiteralCase, lit-held, lit-new, literal-case, literal-permits, literal-grows, literal-rule, ValueCase, is-empty, is-literal, value-case, value-permits, value-grows, value-rule, Ranged, ranged-on, id-names, optional-names, literal-names, value-names, NameCase, name-held, name-new, name-case, name-permits, name-grows, name-ranged, NameSaid, name-rule}
 
 -- the tables in order: none over its limit, and each triple's numbers in range
-pub record Order (L : Limits) (v : Vocabulary Octets) : Type 0 where
+pub record Order (L : Version) (v : Vocabulary Octets) : Type 0 where
   pub fit : InLimits L v
   pub ranged : Ranged v
 
 -- ---- the tables that no identifying string is added to: they are added to only where there is room
-pub record Rest (L : Limits) (v : Vocabulary Octets) : Type 0 where
+pub record Rest (L : Version) (v : Vocabulary Octets) : Type 0 where
   pub few : (t : StringTable) → 4 ≤ place t → length (strings v t) ≤ L .entries
 
 -- what stands in the other tables stays
-same-rest : {L : Limits} {v w : Vocabulary Octets} → ((t : StringTable) → 4 ≤ place t → strings w t ≡ strings v t) → Rest L v → Rest L w
+same-rest : {L : Version} {v w : Vocabulary Octets} → ((t : StringTable) → 4 ≤ place t → strings w t ≡ strings v t) → Rest L v → Rest L w
 same-rest e r = record { few = λ t h. let a = r .few t h in let b = ap length (e t h) in omega arith }
 
 other-table : (v : Vocabulary Octets) (t u : StringTable) (x : Octets) → place t < 4 → 4 ≤ place u → strings (adding v t x) u ≡ strings v u
 other-table v t u x a b = strings-adding v t x u ∙ ap (λ (c : Bool). extended c (strings v u) x) (ne-eqb (place t) (place u) (λ e. omega arith))
 
-adding-rest : {L : Limits} (v : Vocabulary Octets) (t : StringTable) (x : Octets) → length (strings v t) < L .entries → Rest L v → Rest L (adding v t x)
+adding-rest : {L : Version} (v : Vocabulary Octets) (t : StringTable) (x : Octets) → length (strings v t) < L .entries → Rest L v → Rest L (adding v t x)
 adding-rest {L} v t x room r =
     record {
       few = λ u h.
@@ -56,12 +56,12 @@ optional-rest : {t : StringTable} {v w : Vocabulary Octets} {x : Option Octets} 
 optional-rest u a b not-there = refl
 optional-rest u a b (there c) = id-rest u a b c
 
-literal-rest : {L : Limits} {t : StringTable} {v : Vocabulary Octets} {x : Octets} {c : Chose How} → LiteralCase L t v x c → Rest L v → Rest L (c .tables)
+literal-rest : {L : Version} {t : StringTable} {v : Vocabulary Octets} {x : Octets} {c : Chose How} → LiteralCase L t v x c → Rest L v → Rest L (c .tables)
 literal-rest (lit-held en) r = r
 literal-rest {t = t} {v = v} {x = x} (lit-new {added = true} room) r = adding-rest v t x (room refl) r
 literal-rest (lit-new {added = false} room) r = r
 
-value-rest : {L : Limits} {t : StringTable} {v : Vocabulary Octets} {x : Octets} {c : Chose How} → ValueCase L t v x c → Rest L v → Rest L (c .tables)
+value-rest : {L : Version} {t : StringTable} {v : Vocabulary Octets} {x : Octets} {c : Chose How} → ValueCase L t v x c → Rest L v → Rest L (c .tables)
 value-rest (is-empty e) r = r
 value-rest (is-literal h c) r = literal-rest c r
 
@@ -87,7 +87,7 @@ unfolding place
 namespace-low = omega arith
 
 -- so it is after each event
-pub rest-for : (C : Limits) (v : Vocabulary Octets) (e : Event Octets) → Order C v → Rest C (chooseFor C v e .tables)
+pub rest-for : (C : Version) (v : Vocabulary Octets) (e : Event Octets) → Order C v → Rest C (chooseFor C v e .tables)
 unfolding chooseFor
 rest-for C v e o = go e (record { few = λ t h. o .fit .few t })
   where
@@ -108,7 +108,7 @@ rest-for C v e o = go e (record { few = λ t h. o .fit .few t })
     go End r = r
 
 -- ---- 01's choices are permitted ones
-unfoldable pub permits-for : (C : Limits) (v : Vocabulary Octets) (e : Event Octets) → Ranged v → Permits v e (chooseFor C v e .how) (chooseFor C v e .tables)
+unfoldable pub permits-for : (C : Version) (v : Vocabulary Octets) (e : Event Octets) → Ranged v → Permits v e (chooseFor C v e .how) (chooseFor C v e .tables)
 unfolding chooseFor
 permits-for C v (Namespace p n) r = a-declaration (optional-case PREFIX v p) (optional-case NAMESPACE-NAME (chooseOptional PREFIX v p .tables) n)
 permits-for C v (Start x) r = a-start (name-permits ELEMENT-NAME v x (name-case ELEMENT-NAME v x r))
@@ -137,12 +137,12 @@ permits-ranged (a-comment y) r = ranged-on (value-grows y) (value-names y) r
 permits-ranged (an-instruction x y) r = ranged-on (grows-on (id-grows x) (value-grows y)) (λ u. value-names y u ∙ id-names x u) r
 permits-ranged an-end r = r
 
-pub ranged-for : (C : Limits) (v : Vocabulary Octets) (e : Event Octets) → Ranged v → Ranged (chooseFor C v e .tables)
+pub ranged-for : (C : Version) (v : Vocabulary Octets) (e : Event Octets) → Ranged v → Ranged (chooseFor C v e .tables)
 ranged-for C v e r = permits-ranged (permits-for C v e r) r
 
 -- ---- one event
 -- where an event may stand, a says whether an attribute follows its element's Start
-pub data Where (L : Limits) (a : Bool) (v : State Octets) : Event Octets → Type 0 where
+pub data Where (L : Version) (a : Bool) (v : State Octets) : Event Octets → Type 0 where
   first-namespace : {p n : Option Octets} → v .mode ≡ content → mayStart v ≡ true → v .level < L .depth → Where L a v (Namespace p n)
   next-namespace : {p n : Option Octets} → v .mode ≡ declaring a → Where L a v (Namespace p n)
   first-start : {x : Name Octets} → v .mode ≡ content → mayStart v ≡ true → v .level < L .depth → Where L a v (Start x)
@@ -182,7 +182,7 @@ octetsAs a m (a-comment {y = y} {h = h} u) = 0xE2 ∷ valueOctets y h
 octetsAs a m (an-instruction {x = x} {y = y} {h = h} {g = g} u z) = 0xE1 ∷ (idOctets x h ++ valueOctets y g)
 octetsAs a m an-end = []
 
-module _ (C : Limits) where
+module _ (C : Version) where
   -- with 01's choice
   unfoldable pub octetsBy : Bool → State Octets → Event Octets → Octets
   octetsBy a v (Namespace p n) =
@@ -204,7 +204,7 @@ module _ (C : Limits) where
   abbrev pub knownBy : Bool → State Octets → Event Octets → State Octets
   knownBy a v e = behind a v (chooseFor C (v .tables) e .tables) e
 
-pub octets-by : (C : Limits) (a : Bool) (v : State Octets) (e : Event Octets) (r : Ranged (v .tables)) → octetsAs a (v .mode) (permits-for C (v .tables) e r) ≡ octetsBy C a v e
+pub octets-by : (C : Version) (a : Bool) (v : State Octets) (e : Event Octets) (r : Ranged (v .tables)) → octetsAs a (v .mode) (permits-for C (v .tables) e r) ≡ octetsBy C a v e
 unfolding octetsAs octetsBy permits-for chooseFor
 octets-by C a v (Namespace p n) r = refl
 octets-by C a v (Start x) r = refl
@@ -215,7 +215,7 @@ octets-by C a v (Instruction x y) r = refl
 octets-by C a v End r = refl
 
 -- A permitted choice is what the rules write.
-module _ (L : Limits) (small : L .entries ≤ top) where
+module _ (L : Version) (small : L .entries ≤ top) where
   element-rule : (lead : ℕ) {v w : Vocabulary Octets} {x : Name Octets} {h : NameHow} → NameSaid x → InLimits L w → PermitsName ELEMENT-NAME v x h w → Named L ofElement lead v x h (nameOctets ofElement lead x h) w
   unfolding ofElement sizes numbers
   element-rule lead s f u = name-rule L small ofElement (omega arith) lead s f u

@@ -9,11 +9,12 @@ use borrow.Author.Tests.{eqb-false}
 use lib.Dec.{eqb, ltb, leb}
 use lib.ListN.{length, getD, take, drop}
 use Rattle.format.specs.Octets.{Octets}
+use Rattle.theorems.proofs.Opening.{Opened, opening-sound}
 use Rattle.format.specs.Numbers.{pick, Form, lengths, c25, top}
 use Rattle.fields.specs.Utf8.{isText}
 use Rattle.format.specs.Events.{Namespace, forNamespace, Item, _by_}
 use Rattle.format.specs.Tables.{StringTable, PREFIX, NAMESPACE-NAME, LOCAL-NAME, OTHER-NCNAME, ATTRIBUTE-VALUE, CONTENT-CHARACTER-CHUNK, OTHER-STRING}
-use Rattle.format.specs.Tables.{NameTable, noTriple, Vocabulary, strings, names, holds, holdsName, Entry, Limits, link}
+use Rattle.format.specs.Tables.{NameTable, noTriple, Vocabulary, strings, names, holds, holdsName, Entry, Version}
 use Rattle.format.specs.Strings.{bit, Layout, c14, c15}
 use Rattle.format.specs.Names.{has, NameLayout, ofElement, ofAttribute}
 use Rattle.format.specs.Items.{Mode, content, declaring, listing, State, mayStart}
@@ -68,7 +69,7 @@ module _ (s : Octets) {C : Type 0} (Q : C → Vocabulary Located → Type 0) whe
   unfolding spelling
   spelling-did k next n a f = test-le (Did Q) (refused 2 k) tt (next + n) (length s) _ λ h. test (Did Q) (refused 9 k) tt (isText (take n (drop next s))) _ λ t. f h
 
-module _ (L : Limits) (s : Octets) where
+module _ (L : Version) (s : Octets) where
   -- ---- strings
   abbrev IdDid : StringTable → Vocabulary Located → IdRead → Vocabulary Located → Type 0
   IdDid t v b w = IdDone empty (Lies s) t v (b .string) (b .how) (b .number) w
@@ -299,12 +300,17 @@ module _ (L : Limits) (s : Octets) where
   run-gave zero room m = tt
   run-gave (suc fuel) room m = turn-gave (λ r n. run L s fuel r n) (λ r n. run-gave fuel r n) room m (step L s m) (step-gave m)
 
-module _ (s : Octets) (room : ℕ) where
-  from-gave : (o : Opening) → GaveAll link s start (resultFrom s room o)
+module _ (L : Version) (s : Octets) (room : ℕ) where
+  from-gave : (o : Opening) → Opened L s o → GaveAll L s (start L) (resultFrom L s room o)
   unfolding beginning
-  from-gave onward = run-gave link s (fuelOf s) room (origin start)
-  from-gave (halt n p) = tt
+  from-gave (onward body tables) k =
+      let w : tableWords ≡ start L = opens-with (k .0) in
+      subst (λ (v : Vocabulary Located). GaveAll L s v (run L s (fuelOf s) room (origin body tables))) w (run-gave L s (fuelOf s) room (origin body tables))
+    where
+      opens-with : {b c : ℕ} {v w : Vocabulary Located} → onward b v ≡ onward c w → v ≡ w
+      opens-with e = cc
+  from-gave (halt n p) k = tt
 
-  pub reading-done : (is : List (Item Located)) (m : Stand) → reading s room ≡ accepted is m → Done empty (Lies s) start is (m .state .tables)
+  pub reading-done : (is : List (Item Located)) (m : Stand) → reading L s room ≡ accepted is m → Done empty (Lies s) (start L) is (m .state .tables)
   unfolding reading
-  reading-done is m e = subst (GaveAll link s start) e (from-gave (opening link header s))
+  reading-done is m e = subst (GaveAll L s (start L)) e (from-gave (opening L s) (opening-sound L s))

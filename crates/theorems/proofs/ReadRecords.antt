@@ -7,7 +7,7 @@ use mathlib.Core.List.{List}
 use native.Mathlib.Omega.{arith}
 use Rattle.format.specs.Octets.{Octets}
 use Rattle.format.specs.Events.{Name, Event, Namespace, Start, Attribute, Text, Comment, Instruction, End, Item}
-use Rattle.format.specs.Tables.{StringTable, PREFIX, NAMESPACE-NAME, place}
+use Rattle.format.specs.Tables.{StringTable, PREFIX, NAMESPACE-NAME, place, Version}
 use Rattle.format.specs.Names.{has}
 use Rattle.format.specs.Allowed.{All}
 use Rattle.tables.specs.Located.{Located, empty, stretch, builtInPrefix, builtInNamespace, start}
@@ -79,8 +79,8 @@ module _ (s : Octets) where
   as-record (Instruction x y) a = W.an-instruction (as-stretch (omega arith) (a .0)) (as-value (omega arith) (a .1))
   as-record End a = W.an-end
 
-  pub well-made : (room : ℕ) (is : List (Item Located)) (m : Stand) → reading s room ≡ accepted is m → All (λ (i : Item Located). WellMade s (recordOf (i .event))) is
+  pub well-made : (L : Version) (room : ℕ) (is : List (Item Located)) (m : Stand) → reading L s room ≡ accepted is m → All (λ (i : Item Located). WellMade s (recordOf (i .event))) is
   unfolding start
-  well-made room is m e =
+  well-made L room is m e =
       all-so (λ (i : Item Located). WellMade s (recordOf (i .event))) (λ i a. as-record (i .event) a) is
-      (holds Stands empty (Lies s) (λ t x l. spelled-here l) the-prefix the-namespace (reading-done s room is m e))
+      (holds Stands empty (Lies s) (λ t x l. spelled-here l) L the-prefix the-namespace (reading-done L s room is m e))

@@ -6,7 +6,7 @@ use mathlib.Core.List.{List, [], _∷_}
 use native.Mathlib.Omega.{arith}
 use Rattle.format.specs.Octets.{Octets, Halves}
 use Rattle.format.specs.Events.{Name, Event, End, How, NameHow, Item, _by_, forEnd}
-use Rattle.format.specs.Tables.{StringTable, PREFIX, NAMESPACE-NAME, LOCAL-NAME, OTHER-NCNAME, ATTRIBUTE-VALUE, CONTENT-CHARACTER-CHUNK, OTHER-STRING, ELEMENT-NAME, ATTRIBUTE-NAME, Vocabulary, addingName, Limits}
+use Rattle.format.specs.Tables.{StringTable, PREFIX, NAMESPACE-NAME, LOCAL-NAME, OTHER-NCNAME, ATTRIBUTE-VALUE, CONTENT-CHARACTER-CHUNK, OTHER-STRING, ELEMENT-NAME, ATTRIBUTE-NAME, Vocabulary, addingName, Version}
 use Rattle.format.specs.Strings.{keeping, Identifying, id-spelled, id-numbered, Optional, absent, present, Layout, Literal, literal-spelled, literal-numbered, Value, value-empty, value}
 use Rattle.format.specs.Names.{NameLayout, ofElement, ofAttribute, Named, in-parts, by-number, Declared, declared}
 use Rattle.format.specs.Items.{State, ItemWrittenAs, o-start, o-first-namespace, o-namespace, o-named-start, o-attribute, o-text, o-comment, o-instruction}
@@ -17,7 +17,7 @@ use Rattle.theorems.proofs.Chosen.{id-case, optional-case, LiteralCase,
 use Rattle.theorems.proofs.OneWriting.{literal-some}
 use Rattle.theorems.proofs.Produced.{ranged-for}
 
-module _ {L : Limits} where
+module _ {L : Version} where
   -- ---- strings
   id-words : {t : StringTable} {v w w′ : Vocabulary Octets} {x : Octets} {h h′ : How} {n n′ : ℕ} {o : Octets}
       → Identifying L t v x h n o w → PermitsId t v x h′ n′ w′ → h ≡ h′ → (w ≡ w′) × (n ≡ n′)
@@ -31,7 +31,7 @@ module _ {L : Limits} where
   optional-words absent not-there e = (refl, refl)
   optional-words (present u) (there c) e = id-words u c (cc)
 
-  literal-words : {C : Limits} {q : Layout} {t : StringTable} {v w : Vocabulary Octets} {x : Octets} {h : How} {o : Octets} {c : Chose How}
+  literal-words : {C : Version} {q : Layout} {t : StringTable} {v w : Vocabulary Octets} {x : Octets} {h : How} {o : Octets} {c : Chose How}
       → Literal L q t v x h o w → LiteralCase C t v x c → h ≡ c .how → w ≡ c .tables
   literal-words {t = t} {v = v} {x = x} (literal-spelled {added = a} sp room) (lit-new {added = b} r) e = let y : a ≡ b = cc in λ j. keeping (y j) v t x
   literal-words (literal-spelled sp room) (lit-held en) e = cc
@@ -39,7 +39,7 @@ module _ {L : Limits} where
   literal-words (literal-numbered small fits en) (lit-held en′) e = refl
 
   -- an empty value adds nothing, and is no literal's choice
-  value-words : {C : Limits} {t : StringTable} {v w : Vocabulary Octets} {x : Octets} {h : How} {o : Octets} {c : Chose How}
+  value-words : {C : Version} {t : StringTable} {v w : Vocabulary Octets} {x : Octets} {h : How} {o : Octets} {c : Chose How}
       → Value L t v x h o w → ValueCase C t v x c → h ≡ c .how → w ≡ c .tables
   value-words value-empty (is-empty z) e = refl
   value-words value-empty (is-literal long c) e = absurd (omega arith)
@@ -78,7 +78,7 @@ module _ {L : Limits} where
       optional-words (rw (a .0) at un) (optional-case NAMESPACE-NAME (chooseOptional PREFIX v p .tables) n) en .0
 
   -- ---- items
-  module _ (C : Limits) where
+  module _ (C : Version) where
     octets-words : {v w : State Octets} {i : Item Octets} {o : Octets} → ItemWrittenAs L v i o w → Ranged (v .tables)
         → i .choice ≡ chooseFor C (v .tables) (i .event) .how → w .tables ≡ chooseFor C (v .tables) (i .event) .tables
     unfolding chooseFor

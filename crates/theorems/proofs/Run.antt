@@ -12,7 +12,7 @@ use lib.Seq.{drop-cons, drop-length}
 use Rattle.format.specs.Octets.{Octets, Halves}
 use Rattle.format.specs.Numbers.{spell, lengths, longest}
 use Rattle.format.specs.Events.{Name, How, NameHow, End, forEnd, Item, _by_, eventMap}
-use Rattle.format.specs.Tables.{StringTable, Vocabulary, Limits}
+use Rattle.format.specs.Tables.{StringTable, Vocabulary, Version}
 use Rattle.format.specs.Strings.{bit, Layout, Literal, literal-spelled, literal-numbered}
 use Rattle.format.specs.Names.{NameLayout, Named, in-parts, by-number, Declared, declared}
 use Rattle.format.specs.Items.{Mode, content, declaring, listing, State, moved, ItemWrittenAs, o-start, o-first-namespace, o-namespace, o-named-start, o-attribute, o-text, o-comment, o-instruction}
@@ -35,7 +35,7 @@ abbrev pub NotShort : Result → Type 0
 NotShort (accepted is m) = Unit {0}
 NotShort (refusal c p) = c ≡ 14 → ⊥
 
-module _ {L : Limits} where
+module _ {L : Version} where
   named-some : {q : NameLayout} (g : NameShape q) {lead : ℕ} {v w : Vocabulary Octets} {x : Name Octets} {h : NameHow} {o : Octets} → Named L q lead v x h o w → 0 < length o
   named-some g (in-parts paired up un ul new room) = omega arith
   named-some {q} g {lead} (by-number {k = k} small fits en) = some-first (q .numberForms) lead (suc k) (g .numbers-ok) (omega arith) fits
@@ -59,7 +59,7 @@ module _ {L : Limits} where
   octets-some (o-instruction md u1 u2) = (omega arith, omega arith)
 
 -- ---- what is read is what the rules write
-module _ (L : Limits) (s : Octets) (bytes : (i : ℕ) → getD s i 0 < 256) (short : length s ≤ longest) where
+module _ (L : Version) (s : Octets) (bytes : (i : ℕ) → getD s i 0 < 256) (short : length s ≤ longest) where
   -- from where the reader stands, the items and the document's end are written as the halves left
   abbrev pub Rest : Stand → List (Item Octets) → State Octets → Type 0
   Rest m items z = Written L (m .at) (plainState s (m .state)) items (drop (m .at) (halves s)) z
@@ -250,7 +250,7 @@ module _ (run₁ : ℕ → Stand → Result) (trace₁ : Stand → List Mark) wh
   turn-enough rec room m done h = refl
   turn-enough rec room m (stop c p) h = refl
 
-module _ (L : Limits) (s : Octets) where
+module _ (L : Version) (s : Octets) where
   -- the first event without a record is refused at its place
   pub room-short : (fuel room : ℕ) (m : Stand) → room < length (trace L s fuel m) → run L s fuel room m ≡ refusal 14 (getD (placesOf (trace L s fuel m)) room 0)
   unfolding run trace
@@ -272,7 +272,7 @@ and-false : (a b : Bool) → (a ≡ true → b ≡ false) → (a && b) ≡ false
 and-false true b f = f refl
 and-false false b f = refl
 
-module _ (L : Limits) (s : Octets) where
+module _ (L : Version) (s : Octets) where
   -- an item's first half is no end, where an end could stand
   not-end : (at k : ℕ) → 2 * k ≡ aligned at → k < length s → getD s k 0 < 0xF0 → padsAt s at ≡ true → endsAt s at ≡ false
   unfolding halves pad

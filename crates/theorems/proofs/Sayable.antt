@@ -351,7 +351,7 @@ module _ (text : Octets) where
   text-all E.End t = refl
 
   -- none is longer than the text area, or than the built-in ones
-  module _ (short : length text ≤ 16384) where
+  module _ (short : length text ≤ longest) where
     short-one : (x : Located) → Short (f x)
     unfolding octetsOf xmlPrefix xmlNamespace
     short-one empty = omega arith

@@ -11,7 +11,7 @@ use Rattle.format.specs.Octets.{Octets, Halves}
 use Rattle.format.specs.Numbers.{pick, top}
 use Rattle.format.specs.Events as E
 use Rattle.format.specs.Events.{Choice, _by_, isDeclaration}
-use Rattle.format.specs.Tables.{Vocabulary, Limits, InLimits}
+use Rattle.format.specs.Tables.{Vocabulary, Version, InLimits}
 use Rattle.format.specs.Items.{Mode, content, declaring, listing, State, mayStart, afterStart, knowing, moved, ItemWrittenAs}
 use Rattle.format.specs.Document.{halves, pad, Begun, begun, after-attributes, after-end, after-item}
 use Rattle.write_names.specs.Chosen.{chooseFor}
@@ -30,7 +30,7 @@ Ahead content a = Unit {0}
 Ahead (declaring b) a = b ≡ a
 Ahead (listing any) a = Unit {0}
 
-module _ (L : Limits) (a : Bool) (v : State Octets) where
+module _ (L : Version) (a : Bool) (v : State Octets) where
   shallow-is : (b : Bool) → b ≡ true → (b && leb (L .depth) (v .level)) ≡ false → v .level < L .depth
   shallow-is b t e = leb-false (L .depth) (v .level) (sym (ap (λ (y : Bool). y && leb (L .depth) (v .level)) t) ∙ e)
 
@@ -112,7 +112,7 @@ module _ (v : State Octets) where
 unfoldable pub halvesAs : ℕ → State Octets → E.Event Octets → Octets → Octets
 halvesAs at v e os = owed (v .mode) e ++ pick (isEnd e) (15 ∷ []) (pad (at + length (owed (v .mode) e)) ++ halves os)
 
-module _ (C : Limits) where
+module _ (C : Version) where
   unfoldable pub halvesBy : ℕ → Bool → State Octets → E.Event Octets → Octets
   halvesBy at a v e = halvesAs at v e (octetsBy C a (settled v e) e)
 
@@ -123,7 +123,7 @@ pub words-settled : (v : State Octets) (e : E.Event Octets) → settled v e .tab
 unfolding settled
 words-settled v e = words-here v (isListing (v .mode) && not (isAttribute e))
 
-module _ (L : Limits) (small : L .entries ≤ top) where
+module _ (L : Version) (small : L .entries ≤ top) where
   item-alone : (at : ℕ) {v w : State Octets} {i : E.Item Octets} {o : Octets} → ItemWrittenAs L v i o w → Begun L at v (i ∷ []) (pad at ++ halves o) w
   item-alone at {v} {w} {i} {o} u = subst (λ (l : Octets). Begun L at v (i ∷ []) (pad at ++ l) w) (append-nil (halves o)) (after-item u begun)
 
@@ -171,7 +171,7 @@ module _ (L : Limits) (small : L .entries ≤ top) where
       owed-front at v (behind a (settled v e) w e) t _ _ (λ y. listed v e (v .mode) refl go y) b
 
   -- with 01's choice
-  pub front-by : (C : Limits) (at : ℕ) (a : Bool) (v : State Octets) (e : E.Event Octets) → Ahead (v .mode) a → Ranged (v .tables) → Said e → goesOn v e ≡ true
+  pub front-by : (C : Version) (at : ℕ) (a : Bool) (v : State Octets) (e : E.Event Octets) → Ahead (v .mode) a → Ranged (v .tables) → Said e → goesOn v e ≡ true
       → (opens (v .mode) e && leb (L .depth) (v .level)) ≡ false → InLimits L (chooseFor C (v .tables) e .tables)
       → Begun L at v ((e by chooseFor C (v .tables) e .how) ∷ []) (halvesBy C at a v e) (nextBy C a v e)
   unfolding halvesBy
@@ -209,7 +209,7 @@ module _ (a : Bool) (v : State Octets) where
   next-state (E.Instruction x y) {w = w} go u = stays (E.Instruction x y) w refl go
   next-state E.End {w = w} go an-end = ap (λ (y : State Octets). behind a y w E.End) (settled-is v E.End)
 
-  pub next-by : (C : Limits) (e : E.Event Octets) → goesOn v e ≡ true → Ranged (v .tables) → nextBy C a v e ≡ knowing (stepped a v e) (chooseFor C (v .tables) e .tables)
+  pub next-by : (C : Version) (e : E.Event Octets) → goesOn v e ≡ true → Ranged (v .tables) → nextBy C a v e ≡ knowing (stepped a v e) (chooseFor C (v .tables) e .tables)
   next-by C e go r =
       ap (λ (u : Vocabulary Octets). behind a (settled v e) (chooseFor C u e .tables) e) (words-settled v e) ∙ next-state e go (permits-for C (v .tables) e r)
 

@@ -12,7 +12,7 @@ use lib.Seq.{drop-cons}
 use Rattle.format.specs.Octets.{Octets}
 use Rattle.format.specs.Numbers.{behindFirst, spell, sizes, lengths, numbers, c25, top, longest}
 use Rattle.format.specs.Events.{How, spelled, numbered}
-use Rattle.format.specs.Tables.{StringTable, Vocabulary, strings, adding, holds, Entry, Limits}
+use Rattle.format.specs.Tables.{StringTable, Vocabulary, strings, adding, holds, Entry, Version}
 use Rattle.format.specs.Strings.{withLength, Spelling, bit, Layout, c14, c15, keeping, Identifying, id-spelled, id-numbered, Optional, absent, present, Literal, literal-spelled, literal-numbered, Value, value-empty, value}
 use Rattle.format.specs.Names.{has}
 use Rattle.fields.specs.Fields.{shareOf, fieldAt, noTop}
@@ -126,7 +126,7 @@ shape15 =
     }
 
 -- ---- what is read is what the rules write
-module _ (L : Limits) (s : Octets) (bytes : (i : ℕ) → getD s i 0 < 256) (short : length s ≤ longest) where
+module _ (L : Version) (s : Octets) (bytes : (i : ℕ) → getD s i 0 < 256) (short : length s ≤ longest) where
   abbrev pub IdR : StringTable → Vocabulary Octets → IdRead → Octets → Vocabulary Octets → Type 0
   IdR t v b o w = Identifying L t v (octetsOf s (b .string)) (b .how) (b .number) o w
 
@@ -251,7 +251,7 @@ abbrev pub there : {E : Type 0} → Option E → Bool
 there none = false
 there (some x) = true
 
-module _ (L : Limits) (s : Octets) where
+module _ (L : Version) (s : Octets) where
   -- p is where it is spelled
   abbrev pub IdQ : Octets → How → ℕ → List Located → IdRead → Type 0
   IdQ x h n p b = (octetsOf s (b .string) ≡ x) × (b .how ≡ h) × (b .number ≡ n) × (ifSpelled (b .string) (b .how) ≡ p)

@@ -4,14 +4,15 @@ use mathlib.Core.Option.{Option}
 use mathlib.Core.List.{List}
 use native.Mathlib.Omega.{arith}
 use Rattle.format.specs.Octets.{Octets, Halves}
+use Rattle.format.specs.Numbers.{top}
 use Rattle.format.specs.Events.{Name, How, NameHow, Item}
-use Rattle.format.specs.Tables.{StringTable, Vocabulary, Limits, link, standard}
+use Rattle.format.specs.Tables.{StringTable, Vocabulary, Version, standard, starting}
 use Rattle.format.specs.Strings.{Identifying, id-spelled, id-numbered, Optional, absent, present, Layout, Literal, literal-spelled, literal-numbered, Value, value-empty, value}
 use Rattle.format.specs.Names.{NameLayout, Named, in-parts, by-number, Declared, declared}
 use Rattle.format.specs.Items.{State, ItemWrittenAs, o-start, o-first-namespace, o-namespace, o-named-start, o-attribute, o-text, o-comment, o-instruction}
-use Rattle.format.specs.Document.{Written, document-end, attributes-end, element-end, item, Document}
+use Rattle.format.specs.Document.{Written, document-end, attributes-end, element-end, item, header, Document}
 
-module _ {L M : Limits} (long : L .octets ≤ M .octets) (many : L .entries ≤ M .entries) (deep : L .depth ≤ M .depth) where
+module _ {L M : Version} (long : L .octets ≤ M .octets) (many : L .entries ≤ M .entries) (deep : L .depth ≤ M .depth) where
   identifying : {t : StringTable} {v w : Vocabulary Octets} {x : Octets} {h : How} {n : ℕ} {o : Octets}
       → Identifying L t v x h n o w → Identifying M t v x h n o w
   identifying (id-spelled sp new room) = id-spelled sp new (omega arith)
@@ -54,11 +55,8 @@ module _ {L M : Limits} (long : L .octets ≤ M .octets) (many : L .entries ≤ 
   written (element-end md lv w) = element-end md lv (written w)
   written (item u w) = item (octets u) (written w)
 
-  pub wider : {h : Octets} {start : Vocabulary Octets} {items : List (Item Octets)} {z : State Octets} {s : Octets}
-      → Document L h start items z s → Document M h start items z s
-  wider {s = s} d = record { body = d .body; here = d .here; rule = written (d .rule); short = let a = d .short in omega arith }
-
-pub link-in-standard : {h : Octets} {start : Vocabulary Octets} {items : List (Item Octets)} {z : State Octets} {s : Octets} (depth octets : ℕ)
-    → link .octets ≤ octets → link .depth ≤ depth → Document link h start items z s → Document (standard depth octets) h start items z s
-unfolding standard link
-link-in-standard depth octets long deep = wider long (omega arith) deep
+-- within the standard's own limits
+pub in-standard : {L : Version} {items : List (Item Octets)} {z : State Octets} {s : Octets} (depth octets : ℕ) → L .entries ≤ top → L .octets ≤ octets → L .depth ≤ depth
+    → Document L items z s → Document (standard L depth octets) items z s
+unfolding standard starting header
+in-standard depth octets few long deep d = record { body = d .body; here = d .here; rule = written long few deep (d .rule); short = let a = d .short in omega arith }

@@ -8,7 +8,7 @@ use native.Mathlib.Omega.{arith}
 use lib.Dec.{eqb}
 use lib.ListN.{length, getD, length-map, List·getD-map}
 use Rattle.format.specs.Events.{nameMap}
-use Rattle.format.specs.Tables.{StringTable, PREFIX, NAMESPACE-NAME, LOCAL-NAME, OTHER-NCNAME, OTHER-URI, ATTRIBUTE-VALUE, CONTENT-CHARACTER-CHUNK, OTHER-STRING, NameTable, ELEMENT-NAME, ATTRIBUTE-NAME, Triple, Vocabulary, strings, names, place, extended, adding, addingName, vocabularyMap, starting, Entry, partOf, nameOf}
+use Rattle.format.specs.Tables.{StringTable, PREFIX, NAMESPACE-NAME, LOCAL-NAME, OTHER-NCNAME, OTHER-URI, ATTRIBUTE-VALUE, CONTENT-CHARACTER-CHUNK, OTHER-STRING, NameTable, ELEMENT-NAME, ATTRIBUTE-NAME, Triple, Vocabulary, strings, names, place, extended, adding, addingName, vocabularyMap, starting, Entry, partOf, nameOf, Version}
 use Rattle.format.specs.Strings.{keeping}
 use Rattle.tables.specs.Told.{entriesOf}
 
@@ -65,9 +65,9 @@ module _ {S T : Type 0} (f : S → T) where
   adding-name-map v ELEMENT-NAME x = refl
   adding-name-map v ATTRIBUTE-NAME x = refl
 
-  pub starting-map : (p n : S) → vocabularyMap f (starting p n) ≡ starting (f p) (f n)
+  pub starting-map : (L : Version) (p n : S) → vocabularyMap f (starting L p n) ≡ starting L (f p) (f n)
   unfolding vocabularyMap starting
-  starting-map p n = refl
+  starting-map L p n = rw (extended-map (L .builtIn) [] p, extended-map (L .builtIn) [] n)
 
   -- an entry, a part of a name, a name
   pub entry-map : (v : Vocabulary S) (t : StringTable) (k : ℕ) (d : S) → k < length (strings v t) → Entry (strings (vocabularyMap f v) t) k (f d) (f (getD (strings v t) k d))

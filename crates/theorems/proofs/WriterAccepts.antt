@@ -9,21 +9,22 @@ use Rattle.format.specs.Octets.{Octets}
 use Rattle.format.specs.Characters.{IsText}
 use Rattle.format.specs.Events as E
 use Rattle.format.specs.Events.{Item, _by_, IsDocument, openAfter, declaresLast, isDeclaration, isStart, opensElement}
-use Rattle.format.specs.Tables.{link, InLimits}
+use Rattle.format.specs.Tables.{InLimits, Version}
 use Rattle.format.specs.Items.{State}
-use Rattle.format.specs.Document.{halves, aligned, beginning, header, started, Writes}
+use Rattle.format.specs.Document.{halves, aligned, beginning, header, started, Document}
 use Rattle.format.specs.Allowed.{All, Allowed}
 use Rattle.events.specs.declared.Event.{Event}
 use Rattle.events.specs.WellMade.{WellMade}
 use Rattle.write_names.specs.Chosen.{chooseFor, chosen, tablesAfter}
 use Rattle.writer.specs.Writing.{Result, written, refusal, writing}
 use Rattle.tables.proofs.Found.{clash, both-true}
+use Rattle.theorems.specs.Bounded.{Bounded}
 use Rattle.theorems.specs.Verdicts.{plainOf, plains, itemsOf, AllRight, Refused}
 use Rattle.theorems.specs.Demands.{Wrote}
 use Rattle.theorems.proofs.Lists.{halves-length, aligned-in}
 use Rattle.theorems.proofs.Words.{map-append}
 use Rattle.theorems.proofs.Documents.{is-document}
-use Rattle.theorems.proofs.Plain.{plain-on-link}
+use Rattle.theorems.proofs.Plain.{all-allowed}
 use Rattle.theorems.proofs.Begun as Begun
 use Rattle.theorems.proofs.Sayable.{in-order, allowed-text}
 use Rattle.theorems.proofs.Append.{chosen-append}
@@ -39,35 +40,35 @@ all-at P [] x l a = a .0
 all-at P (y ∷ b) x l a = all-at P b x l (a .1)
 
 -- a written list is a document
-pub written-document : (es : List (E.Event Octets)) (z : State Octets) (s : Octets) → Writes (itemsOf es) z s → IsDocument es
-written-document es z s w = subst IsDocument (chosen-events link started es) (is-document w)
+pub written-document : (L : Version) (es : List (E.Event Octets)) (z : State Octets) (s : Octets) → Document L (itemsOf L es) z s → IsDocument es
+written-document L es z s w = subst IsDocument (chosen-events L (started L) es) (is-document w)
 
-module _ (text : Octets) (room : ℕ) (ps rest : List (E.Event Octets)) (pe : E.Event Octets) (z : State Octets) (s : Octets) (w : Writes (itemsOf (ps ++ (pe ∷ rest))) z s) where
+module _ (L : Version) (ok : Bounded L) (text : Octets) (room : ℕ) (ps rest : List (E.Event Octets)) (pe : E.Event Octets) (z : State Octets) (s : Octets) (w : Document L (itemsOf L (ps ++ (pe ∷ rest))) z s) where
   abbrev choice : Item Octets
-  choice = pe by chooseFor link (tablesAfter link started ps) pe .how
+  choice = pe by chooseFor L (tablesAfter L (started L) ps) pe .how
 
   abbrev others : List (Item Octets)
-  others = chosen link (chooseFor link (tablesAfter link started ps) pe .tables) rest
+  others = chosen L (chooseFor L (tablesAfter L (started L) ps) pe .tables) rest
 
-  at-event : itemsOf (ps ++ (pe ∷ rest)) ≡ itemsOf ps ++ (choice ∷ others)
+  at-event : itemsOf L (ps ++ (pe ∷ rest)) ≡ itemsOf L ps ++ (choice ∷ others)
   unfolding chosen
-  at-event = chosen-append link started ps (pe ∷ rest)
+  at-event = chosen-append L (started L) ps (pe ∷ rest)
 
-  behind-event : itemsOf (ps ++ (pe ∷ rest)) ≡ itemsOf (ps ++ (pe ∷ [])) ++ chosen link (tablesAfter link started (ps ++ (pe ∷ []))) rest
-  behind-event = ap itemsOf (sym (append-assoc ps (pe ∷ []) rest)) ∙ chosen-append link started (ps ++ (pe ∷ [])) rest
+  behind-event : itemsOf L (ps ++ (pe ∷ rest)) ≡ itemsOf L (ps ++ (pe ∷ [])) ++ chosen L (tablesAfter L (started L) (ps ++ (pe ∷ []))) rest
+  behind-event = ap (itemsOf L) (sym (append-assoc ps (pe ∷ []) rest)) ∙ chosen-append L (started L) (ps ++ (pe ∷ [])) rest
 
   is-allowed : Allowed pe
-  is-allowed = all-at (λ (i : Item Octets). Allowed (i .event)) (itemsOf ps) choice others (rw at-event at (plain-on-link w))
+  is-allowed = all-at (λ (i : Item Octets). Allowed (i .event)) (itemsOf L ps) choice others (rw at-event at (all-allowed w))
 
-  before-it : Begun.Split link (2 * length header) (beginning started) (itemsOf ps) (choice ∷ others) (w .body) z
-  before-it = Begun.begun-of-written (itemsOf ps) (choice ∷ others) (rw at-event at (w .rule))
+  before-it : Begun.Split L (2 * length (header L)) (beginning (started L)) (itemsOf L ps) (choice ∷ others) (w .body) z
+  before-it = Begun.begun-of-written (itemsOf L ps) (choice ∷ others) (rw at-event at (w .rule))
 
-  shallow : opensElement ps pe ≡ true → openAfter 0 ps < link .depth
+  shallow : opensElement ps pe ≡ true → openAfter 0 ps < L .depth
   unfolding opensElement beginning
   shallow o =
       let b = before-it in
-      let lv = Begun.level-is (b .begun) ∙ ap (openAfter 0) (chosen-events link started ps) in
-      let dc = Begun.declaring-is (b .begun) ∙ ap (declaresLast false) (chosen-events link started ps) in
+      let lv = Begun.level-is (b .begun) ∙ ap (openAfter 0) (chosen-events L (started L) ps) in
+      let dc = Begun.declaring-is (b .begun) ∙ ap (declaresLast false) (chosen-events L (started L) ps) in
       let k = both-true (isDeclaration pe || isStart pe) _ o in
       let d = Begun.written-shallow (b .rest) (k .0) (dc ∙ flip (declaresLast false ps) (k .1)) in
       omega arith
@@ -76,63 +77,63 @@ module _ (text : Octets) (room : ℕ) (ps rest : List (E.Event Octets)) (pe : E.
       flip true y = clash y
       flip false y = refl
 
-  with-it : Begun.Split link (2 * length header) (beginning started) (itemsOf (ps ++ (pe ∷ []))) (chosen link (tablesAfter link started (ps ++ (pe ∷ []))) rest) (w .body) z
-  with-it = Begun.begun-of-written (itemsOf (ps ++ (pe ∷ []))) _ (rw behind-event at (w .rule))
+  with-it : Begun.Split L (2 * length (header L)) (beginning (started L)) (itemsOf L (ps ++ (pe ∷ []))) (chosen L (tablesAfter L (started L) (ps ++ (pe ∷ []))) rest) (w .body) z
+  with-it = Begun.begun-of-written (itemsOf L (ps ++ (pe ∷ []))) _ (rw behind-event at (w .rule))
 
-  entries : InLimits link (tablesAfter link started (ps ++ (pe ∷ [])))
+  entries : InLimits L (tablesAfter L (started L) (ps ++ (pe ∷ [])))
   unfolding beginning
-  entries = subst (InLimits link) (begun-words link (ps ++ (pe ∷ [])) (with-it .begun) ranged-started) (Begun.fits-on (with-it .begun) (started-order .fit))
+  entries = subst (InLimits L) (begun-words L (ps ++ (pe ∷ [])) (with-it .begun) (ranged-started L)) (Begun.fits-on (with-it .begun) (started-order L ok .fit))
 
-  fits : length s ≤ room → aligned (2 * length header + length (with-it .front-halves)) / 2 ≤ min room (link .octets)
+  fits : length s ≤ room → aligned (2 * length (header L) + length (with-it .front-halves)) / 2 ≤ min room (L .octets)
   fits h =
       let l1 = ap length (w .here) in
       let l2 = halves-length s in
-      let l3 = length-append (halves header) (w .body) in
-      let l4 = halves-length header in
+      let l3 = length-append (halves (header L)) (w .body) in
+      let l4 = halves-length (header L) in
       let l5 = ap length (with-it .are) in
       let l6 = length-append (with-it .front-halves) (with-it .rest-halves) in
       let k = w .short in
-      let m = aligned-in (2 * length header + length (with-it .front-halves)) (length s) (omega arith) in
+      let m = aligned-in (2 * length (header L) + length (with-it .front-halves)) (length s) (omega arith) in
       omega arith
 
-module _ (text : Octets) (room : ℕ) (es : List Event) (made : All (WellMade text) es) (z : State Octets) (s : Octets) (w : Writes (itemsOf (plains text es)) z s) (fit : length s ≤ room) where
-  pub all-right : AllRight text room es
+module _ (L : Version) (ok : Bounded L) (text : Octets) (room : ℕ) (es : List Event) (made : All (WellMade text) es) (z : State Octets) (s : Octets) (w : Document L (itemsOf L (plains text es)) z s) (fit : length s ≤ room) where
+  pub all-right : AllRight L text room es
   all-right before e after is =
       let ps = plains text before in
       let pe = plainOf text e in
       let rest = plains text after in
       let split : plains text es ≡ ps ++ (pe ∷ rest) = ap (plains text) is ∙ map-append (plainOf text) before (e ∷ after) in
-      let v : Writes (itemsOf (ps ++ (pe ∷ rest))) z s = subst (λ (l : List (E.Event Octets)). Writes (itemsOf l) z s) split w in
+      let v : Document L (itemsOf L (ps ++ (pe ∷ rest))) z s = subst (λ (l : List (E.Event Octets)). Document L (itemsOf L l) z s) split w in
       record {
-        is-event = (all-at (WellMade text) before e after (rw is at made), record { rest = rest; whole = rw append-assoc (written-document (ps ++ (pe ∷ rest)) z s v) });
-        is-text = in-order IsText pe (allowed-text pe (is-allowed text room ps rest pe z s v));
-        is-shallow = shallow text room ps rest pe z s v;
-        has-entries = entries text room ps rest pe z s v;
-        has-room = record { halves = _; last = _; are = with-it text room ps rest pe z s v .begun; fit = fits text room ps rest pe z s v fit };
+        is-event = (all-at (WellMade text) before e after (rw is at made), record { rest = rest; whole = rw append-assoc (written-document L (ps ++ (pe ∷ rest)) z s v) });
+        is-text = in-order IsText pe (allowed-text pe (is-allowed L ok text room ps rest pe z s v));
+        is-shallow = shallow L ok text room ps rest pe z s v;
+        has-entries = entries L ok text room ps rest pe z s v;
+        has-room = record { halves = _; last = _; are = with-it L ok text room ps rest pe z s v .begun; fit = fits L ok text room ps rest pe z s v fit };
       }
 
-  not-refused-here : {n p : ℕ} → Refused text room es n p → ⊥
-  not-refused-here r = not-refused text room all-right (record { octets = s; last = z; writes = w; fit = fit }) (written-document (plains text es) z s w) r
+  not-refused-here : {n p : ℕ} → Refused L text room es n p → ⊥
+  not-refused-here r = not-refused L text room all-right (record { octets = s; last = z; writes = w; fit = fit }) (written-document L (plains text es) z s w) r
 
   -- The writer writes it, as the rules do.
-  writes-from : (short : length text ≤ 16384) (r : Result) → writing text room es ≡ r → Wrote es text room s z
+  writes-from : (short : length text ≤ L .octets) (r : Result) → writing L text room es ≡ r → Wrote L es text room s z
   writes-from short (written items hs y) q =
-      let m = meant text short room es items hs y q in
+      let m = meant L ok text short room es items hs y q in
       let o = one-document (rw (m .chosen-by) at (m .writes)) w in
       record { items = items; halves = hs; last = y; is = q; octets = o .0; known = o .1 }
-  writes-from short (refusal n p) q = absurd (not-refused-here (refused-by text short room es n p q))
+  writes-from short (refusal n p) q = absurd (not-refused-here (refused-by L ok text short room es n p q))
 
-  pub writes-it : length text ≤ 16384 → Wrote es text room s z
-  writes-it short = writes-from short (writing text room es) refl
+  pub writes-it : length text ≤ L .octets → Wrote L es text room s z
+  writes-it short = writes-from short (writing L text room es) refl
 
 -- A list that 01 refuses is refused so.
-module _ (text : Octets) (short : length text ≤ 16384) (room : ℕ) (es : List Event) (n p : ℕ) (r : Refused text room es n p) where
-  refuses-from : (a : Result) → writing text room es ≡ a → writing text room es ≡ refusal n p
+module _ (L : Version) (ok : Bounded L) (text : Octets) (short : length text ≤ L .octets) (room : ℕ) (es : List Event) (n p : ℕ) (r : Refused L text room es n p) where
+  refuses-from : (a : Result) → writing L text room es ≡ a → writing L text room es ≡ refusal n p
   refuses-from (written items hs y) q =
-      let m = meant text short room es items hs y q in
+      let m = meant L ok text short room es items hs y q in
       let v = rw (m .chosen-by) at (m .writes) in
-      absurd (not-refused text room (m .all-right) (record { octets = _; last = _; writes = v; fit = m .fits }) (written-document (plains text es) _ _ v) r)
-  refuses-from (refusal k i) q = let o = refused-one text room r (refused-by text short room es k i q) in q ∙ sym (λ j. refusal (o .0 j) (o .1 j))
+      absurd (not-refused L text room (m .all-right) (record { octets = _; last = _; writes = v; fit = m .fits }) (written-document L (plains text es) _ _ v) r)
+  refuses-from (refusal k i) q = let o = refused-one L text room r (refused-by L ok text short room es k i q) in q ∙ sym (λ j. refusal (o .0 j) (o .1 j))
 
-  pub refuses-it : writing text room es ≡ refusal n p
-  refuses-it = refuses-from (writing text room es) refl
+  pub refuses-it : writing L text room es ≡ refusal n p
+  refuses-it = refuses-from (writing L text room es) refl

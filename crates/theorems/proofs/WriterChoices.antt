@@ -10,7 +10,7 @@ use Rattle.format.specs.Octets.{Octets}
 use Rattle.format.specs.Numbers.{pick, spell}
 use Rattle.format.specs.Events as E
 use Rattle.format.specs.Events.{Name, nameMap, eventMap, How, inParts, byNumber}
-use Rattle.format.specs.Tables.{StringTable, PREFIX, NAMESPACE-NAME, LOCAL-NAME, OTHER-NCNAME, ATTRIBUTE-VALUE, CONTENT-CHARACTER-CHUNK, OTHER-STRING, Triple, Vocabulary, strings, names, addingName, Limits}
+use Rattle.format.specs.Tables.{StringTable, PREFIX, NAMESPACE-NAME, LOCAL-NAME, OTHER-NCNAME, ATTRIBUTE-VALUE, CONTENT-CHARACTER-CHUNK, OTHER-STRING, Triple, Vocabulary, strings, names, addingName, Version}
 use Rattle.format.specs.Strings.{Layout, c14, c15}
 use Rattle.format.specs.Names.{has, NameLayout, ofElement, ofAttribute}
 use Rattle.format.specs.Items.{State, declaring, listing, knowing, moved, opened}
@@ -101,7 +101,7 @@ module _ (text : Octets) where
       (same-id LOCAL-NAME (n .tables) (x .local)) in
       same-name-from q lead v x _ _ _ _ _ _ sp sn sl
 
-  module _ (L : Limits) where
+  module _ (L : Version) where
     same-literal : (q : Layout) (t : StringTable) (v : Vocabulary Located) (x : Located)
         → Same (literalOctets q (octetsOf text x)) (writeLiteral L q text t v x) (chooseLiteral L t (plainTables text v) (octetsOf text x))
     unfolding writeLiteral chooseLiteral worthAdding

@@ -10,15 +10,16 @@ use lib.Dec.{eqb, leb}
 use lib.ListN.{length, length-append, length-map}
 use Rattle.format.specs.Octets.{Octets, Halves}
 use Rattle.format.specs.Events.{Item, _by_}
-use Rattle.format.specs.Tables.{Limits, link}
+use Rattle.format.specs.Tables.{Version}
 use Rattle.format.specs.Items.{State}
-use Rattle.format.specs.Document.{halves, pad, aligned, Written, document-end, attributes-end, element-end, item, knownAfter, begun, beginning, header, started, Writes}
+use Rattle.format.specs.Document.{halves, pad, aligned, Written, document-end, attributes-end, element-end, item, knownAfter, begun, beginning, header, started, Document}
 use Rattle.events.specs.declared.Event.{Event}
 use Rattle.tables.specs.Located.{Located, plain, plainState, start}
 use Rattle.write_names.specs.Chosen.{chosen, tablesAfter}
 use Rattle.writer.specs.Events.{isContent, eventOf}
 use Rattle.writer.specs.Items.{writeItem}
 use Rattle.writer.specs.Writing.{announced, Result, written, refusal, plus, settled, fits, halvesOf, judge, finish, run, joined, writing, knownWriting}
+use Rattle.theorems.specs.Bounded.{Bounded}
 use Rattle.theorems.specs.Verdicts.{plains, itemsOf, AllRight, Refused}
 use Rattle.theorems.proofs.Lists.{test, align-is, halves-length, pad-length}
 use Rattle.theorems.proofs.Document.{plain-start}
@@ -30,7 +31,7 @@ use Rattle.theorems.proofs.Entries.{ranged-started, few-after}
 use Rattle.theorems.proofs.WriterRun.{Stands, Judged, run-judged}
 
 -- ---- after each item something is known
-as-many : {L : Limits} {at : ℕ} {v z : State Octets} {items : List (Item Octets)} {hs : Halves} (w : Written L at v items hs z) → length (knownAfter L w) ≡ length items
+as-many : {L : Version} {at : ℕ} {v z : State Octets} {items : List (Item Octets)} {hs : Halves} (w : Written L at v items hs z) → length (knownAfter L w) ≡ length items
 unfolding knownAfter
 as-many (document-end md lv rt) = refl
 as-many (attributes-end md w) = as-many w
@@ -38,7 +39,7 @@ as-many (element-end md lv w) = ap suc (as-many w)
 as-many (item u w) = ap suc (as-many w)
 
 -- ---- the room
-module _ (L : Limits) (text : Octets) (room : ℕ) where
+module _ (L : Version) (text : Octets) (room : ℕ) where
   abbrev InRoom : ℕ → Result → Type 0
   InRoom at (written items hs z) = at + length hs ≤ 2 * min room (L .octets)
   InRoom at (refusal n p) = Unit {0}
@@ -72,73 +73,72 @@ module _ (L : Limits) (text : Octets) (room : ℕ) where
       let hs = halvesOf L text room at v ev w in
       turn-room at (λ k w. run L text room k w (suc i) es) (λ k w. run-room es k w (suc i)) i (judge L text room at v e w hs) (ev by w .choice) hs (w .state)
 
--- ---- on the link
-pub started-order : Order link started
-unfolding link
-started-order = record { fit = few-after link no-item (omega arith); ranged = ranged-started }
+-- ---- from the start
+pub started-order : (L : Version) → Bounded L → Order L (started L)
+started-order L ok = record { fit = few-after L no-item (ok .some-entries); ranged = ranged-started L }
 
-module _ (text : Octets) (short : length text ≤ 16384) (room : ℕ) where
-  first-stands : (es : List Event) → Stands text [] (2 * length header) (beginning start) es
+module _ (L : Version) (ok : Bounded L) (text : Octets) (short : length text ≤ L .octets) (room : ℕ) where
+  first-stands : (es : List Event) → Stands L ok text [] (2 * length (header L)) (beginning (start L)) es
   unfolding beginning chosen tablesAfter
   first-stands es =
-      let s = plain-start text in
+      let s = plain-start L text in
       let w = ap (λ (u : State Octets). u .tables) s in
       record {
         halves = [];
         begun = rw s begun;
         at-is = omega arith;
         tables = w;
-        order = rw w started-order;
+        order = rw w (started-order L ok);
         ahead = tt;
-        sane = sane-first started;
-        forth = λ tail f d. all-left started tail .0 d;
-        back = λ tail r. all-left started tail .1 r;
+        sane = sane-first (started L);
+        forth = λ tail f d. all-left (started L) tail .0 d;
+        back = λ tail r. all-left (started L) tail .1 r;
       }
 
   -- what a result means, where ks are known after the events: the octets are the rules', they fit the output, and the rules know as much after each item; each
   -- event is right, and the items are 01's; or the list is refused
   pub record Means (es : List Event) (ks : List (State Located)) (items : List (Item Located)) (hs : Halves) (z : State Located) : Type 0 where
-    pub writes : Writes (map (plain text) items) (plainState text z) (header ++ joined hs)
-    pub fits : length (header ++ joined hs) ≤ room
-    pub known : knownAfter link (writes .rule) ≡ map (plainState text) ks
-    pub chosen-by : map (plain text) items ≡ itemsOf (plains text es)
-    pub all-right : AllRight text room es
+    pub writes : Document L (map (plain text) items) (plainState text z) (header L ++ joined hs)
+    pub fits : length (header L ++ joined hs) ≤ room
+    pub known : knownAfter L (writes .rule) ≡ map (plainState text) ks
+    pub chosen-by : map (plain text) items ≡ itemsOf L (plains text es)
+    pub all-right : AllRight L text room es
 
   abbrev Meaning : List Event → List (State Located) → Result → Type 0
   Meaning es ks (written items hs z) = Means es ks items hs z
-  Meaning es ks (refusal n p) = Refused text room es n p
+  Meaning es ks (refusal n p) = Refused L text room es n p
 
-  from-run : (es : List Event) (ks : List (State Located)) (r : Result) → Judged text short room [] (2 * length header) (beginning start) es ks r → InRoom link text room (2 * length header) r → Meaning es ks r
-  unfolding header link beginning
+  from-run : (es : List Event) (ks : List (State Located)) (r : Result) → Judged L ok text short room [] (2 * length (header L)) (beginning (start L)) es ks r → InRoom L text room (2 * length (header L)) r → Meaning es ks r
+  unfolding beginning
   from-run es ks (written items hs z) u h =
-      let w = rw (plain-start text) at (u .0) in
+      let w = rw (plain-start L text) at (u .0) in
       let j = joins (w .0) in
       let l = halves-length (joined hs) in
       let k = ap length j in
-      let la = length-append header (joined hs) in
+      let la = length-append (header L) (joined hs) in
       record {
         writes = document-of (w .0) (omega arith);
         fits = omega arith;
         known = w .1;
-        chosen-by = u .1 ∙ ap (λ (v : State Octets). chosen link (v .tables) (plains text es)) (plain-start text);
+        chosen-by = u .1 ∙ ap (λ (v : State Octets). chosen L (v .tables) (plains text es)) (plain-start L text);
         all-right = u .2;
       }
   from-run es ks (refusal n p) u h = u
 
-  means : (es : List Event) → Meaning es (knownWriting text room es) (writing text room es)
+  means : (es : List Event) → Meaning es (knownWriting L text room es) (writing L text room es)
   unfolding writing knownWriting
   means es =
-      from-run es (knownWriting text room es) (writing text room es)
-      (run-judged text short room es [] (2 * length header) (beginning start) 0 refl (first-stands es) (λ b e after q. absurd (let l = ap length q in let k = length-append b (e ∷ after) in omega arith)))
-      (run-room link text room es (2 * length header) (beginning start) 0)
+      from-run es (knownWriting L text room es) (writing L text room es)
+      (run-judged L ok text short room es [] (2 * length (header L)) (beginning (start L)) 0 refl (first-stands es) (λ b e after q. absurd (let l = ap length q in let k = length-append b (e ∷ after) in omega arith)))
+      (run-room L text room es (2 * length (header L)) (beginning (start L)) 0)
 
-  pub meant : (es : List Event) (items : List (Item Located)) (hs : Halves) (z : State Located) → writing text room es ≡ written items hs z → Means es (knownWriting text room es) items hs z
-  meant es items hs z e = subst (Meaning es (knownWriting text room es)) e (means es)
+  pub meant : (es : List Event) (items : List (Item Located)) (hs : Halves) (z : State Located) → writing L text room es ≡ written items hs z → Means es (knownWriting L text room es) items hs z
+  meant es items hs z e = subst (Meaning es (knownWriting L text room es)) e (means es)
 
-  pub refused-by : (es : List Event) (n p : ℕ) → writing text room es ≡ refusal n p → Refused text room es n p
-  refused-by es n p e = subst (Meaning es (knownWriting text room es)) e (means es)
+  pub refused-by : (es : List Event) (n p : ℕ) → writing L text room es ≡ refusal n p → Refused L text room es n p
+  refused-by es n p e = subst (Meaning es (knownWriting L text room es)) e (means es)
 
-  pub each-known : (es : List Event) (items : List (Item Located)) (hs : Halves) (z : State Located) → writing text room es ≡ written items hs z → length (knownWriting text room es) ≡ length items
+  pub each-known : (es : List Event) (items : List (Item Located)) (hs : Halves) (z : State Located) → writing L text room es ≡ written items hs z → length (knownWriting L text room es) ≡ length items
   each-known es items hs z e =
       let m = meant es items hs z e in
-      sym (length-map (knownWriting text room es) (plainState text)) ∙ sym (ap length (m .known)) ∙ as-many (m .writes .rule) ∙ length-map items (plain text)
+      sym (length-map (knownWriting L text room es) (plainState text)) ∙ sym (ap length (m .known)) ∙ as-many (m .writes .rule) ∙ length-map items (plain text)

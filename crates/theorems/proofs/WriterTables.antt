@@ -10,7 +10,7 @@ use lib.ListN.{length}
 use Rattle.format.specs.Octets.{Octets, Halves}
 use Rattle.format.specs.Events as E
 use Rattle.format.specs.Events.{Name, How, spelled, numbered, NameHow, Item, _by_}
-use Rattle.format.specs.Tables.{StringTable, PREFIX, NAMESPACE-NAME, LOCAL-NAME, OTHER-NCNAME, ATTRIBUTE-VALUE, CONTENT-CHARACTER-CHUNK, OTHER-STRING, Vocabulary, strings, names, Limits, link}
+use Rattle.format.specs.Tables.{StringTable, PREFIX, NAMESPACE-NAME, LOCAL-NAME, OTHER-NCNAME, ATTRIBUTE-VALUE, CONTENT-CHARACTER-CHUNK, OTHER-STRING, Vocabulary, strings, names, Version}
 use Rattle.format.specs.Strings.{keeping, Layout, c14, c15}
 use Rattle.format.specs.Names.{NameLayout, ofElement, ofAttribute}
 use Rattle.format.specs.Items.{State}
@@ -67,7 +67,7 @@ module _ (text : Octets) where
       (adds-both (part-adds NAMESPACE-NAME (p .tables) (x .namespace)) (adds-both (id-adds LOCAL-NAME (n .tables) (x .local)) (adds-name (l .tables) (q .table) _ x))))
       (λ e. adds-name-number (q .table) _ x)
 
-  module _ (L : Limits) where
+  module _ (L : Version) where
     literal-adds : (q : Layout) (t : StringTable) (v : Vocabulary Located) (x : Located) → WroteString t v x (writeLiteral L q text t v x)
     unfolding writeLiteral
     literal-adds q t v x =
@@ -125,7 +125,7 @@ module _ (text : Octets) where
           (judge L text room at v e w hs)
 
 -- ---- a document
-pub strings-written : (text : Octets) (room : ℕ) (es : List Event) (items : List (Item Located)) (hs : Halves) (z : State Located) → writing text room es ≡ written items hs z
-    → (t : StringTable) → strings (z .tables) t ≡ strings start t ++ madeIn t (acts empty items)
+pub strings-written : (L : Version) (text : Octets) (room : ℕ) (es : List Event) (items : List (Item Located)) (hs : Halves) (z : State Located) → writing L text room es ≡ written items hs z
+    → (t : StringTable) → strings (z .tables) t ≡ strings (start L) t ++ madeIn t (acts empty items)
 unfolding writing beginning
-strings-written text room es items hs z e = subst (AddsAll text link start) e (run-adds text link room es (2 * length header) (beginning start) 0) .then
+strings-written L text room es items hs z e = subst (AddsAll text L (start L)) e (run-adds text L room es (2 * length (header L)) (beginning (start L)) 0) .then

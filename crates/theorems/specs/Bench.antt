@@ -5,7 +5,7 @@ use mathlib.Core.Option.{none, some}
 use mathlib.Core.List.{List, [], _∷_, _++_, map}
 use Rattle.format.specs.Octets.{Octets}
 use Rattle.format.specs.Events.{Name, Event, Namespace, Start, Attribute, Text, End, Item, eventMap}
-use Rattle.format.specs.Tables.{Triple, Vocabulary, xmlPrefix, xmlNamespace}
+use Rattle.format.specs.Tables.{Triple, Vocabulary, xmlPrefix, xmlNamespace, link}
 use Rattle.format.specs.Document.{header}
 use Rattle.tables.specs.Located.{Located, octetsOf, plainTables}
 use Rattle.events.specs.Records.{recordOf}
@@ -44,16 +44,16 @@ pub data Found : Type 0 where
 
 abbrev pub both : Octets → List (Item Located) → Vocabulary Located → WWriting.Result → Found
 both s is v (WWriting.written js hs z) =
-    found (map (λ (i : Item Located). eventMap (octetsOf s) (i .event)) is) (plainTables s v) (header ++ WWriting.joined hs) (plainTables s (z .tables))
+    found (map (λ (i : Item Located). eventMap (octetsOf s) (i .event)) is) (plainTables s v) (header link ++ WWriting.joined hs) (plainTables s (z .tables))
 both s is v (WWriting.refusal n p) = number n p
 
 abbrev pub read : Octets → RReading.Result → Found
-read s (RReading.accepted is m) = both s is (m .state .tables) (WWriting.writing s 16384 (map (λ (i : Item Located). recordOf (i .event)) is))
+read s (RReading.accepted is m) = both s is (m .state .tables) (WWriting.writing link s 16384 (map (λ (i : Item Located). recordOf (i .event)) is))
 read s (RReading.refusal n p) = number n p
 
 abbrev pub finds : Case → Found
-finds (document s es v) = read s (RReading.reading s 32768)
-finds (refused s n p) = read s (RReading.reading s 32768)
+finds (document s es v) = read s (RReading.reading link s 32768)
+finds (refused s n p) = read s (RReading.reading link s 32768)
 
 abbrev pub wants : Case → Found
 wants (document s es v) = found es v s v

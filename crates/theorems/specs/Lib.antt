@@ -1,3 +1,4 @@
+pub mod Bounded
 pub mod Bench
 pub mod Verdicts
 pub mod Permitted

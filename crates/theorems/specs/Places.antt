@@ -5,7 +5,7 @@ use mathlib.Core.List.{List, [], _∷_, _++_}
 use lib.ListN.{length}
 use Rattle.format.specs.Octets.{Octets, Halves}
 use Rattle.format.specs.Events.{Name, How, spelled, numbered, NameHow, inParts, byNumber, Choice, forNamespace, forStart, forAttribute, forText, forComment, forInstruction, forEnd, Item}
-use Rattle.format.specs.Tables.{Vocabulary, Limits}
+use Rattle.format.specs.Tables.{Vocabulary, Version}
 use Rattle.format.specs.Names.{NameLayout, Named, in-parts, by-number, Declared, declared}
 use Rattle.format.specs.Items.{State, ItemWrittenAs, o-start, o-first-namespace, o-namespace, o-named-start, o-attribute, o-text, o-comment, o-instruction}
 use Rattle.format.specs.Document.{aligned, Written, document-end, attributes-end, element-end, item}
@@ -52,7 +52,7 @@ inOption k none x o = []
 inOption k (some h) none o = []
 inOption k (some h) (some x) o = inField k h x o
 
-module _ {L : Limits} where
+module _ {L : Version} where
   -- the fields of a name, a declaration and an item that stand at octet k
   abbrev pub inName : (k : ℕ) {q : NameLayout} {lead : ℕ} {v w : Vocabulary Octets} {x : Name Octets} {h : NameHow} {o : Octets} → Named L q lead v x h o w → List Located
   inName k (in-parts {p = p} {n = n} {l = l} {hp = hp} {hn = hn} {hl = hl} {op = op} {on = on} {ol = ol} paired up un ul new room) =

@@ -70,8 +70,8 @@ module _ (text : List ℕ) (c : Counts) (w : List ℕ) (t : ℕ) (order : InOrde
           namespace = rw name-more (begins-named builtInPrefix builtInNamespace (vocabulary c w) (nameTableOf t) x (order .prefix) (order .namespace) .1);
         }
 
-pub order-start : (text : List ℕ) → length text ≤ 16384 → InOrder text (countsOf start) (replicate 7680 0)
-unfolding start starting
+pub order-start : (text : List ℕ) → length text ≤ 16384 → InOrder text (countsOf (start link)) (replicate 7680 0)
+unfolding start starting link
 order-start text h =
     let is = vocabulary-start (replicate 7680 0) refl refl in
     record {

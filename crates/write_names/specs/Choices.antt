@@ -8,7 +8,7 @@ use lib.Dec.{eqb, ltb, leb}
 use Rattle.format.specs.Octets.{Octets}
 use Rattle.format.specs.Numbers.{pick, lengths, spell, c25}
 use Rattle.format.specs.Events.{Name, How, spelled, numbered, NameHow, inParts, byNumber}
-use Rattle.format.specs.Tables.{StringTable, PREFIX, NAMESPACE-NAME, LOCAL-NAME, Triple, Vocabulary, strings, names, adding, addingName, Limits}
+use Rattle.format.specs.Tables.{StringTable, PREFIX, NAMESPACE-NAME, LOCAL-NAME, Triple, Vocabulary, strings, names, adding, addingName, Version}
 use Rattle.format.specs.Strings.{withLength, bit, Layout, c14, keeping}
 use Rattle.format.specs.Names.{has, NameLayout}
 use Rattle.tables.specs.Located.{Located, octetsOf}
@@ -52,7 +52,7 @@ writeName q lead text v x =
     })
     (record { octets = spell (q .numberForms) lead k; how = byNumber k; number = k; tables = v })
 
-module _ (L : Limits) where
+module _ (L : Version) where
   -- A string of 1 to 5 octets is added where its table has room.
   unfoldable pub worthAdding : {S : Type 0} → List S → Octets → Bool
   worthAdding table x = leb (length x) 5 && ltb (length table) (L .entries)
@@ -73,7 +73,7 @@ module _ (L : Limits) where
       pick (eqb (length (octetsOf text x)) 0) (record { octets = 0xFF ∷ []; how = numbered 0; number = 0; tables = v }) (writeLiteral c14 text t v x)
 
 -- No table has an entry too many (12).
-unfoldable pub within : {S : Type 0} → Limits → Vocabulary S → Bool
+unfoldable pub within : {S : Type 0} → Version → Vocabulary S → Bool
 within L v =
     leb (length (v .prefixes)) (L .entries) && (leb (length (v .namespaces)) (L .entries) && (leb (length (v .locals)) (L .entries)
     && (leb (length (v .ncnames)) (L .entries) && (leb (length (v .elements)) (L .entries) && leb (length (v .attributes)) (L .entries)))))

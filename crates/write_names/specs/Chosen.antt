@@ -10,7 +10,7 @@ use Rattle.format.specs.Numbers.{pick}
 use Rattle.format.specs.Events.{Name, Event, Namespace, Start, Attribute, Text, Comment, Instruction, End, How, spelled, numbered, NameHow, inParts, byNumber}
 use Rattle.format.specs.Events.{Choice, forNamespace, forStart, forAttribute, forText, forComment, forInstruction, forEnd, Item, _by_}
 use Rattle.format.specs.Tables.{StringTable, PREFIX, NAMESPACE-NAME, LOCAL-NAME, OTHER-NCNAME, ATTRIBUTE-VALUE, CONTENT-CHARACTER-CHUNK, OTHER-STRING}
-use Rattle.format.specs.Tables.{NameTable, ELEMENT-NAME, ATTRIBUTE-NAME, Triple, Vocabulary, strings, names, adding, addingName, Limits}
+use Rattle.format.specs.Tables.{NameTable, ELEMENT-NAME, ATTRIBUTE-NAME, Triple, Vocabulary, strings, names, adding, addingName, Version}
 use Rattle.format.specs.Strings.{keeping}
 use Rattle.tables.specs.Search.{numberIn, numberOfTriple}
 use Rattle.write_names.specs.Choices.{worthAdding}
@@ -47,7 +47,7 @@ chooseName t v x =
     (record { how = inParts (p .how) (n .how) (l .how); number = suc (length (names (l .tables) t)); tables = addingName (l .tables) t triple })
     (record { how = byNumber k; number = k; tables = v })
 
-module _ (L : Limits) where
+module _ (L : Version) where
   -- A chunk, value, comment or content: the lowest number where its table holds it; else spelled, and added if it is short and its table has room.
   unfoldable pub chooseLiteral : StringTable → Vocabulary Octets → Octets → Chose How
   chooseLiteral t v x =

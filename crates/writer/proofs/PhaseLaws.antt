@@ -3,10 +3,12 @@
 use mathlib.Core.Path.{_≡_, sym, ap, _∙_}
 use mathlib.Core.Bool.{Bool, true, false, true≢false}
 use mathlib.Core.List.{List, []}
-use Prim.Native.Nat.{ℕ, _+_, _≤_, _<_}
+use Prim.Native.Nat.{ℕ, _+_, _*_, _≤_, _<_}
 use borrow.Author.Tests.{eq-eqb, ne-eqb, le-leb, lt-leb, ltb-true, ltb-false}
 use lib.ListN.{length, getD, drop, replicate}
 use lib.Seq.{drop-cons}
+use Rattle.format.specs.Tables.{link}
+use Rattle.format.specs.Document.{header}
 use Rattle.tables.specs.Counts.{tableWords}
 use Rattle.events.specs.declared.Event.{Event}
 use Rattle.events.specs.Records.{blank}
@@ -28,22 +30,23 @@ use Rattle.writer.proofs.RunLaws.{underway-start, underway-number, unde
 
 -- ---- before the first record
 module _ (es : List Event) (text : List ℕ) (room table : ℕ) where
-  pub going-size : 16384 < length text → refusing 1 0 room table ≡ writeOf es text room table
-  unfolding writeOf
+  pub going-size : 16384 < length text → refusing 1 0 room table ≡ writeOf link es text room table
+  unfolding writeOf link
   going-size l = rw (lt-leb _ _ l)
 
   module _ (size : length text ≤ 16384) where
-    pub going-room : (table ≡ tableWords → ⊥) → refusing 14 0 room table ≡ writeOf es text room table
-    unfolding writeOf
+    pub going-room : (table ≡ tableWords → ⊥) → refusing 14 0 room table ≡ writeOf link es text room table
+    unfolding writeOf link
     going-room n = rw (le-leb _ _ size, ne-eqb _ _ n)
 
     module _ (all : table ≡ tableWords) where
-      pub going-start : {p : State} {out w : List ℕ} → p ≡ fresh → Holds room [] 10 out → w ≡ replicate tableWords 0 → Going es text room table 0 (Onward p) out w
+      pub going-start : {p : State} {out w : List ℕ} → p ≡ fresh → Holds room [] (2 * length (header link)) out → w ≡ replicate tableWords 0 → Going es text room table 0 (Onward p) out w
+      unfolding link
       going-start q h e = (size, all, rw q (underway-start text room es size h e))
 
       -- what the run leaves is left by the call
-      run-is : outcome (writing text room es) room ≡ writeOf es text room table
-      unfolding writeOf
+      run-is : outcome link (writing link text room es) room ≡ writeOf link es text room table
+      unfolding writeOf link
       run-is = rw (le-leb _ _ size, eq-eqb _ _ all)
 
 -- ---- a turn
@@ -65,6 +68,7 @@ module _ (text : List ℕ) (room table i : ℕ) (out w : List ℕ) (e : Event) (
         rw q (λ es g d c. (g .0, g .1, underway-on (g .2) d (f ∙ bit-chosen (st .mode) a i es (g .2 .bit-known) c) r out′ w′ s o))
 
     pub turn-stop : (n : ℕ) → r ≡ Stop n → Turns text room table i p out w e a (Halted n i) out′ w′
+    unfolding link
     turn-stop n o =
         rw q (λ es g d c. ap (λ (k : ℕ). refusing n i room k) (g .1) ∙ run-refused (g .2) d (f ∙ bit-chosen (st .mode) a i es (g .2 .bit-known) c) r out′ w′ s o ∙ run-is es text room table (g .0) (g .1))
 
@@ -74,6 +78,7 @@ module _ (text : List ℕ) (room table i : ℕ) (out w : List ℕ) (e : Event) (
 -- ---- behind the last record
 module _ (room i : ℕ) (out : List ℕ) (r : Answer) (out′ : List ℕ) where
   pub ends-onward : (st : State) (p : Phase) → p ≡ Onward st → Finishes room st out i r out′ → Ends room i p out r out′
+  unfolding link
   ends-onward st p q f =
       rw q (λ es text w g o. ap (λ (k : ℕ). remains room k r out′ w) (g .1) ∙ run-finished (g .2) (ltb-false i (length es) o) r out′ f ∙ run-is es text room (length w) (g .0) (g .1))
 
@@ -109,7 +114,7 @@ module _ (es : List Event) (text : List ℕ) (room table i : ℕ) where
         → Turns text (length zs) (length us) i p zs us e a p′ zs′ us′ → Going es text room table (i + 1) p′ zs′ us′
     going-turned l e f b p′ zs′ us′ h = (rw (long, long′) at h) es g (rw e (drop-cons es i blank l)) (b ∙ ap (λ (k : ℕ). announced (drop k es)) f)
 
-    pub going-settled : goesOn p i (length es) ≡ false → (r : Answer) (zs′ us′ : List ℕ) → Settles (length zs) (length us) i p zs us r zs′ us′ → Leaves r zs′ us′ (writeOf es text room table)
+    pub going-settled : goesOn p i (length es) ≡ false → (r : Answer) (zs′ us′ : List ℕ) → Settles (length zs) (length us) i p zs us r zs′ us′ → Leaves r zs′ us′ (writeOf link es text room table)
     going-settled o r zs′ us′ h = (rw (long, long′) at h) es text g o
 
   -- with the room in other words

@@ -3,7 +3,7 @@
 use mathlib.Core.Path.{_≡_, refl, sym, ap, _∙_}
 use mathlib.Core.Bool.{Bool, true, false, true≢false, _&&_}
 use mathlib.Core.List.{List, [], _∷_, _++_, append-assoc}
-use Prim.Native.Nat.{ℕ, zero, suc, _+_, _/_, _%_, _≤_, _<_, min}
+use Prim.Native.Nat.{ℕ, zero, suc, _+_, _*_, _/_, _%_, _≤_, _<_, min}
 use native.Mathlib.Omega.{arith}
 use native.Mathlib.Numerals.{add-one}
 use borrow.Author.Tests.{le-leb, lt-leb}
@@ -103,30 +103,35 @@ module _ (text : List ℕ) (room at : ℕ) (v : F.State Located) (e : Event) (es
     run-stop zero h l = absurd (omega arith)
     run-stop (suc n) h l = run-on h
 
-behind-none : (x : Result) (room : ℕ) → behind [] x room ≡ outcome x room
+behind-none : (x : Result) (room : ℕ) → behind [] x room ≡ outcome link x room
 behind-none (written is hs z) room = refl
 behind-none (refusal n p) room = refl
 
+-- ---- where the body starts
+five : length (header link) ≡ 5
+unfolding header link
+five = refl
+
 -- ---- room that is cleared
-pub held-room : {n m : ℕ} {out : List ℕ} → n ≡ m → Holds n [] 10 out → Holds m [] 10 out
+pub held-room : {n m : ℕ} {out : List ℕ} → n ≡ m → Holds n [] (2 * length (header link)) out → Holds m [] (2 * length (header link)) out
 held-room q h = rw q at h
 
 -- ---- a run of the events es, with `room` octets of output
 module _ (text : List ℕ) (room : ℕ) (es : List Event) where
-  start-known : (w : List ℕ) → w ≡ replicate tableWords 0 → known fresh w ≡ beginning start
+  start-known : (w : List ℕ) → w ≡ replicate tableWords 0 → known fresh w ≡ beginning (start link)
   unfolding beginning
   start-known w e = rw (e, vocabulary-start (replicate tableWords 0) (getD-replicate {A = ℕ} tableWords 1 0 0 (lit< tt)) (getD-replicate {A = ℕ} tableWords 769 0 0 (lit< tt)))
 
-  pub underway-start : length text ≤ 16384 → {out w : List ℕ} → Holds room [] 10 out → w ≡ replicate tableWords 0 → Underway text room es 0 fresh out w
-  unfolding writing header
+  pub underway-start : length text ≤ 16384 → {out w : List ℕ} → Holds room [] (2 * length (header link)) out → w ≡ replicate tableWords 0 → Underway text room es 0 fresh out w
+  unfolding writing
   underway-start h {out} {w} o e =
       record {
         hs = [];
         holds = o;
-        ready = record { order = rw e (order-start text h); at = omega arith; shallow = omega arith };
+        ready = record { order = rw e (order-start text h); at = let b = five in omega arith; shallow = omega arith };
         bit-known = tt;
         small = omega arith;
-        leads = rw (start-known w e) (behind-none (run link text room 10 (beginning start) 0 es) room);
+        leads = rw (start-known w e) (behind-none (run link text room (2 * length (header link)) (beginning (start link)) 0 es) room);
       }
 
 module _ {text : List ℕ} {room : ℕ} {es : List Event} {i : ℕ} {st : State} {out w : List ℕ} (u : Underway text room es i st out w) where
@@ -135,7 +140,7 @@ module _ {text : List ℕ} {room : ℕ} {es : List Event} {i : ℕ} {st : State}
 
   -- a step with the next event
   module _ {e : Event} (d : drop i es ≡ e ∷ drop (suc i) es) {a : Bool} (b : a ≡ announced (drop i es)) (r : Step) (out′ w′ : List ℕ) (p : Steps text room a st out w e r out′ w′) where
-    leads-here : behind (u .hs) (run link text room (st .at) (known st w) i (e ∷ drop (suc i) es)) room ≡ outcome (writing text room es) room
+    leads-here : behind (u .hs) (run link text room (st .at) (known st w) i (e ∷ drop (suc i) es)) room ≡ outcome link (writing link text room es) room
     leads-here = rw d at (u .leads)
 
     stepped : Steps text room (announced (e ∷ drop (suc i) es)) st out w e r out′ w′
@@ -158,13 +163,13 @@ module _ {text : List ℕ} {room : ℕ} {es : List Event} {i : ℕ} {st : State}
           leads = rw (g .state, grown .place, add-one i) (sym (behind-on text room (st .at) (known st w) e (drop (suc i) es) i (u .hs) (g .judged)) ∙ leads-here);
         }
 
-    pub run-refused : {n : ℕ} → r ≡ Stop n → refusing n i room tableWords ≡ outcome (writing text room es) room
+    pub run-refused : {n : ℕ} → r ≡ Stop n → refusing n i room tableWords ≡ outcome link (writing link text room es) room
     run-refused {n} q =
         let g = rw q at stepped in
         sym (ap (λ (x : Result). behind (u .hs) x room) (run-stop text room (st .at) (known st w) e (drop (suc i) es) i n (g .0) (g .1))) ∙ leads-here
 
   -- the end behind the last event
-  pub run-finished : length es ≤ i → (r : Answer) (out′ : List ℕ) → Finishes room st out i r out′ → remains room tableWords r out′ w ≡ outcome (writing text room es) room
+  pub run-finished : length es ≤ i → (r : Answer) (out′ : List ℕ) → Finishes room st out i r out′ → remains room tableWords r out′ w ≡ outcome link (writing link text room es) room
   unfolding run
   run-finished l r out′ f = f text w (u .hs) (u .ready) (u .holds) ∙ (rw (drop-of-length-le es l) at (u .leads))
 

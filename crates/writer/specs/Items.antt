@@ -6,7 +6,7 @@ use mathlib.Core.List.{[], _∷_, _++_}
 use Rattle.format.specs.Octets.{Octets}
 use Rattle.format.specs.Events as E
 use Rattle.format.specs.Events.{Choice, forNamespace, forStart, forAttribute, forText, forComment, forInstruction, forEnd, How, NameHow}
-use Rattle.format.specs.Tables.{PREFIX, NAMESPACE-NAME, OTHER-NCNAME, ATTRIBUTE-VALUE, CONTENT-CHARACTER-CHUNK, OTHER-STRING, Limits}
+use Rattle.format.specs.Tables.{PREFIX, NAMESPACE-NAME, OTHER-NCNAME, ATTRIBUTE-VALUE, CONTENT-CHARACTER-CHUNK, OTHER-STRING, Version}
 use Rattle.format.specs.Strings.{bit, c15}
 use Rattle.format.specs.Names.{has, ofElement, ofAttribute}
 use Rattle.format.specs.Items.{Mode, content, declaring, listing, State, knowing, moved, opened}
@@ -36,7 +36,7 @@ nameLead content a = 64 * bit a
 nameLead (declaring b) a = 0
 nameLead (listing any) a = 0
 
-module _ (L : Limits) (text : Octets) where
+module _ (L : Version) (text : Octets) where
   -- The end of an attribute list is behind us: the mode is content or declaring or, for an attribute, listing. An End has no octets of its own.
   unfoldable pub writeItem : Bool → State Located → E.Event Located → WroteItem
   writeItem a v (E.Namespace p n) =

@@ -1,5 +1,5 @@
 -- Contracts of the code, not definitions to be believed. How a run of the writer stands for its definition: what is still to be written, behind what is, leaves what the definition says; and the phases of a run.
-use Prim.Native.Nat.{ℕ, suc, _+_, _≤_}
+use Prim.Native.Nat.{ℕ, suc, _+_, _*_, _≤_}
 use mathlib.Core.Path.{_≡_}
 use mathlib.Core.Bool.{Bool, false}
 use mathlib.Core.List.{List, _∷_, _++_}
@@ -26,7 +26,7 @@ use Rattle.writer.specs.StepContracts.{Ready, known}
 
 -- The writer before the first event.
 abbrev pub fresh : State
-fresh = record { at = 10; level = 0; root = false; mode = Content; counts = countsOf start }
+fresh = record { at = 2 * length (header link); level = 0; root = false; mode = Content; counts = countsOf (start link) }
 
 -- The attribute bit in front of an element's declarations is b.
 abbrev pub Foretold : Mode → Bool → Type 0
@@ -36,7 +36,7 @@ Foretold (listing any) b = Unit {0}
 
 -- What a call leaves whose run wrote the halves hs and then comes out so.
 abbrev pub behind : Halves → Result → (room : ℕ) → Outcome
-behind hs (written is ks z) room = accepting (header ++ joined (hs ++ ks)) (z .tables) room
+behind hs (written is ks z) room = accepting (header link ++ joined (hs ++ ks)) (z .tables) room
 behind hs (refusal n p) room = refusing n p room tableWords
 
 -- What a run's answer leaves in `room` octets and `table` words: on a refusal, nothing.
@@ -50,8 +50,8 @@ pub record Underway (text : Octets) (room : ℕ) (es : List Event) (i : ℕ) (st
   pub holds : Holds room hs (st .at) out
   pub ready : Ready text st w
   pub bit-known : Foretold (modeOf (st .mode)) (announced (drop i es))
-  pub small : i + 10 ≤ st .at
-  pub leads : behind hs (run link text room (st .at) (known st w) i (drop i es)) room ≡ outcome (writing text room es) room
+  pub small : i ≤ st .at
+  pub leads : behind hs (run link text room (st .at) (known st w) i (drop i es)) room ≡ outcome link (writing link text room es) room
 
 -- The document's end behind i events came out as the definition says; out and out′ are the output before and then.
 abbrev pub Finishes : (room : ℕ) → State → Octets → ℕ → Answer → Octets → Type 0
@@ -81,12 +81,12 @@ bitOf (Listing any) a = a
 
 -- Behind i of the events es, with `room` octets of output and `table` table words lent, which are out and w.
 abbrev pub Going : List Event → Octets → (room table i : ℕ) → Phase → (out : Octets) (w : Words) → Type 0
-Going es text room table i (Onward st) out w = (length text ≤ 16384) × (table ≡ tableWords) × Underway text room es i st out w
-Going es text room table i (Halted k p) out w = refusing k p room table ≡ writeOf es text room table
+Going es text room table i (Onward st) out w = (length text ≤ link .octets) × (table ≡ tableWords) × Underway text room es i st out w
+Going es text room table i (Halted k p) out w = refusing k p room table ≡ writeOf link es text room table
 
 -- What the step with event i asks, and the end behind i events.
 abbrev pub Steady : Octets → ℕ → Phase → Words → Type 0
-Steady text i (Onward st) w = Ready text st w × (i + 10 ≤ st .at)
+Steady text i (Onward st) w = Ready text st w × (i ≤ st .at)
 Steady text i (Halted k p) w = Unit {0}
 
 abbrev pub Bounded : ℕ → Phase → Type 0
@@ -101,8 +101,8 @@ Turns text room table i p out w e a p′ out′ w′ =
 -- What the records came to, once no further one is to be written; the lent room behind it is blanked after that.
 abbrev pub Ends : (room i : ℕ) → Phase → Octets → Answer → Octets → Type 0
 Ends room i p out r out′ =
-    (es : List Event) (text : Octets) (w : Words) → Going es text room (length w) i p out w → goesOn p i (length es) ≡ false → remains room (length w) r out′ w ≡ writeOf es text room (length w)
+    (es : List Event) (text : Octets) (w : Words) → Going es text room (length w) i p out w → goesOn p i (length es) ≡ false → remains room (length w) r out′ w ≡ writeOf link es text room (length w)
 
 abbrev pub Settles : (room table i : ℕ) → Phase → (out : Octets) (w : Words) → Answer → (out′ : Octets) (w′ : Words) → Type 0
 Settles room table i p out w r out′ w′ =
-    (es : List Event) (text : Octets) → Going es text room table i p out w → goesOn p i (length es) ≡ false → Leaves r out′ w′ (writeOf es text room table)
+    (es : List Event) (text : Octets) → Going es text room table i p out w → goesOn p i (length es) ≡ false → Leaves r out′ w′ (writeOf link es text room table)

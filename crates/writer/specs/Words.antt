@@ -4,6 +4,7 @@ use lib.ListN.{length, replicate}
 use lib.Dec.{eqb, leb}
 use Rattle.format.specs.Octets.{Octets, Words}
 use Rattle.format.specs.Numbers.{pick}
+use Rattle.format.specs.Tables.{Version}
 use Rattle.format.specs.Refusals.{SIZE, ROOM}
 use Rattle.tables.specs.Told.{wholeWord}
 use Rattle.events.specs.FromWords.{recordsOf}
@@ -35,6 +36,6 @@ inWords o = leaving (answerWord (o .answer)) (o .out) (o .tables) (countWords (o
 
 -- From the records of these words over this text area, with r octets of output and t and c words for tables and counts lent: SIZE (1), then the room of the
 -- counts, which are the tables' (14), both at place 0; then what writing with r octets and t table words leaves.
-unfoldable pub writeWords : Words → Octets → (r t c : ℕ) → WordsLeft
-writeWords records text r t c =
-    pick (leb (length text) 16384) (pick (eqb c 10) (inWords (writeOf (recordsOf records) text r t)) (nothing ROOM r t c)) (nothing SIZE r t c)
+unfoldable pub writeWords : Version → Words → Octets → (r t c : ℕ) → WordsLeft
+writeWords L records text r t c =
+    pick (leb (length text) (L .octets)) (pick (eqb c 10) (inWords (writeOf L (recordsOf records) text r t)) (nothing ROOM r t c)) (nothing SIZE r t c)

@@ -9,7 +9,7 @@ use Rattle.format.specs.Octets.{Octets, Halves, Words}
 use Rattle.format.specs.Numbers.{pick}
 use Rattle.format.specs.Events as E
 use Rattle.format.specs.Events.{Item, _by_}
-use Rattle.format.specs.Tables.{Vocabulary, Limits, link}
+use Rattle.format.specs.Tables.{Vocabulary, Version}
 use Rattle.format.specs.Items.{Mode, content, State, moved}
 use Rattle.format.specs.Document.{halves, pad, aligned, beginning, header}
 use Rattle.format.specs.Refusals.{SIZE, TEXT, FULL, DEPTH, ROOM, EVENT}
@@ -79,7 +79,7 @@ owed m e = pick (isListing m && not (isAttribute e)) (15 ∷ []) []
 unfoldable pub settled : {S : Type 0} → State S → E.Event S → State S
 settled v e = pick (isListing (v .mode) && not (isAttribute e)) (moved v (v .tables) content) v
 
-module _ (L : Limits) (text : Octets) (room : ℕ) where
+module _ (L : Version) (text : Octets) (room : ℕ) where
   -- So many halves, in whole octets, fit the output lent and the limit of a document.
   unfoldable pub fits : ℕ → Bool
   fits at = leb (aligned at / 2) (min room (L .octets))
@@ -162,21 +162,23 @@ accepting s v room =
       tables = wordsOf entryWords v;
     }
 
-abbrev pub outcome : Result → ℕ → Outcome
-outcome (written is hs z) room = accepting (header ++ joined hs) (z .tables) room
-outcome (refusal n p) room = refusing n p room tableWords
+module _ (L : Version) where
+  abbrev pub outcome : Result → ℕ → Outcome
+  outcome (written is hs z) room = accepting (header L ++ joined hs) (z .tables) room
+  outcome (refusal n p) room = refusing n p room tableWords
 
--- On the link, from these events over this text area, with so much output lent: the header is event 0's.
-unfoldable pub writing : Octets → ℕ → List Event → Result
-writing text room es = run link text room (2 * length header) (beginning start) 0 es
+  -- From these events over this text area, with so much output lent: the header is event 0's.
+  unfoldable pub writing : Octets → ℕ → List Event → Result
+  writing text room es = run L text room (2 * length (header L)) (beginning (start L)) 0 es
 
--- And what is known after each of them.
-unfoldable pub knownWriting : Octets → ℕ → List Event → List (State Located)
-knownWriting text room es = trace link text room (2 * length header) (beginning start) es
+  -- And what is known after each of them.
+  unfoldable pub knownWriting : Octets → ℕ → List Event → List (State Located)
+  knownWriting text room es = trace L text room (2 * length (header L)) (beginning (start L)) es
 
--- Writing on the link, with `room` octets of output and `table` table words lent: SIZE (1), then the table room (14), both at place 0, then the events.
-unfoldable pub writeOf : List Event → Octets → (room table : ℕ) → Outcome
-writeOf es text room table =
-    pick (leb (length text) 16384)
-    (pick (eqb table tableWords) (outcome (writing text room es) room) (refusing ROOM 0 room table))
-    (refusing SIZE 0 room table)
+  -- Writing, with `room` octets of output and `table` table words lent: SIZE (1), since a text area is no longer than a document; then the table room (14), both at
+  -- place 0; then the events.
+  unfoldable pub writeOf : List Event → Octets → (room table : ℕ) → Outcome
+  writeOf es text room table =
+      pick (leb (length text) (L .octets))
+      (pick (eqb table tableWords) (outcome (writing text room es) room) (refusing ROOM 0 room table))
+      (refusing SIZE 0 room table)

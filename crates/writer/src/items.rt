@@ -34,7 +34,7 @@ const FULL: u32 = 12;
 const ROOM: u32 = 14;
 
 // Octets of a document, at most.
-const LONGEST: usize = 16384;
+const LONGEST: usize = fields::OCTETS;
 
 // Tables by number.
 const NCNAMES: usize = 3;

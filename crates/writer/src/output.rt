@@ -1,10 +1,13 @@
 // The lent output: cleared, then the header, then ends and items. What it has no room for is left out, and found out by the place behind it.
 ghost use mathlib.Core.Path.{_≡_};
 ghost use mathlib.Core.List.{[]};
-ghost use Prim.Native.Nat.{_/_};
+ghost use Prim.Native.Nat.{_*_, _/_};
 ghost use lib.ListN.{length, replicate, set};
+ghost use Rattle.format.specs.Tables.{link};
+ghost use Rattle.format.specs.Document.{header};
 ghost use Rattle.writer.specs.OutputContracts.{Holds, endOctet};
 use fields::put::put;
+use fields::put::put_part;
 
 // Every octet is 0.
 pub fn clear(out: &mut [u8])
@@ -17,16 +20,13 @@ pub fn clear(out: &mut [u8])
     }
 }
 
-// E0 00 (12.6), version 1 (12.7, 12.9), and no optional part (12.8), on a cleared output.
+// The header, on a cleared output.
 pub fn put_header(out: &mut [u8])
     requires { ⌜ now out ≡ replicate (length (now out)) 0 ⌝ }
-    ensures { λ _. ⌜ Holds (length (now (out .entry))) [] 10 (now (out .exit)) ⌝ }
+    ensures { λ _. ⌜ Holds (length (now (out .entry))) [] (2 * length (header link)) (now (out .exit)) ⌝ }
 {
-    put(out, 0, 0xE0);
-    put(out, 1, 0x00);
-    put(out, 2, 0x00);
-    put(out, 3, 0x01);
-    put(out, 4, 0x00);
+    let header = fields::HEADER;
+    put_part(out, 0, &header, 0, fields::BODY);
 }
 
 // An end at the half `at`. In the first half of an octet it leaves the second 0; before the second stands another end.

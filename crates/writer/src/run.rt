@@ -6,6 +6,7 @@ ghost use mathlib.Core.List.{List};
 ghost use Prim.Native.Nat.{_≤_};
 ghost use lib.Dec.{eqb};
 ghost use lib.ListN.{length};
+ghost use Rattle.format.specs.Tables.{link};
 ghost use Rattle.events.specs.declared.Event.{Event};
 ghost use Rattle.events.specs.FromWords.{recordsOf};
 ghost use Rattle.writer.specs.Events.{isContent};
@@ -29,9 +30,7 @@ const ROOM: u32 = 14;
 
 const EVENT: u32 = 16;
 
-// Octets of the longest text area and document; words of a record.
-const OCTETS: usize = 16384;
-
+// Words of a record.
 const RECORD: usize = 13;
 
 // Between two records: where the writer stands, or the refusal and the event's number.
@@ -45,7 +44,7 @@ fn begin() -> State
     ensures { λ r. ⌜ r ≡ fresh ⌝ }
 {
     State {
-        at: 10,
+        at: 2 * fields::BODY,
         level: 0,
         root: false,
         mode: Mode::Content,
@@ -75,7 +74,7 @@ impl State {
             return Answer::Refused(EVENT, i as u32);
         }
         let octets = (self.at + 2) / 2;
-        if OCTETS < octets {
+        if fields::OCTETS < octets {
             return Answer::Refused(ROOM, i as u32);
         }
         if out.len() < octets {
@@ -91,7 +90,7 @@ impl State {
 pub fn prepared(text: &[u8], out: &mut [u8], t: &mut [u32]) -> Phase
     ensures { λ r. ⌜ ((es : List Event) → Going es (now (text .entry)) (length (now (out .entry))) (length (now (t .entry))) 0 r (now (out .exit)) (now (t .exit))) ⌝ }
 {
-    if OCTETS < text.len() {
+    if fields::OCTETS < text.len() {
         return Phase::Halted(SIZE, 0);
     }
     if t.len() != Counts::WORDS {
@@ -203,7 +202,7 @@ impl Phase {
 
 // The records of words, one by one.
 fn written(records: &[u32], text: &[u8], out: &mut [u8], t: &mut [u32]) -> Answer
-    ensures { λ r. ⌜ Leaves r (now (out .exit)) (now (t .exit)) (writeOf (recordsOf (now (records .entry))) (now (text .entry)) (length (now (out .entry))) (length (now (t .entry)))) ⌝ }
+    ensures { λ r. ⌜ Leaves r (now (out .exit)) (now (t .exit)) (writeOf link (recordsOf (now (records .entry))) (now (text .entry)) (length (now (out .entry))) (length (now (t .entry)))) ⌝ }
 {
     let mut p = prepared(text, out, t);
     let mut i = 0;
@@ -234,13 +233,13 @@ pub fn write_words(
     tables: &mut [u32],
     counts: &mut [u32],
 ) -> u64
-    ensures { λ r. ⌜ leaving r (now (out .exit)) (now (tables .exit)) (now (counts .exit)) ≡ writeWords (now (records .entry)) (now (text .entry)) (length (now (out .entry))) (length (now (tables .entry))) (length (now (counts .entry))) ⌝ }
+    ensures { λ r. ⌜ leaving r (now (out .exit)) (now (tables .exit)) (now (counts .exit)) ≡ writeWords link (now (records .entry)) (now (text .entry)) (length (now (out .entry))) (length (now (tables .entry))) (length (now (counts .entry))) ⌝ }
 {
     tables::clear(counts);
     if counts.len() != Counts::TABLES {
         output::clear(out);
         tables::clear(tables);
-        if OCTETS < text.len() {
+        if fields::OCTETS < text.len() {
             return SIZE as u64;
         }
         return ROOM as u64;

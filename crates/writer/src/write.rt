@@ -1,5 +1,6 @@
 // Writing from a lent row: its records one by one, into lent output and tables, as `run` does from words.
 ghost use lib.ListN.{length};
+ghost use Rattle.format.specs.Tables.{link};
 ghost use Rattle.writer.specs.Writing.{Leaves, writeOf};
 use crate::Answer;
 use crate::ahead;
@@ -9,7 +10,7 @@ use events::Event;
 // Any row of records, any text area, any room. Nothing of what was in the room before is left in it.
 // Wrong would be: on a refusal, octets that are left of events before the fault; on acceptance, tables that go on from those of an earlier document.
 pub fn write(events: &[Event], text: &[u8], out: &mut [u8], tables: &mut [u32]) -> Answer
-    ensures { λ r. ⌜ Leaves r (now (out .exit)) (now (tables .exit)) (writeOf (now (events .entry)) (now (text .entry)) (length (now (out .entry))) (length (now (tables .entry)))) ⌝ }
+    ensures { λ r. ⌜ Leaves r (now (out .exit)) (now (tables .exit)) (writeOf link (now (events .entry)) (now (text .entry)) (length (now (out .entry))) (length (now (tables .entry)))) ⌝ }
 {
     let mut p = run::prepared(text, out, tables);
     let mut i = 0;

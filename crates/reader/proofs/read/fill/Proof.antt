@@ -35,7 +35,7 @@ use sound.WpLaws.{fmOf}
 use denote.RattleType.{owns}
 use denote.Laws.{Is, shows}
 use denote.Memory.{mem, pointee}
-use denote.Plain.{uint-makes}
+use denote.Plain.{uint-vals, uint-tells, uint-makes}
 use denote.Builtin.{u8, u32, usize}
 use denote.Ref.{RefT, MutRef}
 use denote.Slice.{sliceTy, sliceVal, MutSlice, ShrSlice, Room, slice-vals, mut-slice-tells, shr-slice-tells, shr-slice-copy}
@@ -117,7 +117,7 @@ falls i n l = omega arith
 
 -- ---- the function
 abbrev stayed : Stays (fill′.ended .signature .params) (fill′.ended .kept)
-stayed = (stay-dropped (shrSliceOf (0 ∷ []) tt (plain (λ _. u8))) yes, (stay-slice (1 ∷ []) tt (plain (λ _. E.the-row)), (stay-slice (2 ∷ []) tt (plain (λ _. u32)), tt)))
+stayed = (stay-dropped (shrSliceOf (0 ∷ []) tt (plain (λ _. u8))) yes, (stay-slice (1 ∷ []) tt (plain (λ _. E.the-row)), (stay-slice (2 ∷ []) tt (plain (λ _. u32)), (stay-dropped (plain (λ _. usize)) yes, tt))))
 
 abbrev word : Ty
 word = tyInt w64
@@ -142,17 +142,17 @@ module _ {M : Type 1} (𝓤 : URA M) (H : Heap 𝓤) (A : Atoms 𝓤) (at-mem : 
   abbrev Finish : Contract 𝓤
   Finish = tripleOf 𝓤 H A finish′.signature (finish′.spec 𝓤 H A at-mem run)
 
-  start-of : (r : Counts) → ent 𝓤 (ensured 𝓤 H A start′.ended (start′.clauses 𝓤 H A at-mem run) tt tt tt r) (fact 𝓤 (r ≡ countsOf start))
-  start-of r = exE 𝓤 _ (λ ws. snd∗ 𝓤 (sem 𝓤 H A (lasts start′.ended tt tt ws)) (fact 𝓤 (r ≡ countsOf start)))
+  start-of : (r : Counts) → ent 𝓤 (ensured 𝓤 H A start′.ended (start′.clauses 𝓤 H A at-mem run) tt tt tt r) (fact 𝓤 (r ≡ countsOf (start link)))
+  start-of r = exE 𝓤 _ (λ ws. snd∗ 𝓤 (sem 𝓤 H A (lasts start′.ended tt tt ws)) (fact 𝓤 (r ≡ countsOf (start link))))
 
-  begin-of : (n : ℕ) (p : Place) → ent 𝓤 (ensured 𝓤 H A begin′.ended (begin′.clauses 𝓤 H A at-mem run) tt (n, tt) tt p) (fact 𝓤 (p ≡ first n))
-  begin-of n p = exE 𝓤 _ (λ ws. snd∗ 𝓤 (sem 𝓤 H A (lasts begin′.ended tt (n, tt) ws)) (fact 𝓤 (p ≡ first n)))
+  begin-of : (k n : ℕ) (p : Place) → ent 𝓤 (ensured 𝓤 H A begin′.ended (begin′.clauses 𝓤 H A at-mem run) tt (k, (n, tt)) tt p) (fact 𝓤 (p ≡ first k n))
+  begin-of k n p = exE 𝓤 _ (λ ws. snd∗ 𝓤 (sem 𝓤 H A (lasts begin′.ended tt (k, (n, tt)) ws)) (fact 𝓤 (p ≡ first k n)))
 
   finish-of : (r : Next) (n : ℕ) (c : Counts) (w : Answer) → ent 𝓤 (ensured 𝓤 H A finish′.ended (finish′.clauses 𝓤 H A at-mem run) tt (r, (n, (c, tt))) tt w) (fact 𝓤 (w ≡ finished r n c))
   finish-of r n c w = exE 𝓤 _ (λ ws. snd∗ 𝓤 (sem 𝓤 H A (lasts finish′.ended tt (r, (n, (c, tt))) ws)) (fact 𝓤 (w ≡ finished r n c)))
 
-module _ {M : Type 1} (𝓤 : URA M) (H : Heap 𝓤) (A : Atoms 𝓤) (W : Given 𝓤 H A) (at-mem : Memory → SProp 𝓤) (run : Routine → Fun 𝓤) (κ₀ κ₁ κ₂ : Lft) (q₀ q₁ q₂ : Share) (b₀ o₀ : ℕ) (γ₀ : GName) (ss : List ℕ) (b o : ℕ) (γ : GName) (ys : List Event) (b₂ o₂ : ℕ) (γ₂ : GName) (ts : List ℕ)
-    (room-s : Room u8 (length ss)) (room-e : Room E.the-row (length ys)) (room-t : Room u32 (length ts)) (ready : (5 ≤ length ss) × (length ss ≤ 16384) × (ys ≡ replicate (length ys) blank) × (ts ≡ replicate tableWords 0)) where
+module _ {M : Type 1} (𝓤 : URA M) (H : Heap 𝓤) (A : Atoms 𝓤) (W : Given 𝓤 H A) (at-mem : Memory → SProp 𝓤) (run : Routine → Fun 𝓤) (κ₀ κ₁ κ₂ : Lft) (q₀ q₁ q₂ : Share) (b₀ o₀ : ℕ) (γ₀ : GName) (ss : List ℕ) (b o : ℕ) (γ : GName) (ys : List Event) (b₂ o₂ : ℕ) (γ₂ : GName) (ts : List ℕ) (body : ℕ)
+    (room-s : Room u8 (length ss)) (room-e : Room E.the-row (length ys)) (room-t : Room u32 (length ts)) (body-fits : body < 2 ^ 64) (ready : (body ≤ length ss) × (length ss ≤ 16384) × (ys ≡ replicate (length ys) blank) × (ts ≡ replicate tableWords 0)) where
   abbrev doc : RefT (List ℕ)
   doc = record { ptr = (b₀, o₀); name = γ₀; now = ss }
 
@@ -161,12 +161,12 @@ module _ {M : Type 1} (𝓤 : URA M) (H : Heap 𝓤) (A : Atoms 𝓤) (W : Given
   tab δ l = record { ptr = (b₂, o₂); name = δ; now = l }
 
   abbrev Arg : Type 0
-  Arg = RefT (List ℕ) × (RefT (List Event) × (RefT (List ℕ) × Unit {0}))
+  Arg = RefT (List ℕ) × (RefT (List Event) × (RefT (List ℕ) × (ℕ × Unit {0})))
 
   abbrev a : Arg
-  a = (doc, (record { ptr = (b, o); name = γ; now = ys }, (tab γ₂ ts, tt)))
+  a = (doc, (record { ptr = (b, o); name = γ; now = ys }, (tab γ₂ ts, (body, tt))))
 
-  -- the machine values of the three
+  -- the machine values of the slices
   abbrev s₁ : Val
   s₁ = sliceVal (b₀, o₀) (length ss)
 
@@ -176,8 +176,8 @@ module _ {M : Type 1} (𝓤 : URA M) (H : Heap 𝓤) (A : Atoms 𝓤) (W : Given
   abbrev s₃ : Val
   s₃ = sliceVal (b₂, o₂) (length ts)
 
-  abbrev at : List Val × (List Val × (List Val × Unit {0}))
-  at = (s₁ ∷ [], (s₂ ∷ [], (s₃ ∷ [], tt)))
+  abbrev at : List Val × (List Val × (List Val × (List Val × Unit {0})))
+  at = (s₁ ∷ [], (s₂ ∷ [], (s₃ ∷ [], (vint w64 body ∷ [], tt))))
 
   abbrev Post : Val → SProp 𝓤
   Post = walkOf 𝓤 H A fill′.ended stayed (fill′.clauses 𝓤 H A at-mem run) .post (((κ₀, (κ₁, (κ₂, tt))), (q₀, (q₁, (q₂, tt))), tt, a, at), tt)
@@ -202,18 +202,18 @@ module _ {M : Type 1} (𝓤 : URA M) (H : Heap 𝓤) (A : Atoms 𝓤) (W : Given
   tab-of us = sep 𝓤 (sem 𝓤 H A (own-tab us)) (A .lft κ₂ q₂)
 
   abbrev target : Outcome
-  target = outcome (Reading.run link ss (fuelOf ss) (length ys) (origin start)) (length ys)
+  target = outcome (Reading.run link ss (fuelOf ss) (length ys) (origin body (start link))) (length ys)
 
   abbrev Left : List Event → List ℕ → List (Item 𝓤)
   Left zs us = ‵ (Slice E.the-row κ₁ γ b o (length ys) zs) ∷ ‵ (flft κ₁ q₁) ∷ Doc ∷ Tab us ∷ []
 
   exits : (zs : List Event) (us : List ℕ) (w : Answer) → length zs ≡ length ys → length us ≡ length ts → IsR w → settled (length ys) tableWords w zs us ≡ target → ent 𝓤 (⋆ 𝓤 H A (Left zs us)) (Post (valR w))
   exits zs us w long long′ is e =
-      qed W (Left zs us) ∵ suffices ! _ (ends-at 𝓤 H A fill′.ended stayed (fill′.clauses 𝓤 H A at-mem run) W (((κ₀, (κ₁, (κ₂, tt))), (q₀, (q₁, (q₂, tt))), tt, a, at), tt) (valR w) w (tt, (zs, (us, tt))) (tt, (long, (long′, tt)))) $
+      qed W (Left zs us) ∵ suffices ! _ (ends-at 𝓤 H A fill′.ended stayed (fill′.clauses 𝓤 H A at-mem run) W (((κ₀, (κ₁, (κ₂, tt))), (q₀, (q₁, (q₂, tt))), tt, a, at), tt) (valR w) w (tt, (zs, (us, (tt, tt)))) (tt, (long, (long′, (tt, tt))))) $
       says ! e $ move ! (2 ∷ []) $ split ! $ drop ! $ move ! (3 ∷ []) $ split ! $
       -- [the tables; their token; the document's token; the row; its token]
       nothing ! $ move ! (2 ∷ 0 ∷ []) $ join ! $ move ! (4 ∷ 0 ∷ []) $ join ! $ move ! (2 ∷ 0 ∷ []) $ join ! $ frame ! $
-      nothing ! $ move ! (1 ∷ 0 ∷ []) $ fjoin ! $ move ! (1 ∷ 0 ∷ []) $ fjoin ! $ nothing ! $ fjoin ! $ owned ! R.the-row (Is R.the-row) (LE.makes R.the-type R′.the-plain 𝓤 H A) w _ is $ move ! (1 ∷ 0 ∷ []) $ done !
+      nothing ! $ nothing ! $ fjoin ! $ move ! (1 ∷ 0 ∷ []) $ fjoin ! $ move ! (1 ∷ 0 ∷ []) $ fjoin ! $ nothing ! $ fjoin ! $ owned ! R.the-row (Is R.the-row) (LE.makes R.the-type R′.the-plain 𝓤 H A) w _ is $ move ! (1 ∷ 0 ∷ []) $ done !
 
   -- ---- what the calls without loans take
   abbrev to-start : Start 𝓤 H A at-mem run .Ghost
@@ -223,10 +223,10 @@ module _ {M : Type 1} (𝓤 : URA M) (H : Heap 𝓤) (A : Atoms 𝓤) (W : Given
   goes-start = qed W [] ∵ nothing ! $ nothing ! $ nothing ! $ join ! $ frame ! $ done !
 
   abbrev to-begin : Begin 𝓤 H A at-mem run .Ghost
-  to-begin = ((tt, tt, tt, (length ss, tt), (vint w64 (length ss) ∷ [], tt)), tt)
+  to-begin = ((tt, tt, tt, (body, (length ss, tt)), (vint w64 body ∷ [], (vint w64 (length ss) ∷ [], tt))), tt)
 
   goes-begin : ent 𝓤 (emp 𝓤) (Begin 𝓤 H A at-mem run .pre to-begin)
-  goes-begin = qed W [] ∵ says ! (ready .1) $ nothing ! $ owned ! usize (Is usize) (uint-makes 𝓤 H A W w64) (length ss) _ (refl, room-s .0) $ fjoin ! $ nothing ! $ join ! $ done !
+  goes-begin = qed W [] ∵ says ! (ready .0, ready .1) $ nothing ! $ owned ! usize (Is usize) (uint-makes 𝓤 H A W w64) (length ss) _ (refl, room-s .0) $ fjoin ! $ owned ! usize (Is usize) (uint-makes 𝓤 H A W w64) body _ (refl, body-fits) $ fjoin ! $ nothing ! $ join ! $ done !
 
   abbrev to-finish : Next → ℕ → Counts → Finish 𝓤 H A at-mem run .Ghost
   to-finish r n c = ((tt, tt, tt, (r, (n, (c, tt))), (valN r ∷ [], (vint w64 n ∷ [], (valC c ∷ [], tt)))), tt)
@@ -343,7 +343,7 @@ module _ {M : Type 1} (𝓤 : URA M) (H : Heap 𝓤) (A : Atoms 𝓤) (W : Given
     isc : IsC c
     long : length zs ≡ length ys
     long-t : length us ≡ length ts
-    filling : Filling ss (length ys) p c us zs n
+    filling : Filling ss (length ys) body p c us zs n
 
   abbrev Nearer : State → State → Type 0
   Nearer t′ t = length ys - t′ .n < length ys - t .n
@@ -351,15 +351,15 @@ module _ {M : Type 1} (𝓤 : URA M) (H : Heap 𝓤) (A : Atoms 𝓤) (W : Given
   Nearer-wf : WellFounded Nearer
   Nearer-wf = InvImage·wf (λ (t : State). length ys - t .n) (Nat·lt-wfRel .wf)
 
-  module _ (𝓣 : Tables 𝓤 H) (known-step : Triple 𝓤 (𝓣 .C #reader·read·step) (Step 𝓤 H A at-mem run)) (known-finish : Triple 𝓤 (𝓣 .C #reader·read·finish) (Finish 𝓤 H A at-mem run)) (l₀ l₁ l₂ l₃ l₄ l₅ l₆ l₇ l₈ l₉ l₁₀ l₁₁ l₁₂ l₁₃ l₁₄ l₁₅ l₁₆ l₁₇ l₁₈ : ℕ) where
+  module _ (𝓣 : Tables 𝓤 H) (known-step : Triple 𝓤 (𝓣 .C #reader·read·step) (Step 𝓤 H A at-mem run)) (known-finish : Triple 𝓤 (𝓣 .C #reader·read·finish) (Finish 𝓤 H A at-mem run)) (l₀ l₁ l₂ l₃ lᵦ l₄ l₅ l₆ l₇ l₈ l₉ l₁₀ l₁₁ l₁₂ l₁₃ l₁₄ l₁₅ l₁₆ l₁₇ l₁₈ : ℕ) where
     abbrev En : Env 𝓤 H
-    En = (R′.mir, l₀) ∷ (docTy (named 0), l₁) ∷ (sliceTy (elemTy (named 1)), l₂) ∷ (sliceTy (numTy (named 2)), l₃) ∷ (T′.mir, l₄) ∷ (P′.mir, l₅) ∷ (word, l₆) ∷ (N′.mir, l₇) ∷ (E′.mir, l₈) ∷ (P′.mir, l₉) ∷ (T′.mir, l₁₀) ∷ (word, l₁₁)
+    En = (R′.mir, l₀) ∷ (docTy (named 0), l₁) ∷ (sliceTy (elemTy (named 1)), l₂) ∷ (sliceTy (numTy (named 2)), l₃) ∷ (word, lᵦ) ∷ (T′.mir, l₄) ∷ (P′.mir, l₅) ∷ (word, l₆) ∷ (N′.mir, l₇) ∷ (E′.mir, l₈) ∷ (P′.mir, l₉) ∷ (T′.mir, l₁₀) ∷ (word, l₁₁)
         ∷ (numTy erased, l₁₂) ∷ (sliceTy (numTy erased), l₁₃) ∷ (countTy, l₁₄) ∷ (word, l₁₅) ∷ (tyBool, l₁₆) ∷ (word, l₁₇) ∷ (tyPtr, l₁₈) ∷ []
 
-    -- the context in a turn, over the references of the call. Positions: the document 0, the row 1, its open borrow 2, obs 3, auth 4, the tables 5, _4 6, _18 7, _17 9, _16 11, _15 13, _14 15, _13 17, _12 19, _11 21, _10 23, _9 25, _8 27, _7 29, _6 31, _5 33, _3 36, _2 38, _1 40, _0 42
+    -- the context in a turn, over the references of the call. Positions: the document 0, the row 1, its open borrow 2, obs 3, auth 4, the tables 5, _4 6, _18 7, _17 9, _16 11, _15 13, _14 15, _13 17, _12 19, _11 21, _10 23, _9 25, _8 27, _7 29, _6 31, _5 33, the body 36, _3 38, _2 40, _1 42, _0 44
     abbrev Cx : List Event → List ℕ → Counts → Place → ℕ → Val → List (Item 𝓤) → List (Item 𝓤)
     Cx zs us c p n v₇ refs = (Doc ∷ Opened E.the-row κ₁ γ b o q₁ ys zs) ++ (Tab us ∷ ‵ (cell l₄ c) ∷ []) ++ free tyPtr l₁₈ ++ free word l₁₇ ++ free tyBool l₁₆ ++ free word l₁₅ ++ refs ++ free word l₁₁ ++ free T′.mir l₁₀ ++ free P′.mir l₉ ++ free E′.mir l₈
-        ++ full N′.mir l₇ v₇ ++ full word l₆ (vint w64 n) ++ full P′.mir l₅ (valP p) ++ (‵ (fdies T′.mir l₄) ∷ []) ++ full (sliceTy (numTy (named 2))) l₃ s₃ ++ full (sliceTy (elemTy (named 1))) l₂ s₂ ++ full (docTy (named 0)) l₁ s₁ ++ free R′.mir l₀
+        ++ full N′.mir l₇ v₇ ++ full word l₆ (vint w64 n) ++ full P′.mir l₅ (valP p) ++ (‵ (fdies T′.mir l₄) ∷ []) ++ full word lᵦ (vint w64 body) ++ full (sliceTy (numTy (named 2))) l₃ s₃ ++ full (sliceTy (elemTy (named 1))) l₂ s₂ ++ full (docTy (named 0)) l₁ s₁ ++ free R′.mir l₀
 
     -- without the references, and with them
     abbrev Cx₀ : List Event → List ℕ → Counts → Place → ℕ → Val → List (Item 𝓤)
@@ -379,18 +379,18 @@ module _ {M : Type 1} (𝓤 : URA M) (H : Heap 𝓤) (A : Atoms 𝓤) (W : Given
     leaves : (t : State) (d : Counts) (ws : List ℕ) → IsC d → length ws ≡ length ts → (r : Next) → IsN r → Reaches ss (t .p) (t .c) (t .us) r d ws → Over (length ys) (t .n) r → Sq W (Cx₀ (t .zs) ws d (t .p) (t .n) (valN r)) (runs (𝓣 .C) (𝓣 .Λ) En mir.t-8 (atRet En Post))
     leaves t d ws isd long′ r isr it over =
         assigns ! (of-opd ! (load ! (from ! (stop !)) (look ! 6 refl))) (from ! (stop !)) (init ! 23 refl (typedC W d isd)) $
-        use0 W (raw (Finish 𝓤 H A at-mem run .pre (to-finish r (t .n) d))) (goes-finish r (t .n) d isr (fits-under (t .n) (length ys) (t .filling .few) (room-e .0)) isd (small ss (length ys) (t .p) (t .c) (t .us) (t .zs) (t .n) (t .filling) d ws r it)) $
+        use0 W (raw (Finish 𝓤 H A at-mem run .pre (to-finish r (t .n) d))) (goes-finish r (t .n) d isr (fits-under (t .n) (length ys) (t .filling .few) (room-e .0)) isd (small ss (length ys) body (t .p) (t .c) (t .us) (t .zs) (t .n) (t .filling) d ws r it)) $
         calls-at ! (fmOf 𝓤 H (W .laws) 𝓣) (Finish 𝓤 H A at-mem run) known-finish (to-finish r (t .n) d) (and-then ! (load ! (from ! (stop !)) (look ! 30 refl)) (and-then ! (load ! (from ! (stop !)) (look ! 32 refl)) (and-then ! (load ! (from ! (stop !)) (look ! 24 refl)) (no-more !)))) (λ v.
         use1 W (later (some (λ (w : Answer). (‵ ftrue ⊛ ‵ (R.the-row .own w (v ∷ []))) ⊛ raw (ensured 𝓤 H A finish′.ended (finish′.clauses 𝓤 H A at-mem run) tt (r, (t .n, (d, tt))) tt w)))) (id⊢ 𝓤 _) $ await ! tt $ pick ! (λ w.
         split ! $ move ! (1 ∷ []) $ use1 W (raw (fact 𝓤 (w ≡ finished r (t .n) d))) (finish-of 𝓤 H A at-mem run r (t .n) d w) $ heard ! (w ≡ finished r (t .n) d) (λ ew. split ! $ drop ! $
         facts ! R.the-row (Is R.the-row) (shows 𝓤 H A R.the-row) w (v ∷ []) (λ isw.
-        land ! (from ! (stop !)) (init ! 42 refl (LE.lawful R.the-type R′.the-laws 𝓤 H A W tt .typed w _ isw .0)) $ rewrite ! 42 (λ (u : Val). ‵ (fat fullShare R′.mir l₀ 0 u)) (ap only (LE.tells R.the-type R′.the-laws w _ isw)) refl $
+        land ! (from ! (stop !)) (init ! 44 refl (LE.lawful R.the-type R′.the-laws 𝓤 H A W tt .typed w _ isw .0)) $ rewrite ! 44 (λ (u : Val). ‵ (fat fullShare R′.mir l₀ 0 u)) (ap only (LE.tells R.the-type R′.the-laws w _ isw)) refl $
         move ! (1 ∷ 2 ∷ 3 ∷ 4 ∷ []) $ closes-row ! tt E.the-row b o ys (t .zs) room-e (t .long) $
-        -- [the row; its token; the document; the tables; _4 4; _18 5; …; _5 31; …; _3 34; …; _0 40]
-        returns ! (look ! 40 refl) $ move ! (40 ∷ 41 ∷ 38 ∷ 39 ∷ 36 ∷ 37 ∷ 34 ∷ 35 ∷ 4 ∷ 33 ∷ 31 ∷ 32 ∷ 29 ∷ 30 ∷ 27 ∷ 28 ∷ 25 ∷ 26 ∷ 23 ∷ 24 ∷ 21 ∷ 22 ∷ 19 ∷ 20 ∷ 17 ∷ 18 ∷ 15 ∷ 16 ∷ 13 ∷ 14 ∷ 11 ∷ 12 ∷ 9 ∷ 10 ∷ 7 ∷ 8 ∷ 5 ∷ 6 ∷ []) $
-        forget ! 0 refl $ free1 ! $ forget ! 0 refl $ free1 ! $ forget ! 0 refl $ free1 ! $ forget ! 0 refl $ free1 ! $ forget ! 0 refl $ free1 ! $ forget ! 0 refl $ free1 ! $ forget ! 0 refl $ free1 ! $ forget ! 0 refl $ free1 ! $
+        -- [the row; its token; the document; the tables; _4 4; _18 5; …; _5 31; …; the body 34; …; _3 36; …; _0 42]
+        returns ! (look ! 42 refl) $ move ! (42 ∷ 43 ∷ 40 ∷ 41 ∷ 38 ∷ 39 ∷ 36 ∷ 37 ∷ 34 ∷ 35 ∷ 4 ∷ 33 ∷ 31 ∷ 32 ∷ 29 ∷ 30 ∷ 27 ∷ 28 ∷ 25 ∷ 26 ∷ 23 ∷ 24 ∷ 21 ∷ 22 ∷ 19 ∷ 20 ∷ 17 ∷ 18 ∷ 15 ∷ 16 ∷ 13 ∷ 14 ∷ 11 ∷ 12 ∷ 9 ∷ 10 ∷ 7 ∷ 8 ∷ 5 ∷ 6 ∷ []) $
+        forget ! 0 refl $ free1 ! $ forget ! 0 refl $ free1 ! $ forget ! 0 refl $ free1 ! $ forget ! 0 refl $ free1 ! $ forget ! 0 refl $ free1 ! $ forget ! 0 refl $ free1 ! $ forget ! 0 refl $ free1 ! $ forget ! 0 refl $ free1 ! $ forget ! 0 refl $ free1 ! $
         free1 ! $ free1 ! $ forget ! 0 refl $ free1 ! $ free1 ! $ free1 ! $ free1 ! $ free1 ! $ free1 ! $ free1 ! $ free1 ! $ free1 ! $ free0 ! $
-        by ! (exits (t .zs) ws w (t .long) long′ (subst (Is R.the-row w) (LE.tells R.the-type R′.the-laws w _ isw) isw) (ap (λ (k : Answer). settled (length ys) tableWords k (t .zs) ws) ew ∙ filled ss (length ys) (t .p) (t .c) (t .us) (t .zs) (t .n) (t .filling) d ws r it over))))))
+        by ! (exits (t .zs) ws w (t .long) long′ (subst (Is R.the-row w) (LE.tells R.the-type R′.the-laws w _ isw) isw) (ap (λ (k : Answer). settled (length ys) tableWords k (t .zs) ws) ew ∙ filled ss (length ys) body (t .p) (t .c) (t .us) (t .zs) (t .n) (t .filling) d ws r it over))))))
 
     matched : (t : State) (d : Counts) (ws : List ℕ) → IsC d → length ws ≡ length ts → (r : Next) → IsN r → Reaches ss (t .p) (t .c) (t .us) r d ws
         → Sq W (Cx₁ (t .zs) ws d (t .p) (t .n) (valN r)) (runs (𝓣 .C) (𝓣 .Λ) En matching (anyQ (Turned t)))
@@ -407,12 +407,12 @@ module _ {M : Type 1} (𝓤 : URA M) (H : Heap 𝓤) (A : Atoms 𝓤) (W : Given
         switches-on ! (load ! (from ! (vrt ! refl (fld ! refl (stop !)))) (look-tag ! 29 (whole !))) $ exec ! (𝓣 .C) (𝓣 .Λ) En (armOf 0 (armsOf matching)) (anyQ (Turned t)) $
         assigns ! (of-opd ! (load ! (from ! (vrt ! refl (fld ! refl (stop !)))) (look-in ! 29 (in-variant ! 0 1 refl refl (whole !))))) (from ! (stop !)) (init ! 27 refl (typed W e told)) $
         assigns ! (of-opd ! (load ! (from ! (vrt ! refl (fld ! refl (stop !)))) (look-in ! 29 (in-variant ! 0 2 refl refl (whole !))))) (from ! (stop !)) (init ! 25 refl (typedP W p′ isp)) $
-        assigns ! (of-opd ! (load ! (from ! (fld ! refl (stop !))) (look-in ! 38 (sub ! 1 refl (whole !))))) (from ! (stop !)) (init ! 13 refl (tt, record { fits = room-e .0 })) $
+        assigns ! (of-opd ! (load ! (from ! (fld ! refl (stop !))) (look-in ! 40 (sub ! 1 refl (whole !))))) (from ! (stop !)) (init ! 13 refl (tt, record { fits = room-e .0 })) $
         assigns ! (bin ! (load ! (from ! (stop !)) (look ! 31 refl)) (load ! (from ! (stop !)) (look ! 13 refl)) tt) (from ! (stop !)) (init ! 11 refl (tt, tt)) $
         branches ! (load ! (from ! (stop !)) (look ! 11 refl))
         (λ less.
         assigns ! (bin ! (load ! (from ! (stop !)) (look ! 31 refl)) (lit ! tt) (record { fits = at-fits less })) (from ! (stop !)) (init ! 9 refl (tt, record { fits = at-fits less })) $
-        assigns ! (bin ! (load ! (from ! (fld ! refl (stop !))) (look-in ! 38 (sub ! 0 refl (whole !)))) (load ! (from ! (stop !)) (look ! 9 refl)) tt) (from ! (stop !)) (init ! 7 refl (tt, tt)) $
+        assigns ! (bin ! (load ! (from ! (fld ! refl (stop !))) (look-in ! 40 (sub ! 0 refl (whole !)))) (load ! (from ! (stop !)) (look ! 9 refl)) tt) (from ! (stop !)) (init ! 7 refl (tt, tt)) $
         rewrite ! 7 (λ (i : ℕ). ‵ (fat fullShare tyPtr l₁₈ 0 (vptr b i))) (begins-at o (t .n)) refl $ move ! (1 ∷ []) $ record-out ! fullShare b o (t .zs) (t .n) (inside less) (λ _.
         -- [the record; what it owns; the others; the document; the open borrow; obs; auth; the tables; _4 8; _18 9; …; _8 29; …]
         assigns ! (of-opd ! (load ! (from ! (stop !)) (look ! 29 refl))) (from ! (hop ! (look ! 9 refl) (stop !))) (store-raw ! 0 refl (typed W e told)) $ record-over ! b o (t .zs) (t .n) e told (inside less) $ move ! (1 ∷ 0 ∷ []) $
@@ -449,18 +449,18 @@ module _ {M : Type 1} (𝓤 : URA M) (H : Heap 𝓤) (A : Atoms 𝓤) (W : Given
           isc = isd;
           long = length-set (t .zs) (t .n) e ∙ t .long;
           long-t = long′;
-          filling = filling-found ss (length ys) (t .p) (t .c) (t .us) (t .zs) (t .n) (t .filling) d ws place e p′ it (below less);
+          filling = filling-found ss (length ys) body (t .p) (t .c) (t .us) (t .zs) (t .n) (t .filling) d ws place e p′ it (below less);
         }
 
     turns : (t : State) → Sq W (At t) (runs (𝓣 .C) (𝓣 .Λ) En mir.turn-1 (anyQ (Turned t)))
     unfolding afterTurn
     turns t =
-        assigns ! (addr ! (from ! (fld ! refl (hop ! (look-in ! 36 (sub ! 0 refl (whole !))) (stop !))))) (from ! (stop !)) (init ! 19 refl (tt, tt)) $
-        assigns ! (agg ! (and-then ! (load ! (from ! (stop !)) (look ! 19 refl)) (and-then ! (load ! (from ! (fld ! refl (stop !))) (look-in ! 36 (sub ! 1 refl (whole !)))) (no-more !)))) (from ! (stop !)) (init ! 17 refl (tt, (tt, (record { fits = room-t .0 }, tt)))) $
+        assigns ! (addr ! (from ! (fld ! refl (hop ! (look-in ! 38 (sub ! 0 refl (whole !))) (stop !))))) (from ! (stop !)) (init ! 19 refl (tt, tt)) $
+        assigns ! (agg ! (and-then ! (load ! (from ! (stop !)) (look ! 19 refl)) (and-then ! (load ! (from ! (fld ! refl (stop !))) (look-in ! 38 (sub ! 1 refl (whole !)))) (no-more !)))) (from ! (stop !)) (init ! 17 refl (tt, (tt, (record { fits = room-t .0 }, tt)))) $
         assigns ! (addr ! (from ! (stop !))) (from ! (stop !)) (init ! 15 refl (tt, tt)) $
         move ! (0 ∷ 5 ∷ 6 ∷ []) $ use3 W (later (some (λ (g : Loans). raw (Step 𝓤 H A at-mem run .pre (to-step l₄ (t .p) (t .us) (t .c) (t .isp) (t .long-t) g)) ⊛ Kept l₄ (t .p) (t .us) (t .c) (t .isp) (t .long-t) g))) (step-lends l₄ (t .p) (t .us) (t .c) (t .isp) (t .long-t) (t .isc) (t .filling .good)) $ await ! tt $ pick ! (λ g. split ! $
-        -- [the `pre`; what is kept; the row; the open borrow; obs; auth; _18 6; …; _14 14; …; _13 16; …; _5 32; …; _1 39; …]
-        calls-at ! (fmOf 𝓤 H (W .laws) 𝓣) (Step 𝓤 H A at-mem run) known-step (to-step l₄ (t .p) (t .us) (t .c) (t .isp) (t .long-t) g) (and-then ! (load ! (from ! (stop !)) (look ! 32 refl)) (and-then ! (load ! (from ! (stop !)) (look ! 39 refl)) (and-then ! (load ! (from ! (stop !)) (look ! 16 refl)) (and-then ! (load ! (from ! (stop !)) (look ! 14 refl)) (no-more !))))) (λ v.
+        -- [the `pre`; what is kept; the row; the open borrow; obs; auth; _18 6; …; _14 14; …; _13 16; …; _5 32; …; _1 41; …]
+        calls-at ! (fmOf 𝓤 H (W .laws) 𝓣) (Step 𝓤 H A at-mem run) known-step (to-step l₄ (t .p) (t .us) (t .c) (t .isp) (t .long-t) g) (and-then ! (load ! (from ! (stop !)) (look ! 32 refl)) (and-then ! (load ! (from ! (stop !)) (look ! 41 refl)) (and-then ! (load ! (from ! (stop !)) (look ! 16 refl)) (and-then ! (load ! (from ! (stop !)) (look ! 14 refl)) (no-more !))))) (λ v.
         use2 W (later (some (λ (k : Came l₄ (t .p) (t .us) (t .c) (t .isp) (t .long-t)). given (Learns l₄ (t .p) (t .us) (t .c) (t .isp) (t .long-t) v k) (Doc ⊛ (Tab (k .1 .1) ⊛ ‵ (cell l₄ (k .1 .0))))))) (step-back l₄ (t .p) (t .us) (t .c) (t .isp) (t .long-t) g v) $ await ! tt $ pick ! (λ k. learn ! (λ it. split ! $ move ! (1 ∷ []) $ split ! $
         -- [the tables; _4; the document; the row; the open borrow; obs; auth; _18 7; …]
         move ! (2 ∷ 3 ∷ 4 ∷ 5 ∷ 6 ∷ 0 ∷ 1 ∷ []) $
@@ -468,49 +468,49 @@ module _ {M : Type 1} (𝓤 : URA M) (H : Heap 𝓤) (A : Atoms 𝓤) (W : Given
         matched t (k .1 .0) (k .1 .1) (it .1) (it .2) (k .0) (subst (Is N.the-row (k .0)) (LE.tells N.the-type N′.the-laws (k .0) _ (it .0)) (it .0)) (it .3)))))
 
     -- the loop, and what follows it
-    looped : IsP (first (length ss)) → IsC (countsOf start) → Sq W (Cx₀ ys ts (countsOf start) (first (length ss)) 0 (valN Finished)) (runs (𝓣 .C) (𝓣 .Λ) En mir.t-7 (atRet En Post))
+    looped : IsP (first body (length ss)) → IsC (countsOf (start link)) → Sq W (Cx₀ ys ts (countsOf (start link)) (first body (length ss)) 0 (valN Finished)) (runs (𝓣 .C) (𝓣 .Λ) En mir.t-7 (atRet En Post))
     looped isp isc = head ! $ blocks ! $ loops ! 𝓣 Nearer Nearer-wf At turns begins
       where
         begins : State
-        begins = record { n = 0; p = first (length ss); c = countsOf start; zs = ys; us = ts; last = valN Finished; isp = isp; isc = isc; long = refl; long-t = refl; filling = filling-start ss (length ys) (ready .0) (ready .1) ts (ready .3) ys (ready .2) }
+        begins = record { n = 0; p = first body (length ss); c = countsOf (start link); zs = ys; us = ts; last = valN Finished; isp = isp; isc = isc; long = refl; long-t = refl; filling = filling-start ss (length ys) body (ready .0) (ready .1) ts (ready .3) ys (ready .2) }
 
   module _ (𝓣 : Tables 𝓤 H) (known-start : Triple 𝓤 (𝓣 .C #tables·Counts·start) (Start 𝓤 H A at-mem run)) (known-begin : Triple 𝓤 (𝓣 .C #reader·read·begin) (Begin 𝓤 H A at-mem run)) (known-step : Triple 𝓤 (𝓣 .C #reader·read·step) (Step 𝓤 H A at-mem run)) (known-finish : Triple 𝓤 (𝓣 .C #reader·read·finish) (Finish 𝓤 H A at-mem run)) where
-    walk : ent 𝓤 (onEntry 𝓤 H A fill′.signature (κ₀, (κ₁, (κ₂, tt))) (q₀, (q₁, (q₂, tt))) a at) (WpFn 𝓤 H (𝓣 .C) (𝓣 .Λ) code.function (s₁ ∷ s₂ ∷ s₃ ∷ []) Post)
+    walk : ent 𝓤 (onEntry 𝓤 H A fill′.signature (κ₀, (κ₁, (κ₂, tt))) (q₀, (q₁, (q₂, tt))) a at) (WpFn 𝓤 H (𝓣 .C) (𝓣 .Λ) code.function (s₁ ∷ s₂ ∷ s₃ ∷ vint w64 body ∷ []) Post)
     walk =
-        qed W ((‵ (flft κ₀ q₀) ⊛ ‵ (flft κ₁ q₁) ⊛ ‵ (flft κ₂ q₂) ⊛ ‵ ftrue) ∷ ‵ (owns (ShrSlice (named 0) κ₀ u8 ∷ MutSlice (named 1) κ₁ E.the-row ∷ MutSlice (named 2) κ₂ u32 ∷ []) a at) ∷ []) ∵ enter ! (𝓣 .C) (𝓣 .Λ) code.function (s₁ ∷ s₂ ∷ s₃ ∷ []) _ $
-        alloc1 ! (λ l₀. alloc1 ! (λ l₁. alloc1 ! (λ l₂. alloc1 ! (λ l₃. alloc1 ! (λ l₄. alloc1 ! (λ l₅. alloc1 ! (λ l₆. alloc1 ! (λ l₇. alloc1 ! (λ l₈. alloc1 ! (λ l₉. alloc1 ! (λ l₁₀. alloc1 ! (λ l₁₁. alloc1 ! (λ l₁₂. alloc1 ! (λ l₁₃. alloc1 ! (λ l₁₄. alloc1 ! (λ l₁₅. alloc1 ! (λ l₁₆. alloc1 ! (λ l₁₇. alloc1 ! (λ l₁₈. alloc0 ! $ params1 ! $
-        pass1 ! (init ! 34 refl (tt, (tt, (record { fits = room-s .0 }, tt)))) $ pass1 ! (init ! 32 refl (tt, (tt, (record { fits = room-e .0 }, tt)))) $ pass1 ! (init ! 30 refl (tt, (tt, (record { fits = room-t .0 }, tt)))) $ pass0 ! $
+        qed W ((‵ (flft κ₀ q₀) ⊛ ‵ (flft κ₁ q₁) ⊛ ‵ (flft κ₂ q₂) ⊛ ‵ ftrue) ∷ ‵ (owns (ShrSlice (named 0) κ₀ u8 ∷ MutSlice (named 1) κ₁ E.the-row ∷ MutSlice (named 2) κ₂ u32 ∷ usize ∷ []) a at) ∷ []) ∵ enter ! (𝓣 .C) (𝓣 .Λ) code.function (s₁ ∷ s₂ ∷ s₃ ∷ vint w64 body ∷ []) _ $
+        alloc1 ! (λ l₀. alloc1 ! (λ l₁. alloc1 ! (λ l₂. alloc1 ! (λ l₃. alloc1 ! (λ lᵦ. alloc1 ! (λ l₄. alloc1 ! (λ l₅. alloc1 ! (λ l₆. alloc1 ! (λ l₇. alloc1 ! (λ l₈. alloc1 ! (λ l₉. alloc1 ! (λ l₁₀. alloc1 ! (λ l₁₁. alloc1 ! (λ l₁₂. alloc1 ! (λ l₁₃. alloc1 ! (λ l₁₄. alloc1 ! (λ l₁₅. alloc1 ! (λ l₁₆. alloc1 ! (λ l₁₇. alloc1 ! (λ l₁₈. alloc0 ! $ params1 ! $
+        pass1 ! (init ! 36 refl (tt, (tt, (record { fits = room-s .0 }, tt)))) $ pass1 ! (init ! 34 refl (tt, (tt, (record { fits = room-e .0 }, tt)))) $ pass1 ! (init ! 32 refl (tt, (tt, (record { fits = room-t .0 }, tt)))) $ pass1 ! (init ! 30 refl (tt, record { fits = body-fits })) $ pass0 ! $
         -- [_18; …; _17; …; … _0; …; the tokens; what the arguments own]
         use0 W (raw (Start 𝓤 H A at-mem run .pre to-start)) goes-start $
         calls-at ! (fmOf 𝓤 H (W .laws) 𝓣) (Start 𝓤 H A at-mem run) known-start to-start (no-more !) (λ v.
         use1 W (later (some (λ (c : Counts). (‵ ftrue ⊛ ‵ (T.the-row .own c (v ∷ []))) ⊛ raw (ensured 𝓤 H A start′.ended (start′.clauses 𝓤 H A at-mem run) tt tt tt c)))) (id⊢ 𝓤 _) $ await ! tt $ pick ! (λ c.
-        split ! $ move ! (1 ∷ []) $ use1 W (raw (fact 𝓤 (c ≡ countsOf start))) (start-of 𝓤 H A at-mem run c) $ heard ! (c ≡ countsOf start) (λ e. split ! $ drop ! $
+        split ! $ move ! (1 ∷ []) $ use1 W (raw (fact 𝓤 (c ≡ countsOf (start link)))) (start-of 𝓤 H A at-mem run c) $ heard ! (c ≡ countsOf (start link)) (λ e. split ! $ drop ! $
         facts ! T.the-row (Is T.the-row) (shows 𝓤 H A T.the-row) c (v ∷ []) (λ is.
         land ! (from ! (stop !)) (init ! 16 refl (LL.lawful T.the-type T′.the-laws 𝓤 H A W .typed c _ is .0)) $
         rewrite ! 16 (λ (u : Val). ‵ (fat fullShare T′.mir l₁₀ 0 u)) (ap only (LL.tells T.the-type T′.the-laws c _ is) ∙ ap valC e) refl $
-        assigns ! (of-opd ! (load ! (from ! (stop !)) (look ! 16 refl))) (from ! (stop !)) (init ! 28 refl (typedC W (countsOf start) (counts-are c v e is))) $ forget ! 16 refl $
-        assigns ! (of-opd ! (load ! (from ! (fld ! refl (stop !))) (look-in ! 34 (sub ! 1 refl (whole !))))) (from ! (stop !)) (init ! 14 refl (tt, record { fits = room-s .0 })) $
+        assigns ! (of-opd ! (load ! (from ! (stop !)) (look ! 16 refl))) (from ! (stop !)) (init ! 28 refl (typedC W (countsOf (start link)) (counts-are c v e is))) $ forget ! 16 refl $
+        assigns ! (of-opd ! (load ! (from ! (fld ! refl (stop !))) (look-in ! 36 (sub ! 1 refl (whole !))))) (from ! (stop !)) (init ! 14 refl (tt, record { fits = room-s .0 })) $
         use0 W (raw (Begin 𝓤 H A at-mem run .pre to-begin)) goes-begin $
-        calls-at ! (fmOf 𝓤 H (W .laws) 𝓣) (Begin 𝓤 H A at-mem run) known-begin to-begin (and-then ! (load ! (from ! (stop !)) (look ! 15 refl)) (no-more !)) (λ v′.
-        use1 W (later (some (λ (p : Place). (‵ ftrue ⊛ ‵ (P.the-row .own p (v′ ∷ []))) ⊛ raw (ensured 𝓤 H A begin′.ended (begin′.clauses 𝓤 H A at-mem run) tt (length ss, tt) tt p)))) (id⊢ 𝓤 _) $ await ! tt $ pick ! (λ p.
-        split ! $ move ! (1 ∷ []) $ use1 W (raw (fact 𝓤 (p ≡ first (length ss)))) (begin-of 𝓤 H A at-mem run (length ss) p) $ heard ! (p ≡ first (length ss)) (λ e′. split ! $ drop ! $
+        calls-at ! (fmOf 𝓤 H (W .laws) 𝓣) (Begin 𝓤 H A at-mem run) known-begin to-begin (and-then ! (load ! (from ! (stop !)) (look ! 31 refl)) (and-then ! (load ! (from ! (stop !)) (look ! 15 refl)) (no-more !))) (λ v′.
+        use1 W (later (some (λ (p : Place). (‵ ftrue ⊛ ‵ (P.the-row .own p (v′ ∷ []))) ⊛ raw (ensured 𝓤 H A begin′.ended (begin′.clauses 𝓤 H A at-mem run) tt (body, (length ss, tt)) tt p)))) (id⊢ 𝓤 _) $ await ! tt $ pick ! (λ p.
+        split ! $ move ! (1 ∷ []) $ use1 W (raw (fact 𝓤 (p ≡ first body (length ss)))) (begin-of 𝓤 H A at-mem run body (length ss) p) $ heard ! (p ≡ first body (length ss)) (λ e′. split ! $ drop ! $
         facts ! P.the-row (Is P.the-row) (shows 𝓤 H A P.the-row) p (v′ ∷ []) (λ is′.
         land ! (from ! (stop !)) (init ! 26 refl (LL.lawful P.the-type P′.the-laws 𝓤 H A W .typed p _ is′ .0)) $
         rewrite ! 26 (λ (u : Val). ‵ (fat fullShare P′.mir l₅ 0 u)) (ap only (LL.tells P.the-type P′.the-laws p _ is′) ∙ ap valP e′) refl $ forget ! 14 refl $
         assigns ! (of-opd ! (lit ! tt)) (from ! (stop !)) (init ! 24 refl (tt, record { fits = lit< tt })) $
         assigns ! (agg ! (and-then ! (lit ! tt) (no-more !))) (from ! (stop !)) (init ! 22 refl (typedN W Finished (LE.owes N.the-type N′.the-laws Finished tt))) $
         -- the row's borrow is opened
-        move ! (39 ∷ []) $ fsplit ! $ move ! (1 ∷ []) $ fsplit ! $ move ! (1 ∷ []) $ fsplit ! $ move ! (42 ∷ []) $ split ! $ move ! (1 ∷ []) $ split ! $ move ! (1 ∷ []) $ split ! $
+        move ! (41 ∷ []) $ fsplit ! $ move ! (1 ∷ []) $ fsplit ! $ move ! (1 ∷ []) $ fsplit ! $ move ! (1 ∷ []) $ fsplit ! $ drop ! $ move ! (1 ∷ []) $ move ! (44 ∷ []) $ split ! $ move ! (1 ∷ []) $ split ! $ move ! (1 ∷ []) $ split ! $
         -- [the tables' token; true; the row's; the document's; the tables; true; the row; the document; _18 8; …]
         move ! (4 ∷ 0 ∷ []) $ join ! $ move ! (6 ∷ 3 ∷ []) $ join ! $ move ! (5 ∷ 3 ∷ []) $ opens-row ! tt E.the-row b o ys $
         -- [the row; the open borrow; obs; auth; the document; the tables; true; true; _18 8; …; _4 36; …]
-        keep ! (4 ∷ 0 ∷ 1 ∷ 2 ∷ 3 ∷ 5 ∷ 36 ∷ 8 ∷ 9 ∷ 10 ∷ 11 ∷ 12 ∷ 13 ∷ 14 ∷ 15 ∷ 16 ∷ 17 ∷ 18 ∷ 19 ∷ 20 ∷ 21 ∷ 22 ∷ 23 ∷ 24 ∷ 25 ∷ 26 ∷ 27 ∷ 28 ∷ 29 ∷ 30 ∷ 31 ∷ 32 ∷ 33 ∷ 34 ∷ 35 ∷ 37 ∷ 38 ∷ 39 ∷ 40 ∷ 41 ∷ 42 ∷ 43 ∷ 44 ∷ 45 ∷ []) $
-        looped 𝓣 known-step known-finish l₀ l₁ l₂ l₃ l₄ l₅ l₆ l₇ l₈ l₉ l₁₀ l₁₁ l₁₂ l₁₃ l₁₄ l₁₅ l₁₆ l₁₇ l₁₈ (place-is p v′ e′ is′) (counts-are c v e is))))))))))))))))))))))))))))
+        keep ! (4 ∷ 0 ∷ 1 ∷ 2 ∷ 3 ∷ 5 ∷ 36 ∷ 8 ∷ 9 ∷ 10 ∷ 11 ∷ 12 ∷ 13 ∷ 14 ∷ 15 ∷ 16 ∷ 17 ∷ 18 ∷ 19 ∷ 20 ∷ 21 ∷ 22 ∷ 23 ∷ 24 ∷ 25 ∷ 26 ∷ 27 ∷ 28 ∷ 29 ∷ 30 ∷ 31 ∷ 32 ∷ 33 ∷ 34 ∷ 35 ∷ 37 ∷ 38 ∷ 39 ∷ 40 ∷ 41 ∷ 42 ∷ 43 ∷ 44 ∷ 45 ∷ 46 ∷ 47 ∷ []) $
+        looped 𝓣 known-step known-finish l₀ l₁ l₂ l₃ lᵦ l₄ l₅ l₆ l₇ l₈ l₉ l₁₀ l₁₁ l₁₂ l₁₃ l₁₄ l₁₅ l₁₆ l₁₇ l₁₈ (place-is p v′ e′ is′) (counts-are c v e is)))))))))))))))))))))))))))))
       where
-        counts-are : (c : Counts) (v : Val) → c ≡ countsOf start → Is T.the-row c (v ∷ []) → IsC (countsOf start)
+        counts-are : (c : Counts) (v : Val) → c ≡ countsOf (start link) → Is T.the-row c (v ∷ []) → IsC (countsOf (start link))
         counts-are c v e is = subst IsC e (subst (Is T.the-row c) (LL.tells T.the-type T′.the-laws c _ is) is)
 
-        place-is : (p : Place) (v : Val) → p ≡ first (length ss) → Is P.the-row p (v ∷ []) → IsP (first (length ss))
+        place-is : (p : Place) (v : Val) → p ≡ first body (length ss) → Is P.the-row p (v ∷ []) → IsP (first body (length ss))
         place-is p v e is = subst IsP e (subst (Is P.the-row p) (LL.tells P.the-type P′.the-laws p _ is) is)
 
 pub fill-spec : {M : Type 1} → stated.statement M
@@ -518,11 +518,11 @@ unfolding code.routine tablesOf
 fill-spec 𝓤 H 𝓜 𝓖 𝓡 =
     let W : Given 𝓤 H (𝓖 .A) = givenOf 𝓤 H 𝓜 𝓖 in
     by-walk 𝓤 H 𝓜 𝓖 𝓡 code.env #reader·read·fill code.function (code.unfolded 𝓤 H 𝓜 𝓡) fill′.ended stayed
-    (goes-dropped 𝓤 H (𝓖 .A) W 3 (shrSliceOf (0 ∷ []) tt (plain (λ _. u8))) yes (λ κs x f. refl), (goes-slice 𝓤 H (𝓖 .A) W 3 1 tt (plain (λ _. E.the-row)), (goes-slice 𝓤 H (𝓖 .A) W 3 2 tt (plain (λ _. u32)), tt)))
-    (fill′.clauses 𝓤 H (𝓖 .A) (𝓜 .mem) (𝓡 .run)) (λ κs. (slice-vals, (slice-vals, (slice-vals, tt)))) (λ κs. (shr-slice-tells (named 0) (κs .0) u8, (mut-slice-tells (named 1) (κs .1 .0) E.the-row, (mut-slice-tells (named 2) (κs .1 .1 .0) u32, tt))))
-    (λ κs qs bounds a g are. needs 𝓤 ((5 ≤ length (a .0 .now)) × (length (a .0 .now) ≤ 16384) × (a .1 .0 .now ≡ replicate (length (a .1 .0 .now)) blank) × (a .1 .1 .0 .now ≡ replicate tableWords 0)) _ (λ ready.
+    (goes-dropped 𝓤 H (𝓖 .A) W 3 (shrSliceOf (0 ∷ []) tt (plain (λ _. u8))) yes (λ κs x f. refl), (goes-slice 𝓤 H (𝓖 .A) W 3 1 tt (plain (λ _. E.the-row)), (goes-slice 𝓤 H (𝓖 .A) W 3 2 tt (plain (λ _. u32)), (goes-dropped 𝓤 H (𝓖 .A) W 3 (plain (λ _. usize)) yes (λ κs x f. refl), tt))))
+    (fill′.clauses 𝓤 H (𝓖 .A) (𝓜 .mem) (𝓡 .run)) (λ κs. (slice-vals, (slice-vals, (slice-vals, (uint-vals w64, tt))))) (λ κs. (shr-slice-tells (named 0) (κs .0) u8, (mut-slice-tells (named 1) (κs .1 .0) E.the-row, (mut-slice-tells (named 2) (κs .1 .1 .0) u32, (uint-tells w64, tt)))))
+    (λ κs qs bounds a g are. needs 𝓤 ((a .1 .1 .1 .0 ≤ length (a .0 .now)) × (length (a .0 .now) ≤ 16384) × (a .1 .0 .now ≡ replicate (length (a .1 .0 .now)) blank) × (a .1 .1 .0 .now ≡ replicate tableWords 0)) _ (λ ready.
     walk 𝓤 H (𝓖 .A) W (𝓜 .mem) (𝓡 .run) (κs .0) (κs .1 .0) (κs .1 .1 .0) (qs .0) (qs .1 .0) (qs .1 .1 .0) (a .0 .ptr .0) (a .0 .ptr .1) (a .0 .name) (a .0 .now) (a .1 .0 .ptr .0) (a .1 .0 .ptr .1) (a .1 .0 .name) (a .1 .0 .now)
-    (a .1 .1 .0 .ptr .0) (a .1 .1 .0 .ptr .1) (a .1 .1 .0 .name) (a .1 .1 .0 .now) (are .0 .0 .1) (are .1 .0 .0 .1) (are .1 .1 .0 .0 .1) ready (tablesOf 𝓤 H 𝓜 (tables 𝓤 H 𝓜 𝓡 code.env))
+    (a .1 .1 .0 .ptr .0) (a .1 .1 .0 .ptr .1) (a .1 .1 .0 .name) (a .1 .1 .0 .now) (a .1 .1 .1 .0) (are .0 .0 .1) (are .1 .0 .0 .1) (are .1 .1 .0 .0 .1) (are .1 .1 .1 .0 .1) ready (tablesOf 𝓤 H 𝓜 (tables 𝓤 H 𝓜 𝓡 code.env))
     (cited 𝓤 H (Start 𝓤 H (𝓖 .A) (𝓜 .mem) (𝓡 .run)) 𝓜 𝓡 code.env #tables·Counts·start start-def.routine code.calls-tables·Counts·start (start-thm.met 𝓤 H 𝓜 𝓖 𝓡))
     (cited 𝓤 H (Begin 𝓤 H (𝓖 .A) (𝓜 .mem) (𝓡 .run)) 𝓜 𝓡 code.env #reader·read·begin begin-def.routine code.calls-reader·read·begin (begin-thm.met 𝓤 H 𝓜 𝓖 𝓡))
     (cited 𝓤 H (Step 𝓤 H (𝓖 .A) (𝓜 .mem) (𝓡 .run)) 𝓜 𝓡 code.env #reader·read·step step-def.routine code.calls-reader·read·step (step-thm.met 𝓤 H 𝓜 𝓖 𝓡))

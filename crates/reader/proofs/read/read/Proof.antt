@@ -94,7 +94,7 @@ abbrev outer : ℕ → Code
 outer k = armOf k (armsOf (heading mir.t-8))
 
 abbrev inner : Code
-inner = skipping 5 (outer 1)
+inner = skipping 6 (outer 1)
 
 module _ {M : Type 1} (𝓤 : URA M) (H : Heap 𝓤) (A : Atoms 𝓤) (at-mem : Memory → SProp 𝓤) (run : Routine → Fun 𝓤) where
   -- the contracts that the proof cites
@@ -188,7 +188,7 @@ module _ {M : Type 1} (𝓤 : URA M) (H : Heap 𝓤) (A : Atoms 𝓤) (W : Given
   long-zeros = length-replicate {A = ℕ} (length ts) 0
 
   abbrev target : Outcome
-  target = readOf ss (length ys) (length ts)
+  target = readOf link ss (length ys) (length ts)
 
   -- what the answer w says is left in the room, if it is the row zs and the tables us
   abbrev Settled : List Event → List ℕ → Answer → Type 0
@@ -290,12 +290,12 @@ module _ {M : Type 1} (𝓤 : URA M) (H : Heap 𝓤) (A : Atoms 𝓤) (W : Given
       qed W [] ∵ says ! l $ nothing ! $ owned ! usize (Is usize) (uint-makes 𝓤 H A W w64) p _ isp $ fjoin ! $ owned ! u32 (Is u32) (uint-makes 𝓤 H A W w32) k _ isk $ fjoin ! $ nothing ! $ join ! $ done !
 
   -- ---- fill, of the blank row and the tables that are 0
-  module _ (ready : (length ts ≡ tableWords) × (5 ≤ length ss) × (length ss ≤ 16384)) (comes : outcome (Reading.run link ss (fuelOf ss) (length ys) (origin start)) (length ys) ≡ target) where
-    abbrev fill-args : Loans → Arg
-    fill-args g = (doc, (x (g .0 .1) blanks, (tab (g .1 .1) zeros, tt)))
+  module _ (body : ℕ) (isb : Is usize body (vint w64 body ∷ [])) (ready : (length ts ≡ tableWords) × (body ≤ length ss) × (length ss ≤ 16384)) (comes : outcome (Reading.run link ss (fuelOf ss) (length ys) (origin body (start link))) (length ys) ≡ target) where
+    abbrev fill-args : Loans → RefT (List ℕ) × (RefT (List Event) × (RefT (List ℕ) × (ℕ × Unit {0})))
+    fill-args g = (doc, (x (g .0 .1) blanks, (tab (g .1 .1) zeros, (body, tt))))
 
     abbrev to-fill : Loans → Fill 𝓤 H A at-mem run .Ghost
-    to-fill g = (((κ₀, (g .0 .0 ∷ [], (g .1 .0 ∷ [], tt))), (q₀, (fullShare, (fullShare, tt))), tt, fill-args g, (s₁ ∷ [], (s₂ ∷ [], (s₃ ∷ [], tt)))), tt)
+    to-fill g = (((κ₀, (g .0 .0 ∷ [], (g .1 .0 ∷ [], tt))), (q₀, (fullShare, (fullShare, tt))), tt, fill-args g, (s₁ ∷ [], (s₂ ∷ [], (s₃ ∷ [], (vint w64 body ∷ [], tt))))), tt)
 
     abbrev lent-row : ℕ × GName → Fml
     lent-row = Lends E.the-row κ₁ q₁ γ b o (named 1) (named 1) (length ys) blanks
@@ -321,7 +321,7 @@ module _ {M : Type 1} (𝓤 : URA M) (H : Heap 𝓤) (A : Atoms 𝓤) (W : Given
         qed W ((‵ (flft κ₀ q₀) ⊛ ‵ (flft (g .0 .0 ∷ []) fullShare) ⊛ ‵ (flft (g .1 .0 ∷ []) fullShare)) ∷ ‵ own-doc ∷ (‵ (lent-row (g .0)) ⊛ ‵ (lent-tab (g .1))) ∷ []) ∵
         says ! (ready .1, ready .2, ap (λ (k : ℕ). replicate k blank) (sym long-blanks), ap (λ (k : ℕ). replicate k 0) (ready .0)) $ split ! $ move ! (1 ∷ []) $ split ! $ move ! (4 ∷ []) $ split ! $
         -- [the row; the tables; the row's token; the tables'; the document's; the document]
-        nothing ! $ move ! (2 ∷ 0 ∷ []) $ fjoin ! $ move ! (1 ∷ 0 ∷ []) $ fjoin ! $ move ! (4 ∷ 0 ∷ []) $ fjoin ! $
+        nothing ! $ owned ! usize (Is usize) (uint-makes 𝓤 H A W w64) body _ isb $ fjoin ! $ move ! (2 ∷ 0 ∷ []) $ fjoin ! $ move ! (1 ∷ 0 ∷ []) $ fjoin ! $ move ! (4 ∷ 0 ∷ []) $ fjoin ! $
         nothing ! $ move ! (3 ∷ 0 ∷ []) $ join ! $ move ! (2 ∷ 0 ∷ []) $ join ! $ move ! (2 ∷ 0 ∷ []) $ join ! $ join ! $ done !
 
     fill-lends : ent 𝓤 (sep 𝓤 doc-of (sep 𝓤 (row-of blanks) (tab-of zeros))) (H .⇛ (ex 𝓤 (λ (g : Loans). sep 𝓤 (Fill 𝓤 H A at-mem run .pre (to-fill g)) (held-of g))))
@@ -347,15 +347,15 @@ module _ {M : Type 1} (𝓤 : URA M) (H : Heap 𝓤) (A : Atoms 𝓤) (W : Given
     came-of v k = guard 𝓤 (Learns v k) (sep 𝓤 (A .lft κ₀ q₀) (sep 𝓤 (row-of (k .1 .0)) (tab-of (k .1 .1))))
 
     abbrev Lasts : Type 0
-    Lasts = Unit {0} × (List Event × (List ℕ × Unit {0}))
+    Lasts = Unit {0} × (List Event × (List ℕ × (Unit {0} × Unit {0})))
 
     abbrev Filled : Answer → Lasts → Type 0
-    Filled w ws = settled (length blanks) tableWords w (ws .1 .0) (ws .1 .1 .0) ≡ outcome (Reading.run link ss (fuelOf ss) (length blanks) (origin start)) (length blanks)
+    Filled w ws = settled (length blanks) tableWords w (ws .1 .0) (ws .1 .1 .0) ≡ outcome (Reading.run link ss (fuelOf ss) (length blanks) (origin body (start link))) (length blanks)
 
     settles-so : (w : Answer) (ws : Lasts) → Filled w ws → Settled (ws .1 .0) (ws .1 .1 .0) w
     settles-so w ws e =
         ap (λ (m : ℕ). settled (length ys) m w (ws .1 .0) (ws .1 .1 .0)) (ready .0)
-        ∙ subst (λ (n : ℕ). settled n tableWords w (ws .1 .0) (ws .1 .1 .0) ≡ outcome (Reading.run link ss (fuelOf ss) n (origin start)) n) long-blanks e
+        ∙ subst (λ (n : ℕ). settled n tableWords w (ws .1 .0) (ws .1 .1 .0) ≡ outcome (Reading.run link ss (fuelOf ss) n (origin body (start link))) n) long-blanks e
         ∙ comes
 
     fill-back : (g : Loans) (v : Val) → ent 𝓤 (sep 𝓤 (Fill 𝓤 H A at-mem run .post (to-fill g) v) (held-of g)) (H .⇛ (ex 𝓤 (came-of v)))
@@ -374,15 +374,15 @@ module _ {M : Type 1} (𝓤 : URA M) (H : Heap 𝓤) (A : Atoms 𝓤) (W : Given
 
   module _ (C : Calls 𝓤 H) (Λ : Loops 𝓤 H) (fm : FmC 𝓤 H (W .laws) C) (known-wipe : Triple 𝓤 (C #reader·read·wipe) (Wipe 𝓤 H A at-mem run)) (known-admitted : Triple 𝓤 (C #reader·read·admitted) (Admitted 𝓤 H A at-mem run))
       (known-refused : Triple 𝓤 (C #reader·run·refused) (Refuse 𝓤 H A at-mem run)) (known-fill : Triple 𝓤 (C #reader·read·fill) (Fill 𝓤 H A at-mem run)) where
-    module _ (l₀ l₁ l₂ l₃ l₄ l₅ l₆ l₇ l₈ l₉ l₁₀ l₁₁ l₁₂ l₁₃ l₁₄ l₁₅ l₁₆ l₁₇ l₁₈ l₁₉ l₂₀ l₂₁ l₂₂ l₂₃ : ℕ) where
+    module _ (l₀ l₁ l₂ l₃ l₄ l₅ lᵦ l₆ l₇ l₈ l₉ l₁₀ l₁₁ l₁₂ l₁₃ l₁₄ l₁₅ l₁₆ l₁₇ l₁₈ l₁₉ l₂₀ l₂₁ l₂₂ l₂₃ : ℕ) where
       abbrev En : Env 𝓤 H
-      En = (R′.mir, l₀) ∷ (docTy (named 0), l₁) ∷ (sliceTy (elemTy (named 1)), l₂) ∷ (sliceTy (numTy (named 2)), l₃) ∷ (tyInt w32, l₄) ∷ (tyInt w64, l₅) ∷ (R′.mir, l₆) ∷ (tyUnit, l₇) ∷ (elemTy erased, l₈) ∷ (sliceTy (elemTy erased), l₉) ∷ (numTy erased, l₁₀) ∷ (sliceTy (numTy erased), l₁₁)
+      En = (R′.mir, l₀) ∷ (docTy (named 0), l₁) ∷ (sliceTy (elemTy (named 1)), l₂) ∷ (sliceTy (numTy (named 2)), l₃) ∷ (tyInt w32, l₄) ∷ (tyInt w64, l₅) ∷ (tyInt w64, lᵦ) ∷ (R′.mir, l₆) ∷ (tyUnit, l₇) ∷ (elemTy erased, l₈) ∷ (sliceTy (elemTy erased), l₉) ∷ (numTy erased, l₁₀) ∷ (sliceTy (numTy erased), l₁₁)
           ∷ (O′.mir, l₁₂) ∷ (tyInt w64, l₁₃) ∷ (R′.mir, l₁₄) ∷ (elemTy erased, l₁₅) ∷ (sliceTy (elemTy erased), l₁₆) ∷ (numTy erased, l₁₇) ∷ (sliceTy (numTy erased), l₁₈) ∷ (tyUnit, l₁₉) ∷ (elemTy erased, l₂₀) ∷ (sliceTy (elemTy erased), l₂₁) ∷ (numTy erased, l₂₂) ∷ (sliceTy (numTy erased), l₂₃) ∷ []
 
-      -- the context from the outer match on, over what is had of the document, _14 and _6. Positions: the document 0, the row 1, the tables 2, _23 3, _22 5, _21 7, _20 9, _19 11, _18 13, _17 15, _16 17, _15 19, _14 21, _13 23, _12 25, _11 27, _10 29, _9 31, _8 33, _7 35, _6 37, _5 39, _4 41, _3 43, _2 45, _1 47, _0 49
+      -- the context from the outer match on, over what is had of the document, _14 and _6. Positions: the document 0, the row 1, the tables 2, _23 3, _22 5, _21 7, _20 9, _19 11, _18 13, _17 15, _16 17, _15 19, _14 21, _13 23, _12 25, _11 27, _10 29, _9 31, _8 33, _7 35, _6 37, the body 39, _5 41, _4 43, _3 45, _2 47, _1 49, _0 51
       abbrev Cx : Item 𝓤 → List Event → List ℕ → Val → List (Item 𝓤) → List (Item 𝓤) → List (Item 𝓤)
       Cx d zs us v₁₂ i₁₄ i₆ = (d ∷ Row zs ∷ Tab us ∷ []) ++ free (sliceTy (numTy erased)) l₂₃ ++ free (numTy erased) l₂₂ ++ free (sliceTy (elemTy erased)) l₂₁ ++ free (elemTy erased) l₂₀ ++ free tyUnit l₁₉ ++ free (sliceTy (numTy erased)) l₁₈ ++ free (numTy erased) l₁₇ ++ free (sliceTy (elemTy erased)) l₁₆ ++ free (elemTy erased) l₁₅
-          ++ i₁₄ ++ free (tyInt w64) l₁₃ ++ full O′.mir l₁₂ v₁₂ ++ free (sliceTy (numTy erased)) l₁₁ ++ free (numTy erased) l₁₀ ++ free (sliceTy (elemTy erased)) l₉ ++ free (elemTy erased) l₈ ++ free tyUnit l₇ ++ i₆ ++ free (tyInt w64) l₅ ++ free (tyInt w32) l₄
+          ++ i₁₄ ++ free (tyInt w64) l₁₃ ++ full O′.mir l₁₂ v₁₂ ++ free (sliceTy (numTy erased)) l₁₁ ++ free (numTy erased) l₁₀ ++ free (sliceTy (elemTy erased)) l₉ ++ free (elemTy erased) l₈ ++ free tyUnit l₇ ++ i₆ ++ free (tyInt w64) lᵦ ++ free (tyInt w64) l₅ ++ free (tyInt w32) l₄
           ++ full (sliceTy (numTy (named 2))) l₃ s₃ ++ full (sliceTy (elemTy (named 1))) l₂ s₂ ++ full (docTy (named 0)) l₁ s₁ ++ free R′.mir l₀
 
       -- what is to hold where an arm of the outer match ends, and one of the inner
@@ -395,9 +395,9 @@ module _ {M : Type 1} (𝓤 : URA M) (H : Heap 𝓤) (A : Atoms 𝓤) (W : Given
       leaves : (zs : List Event) (us : List ℕ) (v₁₂ : Val) (w : Answer) → length zs ≡ length ys → length us ≡ length ts → IsR w → record { answer = w; told = told w; row = zs; tables = us } ≡ target
           → Sq W (Cx (‵ (flft κ₀ q₀)) zs us v₁₂ (full R′.mir l₁₄ (valR w)) (free R′.mir l₆)) (runs C Λ En mir.t-9 (atRet En Post))
       leaves zs us v₁₂ w long long′ is e =
-          assigns ! (of-opd ! (load ! (from ! (stop !)) (look ! 21 refl))) (from ! (stop !)) (init ! 49 refl (typedR W w is)) $ returns ! (look ! 49 refl) $
-          move ! (49 ∷ 50 ∷ 47 ∷ 48 ∷ 45 ∷ 46 ∷ 43 ∷ 44 ∷ 41 ∷ 42 ∷ 39 ∷ 40 ∷ 37 ∷ 38 ∷ 35 ∷ 36 ∷ 33 ∷ 34 ∷ 31 ∷ 32 ∷ 29 ∷ 30 ∷ 27 ∷ 28 ∷ 25 ∷ 26 ∷ 23 ∷ 24 ∷ 21 ∷ 22 ∷ 19 ∷ 20 ∷ 17 ∷ 18 ∷ 15 ∷ 16 ∷ 13 ∷ 14 ∷ 11 ∷ 12 ∷ 9 ∷ 10 ∷ 7 ∷ 8 ∷ 5 ∷ 6 ∷ 3 ∷ 4 ∷ []) $
-          forget ! 0 refl $ free1 ! $ forget ! 0 refl $ free1 ! $ forget ! 0 refl $ free1 ! $ forget ! 0 refl $ free1 ! $ free1 ! $ free1 ! $ free1 ! $ free1 ! $ free1 ! $ free1 ! $ free1 ! $ free1 ! $ forget ! 0 refl $ free1 ! $ free1 ! $ forget ! 0 refl $ free1 ! $
+          assigns ! (of-opd ! (load ! (from ! (stop !)) (look ! 21 refl))) (from ! (stop !)) (init ! 51 refl (typedR W w is)) $ returns ! (look ! 51 refl) $
+          move ! (51 ∷ 52 ∷ 49 ∷ 50 ∷ 47 ∷ 48 ∷ 45 ∷ 46 ∷ 43 ∷ 44 ∷ 41 ∷ 42 ∷ 39 ∷ 40 ∷ 37 ∷ 38 ∷ 35 ∷ 36 ∷ 33 ∷ 34 ∷ 31 ∷ 32 ∷ 29 ∷ 30 ∷ 27 ∷ 28 ∷ 25 ∷ 26 ∷ 23 ∷ 24 ∷ 21 ∷ 22 ∷ 19 ∷ 20 ∷ 17 ∷ 18 ∷ 15 ∷ 16 ∷ 13 ∷ 14 ∷ 11 ∷ 12 ∷ 9 ∷ 10 ∷ 7 ∷ 8 ∷ 5 ∷ 6 ∷ 3 ∷ 4 ∷ []) $
+          forget ! 0 refl $ free1 ! $ forget ! 0 refl $ free1 ! $ forget ! 0 refl $ free1 ! $ forget ! 0 refl $ free1 ! $ free1 ! $ free1 ! $ free1 ! $ free1 ! $ free1 ! $ free1 ! $ free1 ! $ free1 ! $ free1 ! $ forget ! 0 refl $ free1 ! $ free1 ! $ forget ! 0 refl $ free1 ! $
           free1 ! $ free1 ! $ free1 ! $ free1 ! $ free1 ! $ free1 ! $ free1 ! $ free1 ! $ free1 ! $ free0 ! $ by ! (exits zs us w long long′ is e)
 
       -- the end of the arm: the answer is handed on
@@ -412,10 +412,10 @@ module _ {M : Type 1} (𝓤 : URA M) (H : Heap 𝓤) (A : Atoms 𝓤) (W : Given
           head ! $ switches-on ! (load ! (from ! (vrt ! refl (fld ! refl (stop !)))) (look-tag ! 37 (whole !))) $ exec ! C Λ En (armOf 0 (armsOf (heading inner))) (anyQ EndsIn) $ skips ! $ exec ! C Λ En (skipping 1 inner) (anyQ Ends) $ hands-on zs us v₁₂ (Accepted k c) long long′ is e
       settles zs us v₁₂ long long′ (Refused k p) is e =
           head ! $ switches-on ! (load ! (from ! (vrt ! refl (fld ! refl (stop !)))) (look-tag ! 37 (whole !))) $ exec ! C Λ En (armOf 1 (armsOf (heading inner))) (anyQ EndsIn) $
-          assigns ! (addr ! (from ! (fld ! refl (hop ! (look-in ! 45 (sub ! 0 refl (whole !))) (stop !))))) (from ! (stop !)) (init ! 9 refl (tt, tt)) $
-          assigns ! (agg ! (and-then ! (load ! (from ! (stop !)) (look ! 9 refl)) (and-then ! (load ! (from ! (fld ! refl (stop !))) (look-in ! 45 (sub ! 1 refl (whole !)))) (no-more !)))) (from ! (stop !)) (init ! 7 refl (tt, (tt, (record { fits = room-e .0 }, tt)))) $
-          assigns ! (addr ! (from ! (fld ! refl (hop ! (look-in ! 43 (sub ! 0 refl (whole !))) (stop !))))) (from ! (stop !)) (init ! 5 refl (tt, tt)) $
-          assigns ! (agg ! (and-then ! (load ! (from ! (stop !)) (look ! 5 refl)) (and-then ! (load ! (from ! (fld ! refl (stop !))) (look-in ! 43 (sub ! 1 refl (whole !)))) (no-more !)))) (from ! (stop !)) (init ! 3 refl (tt, (tt, (record { fits = room-t .0 }, tt)))) $
+          assigns ! (addr ! (from ! (fld ! refl (hop ! (look-in ! 47 (sub ! 0 refl (whole !))) (stop !))))) (from ! (stop !)) (init ! 9 refl (tt, tt)) $
+          assigns ! (agg ! (and-then ! (load ! (from ! (stop !)) (look ! 9 refl)) (and-then ! (load ! (from ! (fld ! refl (stop !))) (look-in ! 47 (sub ! 1 refl (whole !)))) (no-more !)))) (from ! (stop !)) (init ! 7 refl (tt, (tt, (record { fits = room-e .0 }, tt)))) $
+          assigns ! (addr ! (from ! (fld ! refl (hop ! (look-in ! 45 (sub ! 0 refl (whole !))) (stop !))))) (from ! (stop !)) (init ! 5 refl (tt, tt)) $
+          assigns ! (agg ! (and-then ! (load ! (from ! (stop !)) (look ! 5 refl)) (and-then ! (load ! (from ! (fld ! refl (stop !))) (look-in ! 45 (sub ! 1 refl (whole !)))) (no-more !)))) (from ! (stop !)) (init ! 3 refl (tt, (tt, (record { fits = room-t .0 }, tt)))) $
           move ! (1 ∷ 2 ∷ []) $ use2 W (later (some (λ (g : Loans). raw (Wipe 𝓤 H A at-mem run .pre (to-wipe zs us long long′ g)) ⊛ Kept zs us long long′ g))) (wipe-lends zs us long long′) $ await ! tt $ pick ! (λ g. split ! $
           -- [the `pre`; what is kept; the document's token; _23 3; …]
           calls-at-last ! fm (Wipe 𝓤 H A at-mem run) known-wipe (to-wipe zs us long long′ g) (and-then ! (load ! (from ! (stop !)) (look ! 7 refl)) (and-then ! (load ! (from ! (stop !)) (look ! 3 refl)) (no-more !))) (λ v.
@@ -426,15 +426,15 @@ module _ {M : Type 1} (𝓤 : URA M) (H : Heap 𝓤) (A : Atoms 𝓤) (W : Given
       matched : (r : Opening) → IsO r → openingOf r ≡ admission ss (length ts) → Sq W (Cx Doc blanks zeros (valO r) (free R′.mir l₁₄) (free R′.mir l₆)) (runs C Λ En mir.t-8 (atRet En Post))
       matched (Halt k p) is e =
           head ! $ switches-on ! (load ! (from ! (vrt ! refl (fld ! refl (stop !)))) (look-tag ! 25 (whole !))) $ exec ! C Λ En (outer 0) (anyQ Ends) $
-          assigns ! (of-opd ! (load ! (from ! (vrt ! refl (fld ! refl (stop !)))) (look-in ! 25 (in-variant ! 1 0 refl refl (whole !))))) (from ! (stop !)) (init ! 41 refl (tt, record { fits = isk .1 })) $
-          assigns ! (of-opd ! (load ! (from ! (vrt ! refl (fld ! refl (stop !)))) (look-in ! 25 (in-variant ! 1 1 refl refl (whole !))))) (from ! (stop !)) (init ! 39 refl (tt, record { fits = isp .1 })) $
+          assigns ! (of-opd ! (load ! (from ! (vrt ! refl (fld ! refl (stop !)))) (look-in ! 25 (in-variant ! 1 0 refl refl (whole !))))) (from ! (stop !)) (init ! 43 refl (tt, record { fits = isk .1 })) $
+          assigns ! (of-opd ! (load ! (from ! (vrt ! refl (fld ! refl (stop !)))) (look-in ! 25 (in-variant ! 1 1 refl refl (whole !))))) (from ! (stop !)) (init ! 41 refl (tt, record { fits = isp .1 })) $
           use0 W (raw (Refuse 𝓤 H A at-mem run .pre (to-refused k p))) (goes-refused k p isk isp (admits ss (length ts) (halt k p) e)) $
-          calls-at-last ! fm (Refuse 𝓤 H A at-mem run) known-refused (to-refused k p) (and-then ! (load ! (from ! (stop !)) (look ! 42 refl)) (and-then ! (load ! (from ! (stop !)) (look ! 40 refl)) (no-more !))) (λ v.
+          calls-at-last ! fm (Refuse 𝓤 H A at-mem run) known-refused (to-refused k p) (and-then ! (load ! (from ! (stop !)) (look ! 44 refl)) (and-then ! (load ! (from ! (stop !)) (look ! 42 refl)) (no-more !))) (λ v.
           use1 W (later (some (λ (w : Answer). (‵ ftrue ⊛ ‵ (R.the-row .own w (v ∷ []))) ⊛ raw (ensured 𝓤 H A refused′.ended (refused′.clauses 𝓤 H A at-mem run) tt (k, (p, tt)) tt w)))) (id⊢ 𝓤 _) $ await ! tt $ pick ! (λ w.
           split ! $ move ! (1 ∷ []) $ use1 W (raw (fact 𝓤 (w ≡ Refused k p))) (refused-of 𝓤 H A at-mem run k p w) $ heard ! (w ≡ Refused k p) (λ ew. split ! $ drop ! $
           facts ! R.the-row (Is R.the-row) (shows 𝓤 H A R.the-row) w (v ∷ []) (λ isw.
           land-last ! (from ! (stop !)) (init ! 21 refl (LE.lawful R.the-type R′.the-laws 𝓤 H A W tt .typed w _ isw .0)) $ rewrite ! 21 (λ (u : Val). ‵ (fat fullShare R′.mir l₁₄ 0 u)) (ap only (LE.tells R.the-type R′.the-laws w _ isw)) refl $
-          exec ! C Λ En mir.t-9 (atRet En Post) $ forget ! 39 refl $ forget ! 41 refl $ split ! $ drop ! $
+          exec ! C Λ En mir.t-9 (atRet En Post) $ forget ! 41 refl $ forget ! 43 refl $ split ! $ drop ! $
           leaves blanks zeros (valO (Halt k p)) w long-blanks long-zeros (subst (Is R.the-row w) (LE.tells R.the-type R′.the-laws w _ isw) isw) (ap (λ (u : Answer). record { answer = u; told = told u; row = blanks; tables = zeros }) ew ∙ reads ss (length ys) (length ts) (halt k p) e)))))
         where
           isk : Is u32 k (vint w32 k ∷ [])
@@ -442,53 +442,57 @@ module _ {M : Type 1} (𝓤 : URA M) (H : Heap 𝓤) (A : Atoms 𝓤) (W : Given
 
           isp : Is usize p (vint w64 p ∷ [])
           isp = LE.owed O.the-type O′.the-laws (Halt k p) _ is .1 .0
-      matched Onward is e =
+      matched (Onward body) is e =
           head ! $ switches-on ! (load ! (from ! (vrt ! refl (fld ! refl (stop !)))) (look-tag ! 25 (whole !))) $ exec ! C Λ En (outer 1) (anyQ Ends) $
-          assigns ! (addr ! (from ! (fld ! refl (hop ! (look-in ! 45 (sub ! 0 refl (whole !))) (stop !))))) (from ! (stop !)) (init ! 19 refl (tt, tt)) $
-          assigns ! (agg ! (and-then ! (load ! (from ! (stop !)) (look ! 19 refl)) (and-then ! (load ! (from ! (fld ! refl (stop !))) (look-in ! 45 (sub ! 1 refl (whole !)))) (no-more !)))) (from ! (stop !)) (init ! 17 refl (tt, (tt, (record { fits = room-e .0 }, tt)))) $
-          assigns ! (addr ! (from ! (fld ! refl (hop ! (look-in ! 43 (sub ! 0 refl (whole !))) (stop !))))) (from ! (stop !)) (init ! 15 refl (tt, tt)) $
-          assigns ! (agg ! (and-then ! (load ! (from ! (stop !)) (look ! 15 refl)) (and-then ! (load ! (from ! (fld ! refl (stop !))) (look-in ! 43 (sub ! 1 refl (whole !)))) (no-more !)))) (from ! (stop !)) (init ! 13 refl (tt, (tt, (record { fits = room-t .0 }, tt)))) $
-          use3 W (later (some (λ (g : Loans). raw (Fill 𝓤 H A at-mem run .pre (to-fill ready comes g)) ⊛ Held ready comes g))) (fill-lends ready comes) $ await ! tt $ pick ! (λ g. split ! $
-          -- [the `pre`; what is kept; _23 2; …; _18 12; …; _16 16; …; _1 46; …]
-          calls-at ! fm (Fill 𝓤 H A at-mem run) known-fill (to-fill ready comes g) (and-then ! (load ! (from ! (stop !)) (look ! 46 refl)) (and-then ! (load ! (from ! (stop !)) (look ! 16 refl)) (and-then ! (load ! (from ! (stop !)) (look ! 12 refl)) (no-more !)))) (λ v.
-          use2 W (later (some (λ (k : Came ready comes). given (Learns ready comes v k) (‵ (flft κ₀ q₀) ⊛ (Row (k .1 .0) ⊛ Tab (k .1 .1)))))) (fill-back ready comes g v) $ await ! tt $ pick ! (λ k. learn ! (λ it. split ! $ move ! (1 ∷ []) $ split ! $ move ! (2 ∷ 0 ∷ 1 ∷ []) $
+          assigns ! (of-opd ! (load ! (from ! (vrt ! refl (fld ! refl (stop !)))) (look-in ! 25 (in-variant ! 0 0 refl refl (whole !))))) (from ! (stop !)) (init ! 39 refl (tt, record { fits = isb .1 })) $
+          assigns ! (addr ! (from ! (fld ! refl (hop ! (look-in ! 47 (sub ! 0 refl (whole !))) (stop !))))) (from ! (stop !)) (init ! 19 refl (tt, tt)) $
+          assigns ! (agg ! (and-then ! (load ! (from ! (stop !)) (look ! 19 refl)) (and-then ! (load ! (from ! (fld ! refl (stop !))) (look-in ! 47 (sub ! 1 refl (whole !)))) (no-more !)))) (from ! (stop !)) (init ! 17 refl (tt, (tt, (record { fits = room-e .0 }, tt)))) $
+          assigns ! (addr ! (from ! (fld ! refl (hop ! (look-in ! 45 (sub ! 0 refl (whole !))) (stop !))))) (from ! (stop !)) (init ! 15 refl (tt, tt)) $
+          assigns ! (agg ! (and-then ! (load ! (from ! (stop !)) (look ! 15 refl)) (and-then ! (load ! (from ! (fld ! refl (stop !))) (look-in ! 45 (sub ! 1 refl (whole !)))) (no-more !)))) (from ! (stop !)) (init ! 13 refl (tt, (tt, (record { fits = room-t .0 }, tt)))) $
+          use3 W (later (some (λ (g : Loans). raw (Fill 𝓤 H A at-mem run .pre (to-fill body isb ready comes g)) ⊛ Held body isb ready comes g))) (fill-lends body isb ready comes) $ await ! tt $ pick ! (λ g. split ! $
+          -- [the `pre`; what is kept; _23 2; …; _18 12; …; _16 16; …; _1 48; …]
+          calls-at ! fm (Fill 𝓤 H A at-mem run) known-fill (to-fill body isb ready comes g) (and-then ! (load ! (from ! (stop !)) (look ! 48 refl)) (and-then ! (load ! (from ! (stop !)) (look ! 16 refl)) (and-then ! (load ! (from ! (stop !)) (look ! 12 refl)) (and-then ! (load ! (from ! (stop !)) (look ! 38 refl)) (no-more !))))) (λ v.
+          use2 W (later (some (λ (k : Came body isb ready comes). given (Learns body isb ready comes v k) (‵ (flft κ₀ q₀) ⊛ (Row (k .1 .0) ⊛ Tab (k .1 .1)))))) (fill-back body isb ready comes g v) $ await ! tt $ pick ! (λ k. learn ! (λ it. split ! $ move ! (1 ∷ []) $ split ! $ move ! (2 ∷ 0 ∷ 1 ∷ []) $
           land ! (from ! (stop !)) (init ! 37 refl (LE.lawful R.the-type R′.the-laws 𝓤 H A W tt .typed (k .0) _ (it .0) .0)) $ rewrite ! 37 (λ (u : Val). ‵ (fat fullShare R′.mir l₆ 0 u)) (ap only (LE.tells R.the-type R′.the-laws (k .0) _ (it .0))) refl $
-          forget ! 13 refl $ forget ! 15 refl $ forget ! 17 refl $ forget ! 19 refl $
-          settles (k .1 .0) (k .1 .1) (valO Onward) (it .1) (it .2) (k .0) (subst (Is R.the-row (k .0)) (LE.tells R.the-type R′.the-laws (k .0) _ (it .0)) (it .0)) (it .3)))))
+          forget ! 13 refl $ forget ! 15 refl $ forget ! 17 refl $ forget ! 19 refl $ forget ! 39 refl $
+          settles (k .1 .0) (k .1 .1) (valO (Onward body)) (it .1) (it .2) (k .0) (subst (Is R.the-row (k .0)) (LE.tells R.the-type R′.the-laws (k .0) _ (it .0)) (it .0)) (it .3)))))
         where
-          ready : (length ts ≡ tableWords) × (5 ≤ length ss) × (length ss ≤ 16384)
-          ready = admits ss (length ts) onward e
+          isb : Is usize body (vint w64 body ∷ [])
+          isb = LE.owed O.the-type O′.the-laws (Onward body) _ is .0
 
-          comes : outcome (Reading.run link ss (fuelOf ss) (length ys) (origin start)) (length ys) ≡ target
-          comes = reads ss (length ys) (length ts) onward e
+          ready : (length ts ≡ tableWords) × (body ≤ length ss) × (length ss ≤ 16384)
+          ready = admits ss (length ts) (onward body (start link)) e
+
+          comes : outcome (Reading.run link ss (fuelOf ss) (length ys) (origin body (start link))) (length ys) ≡ target
+          comes = reads ss (length ys) (length ts) (onward body (start link)) e
 
     walk : ent 𝓤 (onEntry 𝓤 H A read′.signature (κ₀, (κ₁, (κ₂, tt))) (q₀, (q₁, (q₂, tt))) a at) (WpFn 𝓤 H C Λ code.function (s₁ ∷ s₂ ∷ s₃ ∷ []) Post)
     walk =
         qed W ((‵ (flft κ₀ q₀) ⊛ ‵ (flft κ₁ q₁) ⊛ ‵ (flft κ₂ q₂) ⊛ ‵ ftrue) ∷ ‵ (owns (ShrSlice (named 0) κ₀ u8 ∷ MutSlice (named 1) κ₁ E.the-row ∷ MutSlice (named 2) κ₂ u32 ∷ []) a at) ∷ []) ∵ enter ! C Λ code.function (s₁ ∷ s₂ ∷ s₃ ∷ []) _ $
-        alloc1 ! (λ l₀. alloc1 ! (λ l₁. alloc1 ! (λ l₂. alloc1 ! (λ l₃. alloc1 ! (λ l₄. alloc1 ! (λ l₅. alloc1 ! (λ l₆. alloc1 ! (λ l₇. alloc1 ! (λ l₈. alloc1 ! (λ l₉. alloc1 ! (λ l₁₀. alloc1 ! (λ l₁₁. alloc1 ! (λ l₁₂. alloc1 ! (λ l₁₃. alloc1 ! (λ l₁₄. alloc1 ! (λ l₁₅. alloc1 ! (λ l₁₆. alloc1 ! (λ l₁₇. alloc1 ! (λ l₁₈. alloc1 ! (λ l₁₉. alloc1 ! (λ l₂₀. alloc1 ! (λ l₂₁. alloc1 ! (λ l₂₂. alloc1 ! (λ l₂₃. alloc0 ! $ params1 ! $
-        pass1 ! (init ! 44 refl (tt, (tt, (record { fits = room-s .0 }, tt)))) $ pass1 ! (init ! 42 refl (tt, (tt, (record { fits = room-e .0 }, tt)))) $ pass1 ! (init ! 40 refl (tt, (tt, (record { fits = room-t .0 }, tt)))) $ pass0 ! $
-        move ! (49 ∷ []) $ fsplit ! $ move ! (1 ∷ []) $ fsplit ! $ move ! (1 ∷ []) $ fsplit ! $ move ! (52 ∷ []) $ split ! $ move ! (1 ∷ []) $ split ! $ move ! (1 ∷ []) $ split ! $
+        alloc1 ! (λ l₀. alloc1 ! (λ l₁. alloc1 ! (λ l₂. alloc1 ! (λ l₃. alloc1 ! (λ l₄. alloc1 ! (λ l₅. alloc1 ! (λ lᵦ. alloc1 ! (λ l₆. alloc1 ! (λ l₇. alloc1 ! (λ l₈. alloc1 ! (λ l₉. alloc1 ! (λ l₁₀. alloc1 ! (λ l₁₁. alloc1 ! (λ l₁₂. alloc1 ! (λ l₁₃. alloc1 ! (λ l₁₄. alloc1 ! (λ l₁₅. alloc1 ! (λ l₁₆. alloc1 ! (λ l₁₇. alloc1 ! (λ l₁₈. alloc1 ! (λ l₁₉. alloc1 ! (λ l₂₀. alloc1 ! (λ l₂₁. alloc1 ! (λ l₂₂. alloc1 ! (λ l₂₃. alloc0 ! $ params1 ! $
+        pass1 ! (init ! 46 refl (tt, (tt, (record { fits = room-s .0 }, tt)))) $ pass1 ! (init ! 44 refl (tt, (tt, (record { fits = room-e .0 }, tt)))) $ pass1 ! (init ! 42 refl (tt, (tt, (record { fits = room-t .0 }, tt)))) $ pass0 ! $
+        move ! (51 ∷ []) $ fsplit ! $ move ! (1 ∷ []) $ fsplit ! $ move ! (1 ∷ []) $ fsplit ! $ move ! (54 ∷ []) $ split ! $ move ! (1 ∷ []) $ split ! $ move ! (1 ∷ []) $ split ! $
         -- [the tables' token; true; the row's; the document's; the tables; true; the row; the document; _23 8; …]
         move ! (4 ∷ 0 ∷ []) $ join ! $ move ! (5 ∷ 2 ∷ []) $ join ! $ move ! (5 ∷ 3 ∷ []) $ join ! $ move ! (3 ∷ []) $ drop ! $ move ! (3 ∷ []) $ drop ! $
         -- [the document; the row; the tables; _23 3; …]
-        assigns ! (addr ! (from ! (fld ! refl (hop ! (look-in ! 45 (sub ! 0 refl (whole !))) (stop !))))) (from ! (stop !)) (init ! 33 refl (tt, tt)) $
-        assigns ! (agg ! (and-then ! (load ! (from ! (stop !)) (look ! 33 refl)) (and-then ! (load ! (from ! (fld ! refl (stop !))) (look-in ! 45 (sub ! 1 refl (whole !)))) (no-more !)))) (from ! (stop !)) (init ! 31 refl (tt, (tt, (record { fits = room-e .0 }, tt)))) $
-        assigns ! (addr ! (from ! (fld ! refl (hop ! (look-in ! 43 (sub ! 0 refl (whole !))) (stop !))))) (from ! (stop !)) (init ! 29 refl (tt, tt)) $
-        assigns ! (agg ! (and-then ! (load ! (from ! (stop !)) (look ! 29 refl)) (and-then ! (load ! (from ! (fld ! refl (stop !))) (look-in ! 43 (sub ! 1 refl (whole !)))) (no-more !)))) (from ! (stop !)) (init ! 27 refl (tt, (tt, (record { fits = room-t .0 }, tt)))) $
+        assigns ! (addr ! (from ! (fld ! refl (hop ! (look-in ! 47 (sub ! 0 refl (whole !))) (stop !))))) (from ! (stop !)) (init ! 33 refl (tt, tt)) $
+        assigns ! (agg ! (and-then ! (load ! (from ! (stop !)) (look ! 33 refl)) (and-then ! (load ! (from ! (fld ! refl (stop !))) (look-in ! 47 (sub ! 1 refl (whole !)))) (no-more !)))) (from ! (stop !)) (init ! 31 refl (tt, (tt, (record { fits = room-e .0 }, tt)))) $
+        assigns ! (addr ! (from ! (fld ! refl (hop ! (look-in ! 45 (sub ! 0 refl (whole !))) (stop !))))) (from ! (stop !)) (init ! 29 refl (tt, tt)) $
+        assigns ! (agg ! (and-then ! (load ! (from ! (stop !)) (look ! 29 refl)) (and-then ! (load ! (from ! (fld ! refl (stop !))) (look-in ! 45 (sub ! 1 refl (whole !)))) (no-more !)))) (from ! (stop !)) (init ! 27 refl (tt, (tt, (record { fits = room-t .0 }, tt)))) $
         move ! (1 ∷ 2 ∷ []) $ use2 W (later (some (λ (g : Loans). raw (Wipe 𝓤 H A at-mem run .pre (to-wipe ys ts refl refl g)) ⊛ Kept ys ts refl refl g))) (wipe-lends ys ts refl refl) $ await ! tt $ pick ! (λ g. split ! $
         calls-at ! fm (Wipe 𝓤 H A at-mem run) known-wipe (to-wipe ys ts refl refl g) (and-then ! (load ! (from ! (stop !)) (look ! 31 refl)) (and-then ! (load ! (from ! (stop !)) (look ! 27 refl)) (no-more !))) (λ v.
         use2 W (later (given (Is unit tt (v ∷ [])) (Row blanks ⊛ Tab zeros))) (wipe-back ys ts refl refl g v) $ await ! tt $ learn ! (λ isu. split ! $ move ! (2 ∷ 0 ∷ 1 ∷ []) $
         land ! (from ! (stop !)) (init ! 35 refl (nothing-lawful 𝓤 H A W .typed tt _ isu .0)) $
-        assigns ! (of-opd ! (load ! (from ! (fld ! refl (stop !))) (look-in ! 43 (sub ! 1 refl (whole !))))) (from ! (stop !)) (init ! 23 refl (tt, record { fits = room-t .0 })) $
+        assigns ! (of-opd ! (load ! (from ! (fld ! refl (stop !))) (look-in ! 45 (sub ! 1 refl (whole !))))) (from ! (stop !)) (init ! 23 refl (tt, record { fits = room-t .0 })) $
         split ! $ use1 W (‵ own-doc ⊛ ‵ own-doc) (shr-slice-copy 𝓤 H A W (named 0) κ₀ u8 .twice doc (s₁ ∷ [])) $ split ! $ move ! (2 ∷ 0 ∷ []) $ use2 W (raw (Admitted 𝓤 H A at-mem run .pre to-admitted)) goes-admitted $
         -- [the `pre`; the document; the row; the tables; _23 4; …]
-        calls-at ! fm (Admitted 𝓤 H A at-mem run) known-admitted to-admitted (and-then ! (load ! (from ! (stop !)) (look ! 48 refl)) (and-then ! (load ! (from ! (stop !)) (look ! 24 refl)) (no-more !))) (λ v′.
+        calls-at ! fm (Admitted 𝓤 H A at-mem run) known-admitted to-admitted (and-then ! (load ! (from ! (stop !)) (look ! 50 refl)) (and-then ! (load ! (from ! (stop !)) (look ! 24 refl)) (no-more !))) (λ v′.
         use1 W (later (some (λ (r : Opening). ((‵ (flft κ₀ q₀) ⊛ ‵ ftrue) ⊛ ‵ (O.the-row .own r (v′ ∷ []))) ⊛ raw (ensured 𝓤 H A admitted′.ended (admitted′.clauses 𝓤 H A at-mem run) (κ₀, tt) adm-args tt r)))) (id⊢ 𝓤 _) $ await ! tt $ pick ! (λ r.
         split ! $ move ! (1 ∷ []) $ use1 W (raw (fact 𝓤 (openingOf r ≡ admission ss (length ts)))) (admitted-of r) $ heard ! (openingOf r ≡ admission ss (length ts)) (λ e. split ! $ move ! (1 ∷ []) $
         facts ! O.the-row (Is O.the-row) (shows 𝓤 H A O.the-row) r (v′ ∷ []) (λ is. split ! $ move ! (1 ∷ []) $ drop ! $ move ! (1 ∷ 0 ∷ []) $ join ! $
         land ! (from ! (stop !)) (init ! 25 refl (LE.lawful O.the-type O′.the-laws 𝓤 H A W tt .typed r _ is .0)) $ rewrite ! 25 (λ (u : Val). ‵ (fat fullShare O′.mir l₁₂ 0 u)) (ap only (LE.tells O.the-type O′.the-laws r _ is)) refl $
         forget ! 23 refl $ forget ! 27 refl $ forget ! 29 refl $ forget ! 31 refl $ forget ! 33 refl $ forget ! 35 refl $
-        matched l₀ l₁ l₂ l₃ l₄ l₅ l₆ l₇ l₈ l₉ l₁₀ l₁₁ l₁₂ l₁₃ l₁₄ l₁₅ l₁₆ l₁₇ l₁₈ l₁₉ l₂₀ l₂₁ l₂₂ l₂₃ r (subst (Is O.the-row r) (LE.tells O.the-type O′.the-laws r _ is) is) e)))))))))))))))))))))))))))))))
+        matched l₀ l₁ l₂ l₃ l₄ l₅ lᵦ l₆ l₇ l₈ l₉ l₁₀ l₁₁ l₁₂ l₁₃ l₁₄ l₁₅ l₁₆ l₁₇ l₁₈ l₁₉ l₂₀ l₂₁ l₂₂ l₂₃ r (subst (Is O.the-row r) (LE.tells O.the-type O′.the-laws r _ is) is) e))))))))))))))))))))))))))))))))
 
 pub read-spec : {M : Type 1} → stated.statement M
 unfolding code.routine tablesOf

@@ -1,17 +1,16 @@
--- `headed` meets its contract: what is left to compare tells what the first four octets do.
+-- `headed` meets its contract: what is left to compare tells what the octets of the identification do.
 -- Assumes nothing.
 use mathlib.Core.Path.{_≡_}
 use Prim.Native.Nat.{_-_, _≤_}
 use native.Mathlib.Omega.{arith}
 use lib.ListN.{length, take}
-use Rattle.format.specs.Tables.{same}
-use Rattle.format.specs.Document.{header}
+use Rattle.format.specs.Tables.{same, link}
 use Rattle.reader.proofs.RunLaws.{headedFrom, headed-start, headed-differs, headed-next, headed-end}
 use Rattle.reader.proofs.run.headed.Statement.{statement}
 use Rattle.reader.proofs.run.headed.Tie as tie
 
 abbrev Inv-loop : tie.InvT-loop
-Inv-loop s i₀ i = (4 ≤ length s) × (i ≤ 4) × (headedFrom s i ≡ same (take 4 s) (take 4 header))
+Inv-loop s i₀ i = (4 ≤ length s) × (i ≤ 4) × (headedFrom s i ≡ same (take 4 s) (link .identification))
 
 abbrev μ-loop : tie.MeasureT-loop
 μ-loop s i₀ i = 4 - i

@@ -16,11 +16,11 @@ enum-known-k c = search needs
 refused-requires : tie.Need-refused-requires
 refused-requires c κs = opens _ _ (sym (ap openingOf (c .before .k .given .1)) ∙ c .before .before .before .opened .ensures) .1
 
-enum-told : tie.Need-enum-told
-enum-told c = search needs
+enum-known-body : tie.Need-enum-known-body
+enum-known-body c = search needs
 
 steps-requires : tie.Need-steps-requires
-steps-requires c κs = let o = opens _ _ (sym (ap openingOf (c .before .before .enum-told .given .1)) ∙ c .before .before .before .before .opened .ensures) in (o .0, o .1, c .before .before .before .before .before .before .before .before .pre)
+steps-requires c κs = let o = opens _ _ (sym (ap openingOf (c .before .before .before .body .given .1)) ∙ c .before .before .before .before .before .opened .ensures) in (o .0, o .1, c .before .before .before .before .before .before .before .before .before .pre)
 
 returns : tie.Need-returns
 returns c = ran-halt _ (sym (ap openingOf (c .before .before .k .given .1)) ∙ c .before .before .before .before .opened .ensures) (c .refused .ensures)
@@ -32,7 +32,7 @@ same-length-2 : tie.Need-same-length-2
 same-length-2 c = search needs
 
 returns-2 : tie.Need-returns-2
-returns-2 c = ran-onward _ (sym (ap openingOf (c .before .before .before .before .before .before .before .enum-told .given .1)) ∙ c .before .before .before .before .before .before .before .before .before .opened .ensures) (c .before .before .before .before .steps .ensures)
+returns-2 c = ran-onward _ (sym (ap openingOf (c .before .before .before .before .before .before .before .before .body .given .1)) ∙ c .before .before .before .before .before .before .before .before .before .before .opened .ensures) (c .before .before .before .before .steps .ensures)
 
 pub reading-spec : {M : Type 1} → statement M
 reading-spec =
@@ -41,7 +41,7 @@ reading-spec =
     opened-requires
     enum-known-k
     refused-requires
-    enum-told
+    enum-known-body
     steps-requires
     returns
     same-length

@@ -9,13 +9,13 @@ use Rattle.reader.proofs.run.steps.Statement.{statement}
 use Rattle.reader.proofs.run.steps.Tie as tie
 
 abbrev Inv-loop : tie.InvT-loop
-Inv-loop s t₀ records₀ room st₀ n₀ left₀ t records st n left = (length t ≡ length t₀) × Underway s records₀ room left n st t records
+Inv-loop s t₀ records₀ room body st₀ n₀ left₀ t records st n left = (length t ≡ length t₀) × Underway s records₀ room body left n st t records
 
 abbrev μ-loop : tie.MeasureT-loop
-μ-loop s t₀ records₀ room st₀ n₀ left₀ t records st n left = left
+μ-loop s t₀ records₀ room body st₀ n₀ left₀ t records st n left = left
 
 begin-requires : tie.Need-begin-requires Inv-loop μ-loop
-begin-requires c κs = search needs
+begin-requires c κs = omega arith
 
 mul-left : tie.Need-mul-left Inv-loop μ-loop
 mul-left c = omega arith
@@ -24,7 +24,7 @@ add-left : tie.Need-add-left Inv-loop μ-loop
 add-left c = omega arith
 
 loop-holds : tie.Need-loop-holds Inv-loop μ-loop
-loop-holds c = (refl, rw (c .begin .ensures) (underway-start _ _ _ (c .before .before .before .before .pre .0) (c .before .before .before .before .pre .1) _ (c .before .before .before .before .pre .2)))
+loop-holds c = (refl, rw (c .begin .ensures) (underway-start _ _ _ _ (c .before .before .before .before .pre .0) (c .before .before .before .before .pre .1) _ (c .before .before .before .before .pre .2)))
 
 sub-left : tie.Need-sub-left Inv-loop μ-loop
 sub-left c = omega arith
@@ -78,8 +78,8 @@ loop-again-2 c = (omega arith, underway-quiet (c .before .before .before .before
 enum-told : tie.Need-enum-told Inv-loop μ-loop
 enum-told c = search needs
 
-cast-t25 : tie.Need-cast-t25 Inv-loop μ-loop
-cast-t25 c = let f = c .before .before .before .before .before .before .before .before .loop .inv .1 .fuel in omega arith
+cast-t26 : tie.Need-cast-t26 Inv-loop μ-loop
+cast-t26 c = let f = c .before .before .before .before .before .before .before .before .loop .inv .1 .fuel in omega arith
 
 same-length-3 : tie.Need-same-length-3 Inv-loop μ-loop
 same-length-3 c = let l = c .before .before .before .before .before .before .before .before .loop .inv .1 .same-length in omega arith
@@ -142,7 +142,7 @@ steps-spec =
     loop-less-2
     loop-again-2
     enum-told
-    cast-t25
+    cast-t26
     same-length-3
     same-length-4
     returns-2

@@ -53,6 +53,7 @@ use denote.Exit.{yes}
 use Rattle.walk.specs.Again.{Lends, Keeps, lends-call, back-call}
 use Rattle.walk.specs.Close.{by-walk}
 use Rattle.walk.specs.Walk.{whiles, skipping, full, free}
+use Rattle.format.specs.Tables.{link}
 use Rattle.events.specs.declared.Event.{Event}
 use Rattle.events.specs.Records.{blank}
 use Rattle.events.proofs.Rows.{val, Told}
@@ -259,7 +260,7 @@ module _ {M : Type 1} (𝓤 : URA M) (H : Heap 𝓤) (A : Atoms 𝓤) (W : Given
   abbrev Left : List ℕ → List ℕ → List (Item 𝓤)
   Left zs us = Row ∷ Doc ∷ Outs zs ∷ Tab us ∷ []
 
-  exits : (zs us : List ℕ) (w : Answer) → length zs ≡ length os → length us ≡ length ts → IsR w → Leaves w zs us (writeOf ys ss (length os) (length ts)) → ent 𝓤 (⋆ 𝓤 H A (Left zs us)) (Post (valR w))
+  exits : (zs us : List ℕ) (w : Answer) → length zs ≡ length os → length us ≡ length ts → IsR w → Leaves w zs us (writeOf link ys ss (length os) (length ts)) → ent 𝓤 (⋆ 𝓤 H A (Left zs us)) (Post (valR w))
   exits zs us w long long′ is e =
       qed W (Left zs us) ∵ suffices ! _ (ends-at 𝓤 H A write′.ended stayed (write′.clauses 𝓤 H A at-mem run) W (((κ₀, (κ₁, (κ₂, (κ₃, tt)))), (q₀, (q₁, (q₂, (q₃, tt)))), tt, a, at), tt) (valR w) w (tt, (tt, (zs, (us, tt)))) (tt, (tt, (long, (long′, tt))))) $
       says ! e $ split ! $ drop ! $ move ! (1 ∷ []) $ split ! $ drop ! $ move ! (2 ∷ []) $ split ! $ move ! (4 ∷ []) $ split ! $

@@ -1,0 +1,16 @@
+-- What a version must keep to for the theorems to hold of it. The link does.
+use Prim.Native.Nat.{ℕ, _≤_}
+use native.Mathlib.Omega.{arith}
+use Rattle.format.specs.Numbers.{top, longest}
+use Rattle.format.specs.Tables.{Version, link}
+
+pub record Bounded (L : Version) : Type 0 where
+  -- a table can hold its built-in entry, and no entry is beyond the highest number
+  pub some-entries : 1 ≤ L .entries
+  pub few-entries : L .entries ≤ top
+  -- no string of a document or of a text area is too long to be spelled
+  pub few-octets : L .octets ≤ longest
+
+pub link-bounded : Bounded link
+unfolding link
+link-bounded = record { some-entries = omega arith; few-entries = omega arith; few-octets = omega arith }
