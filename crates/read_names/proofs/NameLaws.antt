@@ -14,8 +14,8 @@ use lib.ListN.{length, getD, take, drop, length-append}
 use Rattle.format.specs.Numbers.{pick, Form, numbers, c25, lengths, top}
 use Rattle.fields.specs.Utf8.{isText}
 use Rattle.format.specs.Tables.{StringTable, PREFIX, NAMESPACE-NAME, LOCAL-NAME}
-use Rattle.format.specs.Tables.{NameTable, ELEMENT-NAME, ATTRIBUTE-NAME, Triple, noTriple, Vocabulary, strings, names, place, extended, adding, addingName}
-use Rattle.format.specs.Tables.{holds, holdsName, partOf, nameOf, link}
+use Rattle.format.specs.Tables.{NameTable, ELEMENT-NAME, ATTRIBUTE-NAME, Triple, Vocabulary, strings, names, adding, addingName}
+use Rattle.format.specs.Tables.{holds, holdsName, link}
 use Rattle.format.specs.Names.{NameLayout, ofElement, ofAttribute}
 use Rattle.fields.specs.declared.Cursor.{Cursor}
 use Rattle.fields.specs.declared.Number.{Number}
@@ -27,10 +27,11 @@ use Rattle.tables.specs.declared.Row.{Row}
 use Rattle.tables.specs.Located.{Located, empty, stretch, octetsOf}
 use Rattle.tables.specs.Counts.{tableWords}
 use Rattle.tables.specs.Search.{numberOfTriple}
-use Rattle.tables.specs.Rows.{tableOf, stringAt, tripleAt, entries, vocabulary}
+use Rattle.tables.specs.Rows.{tableOf, place, stringAt, tripleAt, entries, vocabulary}
 use Rattle.tables.specs.Kept.{nameTableOf, countOf, oneMore, Counted, rowAt, stored, layoutOf, tripleOf}
 use Rattle.tables.proofs.ByNumber.{eight-nine}
-use Rattle.tables.proofs.Laws.{strings-adding, names-are, length-strings, length-names, string-nth, name-nth, counted-more, name-added, clean-name, holds-name-number, inside-name}
+use Rattle.tables.proofs.Adding.{extended, strings-adding}
+use Rattle.tables.proofs.Laws.{names-are, length-strings, length-names, string-nth, name-nth, counted-more, name-added, clean-name, holds-name-number, inside-name}
 use Rattle.events.specs.declared.EventString.{EventString}
 use Rattle.events.specs.declared.EventString.the-variants.{Absent}
 use Rattle.events.specs.Records.{eventString, optionalEventString}
@@ -41,7 +42,7 @@ use Rattle.read_names.specs.declared.Parts.{Parts}
 use Rattle.read_names.specs.declared.Named.{Named}
 use Rattle.read_names.specs.Strings as S
 use Rattle.read_names.specs.Strings.{IdRead, OptionalRead, idAt, optionalAt, spelling}
-use Rattle.read_names.specs.Names.{NameRead, prefixBit, namespaceBit, nameBit, partsAt, numberedAt, nameAt, declaredAt}
+use Rattle.read_names.specs.Names.{NameRead, prefixBit, namespaceBit, nameBit, partOf, nameOf, noTriple, partsAt, numberedAt, nameAt, declaredAt}
 use Rattle.read_names.specs.Contracts.{Ranged, Tidy, Seen, idSeen, optionalSeen, seenName, NameTidy, nameSeen, declaredSeen}
 use Rattle.read_names.specs.NameContracts.{stringFault, numberFault, eventStringAt, eventStringsAt, newName}
 use Rattle.read_names.proofs.StringLaws.{tests, ranged-kept}

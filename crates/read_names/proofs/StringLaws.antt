@@ -28,7 +28,8 @@ use Rattle.tables.specs.Located.{Located, empty, stretch, octetsOf}
 use Rattle.tables.specs.Search.{numberIn}
 use Rattle.tables.specs.Rows.{tableOf, builtIn, stringAt, entries, vocabulary}
 use Rattle.tables.specs.Kept.{listed, countOf, oneMore, stored, rowAt}
-use Rattle.tables.proofs.Laws.{names-adding, strings-are, length-strings, string-nth, counted-more, string-added, clean-string, holds-number, inside-string}
+use Rattle.tables.proofs.Adding.{names-adding}
+use Rattle.tables.proofs.Laws.{strings-are, length-strings, string-nth, counted-more, string-added, clean-string, holds-number, inside-string}
 use Rattle.events.specs.declared.EventString.{EventString}
 use Rattle.events.specs.declared.EventString.the-variants.{Absent, Empty, Stretch, XmlPrefix, XmlNamespace}
 use Rattle.events.specs.Records.{eventString}

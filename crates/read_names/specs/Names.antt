@@ -1,13 +1,14 @@
 -- Reading a name (C.17, C.18) and a namespace declaration (C.12), each field's tests in 01's order.
-use Prim.Native.Nat.{ℕ, suc, _-_, _%_}
+use Prim.Native.Nat.{ℕ, zero, suc, _-_, _%_}
 use mathlib.Core.Bool.{Bool}
-use mathlib.Core.Option.{Option}
+use mathlib.Core.Option.{Option, none, some}
+use mathlib.Core.List.{List}
 use lib.ListN.{length, getD}
 use lib.Dec.{eqb, ltb, leb}
 use Rattle.format.specs.Octets.{Octets}
 use Rattle.format.specs.Numbers.{pick, top}
 use Rattle.format.specs.Events.{Name, How, NameHow, inParts, byNumber}
-use Rattle.format.specs.Tables.{PREFIX, NAMESPACE-NAME, LOCAL-NAME, NameTable, ELEMENT-NAME, ATTRIBUTE-NAME, Triple, noTriple, Vocabulary, names, addingName, holdsName, nameOf, Version}
+use Rattle.format.specs.Tables.{PREFIX, NAMESPACE-NAME, LOCAL-NAME, NameTable, ELEMENT-NAME, ATTRIBUTE-NAME, Triple, Vocabulary, names, addingName, holdsName, Version}
 use Rattle.format.specs.Names.{NameLayout}
 use Rattle.format.specs.Refusals.{TRUNCATED, CODE, PADDING, INDEX, REPEAT, FULL, STRUCTURE}
 use Rattle.fields.specs.Fields.{fieldAt}
@@ -38,6 +39,17 @@ lonePrefix b = eqb (b % 4) 2
 abbrev pub nameBit : NameTable → ℕ
 nameBit ELEMENT-NAME = 3
 nameBit ATTRIBUTE-NAME = 2
+
+-- The string behind a number and the name behind a triple. The numbers of a triple are of entries that are there, so it does not matter what d is.
+abbrev pub partOf : {S : Type 0} → List S → S → ℕ → Option S
+partOf table d zero = none
+partOf table d (suc k) = some (getD table k d)
+
+unfoldable pub nameOf : {S : Type 0} → Vocabulary S → S → Triple → Name S
+nameOf v d x = record { prefix = partOf (v .prefixes) d (x .prefix); namespace = partOf (v .namespaces) d (x .namespace); local = getD (v .locals) (x .local - 1) d }
+
+abbrev pub noTriple : Triple
+noTriple = record { prefix = 0; namespace = 0; local = 0 }
 
 module _ (L : Version) where
   -- A name in parts, its p and n in the octet b at k: p without n (15); the strings; then the triple is there already (11), no room in the table (12).

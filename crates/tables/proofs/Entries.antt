@@ -10,9 +10,9 @@ use borrow.Author.Tests.{eq-eqb, ne-eqb}
 use lib.Dec.{eqb}
 use lib.ListN.{length, getD, set, length-set}
 use lib.Seq.{getD-set-same, getD-set-other}
-use Rattle.format.specs.Tables.{extended}
 use Rattle.tables.specs.Rows.{entries}
 use Rattle.tables.specs.Kept.{stored}
+use Rattle.tables.proofs.Adding.{extended}
 
 -- ---- n entries
 module _ {A : Type 0} (f : ℕ → A) where

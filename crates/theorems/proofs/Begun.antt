@@ -10,19 +10,19 @@ use lib.ListN.{length, length-append}
 use Rattle.format.specs.Octets.{Octets, Halves}
 use Rattle.format.specs.Numbers.{Form, form, pick, spell}
 use Rattle.format.specs.Events.{Name, How, NameHow, Item, isDeclaration, isStart, openThen, openAfter, declaresLast}
-use Rattle.format.specs.Tables.{StringTable, NameTable, Triple, Vocabulary, strings, names, place, adding, addingName, Version, InLimits}
+use Rattle.format.specs.Tables.{StringTable, NameTable, Triple, Vocabulary, strings, names, adding, addingName, Version, InLimits}
 use Rattle.format.specs.Strings.{bit, Identifying, id-spelled, id-numbered, Optional, absent, present, Layout, Literal, literal-spelled, literal-numbered, Value, value-empty, value}
 use Rattle.format.specs.Names.{NameLayout, Named, in-parts, by-number, Declared, declared}
 use Rattle.format.specs.Items.{Mode, content, declaring, listing, State, afterStart, moved, ItemWrittenAs, o-start, o-first-namespace, o-namespace, o-named-start, o-attribute, o-text, o-comment, o-instruction}
 use Rattle.format.specs.Document.{halves, pad, aligned, closed, Written, attributes-end, element-end, item, knownAfter, Begun, begun, after-attributes, after-end, after-item}
-use Rattle.format.specs.Uses.{sameNames}
 use Rattle.writer.specs.Events.{isDeclaring}
 use Rattle.tables.proofs.Found.{clash}
-use Rattle.tables.proofs.Laws.{strings-adding, names-adding}
+use Rattle.tables.specs.Rows.{place}
+use Rattle.tables.proofs.Adding.{sameNames, strings-adding, names-adding, strings-adding-name, names-adding-name}
 use Rattle.theorems.proofs.Lists.{halves-length, pad-length}
 use Rattle.writer.specs.Writing.{isAttribute}
 use Rattle.theorems.proofs.OneWriting.{inList, identifying-one, literal-one, value-one, named-one, declared-one, where-attributes, no-end}
-use Rattle.theorems.proofs.Growing.{names-adding-name, strings-adding-name, same-table, same-name-table, extended-few}
+use Rattle.theorems.proofs.Growing.{same-table, same-name-table, extended-few}
 use Rattle.theorems.proofs.Documents.{events}
 
 -- ---- where one stands behind no half, behind an end, and behind an item; how an item's halves are grouped
@@ -163,18 +163,18 @@ module _ {L : Version} where
   behind-bits : {q : NameLayout} {lead : ℕ} {v w : Vocabulary Octets} {x : Name Octets} {h : NameHow} {o : Octets} (lead′ : ℕ)
       → Named L q lead v x h o w → (o′ : Octets) × Named L q lead′ v x h o′ w × (length o ≡ length o′)
   behind-bits lead′ (in-parts lone up un ul new room) = (_, in-parts lone up un ul new room, refl)
-  behind-bits {q} {lead} lead′ (by-number {k = k} small fits en) = (_, by-number small fits en, spell-size (q .numberForms) lead lead′ (suc k))
+  behind-bits {q} {lead} lead′ (by-number {k = k} small fits en m) = (_, by-number small fits en m, spell-size (q .numberForms) lead lead′ (suc k))
 
   octets-alike : {v v′ w w′ : State Octets} {i : Item Octets} {o o′ : Octets} → Alike v v′ → ItemWrittenAs L v i o w → ItemWrittenAs L v′ i o′ w′
       → (length o ≡ length o′) × Alike w w′
   octets-alike e (o-start a md may deep u) (o-start b md′ may′ deep′ u′) =
       let t = behind-bits (64 * bit b) u in
-      let r = named-one (t .1) (rw (← (e .tables)) at u′) refl in
+      let r = named-one (t .1) (rw (← (e .tables)) at u′) in
       (t .2 ∙ ap length (r .0), record { tables = r .1; level = ap suc (e .level); root = refl; mode = start-bitless a ∙ sym (start-bitless b) })
   octets-alike e (o-start a md may deep u) (o-named-start md′ u′) = clash (cc)
   octets-alike e (o-named-start md u) (o-start a md′ may′ deep′ u′) = clash (cc)
   octets-alike e (o-named-start {a = a} md u) (o-named-start {a = b} md′ u′) =
-      let r = named-one u (rw (← (e .tables)) at u′) refl in
+      let r = named-one u (rw (← (e .tables)) at u′) in
       (ap (λ (l : Octets). suc (length l)) (r .0), record { tables = r .1; level = ap suc (e .level); root = refl; mode = start-bitless a ∙ sym (start-bitless b) })
   octets-alike e (o-first-namespace md may deep u) (o-first-namespace md′ may′ deep′ u′) =
       let r = declared-one u (rw (← (e .tables)) at u′) in
@@ -185,7 +185,7 @@ module _ {L : Version} where
       let r = declared-one u (rw (← (e .tables)) at u′) in
       (ap length (r .0), record { tables = r .1; level = e .level; root = e .root; mode = refl })
   octets-alike e (o-attribute md u1 u2) (o-attribute md′ u1′ u2′) =
-      let r = named-one u1 (rw (← (e .tables)) at u1′) refl in
+      let r = named-one u1 (rw (← (e .tables)) at u1′) in
       let t = value-one u2 (rw (← (r .1)) at u2′) in
       ((λ j. length (r .0 j ++ t .0 j)), record { tables = t .1; level = e .level; root = e .root; mode = refl })
   octets-alike e (o-text md lv u) (o-text md′ lv′ u′) =
@@ -272,7 +272,7 @@ module _ {L : Version} where
   named-fits : {q : NameLayout} {lead : ℕ} {v w : Vocabulary Octets} {x : Name Octets} {h : NameHow} {o : Octets} → Named L q lead v x h o w → InLimits L v → InLimits L w
   named-fits {q} (in-parts {kp = kp} {kn = kn} {kl = kl} lone up un ul new room) f =
       adding-name-fits (q .table) (record { prefix = kp; namespace = kn; local = kl }) room (identifying-fits ul (optional-fits un (optional-fits up f)))
-  named-fits (by-number small fits en) f = f
+  named-fits (by-number small fits en m) f = f
 
   declared-fits : {v w : Vocabulary Octets} {p n : Option Octets} {hp hn : Option How} {o : Octets} → Declared L v p n hp hn o w → InLimits L v → InLimits L w
   declared-fits (declared up un) f = optional-fits un (optional-fits up f)

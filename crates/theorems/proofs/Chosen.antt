@@ -7,23 +7,22 @@ use Prim.Native.Nat.{ℕ, zero, suc, _+_, _-_, _*_, _≤_, _<_}
 use native.Mathlib.Omega.{arith}
 use borrow.Author.Tests.{ltb-true, eq-eqb, ne-eqb}
 use lib.Dec.{eqb, ltb, leb}
-use lib.ListN.{length, getD, length-append, List·getD-append}
-use lib.Seq.{getD-append-seam}
+use lib.ListN.{length, length-append}
 use Rattle.format.specs.Octets.{Octets}
 use Rattle.format.specs.Numbers.{pick, spell, sizes, lengths, c25, top}
 use Rattle.format.specs.Events.{Name, How, spelled, numbered, NameHow, inParts, byNumber}
-use Rattle.format.specs.Tables.{StringTable, PREFIX, NAMESPACE-NAME, LOCAL-NAME, NameTable, ELEMENT-NAME, ATTRIBUTE-NAME, Triple, noTriple, Vocabulary, strings, names, place, extended, adding, addingName, holdsName, Entry, partOf, nameOf, Version, InLimits}
+use Rattle.format.specs.Tables.{StringTable, PREFIX, NAMESPACE-NAME, LOCAL-NAME, NameTable, ELEMENT-NAME, ATTRIBUTE-NAME, Triple, Vocabulary, strings, names, adding, addingName, holdsName, Entry, first, later, Behind, nothing, an-entry, Means, Version, InLimits}
 use Rattle.format.specs.Strings.{withLength, Spelling, bit, Layout, c14, keeping, Identifying, id-spelled, id-numbered, Optional, absent, present, Literal, literal-spelled, literal-numbered, Value, value-empty, value}
 use Rattle.format.specs.Names.{has, NameLayout, Named, in-parts, by-number}
-use Rattle.format.specs.Uses.{sameNames}
-use Rattle.fields.proofs.Laws.{case}
 use Rattle.tables.specs.Search.{numberIn, numberOfTriple}
-use Rattle.tables.proofs.Laws.{strings-adding, names-adding, holds-number, number-entry, holds-name-number, name-number-entry}
+use Rattle.tables.specs.Rows.{place}
+use Rattle.tables.proofs.EntryLaws.{entry-made}
+use Rattle.tables.proofs.Adding.{extended, sameNames, strings-adding, names-adding, strings-adding-name, names-adding-name}
+use Rattle.tables.proofs.Laws.{holds-number, number-entry, holds-name-number, name-number-entry}
 use Rattle.write_names.specs.Choices.{worthAdding}
 use Rattle.write_names.specs.Chosen.{Chose, chooseId, chooseOptional, chooseName, chooseLiteral, chooseValue}
 use Rattle.tables.proofs.Found.{clash, both-true}
 use Rattle.theorems.specs.Permitted.{PermitsId, id-new, id-entry, PermitsIfAny, not-there, there, PermitsString, string-spelled, string-entry, PermitsValue, value-none, value-spelled, value-entry, PermitsName, name-parts, name-entry}
-use Rattle.theorems.proofs.Growing.{names-adding-name, strings-adding-name}
 
 -- ---- tables grow, and stay within the limits
 pub record Grows {S T : Type 0} (v : Vocabulary S) (w : Vocabulary T) : Type 0 where
@@ -104,9 +103,9 @@ abbrev IdCase : StringTable → Vocabulary Octets → Octets → Chose How → T
 IdCase t v x c = PermitsId t v x (c .how) (c .number) (c .tables)
 
 -- what a number other than 0 says
-found : (t : StringTable) (v : Vocabulary Octets) (x : Octets) (n : ℕ) → numberIn (strings v t) x ≡ suc n → Entry (strings v t) n [] x
+found : (t : StringTable) (v : Vocabulary Octets) (x : Octets) (n : ℕ) → numberIn (strings v t) x ≡ suc n → Entry (strings v t) n x
 found t v x n e =
-    let en = rw e at (number-entry (strings v t) [] x (λ z. absurd (omega arith))) in
+    let en = rw e at (number-entry (strings v t) x (λ z. absurd (omega arith))) in
     let y : suc n - 1 ≡ n = omega arith in
     rw y at en
 
@@ -126,7 +125,7 @@ id-grows {t} {v} {x = x} (id-new h) = adding-grows v t x
 
 module _ (L : Version) (small : L .entries ≤ top) where
   pub id-rule : {t : StringTable} {v w : Vocabulary Octets} {x : Octets} {h : How} {n : ℕ} → Spelling x → InLimits L w → PermitsId t v x h n w → Identifying L t v x h n (idOctets x h) w
-  id-rule {t} {v} sp f (id-entry {k = j} en) = let a = f .few t in let h = en .made in id-numbered {k = j} (omega arith) en
+  id-rule {t} {v} sp f (id-entry {k = j} en) = let a = f .few t in let h = entry-made en in id-numbered {k = j} (omega arith) en
   id-rule {t} {v} {x = x} sp f (id-new h) = let o = one-longer v t x in let a = f .few t in id-spelled sp h (omega arith)
 
 -- one that may be absent
@@ -155,7 +154,7 @@ module _ (L : Version) (small : L .entries ≤ top) where
 
 -- ---- C.14, C.15
 pub data LiteralCase (L : Version) (t : StringTable) (v : Vocabulary Octets) (x : Octets) : Chose How → Type 0 where
-  lit-held : {j : ℕ} → Entry (strings v t) j [] x → LiteralCase L t v x (record { how = numbered (suc j); number = suc j; tables = v })
+  lit-held : {j : ℕ} → Entry (strings v t) j x → LiteralCase L t v x (record { how = numbered (suc j); number = suc j; tables = v })
   lit-new : {added : Bool} → (added ≡ true → length (strings v t) < L .entries) → LiteralCase L t v x (record { how = spelled added; number = 0; tables = keeping added v t x })
 
 module _ (L : Version) (t : StringTable) (v : Vocabulary Octets) (x : Octets) where
@@ -190,7 +189,7 @@ module _ (L : Version) (small : L .entries ≤ top) where
       → PermitsString t v x h w → Literal L q t v x h (literalOctets q x h) w
   literal-rule {t = t} big sp f (string-entry {k = j} en) =
       let a = f .few t in
-      let h = en .made in
+      let h = entry-made en in
       literal-numbered {k = j} (omega arith) (omega arith) en
   literal-rule {t = t} {v = v} {x = x} big sp f (string-spelled added) = literal-spelled sp (had-room added v t x f)
 
@@ -229,17 +228,18 @@ module _ (L : Version) (small : L .entries ≤ top) where
   value-rule {t} {v} {x = x} sp f (value-spelled added long) = value (literal-spelled (sp long) (had-room L small added v t x f))
   value-rule {t} sp f (value-entry {k = j} en) =
       let a = f .few t in
-      let h = en .made in
+      let h = entry-made en in
       value (literal-numbered {k = j} (omega arith) (omega arith) en)
 
 -- ---- names: the numbers of a triple are of entries that are there
 pub record InRange {S : Type 0} (v : Vocabulary S) (x : Triple) : Type 0 where
   pub prefix : x .prefix ≤ length (strings v PREFIX)
   pub namespace : x .namespace ≤ length (strings v NAMESPACE-NAME)
+  pub some-local : 0 < x .local
   pub local : x .local ≤ length (strings v LOCAL-NAME)
 
 abbrev pub Ranged : {S : Type 0} → Vocabulary S → Type 0
-Ranged v = (t : NameTable) (k : ℕ) → k < length (names v t) → InRange v (getD (names v t) k noTriple)
+Ranged v = (t : NameTable) (k : ℕ) (x : Triple) → Entry (names v t) k x → InRange v x
 
 pub in-range-on : {S : Type 0} {v w : Vocabulary S} {x : Triple} → Grows v w → InRange v x → InRange w x
 in-range-on g r =
@@ -249,29 +249,24 @@ in-range-on g r =
     let d = g .strings-grow PREFIX in
     let e = g .strings-grow NAMESPACE-NAME in
     let f = g .strings-grow LOCAL-NAME in
-    record { prefix = omega arith; namespace = omega arith; local = omega arith }
+    record { prefix = omega arith; namespace = omega arith; some-local = r .some-local; local = omega arith }
 
 -- more strings, the same names
 pub ranged-on : {S : Type 0} {v w : Vocabulary S} → Grows v w → ((t : NameTable) → names w t ≡ names v t) → Ranged v → Ranged w
-ranged-on {v = v} {w = w} g same-names r t k h =
-    let e = same-names t in
-    let l = ap length e in
-    rw e (in-range-on g (r t k (omega arith)))
+ranged-on g same-names r t k x e = in-range-on g (r t k x (rw (same-names t) at e))
 
-extended-last : (b : Bool) (l : List Triple) (x : Triple) (k : ℕ) → k < length (extended b l x) → (k < length l → getD (extended b l x) k noTriple ≡ getD l k noTriple) × (length l ≤ k → getD (extended b l x) k noTriple ≡ x)
-extended-last true l x k h =
-    let a = length-append l (x ∷ []) in
-    (λ y. List·getD-append l (x ∷ []) noTriple k y, λ y. let z : k ≡ length l = omega arith in rw z (getD-append-seam l x [] noTriple))
-extended-last false l x k h = (λ y. refl, λ y. absurd (omega arith))
+-- what holds of a table's entries and of one more
+of-extended : {A : Type 0} {P : A → Type 0} (b : Bool) (l : List A) (x : A) → ((k : ℕ) (y : A) → Entry l k y → P y) → P x → (k : ℕ) (y : A) → Entry (extended b l x) k y → P y
+of-extended false l x f p k y e = f k y e
+of-extended true [] x f p k y first = p
+of-extended true (z ∷ l) x f p k y first = f 0 z first
+of-extended true (z ∷ l) x f p k y (later {k = j} e) = of-extended true l x (λ i w u. f (suc i) w (later u)) p j y e
 
 -- one name more
 pub ranged-name : {S : Type 0} {v : Vocabulary S} (t : NameTable) (x : Triple) → InRange v x → Ranged v → Ranged (addingName v t x)
-ranged-name {v = v} t x i r u k h =
+ranged-name {v = v} t x i r u k y e =
     let g = adding-name-grows v t x in
-    let e = names-adding-name v t x u in
-    let l = ap length e in
-    let c = extended-last (sameNames t u) (names v u) x k (omega arith) in
-    rw e (case k (length (names v u)) (λ y. rw (c .0 y) (in-range-on g (r u k y))) (λ y. rw (c .1 y) (in-range-on g i)))
+    of-extended {P = InRange (addingName v t x)} (sameNames t u) (names v u) x (λ j z h. in-range-on g (r u j z h)) (in-range-on g i) k y (rw (names-adding-name v t x u) at e)
 
 same-names-longer : (t : NameTable) (l : List Triple) (x : Triple) → length (extended (sameNames t t) l x) ≡ suc (length l)
 unfolding sameNames
@@ -301,24 +296,25 @@ value-names (value-entry en) u = refl
 
 -- the number is in range of the table then
 id-number : {t : StringTable} {v w : Vocabulary Octets} {x : Octets} {h : How} {n : ℕ} → PermitsId t v x h n w → n ≤ length (strings w t)
-id-number (id-entry en) = en .made
+id-number (id-entry en) = entry-made en
 id-number {t} {v} {x = x} (id-new h) = let o = one-longer v t x in omega arith
 
 optional-number : {t : StringTable} {v w : Vocabulary Octets} {x : Option Octets} {h : Option How} {n : ℕ} → PermitsIfAny t v x h n w → n ≤ length (strings w t)
 optional-number not-there = omega arith
 optional-number (there c) = id-number c
 
+id-some : {t : StringTable} {v w : Vocabulary Octets} {x : Octets} {h : How} {n : ℕ} → PermitsId t v x h n w → 0 < n
+id-some (id-entry en) = omega arith
+id-some (id-new h) = omega arith
+
 -- a number of the table before is that of a string which was held
-id-was : {t : StringTable} {v w : Vocabulary Octets} {x : Octets} {h : How} {n : ℕ} → PermitsId t v x h n w → n ≤ length (strings v t)
-    → (w ≡ v) × (getD (strings v t) (n - 1) [] ≡ x)
-id-was (id-entry {k = j} en) r = let z : suc j - 1 ≡ j = omega arith in (refl, rw z (en .is))
+id-was : {t : StringTable} {v w : Vocabulary Octets} {x : Octets} {h : How} {n : ℕ} → PermitsId t v x h n w → n ≤ length (strings v t) → (w ≡ v) × Behind (strings v t) n (some x)
+id-was (id-entry en) r = (refl, an-entry en)
 id-was (id-new h) r = absurd (omega arith)
 
-optional-was : {t : StringTable} {v w : Vocabulary Octets} {x : Option Octets} {h : Option How} {n : ℕ} → PermitsIfAny t v x h n w → n ≤ length (strings v t)
-    → (w ≡ v) × (partOf (strings v t) [] n ≡ x)
-optional-was not-there r = (refl, refl)
-optional-was (there (id-entry en)) r = (refl, ap (λ (y : Octets). some y) (en .is))
-optional-was (there (id-new h)) r = absurd (omega arith)
+optional-was : {t : StringTable} {v w : Vocabulary Octets} {x : Option Octets} {h : Option How} {n : ℕ} → PermitsIfAny t v x h n w → n ≤ length (strings v t) → (w ≡ v) × Behind (strings v t) n x
+optional-was not-there r = (refl, nothing)
+optional-was (there c) r = id-was c r
 
 -- ---- a name is held, or comes in parts
 module _ (t : NameTable) (v : Vocabulary Octets) (x : Name Octets) where
@@ -344,16 +340,16 @@ module _ (t : NameTable) (v : Vocabulary Octets) (x : Name Octets) where
   triple = record { prefix = p .number; namespace = n .number; local = l .number }
 
   pub data NameCase : Chose NameHow → Type 0 where
-    name-held : {j : ℕ} → Entry (names v t) j noTriple triple → nameOf v [] triple ≡ x → NameCase (record { how = byNumber (suc j); number = suc j; tables = v })
+    name-held : {j : ℕ} → Entry (names v t) j triple → Means v triple x → NameCase (record { how = byNumber (suc j); number = suc j; tables = v })
     name-new : holdsName (names (l .tables) t) triple ≡ false
         → NameCase (record { how = inParts (p .how) (n .how) (l .how); number = suc (length (names (l .tables) t)); tables = addingName (l .tables) t triple })
 
   no-names : (u : NameTable) → names (l .tables) u ≡ names v u
   no-names u = id-names cl u ∙ optional-names cn u ∙ optional-names cp u
 
-  -- parts with numbers of the tables before: the name behind the triple is the name
-  name-was : InRange v triple → nameOf v [] triple ≡ x
-  unfolding nameOf strings
+  -- parts with numbers of the tables before: the triple names the name
+  name-was : InRange v triple → Means v triple x
+  unfolding strings
   name-was r =
       let a = optional-was cp (r .prefix) in
       let n1 = subst (λ (w : Vocabulary Octets). n .number ≤ length (strings w NAMESPACE-NAME)) (sym (a .0)) (r .namespace) in
@@ -361,9 +357,11 @@ module _ (t : NameTable) (v : Vocabulary Octets) (x : Name Octets) where
       let e : n .tables ≡ v = b .0 ∙ a .0 in
       let l1 = subst (λ (w : Vocabulary Octets). l .number ≤ length (strings w LOCAL-NAME)) (sym e) (r .local) in
       let c = id-was cl l1 in
-      let b1 = subst (λ (w : Vocabulary Octets). partOf (strings w NAMESPACE-NAME) [] (n .number) ≡ x .namespace) (a .0) (b .1) in
-      let c1 = subst (λ (w : Vocabulary Octets). getD (strings w LOCAL-NAME) (l .number - 1) [] ≡ x .local) e (c .1) in
-      λ i. record { prefix = a .1 i; namespace = b1 i; local = c1 i }
+      record {
+        prefix = a .1;
+        namespace = subst (λ (w : Vocabulary Octets). Behind (strings w NAMESPACE-NAME) (n .number) (x .namespace)) (a .0) (b .1);
+        local = subst (λ (w : Vocabulary Octets). Behind (strings w LOCAL-NAME) (l .number) (some (x .local))) e (c .1);
+      }
 
   name-from : Ranged v → (k : ℕ) → numberOfTriple (names (l .tables) t) triple ≡ k
       → NameCase (pick (eqb k 0)
@@ -371,25 +369,24 @@ module _ (t : NameTable) (v : Vocabulary Octets) (x : Name Octets) where
       (record { how = byNumber k; number = k; tables = v }))
   name-from r zero e = name-new (holds-name-number (names (l .tables) t) triple ∙ ap (λ (k : ℕ). not (eqb k 0)) e)
   name-from r (suc m) e =
-      let en = rw e at (name-number-entry (names (l .tables) t) noTriple triple (λ z. absurd (omega arith))) in
+      let en = rw e at (name-number-entry (names (l .tables) t) triple (λ z. absurd (omega arith))) in
       let y : suc m - 1 ≡ m = omega arith in
       let no = no-names t in
-      let here : Entry (names v t) m noTriple triple = rw (y, no) at en in
-      let h = here .made in
-      rw (ne-eqb (suc m) 0 (λ u. omega arith)) (name-held {j = m} here (name-was (rw (here .is) at (r t m h))))
+      let here : Entry (names v t) m triple = rw (y, no) at en in
+      rw (ne-eqb (suc m) 0 (λ u. omega arith)) (name-held {j = m} here (name-was (r t m triple here)))
 
   pub name-case : Ranged v → NameCase (chooseName t v x)
   unfolding chooseName
   name-case r = name-from r (numberOfTriple (names (l .tables) t) triple) refl
 
   pub name-permits : {c : Chose NameHow} → NameCase c → PermitsName t v x (c .how) (c .tables)
-  name-permits (name-held {j = j} en e) = subst (λ (y : Name Octets). PermitsName t v y (byNumber (suc j)) v) e (name-entry en)
+  name-permits (name-held en m) = name-entry en m
   name-permits (name-new h) = name-parts cp cn cl h
 
 -- ---- a permitted name
 pub name-grows : {t : NameTable} {v w : Vocabulary Octets} {x : Name Octets} {h : NameHow} → PermitsName t v x h w → Grows v w
 name-grows {t} (name-parts {v₃ = v₃} up un ul new) = grows-on (optional-grows up) (grows-on (optional-grows un) (grows-on (id-grows ul) (adding-name-grows v₃ t _)))
-name-grows {v = v} (name-entry en) = same-size v
+name-grows {v = v} (name-entry en m) = same-size v
 
 pub name-ranged : {t : NameTable} {v w : Vocabulary Octets} {x : Name Octets} {h : NameHow} → PermitsName t v x h w → Ranged v → Ranged w
 name-ranged {t} (name-parts up un ul new) r =
@@ -398,9 +395,9 @@ name-ranged {t} (name-parts up un ul new) r =
     let c = id-number ul in
     let d = grows-on (optional-grows un) (id-grows ul) .strings-grow PREFIX in
     let e = id-grows ul .strings-grow NAMESPACE-NAME in
-    ranged-name t _ (record { prefix = omega arith; namespace = omega arith; local = c })
+    ranged-name t _ (record { prefix = omega arith; namespace = omega arith; some-local = id-some ul; local = c })
     (ranged-on (grows-on (optional-grows up) (grows-on (optional-grows un) (id-grows ul))) (λ u. id-names ul u ∙ optional-names un u ∙ optional-names up u) r)
-name-ranged (name-entry en) r = r
+name-ranged (name-entry en m) r = r
 
 -- what can be said of a name's strings
 pub record NameSaid (x : Name Octets) : Type 0 where
@@ -411,10 +408,10 @@ pub record NameSaid (x : Name Octets) : Type 0 where
 
 module _ (L : Version) (small : L .entries ≤ top) (q : NameLayout) (big : top ≤ sizes (q .numberForms)) (lead : ℕ) where
   pub name-rule : {v w : Vocabulary Octets} {x : Name Octets} {h : NameHow} → NameSaid x → InLimits L w → PermitsName (q .table) v x h w → Named L q lead v x h (nameOctets q lead x h) w
-  name-rule s f (name-entry {k = j} en) =
+  name-rule s f (name-entry {k = j} en m) =
       let a = f .few-names (q .table) in
-      let h = en .made in
-      by-number {k = j} (omega arith) (omega arith) en
+      let h = entry-made en in
+      by-number {k = j} (omega arith) (omega arith) en m
   name-rule s f (name-parts {kp = kp} {kn = kn} {kl = kl} {v₃ = w} up un ul new) =
       let y : Triple = record { prefix = kp; namespace = kn; local = kl } in
       let fl = fits-before (adding-name-grows w (q .table) y) f in

@@ -3,7 +3,7 @@
 use Prim.Native.Nat.{ℕ, _+_, _-_, _*_, _/_, _%_, _≤_, _<_}
 use mathlib.Core.Path.{_≡_, sym, ap, _∙_, subst, subst₂}
 use mathlib.Core.Logic.{_↔_}
-use mathlib.Core.List.{List, [], _++_, map}
+use mathlib.Core.List.{List, _++_, map}
 use native.Mathlib.Omega.{arith}
 use lib.ListN.{length, getD, length-map}
 use Rattle.format.specs.Octets.{Octets, Halves, AreOctets}
@@ -11,13 +11,13 @@ use Rattle.format.specs.Numbers.{top, longest}
 use Rattle.format.specs.Characters.{IsText}
 use Rattle.format.specs.Events as E
 use Rattle.format.specs.Events.{Item, IsDocument, stringsOf}
-use Rattle.format.specs.Tables.{Vocabulary, strings, xmlPrefix, xmlNamespace, Version, standard}
+use Rattle.format.specs.Tables.{Vocabulary, starting, xmlPrefix, xmlNamespace, Version, standard}
 use Rattle.format.specs.Items.{State}
 use Rattle.format.specs.Document.{beginning, knownAfter, Document, header, started}
-use Rattle.format.specs.Uses.{acts, Known, MadeBy}
+use Rattle.format.specs.Uses.{acts, after, Known, Holds}
 use Rattle.format.specs.Allowed.{All, Allowed}
 use Rattle.fields.proofs.Characters.{one-list}
-use Rattle.tables.specs.Located.{Located, empty, plain, plainState, start}
+use Rattle.tables.specs.Located.{Located, builtInPrefix, builtInNamespace, plain, plainState, start}
 use Rattle.read_items.specs.Items.{Stand}
 use Rattle.reader.specs.Reading.{accepted, refusal, Mark, run, onward, opening, origin, fuelOf, reading, marks, numberOf, checkOf, Accepts}
 use Rattle.events.specs.declared.Event.{Event}
@@ -81,13 +81,13 @@ room-enough L s room h = Whole.long-enough L s room h
 
 -- 4. MADE EARLIER: every number, save the 0 of the empty string, is, when it is used, that of an entry made earlier in the document or built in; and the
 --    entry is the very string, or the whole name, that the event says.
-pub made-earlier : (L : Version) (items : List (Item Octets)) (z : State Octets) (s : Octets) → Document L items z s → Known [] (strings (started L)) (λ t. []) (acts [] items)
+pub made-earlier : (L : Version) (items : List (Item Octets)) (z : State Octets) (s : Octets) → Document L items z s → Known (starting L xmlPrefix xmlNamespace) (acts items)
 made-earlier L items z s w = Before.earlier L xmlPrefix xmlNamespace (document-done w)
 
 --    PLACES: in what the reader hands out, the string behind a number has the very place and length of the entry made earlier, or is built in; so each part of a
 --    name behind a number.
 pub made-earlier-places : (L : Version) (s : Octets) (room : ℕ) (events : List (Item Located)) (last : Stand) → reading L s room ≡ accepted events last
-    → Known empty (strings (start L)) (λ t. []) (acts empty events)
+    → Known (starting L builtInPrefix builtInNamespace) (acts events)
 made-earlier-places L s room events last e = Places.earlier-places L s room events last e
 
 --    SPELLED: the strings that the choices spell have, in order, the very places and lengths at which the rules write them.
@@ -97,11 +97,11 @@ spelled-places L items z s w room h events last e = Whole.spelled-is L s items z
 
 --    MADE: the tables at the end hold the built-in entries, then what the choices of the items make, in order, and nothing else; and the reader's tables have the
 --    very places that its events have.
-pub tables-made : (L : Version) (items : List (Item Octets)) (z : State Octets) (s : Octets) → Document L items z s → MadeBy [] (started L) (acts [] items) (z .tables)
+pub tables-made : (L : Version) (items : List (Item Octets)) (z : State Octets) (s : Octets) → Document L items z s → Holds (z .tables) (after (starting L xmlPrefix xmlNamespace) (acts items))
 tables-made L items z s w = Before.made L xmlPrefix xmlNamespace (document-done w)
 
 pub tables-made-places : (L : Version) (s : Octets) (room : ℕ) (events : List (Item Located)) (last : Stand) → reading L s room ≡ accepted events last
-    → MadeBy empty (start L) (acts empty events) (last .state .tables)
+    → Holds (last .state .tables) (after (starting L builtInPrefix builtInNamespace) (acts events))
 tables-made-places L s room events last e = Places.made-places L s room events last e
 
 -- 5. TABLES: what the reader knows after each event is what the rules know then.

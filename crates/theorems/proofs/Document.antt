@@ -18,12 +18,18 @@ use Rattle.theorems.specs.Bounded.{Bounded}
 use Rattle.theorems.specs.Places.{allSpelled, spelledIn}
 use Rattle.theorems.proofs.Lists.{Refusal, halves-append, halves-length, halves-drop, halves-complete, drop-past}
 use Rattle.theorems.proofs.Words.{starting-map}
-use Rattle.theorems.proofs.Run.{Right, run-right, fuel-free, NotShort, run-not-short, trace-few, placesOf, room-short, room-enough, Reads, run-complete}
+use Rattle.theorems.proofs.Entries.{ranged-started}
+use Rattle.theorems.proofs.Run.{Inside, Right, run-right, fuel-free, NotShort, run-not-short, trace-few, placesOf, room-short, room-enough, Reads, run-complete}
 use Rattle.theorems.proofs.Opening.{Opened, opening-sound, opening-complete}
 
 pub plain-start : (L : Version) (s : Octets) → plainState s (beginning (start L)) ≡ beginning (started L)
 unfolding beginning start octetsOf
 plain-start L s = λ i. record { tables = starting-map (octetsOf s) L builtInPrefix builtInNamespace i; level = 0; root = false; mode = content }
+
+-- the starting tables hold no triple, so all that they hold is in range
+inside : (L : Version) {s : Octets} (body : ℕ) → 2 * body ≤ 2 * length s → Inside s (origin body (start L))
+unfolding beginning
+inside L {s} body h = record { at = h; ranged = rw (ap (λ (v : State Octets). v .tables) (plain-start L s)) (ranged-started L) }
 
 module _ (L : Version) (ok : Bounded L) (s : Octets) (bytes : AreOctets s) where
   abbrev at : ℕ
@@ -60,13 +66,13 @@ module _ (L : Version) (ok : Bounded L) (s : Octets) (bytes : AreOctets s) where
     unfolding reading
     means =
         opened (λ (o : Opening). Means (resultFrom L s room o))
-        (λ d h l. from-run d h (run L s (fuelOf s) room (origin at (start L))) (run-right L s bytes (brief h) (fuelOf s) room (origin at (start L)) (omega arith))) (λ n p k. k .0)
+        (λ d h l. from-run d h (run L s (fuelOf s) room (origin at (start L))) (run-right L s bytes (brief h) (fuelOf s) room (origin at (start L)) (inside L at (omega arith)))) (λ n p k. k .0)
 
     not-short : length (marks L s) ≤ room → NotShort (reading L s room)
     unfolding reading marks
     not-short =
         opened (λ (o : Opening). length (marksFrom L s o) ≤ room → NotShort (resultFrom L s room o))
-        (λ d h l few. run-not-short L s bytes (brief h) (fuelOf s) room (origin at (start L)) (omega arith) few) (λ n p k few. k .1)
+        (λ d h l few. run-not-short L s bytes (brief h) (fuelOf s) room (origin at (start L)) (inside L at (omega arith)) few) (λ n p k few. k .1)
 
     -- the number that comes back then
     never-14 : (a : Result) → Means a → NotShort a → numberOf a % 32 ≡ 14 → ⊥
@@ -81,7 +87,7 @@ module _ (L : Version) (ok : Bounded L) (s : Octets) (bytes : AreOctets s) where
   unfolding marks beginning
   marks-few =
       opened (λ (o : Opening). length (marksFrom L s o) ≤ 4 * (L .octets - length (header L)) / 3)
-      (λ d h l. let t = trace-few L s bytes (brief h) (fuelOf s) (origin at (start L)) (omega arith) in omega arith) (λ n p k. omega arith)
+      (λ d h l. let t = trace-few L s bytes (brief h) (fuelOf s) (origin at (start L)) (inside L at (omega arith)) in omega arith) (λ n p k. omega arith)
 
   pub more-fuel : (more room body : ℕ) (tables : Vocabulary Located) → opening L s ≡ onward body tables → run L s (more + fuelOf s) room (origin body tables) ≡ run L s (fuelOf s) room (origin body tables)
   unfolding beginning
@@ -90,7 +96,7 @@ module _ (L : Version) (ok : Bounded L) (s : Octets) (bytes : AreOctets s) where
       (λ d h l q.
       let b : at ≡ body = cc in
       let w : start L ≡ tables = cc in
-      rw (← b, ← w) (fuel-free L s bytes (brief h) (fuelOf s) more room (origin at (start L)) (omega arith) (omega arith)))
+      rw (← b, ← w) (fuel-free L s bytes (brief h) (fuelOf s) more room (origin at (start L)) (inside L at (omega arith)) (omega arith)))
       (λ n p k q. absurd (let y : _≡_ {A = ℕ} 0 1 = cc in omega arith)) e
 
 module _ (L : Version) (s : Octets) where

@@ -1,6 +1,7 @@
 -- What each item does with the tables, whatever a string is: its octets, in the rules; where it stands, in the reading definition. Both lead to this, and what
 -- follows from it is proved once for both: what a number names was made earlier (Earlier), and what strings an event can have (Plain).
 use Prim.Native.Nat.{ℕ, suc, _≤_}
+use mathlib.Core.Path.{subst}
 use mathlib.Core.Bool.{Bool, true}
 use mathlib.Core.Option.{Option, none, some}
 use mathlib.Core.List.{List, [], _∷_}
@@ -9,19 +10,21 @@ use Rattle.format.specs.Octets.{Octets, Halves}
 use Rattle.format.specs.Events.{Name, Namespace, Start, Attribute, Text, Comment, Instruction, End, How, spelled, numbered, NameHow, inParts, byNumber}
 use Rattle.format.specs.Events.{forNamespace, forStart, forAttribute, forText, forComment, forInstruction, forEnd, Item, _by_}
 use Rattle.format.specs.Tables.{StringTable, PREFIX, NAMESPACE-NAME, LOCAL-NAME, OTHER-NCNAME, ATTRIBUTE-VALUE, CONTENT-CHARACTER-CHUNK, OTHER-STRING}
-use Rattle.format.specs.Tables.{NameTable, ELEMENT-NAME, ATTRIBUTE-NAME, Triple, noTriple, Vocabulary, strings, names, adding, addingName, Entry, nameOf, Version}
+use Rattle.format.specs.Tables.{NameTable, ELEMENT-NAME, ATTRIBUTE-NAME, Triple, Vocabulary, strings, names, adding, addingName, Entry, Version}
 use Rattle.format.specs.Strings.{keeping, Identifying, id-spelled, id-numbered, Optional, absent, present, Layout, Literal, literal-spelled, literal-numbered, Value, value-empty, value}
 use Rattle.format.specs.Names.{has, NameLayout, ofElement, ofAttribute, Named, in-parts, by-number, Declared, declared}
 use Rattle.format.specs.Items.{State, ItemWrittenAs, o-start, o-first-namespace, o-namespace, o-named-start, o-attribute, o-text, o-comment, o-instruction}
 use Rattle.format.specs.Document.{beginning, Written, document-end, attributes-end, element-end, item, Document, started}
 use Rattle.format.specs.Allowed.{Said}
+use Rattle.read_names.specs.Names.{nameOf}
+use Rattle.theorems.proofs.Triples.{means-is}
 
 -- d is the empty string; Spelt says what strings can be spelled. `IdDone t v x h n w`: where v is known, x is written as h says, n is its number in table t,
 -- and w is known then; so for the others.
 module _ {S : Type 0} (d : S) (Spelt : S → Type 0) where
   pub data IdDone (t : StringTable) (v : Vocabulary S) : S → How → ℕ → Vocabulary S → Type 0 where
     id-made : {x : S} → Spelt x → IdDone t v x (spelled true) (suc (length (strings v t))) (adding v t x)
-    id-used : {x : S} {k : ℕ} → Entry (strings v t) k d x → IdDone t v x (numbered (suc k)) (suc k) v
+    id-used : {x : S} {k : ℕ} → Entry (strings v t) k x → IdDone t v x (numbered (suc k)) (suc k) v
 
   pub data PartDone (t : StringTable) (v : Vocabulary S) : Option S → Option How → ℕ → Vocabulary S → Type 0 where
     no-part : PartDone t v none none 0 v
@@ -29,7 +32,7 @@ module _ {S : Type 0} (d : S) (Spelt : S → Type 0) where
 
   pub data StringDone (t : StringTable) (v : Vocabulary S) : S → How → Vocabulary S → Type 0 where
     string-made : {x : S} (added : Bool) → Spelt x → StringDone t v x (spelled added) (keeping added v t x)
-    string-used : {x : S} {k : ℕ} → Entry (strings v t) k d x → StringDone t v x (numbered (suc k)) v
+    string-used : {x : S} {k : ℕ} → Entry (strings v t) k x → StringDone t v x (numbered (suc k)) v
 
   pub data ValueDone (t : StringTable) (v : Vocabulary S) : S → How → Vocabulary S → Type 0 where
     empty-value : ValueDone t v d (numbered 0) v
@@ -39,7 +42,7 @@ module _ {S : Type 0} (d : S) (Spelt : S → Type 0) where
     name-made : {p n : Option S} {l : S} {hp hn : Option How} {hl : How} {kp kn kl : ℕ} {v₁ v₂ v₃ : Vocabulary S} → has p ≤ has n
         → PartDone PREFIX v p hp kp v₁ → PartDone NAMESPACE-NAME v₁ n hn kn v₂ → IdDone LOCAL-NAME v₂ l hl kl v₃
         → NameDone t v (record { prefix = p; namespace = n; local = l }) (inParts hp hn hl) (addingName v₃ t (record { prefix = kp; namespace = kn; local = kl }))
-    name-used : {k : ℕ} {x : Triple} → Entry (names v t) k noTriple x → NameDone t v (nameOf v d x) (byNumber (suc k)) v
+    name-used : {k : ℕ} {x : Triple} → Entry (names v t) k x → NameDone t v (nameOf v d x) (byNumber (suc k)) v
 
   pub data ItemDone (v : Vocabulary S) : Item S → Vocabulary S → Type 0 where
     done-namespace : {p n : Option S} {hp hn : Option How} {kp kn : ℕ} {v₁ w : Vocabulary S} → PartDone PREFIX v p hp kp v₁ → PartDone NAMESPACE-NAME v₁ n hn kn w
@@ -79,7 +82,7 @@ module _ {L : Version} where
   name-done : {q : NameLayout} {lead : ℕ} {v w : Vocabulary Octets} {x : Name Octets} {h : NameHow} {o : Octets}
       → Named L q lead v x h o w → NameDone [] Said (q .table) v x h w
   name-done (in-parts lone up un ul new room) = name-made lone (part-done up) (part-done un) (id-done ul)
-  name-done (by-number small fits en) = name-used en
+  name-done {q} {v = v} (by-number {k = k} small fits en m) = subst (λ (y : Name Octets). NameDone [] Said (q .table) v y (byNumber (suc k)) v) (means-is [] m) (name-used en)
 
   namespace-done : {v w : Vocabulary Octets} {p n : Option Octets} {hp hn : Option How} {o : Octets}
       → Declared L v p n hp hn o w → ItemDone [] Said v (Namespace p n by forNamespace hp hn) w

@@ -8,17 +8,19 @@ use native.Mathlib.Omega.{arith}
 use lib.Dec.{eqb}
 use lib.ListN.{length, length-append}
 use Rattle.format.specs.Octets.{Octets}
+use Rattle.format.specs.Numbers.{pick}
 use Rattle.format.specs.Events.{Name, Event, How, NameHow, Choice, Item}
-use Rattle.format.specs.Tables.{StringTable, PREFIX, NAMESPACE-NAME, LOCAL-NAME, OTHER-NCNAME, OTHER-URI, ATTRIBUTE-VALUE, CONTENT-CHARACTER-CHUNK, OTHER-STRING, NameTable, ELEMENT-NAME, ATTRIBUTE-NAME, Vocabulary, strings, names, place, extended, adding, starting, Version, InLimits, xmlPrefix, xmlNamespace}
+use Rattle.format.specs.Tables.{StringTable, PREFIX, NAMESPACE-NAME, LOCAL-NAME, OTHER-NCNAME, OTHER-URI, ATTRIBUTE-VALUE, CONTENT-CHARACTER-CHUNK, OTHER-STRING, NameTable, ELEMENT-NAME, ATTRIBUTE-NAME, Vocabulary, strings, names, adding, starting, Version, InLimits, xmlPrefix, xmlNamespace}
 use Rattle.format.specs.Strings.{bit, keeping}
 use Rattle.format.specs.Document.{started}
-use Rattle.format.specs.Uses.{sameNames}
 use Rattle.fields.proofs.Laws.{case}
-use Rattle.tables.proofs.Laws.{strings-adding}
+use Rattle.tables.specs.Rows.{place}
+use Rattle.tables.proofs.EntryLaws.{entry-made}
+use Rattle.tables.proofs.Adding.{extended, sameNames, strings-adding, strings-adding-name, names-adding-name}
 use Rattle.write_names.specs.Chosen.{chooseFor, chosen, tablesAfter}
 use Rattle.theorems.specs.Permitted.{PermitsId, id-new, id-entry, PermitsIfAny, not-there, there, PermitsString, string-spelled, string-entry, PermitsValue, value-none, value-spelled, value-entry}
 use Rattle.theorems.specs.Permitted.{PermitsName, name-parts, name-entry, Permits, a-declaration, a-start, an-attribute, a-chunk, a-comment, an-instruction, an-end, PermitsAll, no-item, an-item}
-use Rattle.theorems.proofs.Growing.{strings-adding-name, names-adding-name, extended-few}
+use Rattle.theorems.proofs.Growing.{extended-few}
 use Rattle.theorems.proofs.Documents.{events}
 use Rattle.theorems.proofs.Chosen.{Grows, same-size, grows-on, Ranged, id-names, optional-names, literal-names, value-names}
 use Rattle.theorems.proofs.Produced.{permits-for, permits-grows, ranged-for}
@@ -59,7 +61,7 @@ module _ (u : StringTable) where
 
   name-adds : {t : NameTable} {v w : Vocabulary Octets} {x : Name Octets} {h : NameHow} → PermitsName t v x h w
       → length (strings w u) ≤ length (strings v u) + own PREFIX u + own NAMESPACE-NAME u + own LOCAL-NAME u
-  name-adds (name-entry en) = omega arith
+  name-adds (name-entry en m) = omega arith
   name-adds (name-parts up un ul new) = let a = optional-adds up in let b = optional-adds un in let c = id-adds ul in rw strings-adding-name (omega arith)
 
 -- no event adds to one table twice
@@ -89,7 +91,7 @@ strings-for (an-instruction x y) u = let a = id-adds u x in let b = value-adds u
 strings-for an-end u = omega arith
 
 name-more : {t : NameTable} {v w : Vocabulary Octets} {x : Name Octets} {h : NameHow} (u : NameTable) → PermitsName t v x h w → length (names w u) ≤ length (names v u) + 1
-name-more u (name-entry en) = omega arith
+name-more u (name-entry en m) = omega arith
 name-more {t} {v} u (name-parts up un ul new) =
     let a = ap length (id-names ul u ∙ optional-names un u ∙ optional-names up u) in
     rw names-adding-name (extended-few (sameNames t u) (length (names v u) + 1) _ _ (omega arith) (λ e. omega arith))
@@ -129,7 +131,7 @@ chosen-events C v [] = refl
 chosen-events C v (e ∷ es) = ap (λ (l : List (Event Octets)). e ∷ l) (chosen-events C (chooseFor C v e .tables) es)
 
 -- ---- from the tables with which every document starts
-at-most-one : (b : Bool) (x : Octets) → length (extended b [] x) ≤ 1
+at-most-one : (b : Bool) (x : Octets) → length (pick b (x ∷ []) []) ≤ 1
 at-most-one true x = omega arith
 at-most-one false x = omega arith
 
@@ -150,7 +152,7 @@ none-started L ELEMENT-NAME = refl
 none-started L ATTRIBUTE-NAME = refl
 
 pub ranged-started : (L : Version) → Ranged (started L)
-ranged-started L t k h = absurd (let z = none-started L t in omega arith)
+ranged-started L t k x e = absurd (let z = none-started L t in let h = entry-made e in omega arith)
 
 -- a list that is short enough passes no limit
 pub few-after : (L : Version) {items : List (Item Octets)} {w : Vocabulary Octets} → PermitsAll (started L) items w → length items < L .entries → InLimits L w

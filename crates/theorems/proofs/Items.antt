@@ -2,7 +2,7 @@
 use mathlib.Core.Path.{_≡_, refl, sym, ap, ap₂, _∙_, subst}
 use mathlib.Core.Bool.{Bool, true, false, not, _&&_, _||_}
 use mathlib.Core.Option.{Option, some}
-use mathlib.Core.List.{List, [], _∷_, _++_, append-assoc}
+use mathlib.Core.List.{List, [], _∷_, _++_, append-assoc, append-nil}
 use Prim.Native.Nat.{ℕ, suc, _+_, _-_, _*_, _/_, _%_, _≤_, _<_}
 use native.Mathlib.Omega.{arith}
 use borrow.Author.Tests.{lt-ltb, le-ltb, le-leb, eq-eqb, ne-eqb}
@@ -31,6 +31,7 @@ use Rattle.theorems.specs.Places.{itemSpelled, inItem}
 use Rattle.theorems.proofs.Lists.{Fault, fault, test, test-lt, test-not, either-lt, either-eq, drop-head, drop-past, pick-yes, pick-no}
 use Rattle.theorems.proofs.Fields.{FieldRead, Ok, in-step, Hit}
 use Rattle.theorems.proofs.Strings.{shape15, inside, IdR, id-sound, LiteralR, literal-sound, ValueR, value-sound, id-complete, literal-complete, value-complete}
+use Rattle.theorems.proofs.Chosen.{Ranged}
 use Rattle.theorems.proofs.Names.{element-shape, attribute-shape, NameR, numbered-sound, parts-sound, name-sound, DeclaredR, declared-sound, NameQ, NameHit, hit-numbered, hit-parts, name-complete, declared-complete}
 
 -- ---- the six bits of an element's name
@@ -133,16 +134,16 @@ module _ (L : Version) (s : Octets) (bytes : (i : ℕ) → getD s i 0 < 256) (sh
       took j v k (Namespace (x .prefix) (x .namespace) by forNamespace (x .prefixHow) (x .namespaceHow)) next (moved v w (declaring a)) (pre ++ r .octets)
       (d ∙ ap (λ (l : Octets). pre ++ l) (r .here) ∙ sym (append-assoc pre (r .octets) (drop next s))) (omega arith) (r .inside) kl (f _ _ _ _ _ _ (r .rule))
 
-  element-sound : (a : Bool) (k b : ℕ) (v : State Located) → v .mode ≡ content → getD s k 0 ≡ 64 * bit a + b → b < 64 → k < length s → Took k v (elementAt L s k b a v)
+  element-sound : (a : Bool) (k b : ℕ) (v : State Located) → Ranged (plainTables s (v .tables)) → v .mode ≡ content → getD s k 0 ≡ 64 * bit a + b → b < 64 → k < length s → Took k v (elementAt L s k b a v)
   unfolding elementAt mayStart ofElement
-  element-sound a k b v md z hb h =
+  element-sound a k b v ranged md z hb h =
       let P : Step → Type 0 = Took k v in
       let b1 = one-bit a in
       let kl : k ≤ length s = omega arith in
       test-not P (stop 6 k) (fault s 6 k refl kl) (namePadding b) _
       λ t0. test P (stop 15 k) (fault s 15 k refl kl) (mayStart v) _
       λ t1. either-lt P b 0x38 _ _
-      (λ h1. in-step s P (λ c p f. f) (NameR L s bytes short ofElement (64 * bit a)) k (v .tables) (numberedAt L ofElement s k (v .tables)) (numbered-sound L s bytes short ofElement element-shape (64 * bit a) k (v .tables) kl (omega arith)) _
+      (λ h1. in-step s P (λ c p f. f) (NameR L s bytes short ofElement (64 * bit a)) k (v .tables) (numberedAt L ofElement s k (v .tables)) (numbered-sound L s bytes short ofElement element-shape (64 * bit a) k (v .tables) ranged kl (omega arith)) _
       λ x next w r. test-lt P (stop 13 k) (fault s 13 k refl kl) (v .level) (L .depth) _
       λ t2. start-read a (64 * bit a) k k [] v refl (omega arith) kl (λ x hw os w u. o-start a md t1 t2 u) x next w r)
       λ h1. test-not P (stop 15 k) (fault s 15 k refl kl) (leb 0x3C b && lonePrefix b) _
@@ -155,9 +156,9 @@ module _ (L : Version) (s : Octets) (bytes : (i : ℕ) → getD s i 0 < 256) (sh
       start-sound a (64 * bit a) k k [] v refl (omega arith) kl (λ x hw os w u. o-start a md t1 t2 u) (partsAt L ofElement s b k (v .tables)) (parts-sound L s bytes short ofElement (64 * bit a) b k (v .tables) (omega arith) h))
 
   -- behind F0
-  named-sound : (a : Bool) (k : ℕ) (v : State Located) → v .mode ≡ declaring a → getD s k 0 ≡ 0xF0 → Took k v (namedAt L s (suc k) a v)
+  named-sound : (a : Bool) (k : ℕ) (v : State Located) → Ranged (plainTables s (v .tables)) → v .mode ≡ declaring a → getD s k 0 ≡ 0xF0 → Took k v (namedAt L s (suc k) a v)
   unfolding namedAt ofElement
-  named-sound a k v md e =
+  named-sound a k v ranged md e =
       let P : Step → Type 0 = Took k v in
       let j : ℕ = suc k in
       let o : ℕ = getD s j 0 in
@@ -171,18 +172,18 @@ module _ (L : Version) (s : Octets) (bytes : (i : ℕ) → getD s i 0 < 256) (sh
       λ h2. test-lt P (stop 6 j) (fault s 6 j refl jl) o 0x40 _
       λ h3. test-not P (stop 6 j) (fault s 6 j refl jl) (namePadding o) _
       λ h4. start-sound a 0 j k (0xF0 ∷ []) v d (omega arith) jl rule (nameAt L ofElement s o j (v .tables))
-      (name-sound L s bytes short ofElement element-shape 0 o j (v .tables) (λ y. omega arith) (λ y. omega arith) h1)
+      (name-sound L s bytes short ofElement element-shape 0 o j (v .tables) ranged (λ y. omega arith) (λ y. omega arith) h1)
 
-  attribute-sound : (any : Bool) (k : ℕ) (v : State Located) → k ≤ length s → v .mode ≡ listing any → Took k v (attributeAt L s k v)
+  attribute-sound : (any : Bool) (k : ℕ) (v : State Located) → Ranged (plainTables s (v .tables)) → k ≤ length s → v .mode ≡ listing any → Took k v (attributeAt L s k v)
   unfolding attributeAt eventMap ofAttribute
-  attribute-sound any k v kl md =
+  attribute-sound any k v ranged kl md =
       let P : Step → Type 0 = Took k v in
       let o : ℕ = getD s k 0 in
       test-lt P (stop 2 k) (fault s 2 k refl kl) k (length s) _
       λ h. test-lt P (stop 5 k) (fault s 5 k refl kl) o 0x80 _
       λ h1. test-lt P (stop 6 k) (fault s 6 k refl kl) o 0x7C _
       λ h2. in-step s P (λ c p f. f) (NameR L s bytes short ofAttribute 0) k (v .tables) (nameAt L ofAttribute s o k (v .tables))
-      (name-sound L s bytes short ofAttribute attribute-shape 0 o k (v .tables) (λ y. omega arith) (λ y. omega arith) h) _
+      (name-sound L s bytes short ofAttribute attribute-shape 0 o k (v .tables) ranged (λ y. omega arith) (λ y. omega arith) h) _
       λ x k₁ w₁ r₁. in-step s P (λ c p f. f) (ValueR L s bytes short ATTRIBUTE-VALUE) k₁ w₁ (valueAt L s ATTRIBUTE-VALUE k₁ w₁) (value-sound L s bytes short ATTRIBUTE-VALUE k₁ w₁ (r₁ .inside)) _
       λ y k₂ w₂ r₂.
       let n1 = r₁ .next-is in
@@ -230,25 +231,25 @@ module _ (L : Version) (s : Octets) (bytes : (i : ℕ) → getD s i 0 < 256) (sh
       let P : Step → Type 0 = Took k v in
       either-lt P (getD s k 0) 0xF0 _ _ (λ h. either-eq P (getD s k 0 / 4) (pick (ltb 0 (v .level)) 0x32 0x31) _ _ (λ e. fault s 8 k refl kl) (λ e. fault s 5 k refl kl)) (λ h. fault s 6 k refl kl)
 
-  child-sound : (k : ℕ) (v : State Located) → k ≤ length s → v .mode ≡ content → Took k v (childAt L s k v)
+  child-sound : (k : ℕ) (v : State Located) → Ranged (plainTables s (v .tables)) → k ≤ length s → v .mode ≡ content → Took k v (childAt L s k v)
   unfolding childAt
-  child-sound k v kl md =
+  child-sound k v ranged kl md =
       let o : ℕ = getD s k 0 in
       let P : Step → Type 0 = Took k v in
       test-lt P (stop 2 k) (fault s 2 k refl kl) k (length s) _
-      λ h. either-lt P o 0x40 _ _ (λ h1. element-sound false k o v md (omega arith) h1 h)
-      λ h1. either-lt P o 0x80 _ _ (λ h2. element-sound true k (o - 0x40) v md (omega arith) (omega arith) h)
+      λ h. either-lt P o 0x40 _ _ (λ h1. element-sound false k o v ranged md (omega arith) h1 h)
+      λ h1. either-lt P o 0x80 _ _ (λ h2. element-sound true k (o - 0x40) v ranged md (omega arith) (omega arith) h)
       λ h2. either-lt P o 0xC0 _ _ (λ h3. test-lt P (stop 5 k) (fault s 5 k refl kl) 0 (v .level) _ λ lev. chunk-sound k v kl md lev h2 h3)
       λ h3. either-eq P o 0xE1 _ _ (λ e. instruction-sound k v md e h)
       λ e1. either-eq P o 0xE2 _ _ (λ e. comment-sound k v md e h) (λ e2. other-sound k v kl)
 
-  pub item-sound : (k : ℕ) (v : State Located) (m : Mode) → k ≤ length s → v .mode ≡ m → Took k v (itemAt L s k v m)
+  pub item-sound : (k : ℕ) (v : State Located) (m : Mode) → Ranged (plainTables s (v .tables)) → k ≤ length s → v .mode ≡ m → Took k v (itemAt L s k v m)
   unfolding itemAt declaringAt
-  item-sound k v content kl md = child-sound k v kl md
-  item-sound k v (declaring a) kl md =
-      either-eq (Took k v) (getD s k 0) 0xF0 _ _ (λ e. named-sound a k v md e)
+  item-sound k v content ranged kl md = child-sound k v ranged kl md
+  item-sound k v (declaring a) ranged kl md =
+      either-eq (Took k v) (getD s k 0) 0xF0 _ _ (λ e. named-sound a k v ranged md e)
       (λ e. namespace-sound k k [] v a refl (omega arith) kl (λ p n hp hn os w u. o-namespace md u))
-  item-sound k v (listing any) kl md = attribute-sound any k v kl md
+  item-sound k v (listing any) ranged kl md = attribute-sound any k v ranged kl md
 
 -- ---- what the rules write is read
 module _ (L : Version) (s : Octets) where
@@ -376,7 +377,7 @@ module _ (L : Version) (s : Octets) where
         n = opened v (t .tables) a;
         goes = ap (λ (y : Mode). itemAt L s k v y) md ∙ t .goes;
         what = λ j. Start (t .what .0 j) by forStart (t .what .1 j);
-        spells = t .what .2;
+        spells = rw append-nil (t .what .2);
         state = ap (λ (y : Vocabulary Octets). opened (plainState s v) y a) (t .state);
         some = c .1;
         here = c .2;
@@ -396,7 +397,7 @@ module _ (L : Version) (s : Octets) where
         n = moved v (h .v) (declaring a);
         goes = ap (λ (y : Mode). itemAt L s k v y) md ∙ element-goes a k 0x38 v oc (omega arith) (f .0) ∙ rw (pad, may, lt-ltb (v .level) (L .depth) deep, h .goes, z);
         what = λ j. Namespace (h .what .0 j) (h .what .1 j) by forNamespace (h .what .2 j) (h .what .3 j);
-        spells = h .what .4;
+        spells = rw append-nil (h .what .4);
         state = ap (λ (y : Vocabulary Octets). moved (plainState s v) y (declaring a)) (h .state);
         some = omega arith;
         here = f .0;
@@ -413,7 +414,7 @@ module _ (L : Version) (s : Octets) where
         n = moved v (h .v) (declaring a);
         goes = ap (λ (y : Mode). itemAt L s k v y) md ∙ rw (ne-eqb (getD s k 0) 0xF0 (omega arith), h .goes);
         what = λ j. Namespace (h .what .0 j) (h .what .1 j) by forNamespace (h .what .2 j) (h .what .3 j);
-        spells = h .what .4;
+        spells = rw append-nil (h .what .4);
         state = ap (λ (y : Vocabulary Octets). moved (plainState s v) y (declaring a)) (h .state);
         some = c .4;
         here = c .3;
@@ -430,7 +431,7 @@ module _ (L : Version) (s : Octets) where
         n = opened v (t .tables) a;
         goes = ap (λ (y : Mode). itemAt L s k v y) md ∙ rw (eq-eqb (getD s k 0) 0xF0 (f .1), t .goes, z);
         what = λ j. Start (t .what .0 j) by forStart (t .what .1 j);
-        spells = t .what .2;
+        spells = rw append-nil (t .what .2);
         state = ap (λ (y : Vocabulary Octets). opened (plainState s v) y a) (t .state);
         some = omega arith;
         here = f .0;
@@ -452,7 +453,7 @@ module _ (L : Version) (s : Octets) where
         n = moved v (e .v) (listing true);
         goes = ap (λ (y : Mode). itemAt L s k v y) md ∙ rw (lt-ltb k (length s) (c .2), lt-ltb (getD s k 0) 0x80 (omega arith), lt-ltb (getD s k 0) 0x7C hi, h .goes, e .goes, z);
         what = λ j. Attribute (h .what .0 j) (e .what .0 j) by forAttribute (h .what .1 j) (e .what .1 j);
-        spells = λ j. h .what .2 j ++ e .what .2 j;
+        spells = rw append-nil (λ j. h .what .2 j ++ e .what .2 j);
         state = ap (λ (y : Vocabulary Octets). moved (plainState s v) y (listing true)) (e .state);
         some = omega arith;
         here = c .2;
@@ -467,7 +468,7 @@ module _ (L : Version) (s : Octets) where
         n = knowing v (h .v);
         goes = ap (λ (y : Mode). itemAt L s k v y) md ∙ chunk-goes k v lev (c .low) (c .last) (c .here) ∙ rw (h .goes);
         what = λ j. Text (h .what .0 j) by forText (h .what .1 j);
-        spells = h .what .2;
+        spells = rw append-nil (h .what .2);
         state = ap (λ (y : Vocabulary Octets). knowing (plainState s v) y) (h .state);
         some = c .some;
         here = c .here;
@@ -484,7 +485,7 @@ module _ (L : Version) (s : Octets) where
         n = knowing v (h .v);
         goes = ap (λ (y : Mode). itemAt L s k v y) md ∙ comment-goes k v oc (f .0) ∙ rw (h .goes, z);
         what = λ j. Comment (h .what .0 j) by forComment (h .what .1 j);
-        spells = h .what .2;
+        spells = rw append-nil (h .what .2);
         state = ap (λ (y : Vocabulary Octets). knowing (plainState s v) y) (h .state);
         some = omega arith;
         here = f .0;
@@ -504,7 +505,7 @@ module _ (L : Version) (s : Octets) where
         n = knowing v (e .v);
         goes = ap (λ (y : Mode). itemAt L s k v y) md ∙ instruction-goes k v oc (f .0) ∙ rw (h .goes, e .goes, z);
         what = λ j. Instruction (h .what .0 j) (e .what .0 j) by forInstruction (h .what .1 j) (e .what .1 j);
-        spells = λ j. h .what .3 j ++ e .what .2 j;
+        spells = rw append-nil (λ j. h .what .3 j ++ e .what .2 j);
         state = ap (λ (y : Vocabulary Octets). knowing (plainState s v) y) (e .state);
         some = omega arith;
         here = f .0;

@@ -11,6 +11,7 @@ mod Opening
 mod Document
 mod Fits
 mod OneWriting
+mod Triples
 mod Effects
 mod Growing
 mod Earlier

@@ -12,7 +12,7 @@ use lib.Seq.{drop-cons}
 use Rattle.format.specs.Octets.{Octets}
 use Rattle.format.specs.Numbers.{behindFirst, spell, numbers, c25, top, longest}
 use Rattle.format.specs.Events.{Name, nameMap, How, NameHow, inParts, byNumber}
-use Rattle.format.specs.Tables.{PREFIX, NAMESPACE-NAME, LOCAL-NAME, Triple, noTriple, Vocabulary, names, addingName, holdsName, Entry, nameOf, Version}
+use Rattle.format.specs.Tables.{PREFIX, NAMESPACE-NAME, LOCAL-NAME, Triple, Vocabulary, strings, names, addingName, holdsName, Entry, Version}
 use Rattle.format.specs.Strings.{bit, Identifying, Optional}
 use Rattle.format.specs.Names.{has, NameLayout, ofElement, ofAttribute, Named, in-parts, by-number, Declared, declared}
 use Rattle.fields.specs.declared.Cursor.{Cursor}
@@ -23,11 +23,14 @@ use Rattle.fields.proofs.Forms.{rooms, Ordered}
 use Rattle.fields.proofs.Numbers.{c25-ordered, numbers-ordered}
 use Rattle.fields.proofs.RoundTrip.{some-first}
 use Rattle.tables.specs.Located.{Located, empty, octetsOf, plainTables}
+use Rattle.tables.proofs.EntryLaws.{entry-made, entry-is, entry-at}
 use Rattle.read_names.specs.Strings.{Got, refused, idAt, optionalAt}
-use Rattle.read_names.specs.Names.{NameRead, DeclaredRead, prefixBit, namespaceBit, lonePrefix, nameBit, partsAt, numberedAt, nameAt, declaredAt}
+use Rattle.read_names.specs.Names.{NameRead, DeclaredRead, prefixBit, namespaceBit, lonePrefix, nameBit, nameOf, noTriple, partsAt, numberedAt, nameAt, declaredAt}
 use Rattle.theorems.specs.Places.{optionSpelled, nameSpelled, inName, inDeclared}
 use Rattle.theorems.proofs.Lists.{fault, test-lt, test-le, test-not, test-ge, either-lt, either-eq, drop-head, drop-past}
 use Rattle.theorems.proofs.Words.{names-map, adding-name-map, name-map}
+use Rattle.theorems.proofs.Triples.{means-is, means-at}
+use Rattle.theorems.proofs.Chosen.{Ranged}
 use Rattle.theorems.proofs.Numbers.{num-sound, num-complete, num-first}
 use Rattle.theorems.proofs.Fields.{Ok, on-number, on-field, Hit, hit-at}
 use Rattle.theorems.proofs.Strings.{IdR, id-sound, OptionalR, optional-sound, IdQ, id-complete, there, OptionalQ, optional-complete}
@@ -92,22 +95,24 @@ module _ (L : Version) (s : Octets) (bytes : (i : ℕ) → getD s i 0 < 256) (sh
   three-parts : (k : ℕ) (a b c : Octets) (k₁ k₂ k₃ : ℕ) → drop k s ≡ a ++ drop k₁ s → drop k₁ s ≡ b ++ drop k₂ s → drop k₂ s ≡ c ++ drop k₃ s → drop k s ≡ (a ++ (b ++ c)) ++ drop k₃ s
   three-parts k a b c k₁ k₂ k₃ p q r = p ∙ ap (λ (l : Octets). a ++ l) (q ∙ ap (λ (l : Octets). b ++ l) r) ∙ simp append-assoc
 
-  pub numbered-sound : (q : NameLayout) → NameShape q → (lead k : ℕ) (v : Vocabulary Located) → k ≤ length s → getD s k 0 ≡ lead + getD s k 0 % 2 ^ (9 - nameBit (q .table)) → Ok s (NameR q lead) k v (numberedAt L q s k v)
-  unfolding numberedAt octetsOf
-  numbered-sound q g lead k v kl z =
+  pub numbered-sound : (q : NameLayout) → NameShape q → (lead k : ℕ) (v : Vocabulary Located) → Ranged (plainTables s v) → k ≤ length s → getD s k 0 ≡ lead + getD s k 0 % 2 ^ (9 - nameBit (q .table)) → Ok s (NameR q lead) k v (numberedAt L q s k v)
+  unfolding numberedAt octetsOf strings
+  numbered-sound q g lead k v ranged kl z =
       let P : Got NameRead → Type 0 = Ok s (NameR q lead) k v in
       on-number s P (λ c p f. f) (q .numberForms) top lead k (fieldAt (q .numberForms) top (nameBit (q .table)) s k) (num-sound s bytes (q .numberForms) (g .numbers-ok) top (nameBit (q .table)) lead k kl z) _
       λ n next r. test-le P (refused 10 k) (fault s 10 k refl kl) n (length (names v (q .table))) _
       λ t1.
-      let i = r .is in
+      let y = r .is in
       let u = r .under in
       let e : n - 1 ≡ r .v = omega arith in
       let x : Triple = getD (names v (q .table)) (n - 1) noTriple in
-      let en : Entry (names v (q .table)) (r .v) noTriple x = record { made = omega arith; is = ap (λ (m : ℕ). getD (names v (q .table)) m noTriple) (sym e) } in
+      let same-names = names-map (octetsOf s) v (q .table) in
+      let en : Entry (names (plainTables s v) (q .table)) (r .v) x = rw (same-names, e) (entry-at (names v (q .table)) (r .v) noTriple (omega arith)) in
+      let i = ranged (q .table) (r .v) x en in
       record {
         octets = spell (q .numberForms) lead n;
-        rule = subst₂ (λ (m : ℕ) (y : Name Octets). Named L q lead (plainTables s v) y (byNumber m) (spell (q .numberForms) lead m) (plainTables s v)) (sym i) (sym (name-map (octetsOf s) v empty x))
-            (by-number (omega arith) (r .small) (rw (names-map (octetsOf s) v (q .table)) en));
+        rule = subst₂ (λ (m : ℕ) (y : Name Octets). Named L q lead (plainTables s v) y (byNumber m) (spell (q .numberForms) lead m) (plainTables s v)) (sym y) (sym (name-map (octetsOf s) v empty x))
+            (by-number (omega arith) (r .small) en (means-at [] (plainTables s v) x (i .prefix) (i .namespace) (i .some-local) (i .local)));
         here = r .here;
         next-is = r .next-is;
         inside = r .inside;
@@ -146,11 +151,11 @@ module _ (L : Version) (s : Octets) (bytes : (i : ℕ) → getD s i 0 < 256) (sh
       }
 
   -- b is the name's part of its first octet
-  pub name-sound : (q : NameLayout) → NameShape q → (lead b k : ℕ) (v : Vocabulary Located) → (b < q .inPartsBits → getD s k 0 ≡ lead + getD s k 0 % 2 ^ (9 - nameBit (q .table)))
+  pub name-sound : (q : NameLayout) → NameShape q → (lead b k : ℕ) (v : Vocabulary Located) → Ranged (plainTables s v) → (b < q .inPartsBits → getD s k 0 ≡ lead + getD s k 0 % 2 ^ (9 - nameBit (q .table)))
       → (q .inPartsBits ≤ b → getD s k 0 ≡ lead + q .inPartsBits + b % 4) → k < length s → Ok s (NameR q lead) k v (nameAt L q s b k v)
   unfolding nameAt
-  name-sound q shape lead b k v f g h =
-      either-lt (Ok s (NameR q lead) k v) b (q .inPartsBits) _ _ (λ y. numbered-sound q shape lead k v (omega arith) (f y)) (λ y. parts-sound q lead b k v (g y) h)
+  name-sound q shape lead b k v ranged f g h =
+      either-lt (Ok s (NameR q lead) k v) b (q .inPartsBits) _ _ (λ y. numbered-sound q shape lead k v ranged (omega arith) (f y)) (λ y. parts-sound q lead b k v (g y) h)
 
   abbrev pub DeclaredR : Vocabulary Octets → DeclaredRead → Octets → Vocabulary Octets → Type 0
   DeclaredR v b o w = Declared L v (Option·map (octetsOf s) (b .prefix)) (Option·map (octetsOf s) (b .namespace)) (b .prefixHow) (b .namespaceHow) o w
@@ -227,13 +232,13 @@ module _ (L : Version) (s : Octets) where
   pub name-complete : (q : NameLayout) → NameShape q → (times lead k : ℕ) → lead ≡ times * 2 ^ (9 - nameBit (q .table)) → (v : Vocabulary Located) {x : Name Octets} {h : NameHow} {os : Octets} {w : Vocabulary Octets} (rest : Octets)
       (u : Named L q lead (plainTables s v) x h os w) → drop k s ≡ os ++ rest → NameHit q lead k v x h os w (inName k u) × (0 < length os) × (k < length s)
   unfolding numberedAt octetsOf
-  name-complete q g times lead k e v rest (by-number {k = j} {x = x} small fits en) d =
+  name-complete q g times lead k e v rest (by-number {k = j} {x = x} small fits en m) d =
       let f = num-first s (q .numberForms) lead (suc j) k rest (g .numbers-ok) (omega arith) fits d in
       let lo = f .0 in
       let hi = f .1 in
       let n = num-complete s (q .numberForms) top (nameBit (q .table)) times lead (suc j) k rest (g .numbers-ok) (g .numbers-fit) (omega arith) fits (omega arith) e d in
       let here = rw (names-map (octetsOf s) v (q .table)) at en in
-      let m = here .made in
+      let made = entry-made here in
       let z : suc j - 1 ≡ j = omega arith in (
         hit-numbered (getD s k 0 - lead) (omega arith) (omega arith) (suc j) _ n
             (rw (n, le-leb (suc j) (length (names v (q .table))) (omega arith))
@@ -242,7 +247,7 @@ module _ (L : Version) (s : Octets) where
               v = v;
               goes = refl;
               state = refl;
-              what = (name-map (octetsOf s) v empty _ ∙ ap (λ (y : Triple). nameOf (plainTables s v) [] y) (ap (λ (u : ℕ). getD (names v (q .table)) u noTriple) z ∙ here .is), refl, refl);
+              what = (name-map (octetsOf s) v empty _ ∙ ap (λ (y : Triple). nameOf (plainTables s v) [] y) (ap (λ (u : ℕ). getD (names v (q .table)) u noTriple) z ∙ entry-is noTriple here) ∙ means-is [] m, refl, refl);
             })),
         some-first (q .numberForms) lead (suc j) (g .numbers-ok) (omega arith) fits,
         f .2,

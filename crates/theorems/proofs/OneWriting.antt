@@ -118,17 +118,14 @@ module _ {L : Version} where
   value-one (value u) (value u′) = literal-one u u′
 
   -- names
-  pub named-one : {q : NameLayout} {lead : ℕ} {v w w′ : Vocabulary Octets} {x x′ : Name Octets} {h : NameHow} {o o′ : Octets}
-      → Named L q lead v x h o w → Named L q lead v x′ h o′ w′ → x ≡ x′ → (o ≡ o′) × (w ≡ w′)
-  named-one (by-number small fits en) (by-number small′ fits′ en′) e = (refl, refl)
-  named-one {q} {lead} (in-parts lone up un ul new room) (in-parts lone′ up′ un′ ul′ new′ room′) e =
-      let ep = ap (λ (y : Name Octets). y .prefix) e in
-      let en = ap (λ (y : Name Octets). y .namespace) e in
-      let el = ap (λ (y : Name Octets). y .local) e in
-      let a = optional-one up (rw (← ep) at up′) in
-      let b = optional-one un (rw (← en, ← (a .2)) at un′) in
-      let c = identifying-one ul (rw (← el, ← (b .2)) at ul′) in (
-        (λ j. (lead + q .inPartsBits + 2 * has (e j .prefix) + has (e j .namespace)) ∷ (a .0 j ++ (b .0 j ++ c .0 j))),
+  pub named-one : {q : NameLayout} {lead : ℕ} {v w w′ : Vocabulary Octets} {x : Name Octets} {h : NameHow} {o o′ : Octets}
+      → Named L q lead v x h o w → Named L q lead v x h o′ w′ → (o ≡ o′) × (w ≡ w′)
+  named-one (by-number small fits en m) (by-number small′ fits′ en′ m′) = (refl, refl)
+  named-one {q} {lead} {x = x} (in-parts lone up un ul new room) (in-parts lone′ up′ un′ ul′ new′ room′) =
+      let a = optional-one up up′ in
+      let b = optional-one un (rw (← (a .2)) at un′) in
+      let c = identifying-one ul (rw (← (b .2)) at ul′) in (
+        (λ j. (lead + q .inPartsBits + 2 * has (x .prefix) + has (x .namespace)) ∷ (a .0 j ++ (b .0 j ++ c .0 j))),
         (λ j. addingName (c .2 j) (q .table) (record { prefix = a .1 j; namespace = b .1 j; local = c .1 j })),
       )
 
@@ -192,13 +189,13 @@ module _ {L : Version} where
   octets-one : {v w w′ : State Octets} {i : Item Octets} {o o′ : Octets} → ItemWrittenAs L v i o w → ItemWrittenAs L v i o′ w′ → w .mode ≡ w′ .mode → (o ≡ o′) × (w ≡ w′)
   octets-one {v} (o-start a md may deep u) (o-start b md′ may′ deep′ u′) e =
       let q : a ≡ b = sym (bit-said a) ∙ ap inList e ∙ bit-said b in
-      let r = named-one u (rw (← q) at u′) refl in
+      let r = named-one u (rw (← q) at u′) in
       (r .0, λ j. opened v (r .1 j) (q j))
   octets-one (o-start a md may deep u) (o-named-start md′ u′) e = (cc, cc)
   octets-one (o-named-start md u) (o-start a md′ may′ deep′ u′) e = (cc, cc)
   octets-one {v} (o-named-start {a = a} md u) (o-named-start {a = b} md′ u′) e =
       let q : a ≡ b = cc in
-      let r = named-one u u′ refl in
+      let r = named-one u u′ in
       (ap (λ (l : Octets). 0xF0 ∷ l) (r .0), λ j. opened v (r .1 j) (q j))
   octets-one {v} (o-first-namespace {a = a} md may deep u) (o-first-namespace {a = b} md′ may′ deep′ u′) e =
       let q : a ≡ b = cc in
@@ -208,7 +205,7 @@ module _ {L : Version} where
   octets-one (o-namespace md u) (o-first-namespace md′ may′ deep′ u′) e = (cc, cc)
   octets-one {v} (o-namespace md u) (o-namespace md′ u′) e = let r = declared-one u u′ in (r .0, λ j. moved v (r .1 j) (e j))
   octets-one {v} (o-attribute md u1 u2) (o-attribute md′ u1′ u2′) e =
-      let r = named-one u1 u1′ refl in
+      let r = named-one u1 u1′ in
       let t = value-one u2 (rw (← (r .1)) at u2′) in
       ((λ j. r .0 j ++ t .0 j), λ j. moved v (t .1 j) (listing true))
   octets-one {v} (o-text md lv u) (o-text md′ lv′ u′) e = let r = literal-one u u′ in (r .0, λ j. knowing v (r .1 j))

@@ -32,7 +32,7 @@ module _ {L : Version} where
 
   name-may : {q : NameLayout} {lead : ℕ} {v w : Vocabulary Octets} {x : Name Octets} {h : NameHow} {o : Octets} → Named L q lead v x h o w → PermitsName (q .table) v x h w
   name-may (in-parts lone up un ul new room) = name-parts (optional-may up) (optional-may un) (id-may ul) new
-  name-may (by-number small fits en) = name-entry en
+  name-may (by-number small fits en m) = name-entry en m
 
   element-may : {lead : ℕ} {v w : Vocabulary Octets} {x : Name Octets} {h : NameHow} {o : Octets} → Named L ofElement lead v x h o w → PermitsName ELEMENT-NAME v x h w
   unfolding ofElement
@@ -42,7 +42,7 @@ module _ {L : Version} where
   unfolding ofAttribute
   attribute-may u = name-may u
 
-  octets-may : {v w : State Octets} {i : Item Octets} {o : Octets} → ItemWrittenAs L v i o w → Permits (v .tables) (i .event) (i .choice) (w .tables)
+  pub octets-may : {v w : State Octets} {i : Item Octets} {o : Octets} → ItemWrittenAs L v i o w → Permits (v .tables) (i .event) (i .choice) (w .tables)
   octets-may (o-start a md may deep u) = a-start (element-may u)
   octets-may (o-first-namespace md may deep (declared up un)) = a-declaration (optional-may up) (optional-may un)
   octets-may (o-namespace md (declared up un)) = a-declaration (optional-may up) (optional-may un)

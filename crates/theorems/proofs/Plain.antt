@@ -1,5 +1,5 @@
 -- The strings of written events are as 01 allows; and, for any kind of strings, what holds of all that is spelled holds of every string of an event.
-use Prim.Native.Nat.{ℕ, zero, suc, _≤_}
+use Prim.Native.Nat.{ℕ, _≤_}
 use mathlib.Core.Path.{_≡_, refl, sym, subst}
 use mathlib.Core.Bool.{Bool, true, false}
 use mathlib.Core.Option.{Option, none, some}
@@ -8,21 +8,23 @@ use native.Mathlib.Omega.{arith}
 use lib.Dec.{eqb}
 use Rattle.format.specs.Octets.{Octets}
 use Rattle.format.specs.Characters.{utf8s, IsText}
+use Rattle.format.specs.Numbers.{pick}
 use Rattle.format.specs.Events.{Name, Event, Namespace, Start, Attribute, Text, Comment, Instruction, End, How, NameHow, Item}
 use Rattle.format.specs.Tables.{StringTable, PREFIX, NAMESPACE-NAME, LOCAL-NAME, OTHER-NCNAME, OTHER-URI, ATTRIBUTE-VALUE, CONTENT-CHARACTER-CHUNK, OTHER-STRING}
-use Rattle.format.specs.Tables.{NameTable, ELEMENT-NAME, ATTRIBUTE-NAME, Triple, noTriple, Vocabulary, strings, names, place, extended, adding, addingName, starting, Version}
-use Rattle.format.specs.Tables.{xmlPrefix, xmlNamespace, Entry}
+use Rattle.format.specs.Tables.{NameTable, ELEMENT-NAME, ATTRIBUTE-NAME, Triple, Vocabulary, strings, names, adding, addingName, starting, Version}
+use Rattle.format.specs.Tables.{xmlPrefix, xmlNamespace, Entry, first as lowest, later, Means}
 use Rattle.format.specs.Names.{has}
 use Rattle.format.specs.Items.{State}
-use Rattle.format.specs.Uses.{sameNames}
 use Rattle.format.specs.Allowed.{Said, SaidIfAny, AllowedName, Allowed, All}
 use Rattle.format.specs.Document.{Document}
 use Rattle.fields.specs.Utf8.{rows, between, first, next, after, isText}
 use Rattle.fields.proofs.Characters.{text-exact}
-use Rattle.tables.proofs.Laws.{strings-adding, names-adding}
+use Rattle.tables.specs.Rows.{place}
+use Rattle.tables.proofs.Adding.{extended, sameNames, strings-adding, names-adding, strings-adding-name, names-adding-name}
 use Rattle.theorems.proofs.Effects.{IdDone, id-made, id-used, PartDone, no-part, a-part, StringDone, string-made, string-used, ValueDone, empty-value, a-value, NameDone, name-made, name-used}
 use Rattle.theorems.proofs.Effects.{ItemDone, done-namespace, done-start, done-attribute, done-text, done-comment, done-instruction, done-end, Done, no-item, an-item, document-done}
-use Rattle.theorems.proofs.Growing.{same-table, names-adding-name, strings-adding-name, Means, means-is, means-kept, Keeps}
+use Rattle.theorems.proofs.Triples.{means-is}
+use Rattle.theorems.proofs.Growing.{same-table, means-kept, Keeps}
 use Rattle.theorems.proofs.Growing.{keeps-adding-name, keeps-adding, parts-mean}
 
 module _ {A : Type 0} (P : A → Type 0) where
@@ -34,10 +36,9 @@ module _ {A : Type 0} (P : A → Type 0) where
   all-extended true l x a p = all-last l x a (p refl)
   all-extended false l x a p = a
 
-  all-entry : (l : List A) (k : ℕ) (d x : A) → All P l → Entry l k d x → P x
-  all-entry [] k d x a e = absurd (let h = e .made in omega arith)
-  all-entry (y ∷ l) zero d x a e = subst P (e .is) (a .0)
-  all-entry (y ∷ l) (suc k) d x a e = let h = e .made in all-entry l k d x (a .1) (record { made = omega arith; is = e .is })
+  all-entry : {l : List A} {k : ℕ} {x : A} → All P l → Entry l k x → P x
+  all-entry a lowest = a .0
+  all-entry a (later e) = all-entry (a .1) e
 
   pub all-so : {Q : A → Type 0} → ((x : A) → Q x → P x) → (l : List A) → All Q l → All P l
   all-so f [] a = tt
@@ -71,13 +72,13 @@ module _ {S : Type 0} (P : StringTable → S → Type 0) (d : S) where
 
   -- tables that hold only such strings, and only triples of such names
   abbrev Meant : Vocabulary S → Triple → Type 0
-  Meant v x = (y : Name S) × Means d v x y × Parts y
+  Meant v x = (y : Name S) × Means v x y × Parts y
 
   record Good (v : Vocabulary S) : Type 0 where
     of-strings : (t : StringTable) → All (P t) (strings v t)
     of-names : (t : NameTable) → All (Meant v) (names v t)
 
-  still-meant : {v w : Vocabulary S} → Keeps d v w → (l : List Triple) → All (Meant v) l → All (Meant w) l
+  still-meant : {v w : Vocabulary S} → Keeps v w → (l : List Triple) → All (Meant v) l → All (Meant w) l
   still-meant {w = w} k = all-so (Meant w) (λ x m. (m .0, means-kept k (m .1), m .2))
 
   good-adding : (v : Vocabulary S) (t : StringTable) (x : S) → P t x → Good v → Good (adding v t x)
@@ -87,7 +88,7 @@ module _ {S : Type 0} (P : StringTable → S → Type 0) (d : S) where
         of-names = λ u. rw (names-adding v t x u) (still-meant (keeps-adding v t x) (names v u) (g .of-names u));
       }
 
-  good-adding-name : (v : Vocabulary S) (t : NameTable) (x : Triple) (y : Name S) → Means d v x y → Parts y → Good v → Good (addingName v t x)
+  good-adding-name : (v : Vocabulary S) (t : NameTable) (x : Triple) (y : Name S) → Means v x y → Parts y → Good v → Good (addingName v t x)
   good-adding-name v t x y m a g =
       let k = keeps-adding-name v t x in
       record {
@@ -101,7 +102,7 @@ module _ {S : Type 0} (P : StringTable → S → Type 0) (d : S) where
   module _ (Spelt : S → Type 0) (of-spelt : (t : StringTable) (x : S) → Spelt x → P t x) where
     id-holds : {t : StringTable} {v w : Vocabulary S} {x : S} {h : How} {n : ℕ} → IdDone d Spelt t v x h n w → Good v → P t x × Good w
     id-holds {t} {v} (id-made {x = x} sp) g = let p = of-spelt t x sp in (p, good-adding v t x p g)
-    id-holds {t} {v} (id-used {x = x} {k = k} en) g = (all-entry (P t) (strings v t) k d x (g .of-strings t) en, g)
+    id-holds {t} (id-used en) g = (all-entry (P t) (g .of-strings t) en, g)
 
     part-holds : {t : StringTable} {v w : Vocabulary S} {x : Option S} {h : Option How} {n : ℕ} → PartDone d Spelt t v x h n w → Good v → IfAny t x × Good w
     part-holds no-part g = (tt, g)
@@ -110,7 +111,7 @@ module _ {S : Type 0} (P : StringTable → S → Type 0) (d : S) where
     string-holds : {t : StringTable} {v w : Vocabulary S} {x : S} {h : How} → StringDone d Spelt t v x h w → Good v → P t x × Good w
     string-holds {t} {v} (string-made {x = x} true sp) g = let p = of-spelt t x sp in (p, good-adding v t x p g)
     string-holds {t} (string-made {x = x} false sp) g = (of-spelt t x sp, g)
-    string-holds {t} {v} (string-used {x = x} {k = k} en) g = (all-entry (P t) (strings v t) k d x (g .of-strings t) en, g)
+    string-holds {t} (string-used en) g = (all-entry (P t) (g .of-strings t) en, g)
 
     value-holds : {t : StringTable} {v w : Vocabulary S} {x : S} {h : How} → ValueDone d Spelt t v x h w → Good v → OrEmpty t x × Good w
     value-holds empty-value g = (is-empty, g)
@@ -123,9 +124,9 @@ module _ {S : Type 0} (P : StringTable → S → Type 0) (d : S) where
         let c = id-holds ul (b .1) in
         let y : Parts (record { prefix = p; namespace = n; local = l }) = record { prefix = a .0; namespace = b .0; local = c .0; not-alone = lone } in
         (y, good-adding-name v3 t _ _ (parts-mean up un ul) y (c .1))
-    name-holds {t} {v} (name-used {k = k} {x = x} en) g =
-        let m = all-entry (Meant v) (names v t) k noTriple x (g .of-names t) en in
-        (subst Parts (sym (means-is (m .1))) (m .2), g)
+    name-holds {t} {v} (name-used en) g =
+        let m = all-entry (Meant v) (g .of-names t) en in
+        (subst Parts (sym (means-is d (m .1))) (m .2), g)
 
     item-holds : {v w : Vocabulary S} {i : Item S} → ItemDone d Spelt v i w → Good v → Holds (i .event) × Good w
     item-holds (done-namespace up un) g = let a = part-holds up g in let b = part-holds un (a .1) in ((a .0, b .0), b .1)
@@ -145,11 +146,11 @@ module _ {S : Type 0} (P : StringTable → S → Type 0) (d : S) where
     unfolding strings names starting
     good-start L {p} {n} a b = record { of-strings = two-strings; of-names = λ t. elim t [ ELEMENT-NAME ↦ tt | ATTRIBUTE-NAME ↦ tt ] }
       where
-        if-built-in : (t : StringTable) (x : S) → P t x → (b : Bool) → All (P t) (extended b [] x)
+        if-built-in : (t : StringTable) (x : S) → P t x → (b : Bool) → All (P t) (pick b (x ∷ []) [])
         if-built-in t x h true = (h, tt)
         if-built-in t x h false = tt
 
-        two-strings : (t : StringTable) → All (P t) (strings (starting L p n) t)
+        two-strings : (t : StringTable) → All (P t) (strings {N = Triple} (starting L p n) t)
         two-strings PREFIX = if-built-in PREFIX p a (L .builtIn)
         two-strings NAMESPACE-NAME = if-built-in NAMESPACE-NAME n b (L .builtIn)
         two-strings LOCAL-NAME = tt

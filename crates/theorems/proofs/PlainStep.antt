@@ -11,11 +11,12 @@ use Rattle.format.specs.Octets.{Octets}
 use Rattle.format.specs.Numbers.{pick}
 use Rattle.format.specs.Events as E
 use Rattle.format.specs.Events.{eventMap, isDeclaration, isStart}
-use Rattle.format.specs.Tables.{StringTable, PREFIX, NAMESPACE-NAME, LOCAL-NAME, OTHER-NCNAME, OTHER-URI, ATTRIBUTE-VALUE, CONTENT-CHARACTER-CHUNK, OTHER-STRING, NameTable, ELEMENT-NAME, ATTRIBUTE-NAME, Vocabulary, strings, names, place, vocabularyMap, Version, InLimits}
+use Rattle.format.specs.Tables.{StringTable, PREFIX, NAMESPACE-NAME, LOCAL-NAME, OTHER-NCNAME, OTHER-URI, ATTRIBUTE-VALUE, CONTENT-CHARACTER-CHUNK, OTHER-STRING, NameTable, ELEMENT-NAME, ATTRIBUTE-NAME, Vocabulary, strings, names, vocabularyMap, Version, InLimits}
 use Rattle.format.specs.Items.{Mode, content, State, moved}
 use Rattle.events.specs.declared.Kind.{Kind}
 use Rattle.events.specs.declared.Kind.the-variants.{Blank, Namespace, Start, Attribute, Chunk, Comment, Instruction, End}
 use Rattle.events.specs.declared.Event.{Event}
+use Rattle.tables.specs.Rows.{place}
 use Rattle.tables.specs.Located.{Located, octetsOf, plainTables, plainState}
 use Rattle.write_names.specs.Choices.{within}
 use Rattle.write_names.specs.Chosen.{chooseFor}
@@ -185,7 +186,7 @@ fits-of L v e r =
     gone e a ATTRIBUTE-NAME = a
 
 pub of-fits : (L : Version) (v : Vocabulary Octets) → InLimits L v → within L v ≡ true
-unfolding within strings names
+unfolding within strings names place
 of-fits L v f =
     rw (
       le-leb _ _ (f .few PREFIX),

@@ -11,16 +11,17 @@ use lib.ListN.{length}
 use Rattle.format.specs.Octets.{Octets}
 use Rattle.format.specs.Numbers.{sizes, numbers, c25, top}
 use Rattle.format.specs.Events.{Name, Event, Namespace, Start, Attribute, Text, Comment, Instruction, End, How, NameHow, Item, _by_, Choice, forStart}
-use Rattle.format.specs.Tables.{StringTable, PREFIX, NAMESPACE-NAME, LOCAL-NAME, OTHER-NCNAME, ATTRIBUTE-VALUE, CONTENT-CHARACTER-CHUNK, OTHER-STRING, NameTable, ELEMENT-NAME, ATTRIBUTE-NAME, Vocabulary, strings, place, extended, adding, Version, InLimits}
+use Rattle.format.specs.Tables.{StringTable, PREFIX, NAMESPACE-NAME, LOCAL-NAME, OTHER-NCNAME, ATTRIBUTE-VALUE, CONTENT-CHARACTER-CHUNK, OTHER-STRING, NameTable, ELEMENT-NAME, ATTRIBUTE-NAME, Vocabulary, strings, adding, Version, InLimits}
 use Rattle.format.specs.Strings.{Spelling, bit, c15, Literal}
 use Rattle.format.specs.Names.{has, ofElement, ofAttribute, Named, Declared, declared}
 use Rattle.format.specs.Items.{Mode, content, declaring, listing, State, mayStart, knowing, moved, opened, ItemWrittenAs, o-start, o-first-namespace, o-namespace, o-named-start, o-attribute, o-text, o-comment, o-instruction}
 use Rattle.format.specs.Document.{closed}
-use Rattle.tables.proofs.Laws.{strings-adding}
+use Rattle.tables.specs.Rows.{place}
+use Rattle.tables.proofs.Adding.{extended, strings-adding, strings-adding-name}
 use Rattle.write_names.specs.Chosen.{Chose, chooseId, chooseOptional, chooseName, chooseLiteral, chooseValue, chooseFor}
 use Rattle.writer.specs.Items.{beforeDeclaration, beforeName, nameLead}
 use Rattle.theorems.specs.Permitted.{PermitsId, id-new, id-entry, PermitsIfAny, not-there, there, PermitsString, PermitsName, Permits, a-declaration, a-start, an-attribute, a-chunk, a-comment, an-instruction, an-end}
-use Rattle.theorems.proofs.Growing.{strings-adding-name, same-table, extended-few}
+use Rattle.theorems.proofs.Growing.{same-table, extended-few}
 use Rattle.theorems.proofs.Chosen.{Grows, same-size, grows-on, fits-before, idOctets, optionalOctets, literalOctets, valueOctets, nameOctets, id-case, id-grows, id-rule, optional-case, optional-grows, optional-rule, SpellingIfAny, SpellingIfSome, LiteralCase, lit-held, lit-new, literal-case, literal-permits, literal-grows, literal-rule, ValueCase, is-empty, is-literal, value-case, value-permits, value-grows, value-rule, Ranged, ranged-on, id-names, optional-names, literal-names, value-names, NameCase, name-held, name-new, name-case, name-permits, name-grows, name-ranged, NameSaid, name-rule}
 
 -- the tables in order: none over its limit, and each triple's numbers in range
@@ -128,7 +129,7 @@ permits-grows (a-comment y) = value-grows y
 permits-grows (an-instruction u y) = grows-on (id-grows u) (value-grows y)
 permits-grows {v} an-end = same-size v
 
-permits-ranged : {v w : Vocabulary Octets} {e : Event Octets} {c : Choice} → Permits v e c w → Ranged v → Ranged w
+pub permits-ranged : {v w : Vocabulary Octets} {e : Event Octets} {c : Choice} → Permits v e c w → Ranged v → Ranged w
 permits-ranged (a-declaration up un) r = ranged-on (grows-on (optional-grows up) (optional-grows un)) (λ u. optional-names un u ∙ optional-names up u) r
 permits-ranged (a-start u) r = name-ranged u r
 permits-ranged (an-attribute u y) r = ranged-on (value-grows y) (value-names y) (name-ranged u r)

@@ -14,7 +14,7 @@ use Rattle.format.specs.Numbers.{pick, Form, lengths, c25, top}
 use Rattle.fields.specs.Utf8.{isText}
 use Rattle.format.specs.Events.{Namespace, forNamespace, Item, _by_}
 use Rattle.format.specs.Tables.{StringTable, PREFIX, NAMESPACE-NAME, LOCAL-NAME, OTHER-NCNAME, ATTRIBUTE-VALUE, CONTENT-CHARACTER-CHUNK, OTHER-STRING}
-use Rattle.format.specs.Tables.{NameTable, noTriple, Vocabulary, strings, names, holds, holdsName, Entry, Version}
+use Rattle.format.specs.Tables.{NameTable, Vocabulary, strings, names, holds, holdsName, Entry, Version}
 use Rattle.format.specs.Strings.{bit, Layout, c14, c15}
 use Rattle.format.specs.Names.{has, NameLayout, ofElement, ofAttribute}
 use Rattle.format.specs.Items.{Mode, content, declaring, listing, State, mayStart}
@@ -27,7 +27,8 @@ use Rattle.tables.specs.Located.{Located, empty, stretch, octetsOf, start}
 use Rattle.events.specs.Records.{eventString}
 use Rattle.events.specs.WellMade.{IsStretch, inside}
 use Rattle.read_names.specs.Strings.{Got, got, refused, then, number, spelling, IdRead, OptionalRead, StringRead, idAt, optionalAt, spelledAt, literalAt, valueAt, numberBit}
-use Rattle.read_names.specs.Names.{NameRead, DeclaredRead, prefixBit, namespaceBit, lonePrefix, partsAt, numberedAt, nameAt, declaredAt, nameBit}
+use Rattle.tables.proofs.EntryLaws.{entry-at}
+use Rattle.read_names.specs.Names.{noTriple, NameRead, DeclaredRead, prefixBit, namespaceBit, lonePrefix, partsAt, numberedAt, nameAt, declaredAt, nameBit}
 use Rattle.read_items.specs.Items.{Stand, Step, more, quiet, done, stop, into, namePadding, startOf, namespaceAt, elementAt, namedAt, attributeAt, chunkAt, commentAt, instructionAt, otherAt, childAt, declaringAt, itemAt}
 use Rattle.read_items.specs.Steps.{endsAt, padsAt, documentEnd, endAt, byHalves, step}
 use Rattle.reader.specs.Reading.{Result, accepted, refusal, plus, turn, run, Opening, onward, halt, opening, origin, fuelOf, resultFrom, reading}
@@ -41,8 +42,8 @@ abbrev pub Lies : Octets → Located → Type 0
 Lies s x = IsStretch s (eventString x)
 
 -- number suc k names entry k
-entry-of : {A : Type 0} (l : List A) (d : A) (k : ℕ) → suc k ≤ length l → Entry l k d (getD l (suc k - 1) d)
-entry-of l d k h = let z : suc k - 1 ≡ k = omega arith in record { made = h; is = rw z }
+entry-of : {A : Type 0} (l : List A) (d : A) (k : ℕ) → suc k ≤ length l → Entry l k (getD l (suc k - 1) d)
+entry-of l d k h = let z : suc k - 1 ≡ k = omega arith in rw z (entry-at l k d h)
 
 -- ---- a field's answer is R, if it is no refusal
 abbrev Did : {B : Type 0} → (B → Vocabulary Located → Type 0) → Got B → Type 0
@@ -304,7 +305,7 @@ module _ (L : Version) (s : Octets) (room : ℕ) where
   from-gave : (o : Opening) → Opened L s o → GaveAll L s (start L) (resultFrom L s room o)
   unfolding beginning
   from-gave (onward body tables) k =
-      let w : tableWords ≡ start L = opens-with (k .0) in
+      let w : tables ≡ start L = opens-with (k .0) in
       subst (λ (v : Vocabulary Located). GaveAll L s v (run L s (fuelOf s) room (origin body tables))) w (run-gave L s (fuelOf s) room (origin body tables))
     where
       opens-with : {b c : ℕ} {v w : Vocabulary Located} → onward b v ≡ onward c w → v ≡ w

@@ -1,22 +1,22 @@
 -- A number that a reader meets stands for an entry of the items before it: what it hands out then has the very place and length where that was spelled.
 use Prim.Native.Nat.{ℕ}
 use mathlib.Core.Path.{_≡_}
-use mathlib.Core.List.{List, []}
+use mathlib.Core.List.{List}
 use Rattle.format.specs.Octets.{Octets}
 use Rattle.format.specs.Events.{Item}
-use Rattle.format.specs.Tables.{strings, Version}
-use Rattle.format.specs.Uses.{acts, Known, MadeBy}
-use Rattle.tables.specs.Located.{Located, empty, builtInPrefix, builtInNamespace, start}
+use Rattle.format.specs.Tables.{starting, Version}
+use Rattle.format.specs.Uses.{acts, after, Known, Holds}
+use Rattle.tables.specs.Located.{Located, builtInPrefix, builtInNamespace, start}
 use Rattle.read_items.specs.Items.{Stand}
 use Rattle.reader.specs.Reading.{accepted, reading}
 use Rattle.theorems.proofs.Earlier.{earlier, made}
 use Rattle.theorems.proofs.ReadEffects.{reading-done}
 
-pub earlier-places : (L : Version) (s : Octets) (room : ℕ) (is : List (Item Located)) (m : Stand) → reading L s room ≡ accepted is m → Known empty (strings (start L)) (λ t. []) (acts empty is)
+pub earlier-places : (L : Version) (s : Octets) (room : ℕ) (is : List (Item Located)) (m : Stand) → reading L s room ≡ accepted is m → Known (starting L builtInPrefix builtInNamespace) (acts is)
 unfolding start
 earlier-places L s room is m e = earlier L builtInPrefix builtInNamespace (reading-done L s room is m e)
 
 -- the tables at the end have the very places that the items spelled
-pub made-places : (L : Version) (s : Octets) (room : ℕ) (is : List (Item Located)) (m : Stand) → reading L s room ≡ accepted is m → MadeBy empty (start L) (acts empty is) (m .state .tables)
+pub made-places : (L : Version) (s : Octets) (room : ℕ) (is : List (Item Located)) (m : Stand) → reading L s room ≡ accepted is m → Holds (m .state .tables) (after (starting L builtInPrefix builtInNamespace) (acts is))
 unfolding start
 made-places L s room is m e = made L builtInPrefix builtInNamespace (reading-done L s room is m e)

@@ -7,9 +7,10 @@ use mathlib.Core.List.{List}
 use native.Mathlib.Omega.{arith}
 use Rattle.format.specs.Octets.{Octets}
 use Rattle.format.specs.Events.{Name, Event, Namespace, Start, Attribute, Text, Comment, Instruction, End, Item}
-use Rattle.format.specs.Tables.{StringTable, PREFIX, NAMESPACE-NAME, place, Version}
+use Rattle.format.specs.Tables.{StringTable, PREFIX, NAMESPACE-NAME, Version}
 use Rattle.format.specs.Names.{has}
 use Rattle.format.specs.Allowed.{All}
+use Rattle.tables.specs.Rows.{place}
 use Rattle.tables.specs.Located.{Located, empty, stretch, builtInPrefix, builtInNamespace, start}
 use Rattle.events.specs.declared.EventString.the-variants.{Absent}
 use Rattle.events.specs.Records.{eventString, optionalEventString, recordOf}

@@ -57,8 +57,8 @@ module _ {L : Version} where
       let d = id-words (rw (b .0) at ul) (id-case LOCAL-NAME (n .tables) (x .local)) (cc) in
       λ j. addingName (d .0 j) (q .table) (record { prefix = a .1 j; namespace = b .1 j; local = d .1 j })
   named-words (in-parts lone up un ul first room) (name-held en m) e = cc
-  named-words (by-number small fits en) (name-new m) e = cc
-  named-words (by-number small fits en) (name-held en′ m) e = refl
+  named-words (by-number small fits en m) (name-new new) e = cc
+  named-words (by-number small fits en m) (name-held en′ m′) e = refl
 
   element-words : {lead : ℕ} {v w : Vocabulary Octets} {x : Name Octets} {h : NameHow} {o : Octets}
       → Named L ofElement lead v x h o w → Ranged v → h ≡ chooseName ELEMENT-NAME v x .how → w ≡ chooseName ELEMENT-NAME v x .tables

@@ -18,7 +18,7 @@ use Rattle.format.specs.Names.{NameLayout, Named, in-parts, by-number, Declared
 use Rattle.format.specs.Items.{Mode, content, declaring, listing, State, moved, ItemWrittenAs, o-start, o-first-namespace, o-namespace, o-named-start, o-attribute, o-text, o-comment, o-instruction}
 use Rattle.format.specs.Document.{halves, pad, aligned, closed, Written, document-end, attributes-end, element-end, item, knownAfter}
 use Rattle.fields.proofs.RoundTrip.{some-first}
-use Rattle.tables.specs.Located.{Located, plain, plainState}
+use Rattle.tables.specs.Located.{Located, plain, plainTables, plainState}
 use Rattle.read_items.specs.Items.{Stand, Step, more, quiet, done, stop, octet, itemAt}
 use Rattle.read_items.specs.Steps.{endsAt, padsAt, documentEnd, endAt, byHalves, step}
 use Rattle.reader.specs.Reading.{Result, accepted, refusal, plus, turn, Mark, marked, run, trace}
@@ -27,6 +27,9 @@ use Rattle.theorems.specs.Places.{itemSpelled, allSpelled, inItem, spell
 use Rattle.theorems.proofs.Lists.{Refusal, Fault, fault, test, either, either-lt, not-true, drop-head, drop-past, ends-sound, ends-complete, pads-sound, pads-complete, halves-drop, halves-length, halves-sound, halves-complete, align-is, aligned-ge, aligned-in, pad-length}
 use Rattle.theorems.proofs.Strings.{Shape, shape15}
 use Rattle.theorems.proofs.Names.{NameShape, element-shape, attribute-shape}
+use Rattle.theorems.proofs.Chosen.{Ranged}
+use Rattle.theorems.proofs.Produced.{permits-ranged}
+use Rattle.theorems.proofs.Permitted.{octets-may}
 use Rattle.theorems.proofs.Items.{Took, item-sound, item-complete}
 
 -- ---- an item has octets, and opens one element at most
@@ -38,7 +41,7 @@ NotShort (refusal c p) = c ≡ 14 → ⊥
 module _ {L : Version} where
   named-some : {q : NameLayout} (g : NameShape q) {lead : ℕ} {v w : Vocabulary Octets} {x : Name Octets} {h : NameHow} {o : Octets} → Named L q lead v x h o w → 0 < length o
   named-some g (in-parts paired up un ul new room) = omega arith
-  named-some {q} g {lead} (by-number {k = k} small fits en) = some-first (q .numberForms) lead (suc k) (g .numbers-ok) (omega arith) fits
+  named-some {q} g {lead} (by-number {k = k} small fits en m) = some-first (q .numberForms) lead (suc k) (g .numbers-ok) (omega arith) fits
 
   declared-some : {v w : Vocabulary Octets} {p n : Option Octets} {hp hn : Option How} {o : Octets} → Declared L v p n hp hn o w → 0 < length o
   declared-some (declared up un) = omega arith
@@ -59,6 +62,11 @@ module _ {L : Version} where
   octets-some (o-instruction md u1 u2) = (omega arith, omega arith)
 
 -- ---- what is read is what the rules write
+-- where a reader can stand: not behind the end, with the numbers of triples in range
+pub record Inside (s : Octets) (m : Stand) : Type 0 where
+  pub at : m .at ≤ 2 * length s
+  pub ranged : Ranged (plainTables s (m .state .tables))
+
 module _ (L : Version) (s : Octets) (bytes : (i : ℕ) → getD s i 0 < 256) (short : length s ≤ longest) where
   -- from where the reader stands, the items and the document's end are written as the halves left
   abbrev pub Rest : Stand → List (Item Octets) → State Octets → Type 0
@@ -71,12 +79,12 @@ module _ (L : Version) (s : Octets) (bytes : (i : ℕ) → getD s i 0 < 256) (sh
   -- if the rest is what the rules write, so is this step and the rest; the reader stays inside, and there is less left to read
   abbrev pub Fine : Stand → Step → Type 0
   Fine m (more p i n) =
-      ((items : List (Item Octets)) (z : State Octets) → Rest n items z → Rest m (plain s i ∷ items) z) × (n .at ≤ 2 * length s) × (3 + left n ≤ left m) × (p ≤ length s)
-  Fine m (quiet n) = ((items : List (Item Octets)) (z : State Octets) → Rest n items z → Rest m items z) × (n .at ≤ 2 * length s) × (2 + left n ≤ left m)
+      ((items : List (Item Octets)) (z : State Octets) → Rest n items z → Rest m (plain s i ∷ items) z) × Inside s n × (3 + left n ≤ left m) × (p ≤ length s)
+  Fine m (quiet n) = ((items : List (Item Octets)) (z : State Octets) → Rest n items z → Rest m items z) × Inside s n × (2 + left n ≤ left m)
   Fine m done = Rest m [] (plainState s (m .state))
   Fine m (stop c p) = Fault s c p
 
-  item-fine : (m : Stand) → m .at ≤ 2 * length s → padsAt s (m .at) ≡ true → (a : Step) → Took L s bytes short (aligned (m .at) / 2) (m .state) a → Fine m a
+  item-fine : (m : Stand) → Inside s m → padsAt s (m .at) ≡ true → (a : Step) → Took L s bytes short (aligned (m .at) / 2) (m .state) a → Fine m a
   item-fine m ml t (more p i n) w =
       let k : ℕ = aligned (m .at) / 2 in
       let o = w .octets in
@@ -94,7 +102,7 @@ module _ (L : Version) (s : Octets) (bytes : (i : ℕ) → getD s i 0 < 256) (sh
         λ items y u.
             subst (λ (l : Octets). Written L (m .at) (plainState s (m .state)) (plain s i ∷ items) l y) (sym d)
             (item (w .rule) (subst (λ (x : ℕ). Written L x (plainState s (n .state)) items (drop (n .at) (halves s)) y) z u)),
-        omega arith,
+        record { at = omega arith; ranged = permits-ranged (octets-may (w .rule)) (ml .ranged) },
         omega arith,
         w .place,
       )
@@ -102,7 +110,7 @@ module _ (L : Version) (s : Octets) (bytes : (i : ℕ) → getD s i 0 < 256) (sh
   item-fine m ml t done w = absurd w
   item-fine m ml t (stop c p) w = w
 
-  document-end-fine : (m : Stand) → m .at ≤ 2 * length s → m .state .mode ≡ content → m .state .level ≡ 0 → endsAt s (m .at) ≡ true → Fine m (documentEnd s m)
+  document-end-fine : (m : Stand) → Inside s m → m .state .mode ≡ content → m .state .level ≡ 0 → endsAt s (m .at) ≡ true → Fine m (documentEnd s m)
   unfolding documentEnd
   document-end-fine m ml q l t =
       let d : drop (m .at) (halves s) ≡ 15 ∷ drop (suc (m .at)) (halves s) = ends-sound s (m .at) t in
@@ -122,7 +130,7 @@ module _ (L : Version) (s : Octets) (bytes : (i : ℕ) → getD s i 0 < 256) (sh
       ∙ append-nil (pad (suc (m .at))))))
       (document-end q l t2)
 
-  end-fine : (m : Stand) (md : Mode) → m .at ≤ 2 * length s → m .state .mode ≡ md → endsAt s (m .at) ≡ true → Fine m (endAt s m md)
+  end-fine : (m : Stand) (md : Mode) → Inside s m → m .state .mode ≡ md → endsAt s (m .at) ≡ true → Fine m (endAt s m md)
   unfolding endAt eventMap
   end-fine m (declaring a) ml q t = fault s 5 (m .at / 2) refl (omega arith)
   end-fine m (listing false) ml q t = fault s 15 (m .at / 2) refl (omega arith)
@@ -131,7 +139,7 @@ module _ (L : Version) (s : Octets) (bytes : (i : ℕ) → getD s i 0 < 256) (sh
       let ah = drop-head (halves s) (m .at) 15 (drop (suc (m .at)) (halves s)) d .0 in
       let hl = halves-length s in (
         λ items y u. subst (λ (l : Octets). Written L (m .at) (plainState s (m .state)) items l y) (sym d) (attributes-end q u),
-        omega arith,
+        record { at = omega arith; ranged = ml .ranged },
         omega arith,
       )
   end-fine m content ml q t =
@@ -141,13 +149,13 @@ module _ (L : Version) (s : Octets) (bytes : (i : ℕ) → getD s i 0 < 256) (sh
       either-lt (Fine m) 0 (m .state .level) _ _
       (λ t1. (
         λ items y u. subst (λ (l : Octets). Written L (m .at) (plainState s (m .state)) ((End by forEnd) ∷ items) l y) (sym d) (element-end q t1 u),
-        omega arith,
+        record { at = omega arith; ranged = ml .ranged },
         omega arith,
         omega arith,
       ))
       λ t1. document-end-fine m ml q (omega arith) t
 
-  pub step-fine : (m : Stand) → m .at ≤ 2 * length s → Fine m (step L s m)
+  pub step-fine : (m : Stand) → Inside s m → Fine m (step L s m)
   unfolding step
   step-fine m ml =
       let md : Mode = m .state .mode in
@@ -155,7 +163,7 @@ module _ (L : Version) (s : Octets) (bytes : (i : ℕ) → getD s i 0 < 256) (sh
       either (Fine m) (byHalves md && endsAt s (m .at)) _ _
       (λ t. end-fine m md ml refl (both-true (byHalves md) (endsAt s (m .at)) t .1))
       (λ t. test (Fine m) (stop 6 (m .at / 2)) (fault s 6 (m .at / 2) refl (omega arith)) (padsAt s (m .at)) _
-      λ t1. item-fine m ml t1 (itemAt L s k (m .state) md) (item-sound L s bytes short k (m .state) md (aligned-in (m .at) (length s) ml) refl))
+      λ t1. item-fine m ml t1 (itemAt L s k (m .state) md) (item-sound L s bytes short k (m .state) md (ml .ranged) (aligned-in (m .at) (length s) (ml .at)) refl))
 
   abbrev pub Right : Stand → Result → Type 0
   Right m (accepted is n) = Rest m (map (plain s) is) (plainState s (n .state))
@@ -170,20 +178,20 @@ module _ (L : Version) (s : Octets) (bytes : (i : ℕ) → getD s i 0 < 256) (sh
   quiet-right m n g (refusal c p) r = r
 
   -- an accepted run is written by the rules; a refusal is one of 01's
-  turn-right : (go : ℕ → Stand → Result) → ((r : ℕ) (n : Stand) → n .at ≤ 2 * length s → Right n (go r n)) → (room : ℕ) (m : Stand) (a : Step) → Fine m a → Right m (turn go room m a)
+  turn-right : (go : ℕ → Stand → Result) → ((r : ℕ) (n : Stand) → Inside s n → Right n (go r n)) → (room : ℕ) (m : Stand) (a : Step) → Fine m a → Right m (turn go room m a)
   turn-right go rec zero m (more p i n) g = (omega arith, omega arith, g .3)
   turn-right go rec (suc r) m (more p i n) g = plus-right m n p i g (go r n) (rec r n (g .1))
   turn-right go rec room m (quiet n) g = quiet-right m n g (go room n) (rec room n (g .1))
   turn-right go rec room m done w = w
   turn-right go rec room m (stop c p) w = w .0
 
-  pub run-right : (fuel room : ℕ) (m : Stand) → m .at ≤ 2 * length s → Right m (run L s fuel room m)
+  pub run-right : (fuel room : ℕ) (m : Stand) → Inside s m → Right m (run L s fuel room m)
   unfolding run
   run-right zero room m ml = fault s 2 (m .at / 2) refl (omega arith) .0
   run-right (suc fuel) room m ml = turn-right (λ r n. run L s fuel r n) (λ r n h. run-right fuel r n h) room m (step L s m) (step-fine m ml)
 
   -- each step takes a half at least, so that more fuel than halves left changes nothing
-  turn-free : (go go′ : ℕ → Stand → Result) (k : ℕ) → ((r : ℕ) (n : Stand) → n .at ≤ 2 * length s → left n < 2 * k → go r n ≡ go′ r n)
+  turn-free : (go go′ : ℕ → Stand → Result) (k : ℕ) → ((r : ℕ) (n : Stand) → Inside s n → left n < 2 * k → go r n ≡ go′ r n)
       → (room : ℕ) (m : Stand) → left m < 2 * suc k → (a : Step) → Fine m a → turn go room m a ≡ turn go′ room m a
   turn-free go go′ k rec zero m h (more p i n) g = refl
   turn-free go go′ k rec (suc r) m h (more p i n) g = let l = g .2 in ap (λ (x : Result). plus i x) (rec r n (g .1) (omega arith))
@@ -191,7 +199,7 @@ module _ (L : Version) (s : Octets) (bytes : (i : ℕ) → getD s i 0 < 256) (sh
   turn-free go go′ k rec room m h done w = refl
   turn-free go go′ k rec room m h (stop c p) w = refl
 
-  pub fuel-free : (fuel extra room : ℕ) (m : Stand) → m .at ≤ 2 * length s → left m < 2 * fuel → run L s (extra + fuel) room m ≡ run L s fuel room m
+  pub fuel-free : (fuel extra room : ℕ) (m : Stand) → Inside s m → left m < 2 * fuel → run L s (extra + fuel) room m ≡ run L s fuel room m
   unfolding run
   fuel-free zero extra room m ml h = absurd (omega arith)
   fuel-free (suc fuel) extra room m ml h =
@@ -199,13 +207,13 @@ module _ (L : Version) (s : Octets) (bytes : (i : ℕ) → getD s i 0 < 256) (sh
       rw e (turn-free (λ r n. run L s (extra + fuel) r n) (λ r n. run L s fuel r n) fuel (λ r n l k. fuel-free fuel extra r n l k) room m h (step L s m) (step-fine m ml))
 
   -- the events are few
-  marked-few : (go : Stand → List Mark) → ((n : Stand) → n .at ≤ 2 * length s → 3 * length (go n) ≤ left n) → (m : Stand) (a : Step) → Fine m a → 3 * length (marked go a) ≤ left m
+  marked-few : (go : Stand → List Mark) → ((n : Stand) → Inside s n → 3 * length (go n) ≤ left n) → (m : Stand) (a : Step) → Fine m a → 3 * length (marked go a) ≤ left m
   marked-few go rec m (more p i n) g = let r = rec n (g .1) in let l = g .2 in omega arith
   marked-few go rec m (quiet n) g = let r = rec n (g .1) in let l = g .2 in omega arith
   marked-few go rec m done w = omega arith
   marked-few go rec m (stop c p) w = omega arith
 
-  pub trace-few : (fuel : ℕ) (m : Stand) → m .at ≤ 2 * length s → 3 * length (trace L s fuel m) ≤ left m
+  pub trace-few : (fuel : ℕ) (m : Stand) → Inside s m → 3 * length (trace L s fuel m) ≤ left m
   unfolding trace
   trace-few zero m ml = omega arith
   trace-few (suc fuel) m ml = marked-few (λ n. trace L s fuel n) (λ n h. trace-few fuel n h) m (step L s m) (step-fine m ml)
@@ -215,7 +223,7 @@ module _ (L : Version) (s : Octets) (bytes : (i : ℕ) → getD s i 0 < 256) (sh
   plus-not-short i (accepted is m) h = tt
   plus-not-short i (refusal c p) h = h
 
-  turn-not-short : (go : ℕ → Stand → Result) (marks : Stand → List Mark) → ((r : ℕ) (n : Stand) → n .at ≤ 2 * length s → length (marks n) ≤ r → NotShort (go r n))
+  turn-not-short : (go : ℕ → Stand → Result) (marks : Stand → List Mark) → ((r : ℕ) (n : Stand) → Inside s n → length (marks n) ≤ r → NotShort (go r n))
       → (room : ℕ) (m : Stand) (a : Step) → Fine m a → length (marked marks a) ≤ room → NotShort (turn go room m a)
   turn-not-short go marks rec zero m (more p i n) g h = absurd (omega arith)
   turn-not-short go marks rec (suc r) m (more p i n) g h = plus-not-short i (go r n) (rec r n (g .1) (omega arith))
@@ -223,7 +231,7 @@ module _ (L : Version) (s : Octets) (bytes : (i : ℕ) → getD s i 0 < 256) (sh
   turn-not-short go marks rec room m done g h = tt
   turn-not-short go marks rec room m (stop c p) g h = g .1
 
-  pub run-not-short : (fuel room : ℕ) (m : Stand) → m .at ≤ 2 * length s → length (trace L s fuel m) ≤ room → NotShort (run L s fuel room m)
+  pub run-not-short : (fuel room : ℕ) (m : Stand) → Inside s m → length (trace L s fuel m) ≤ room → NotShort (run L s fuel room m)
   unfolding run trace
   run-not-short zero room m ml h = λ e. omega arith
   run-not-short (suc fuel) room m ml h =

@@ -22,6 +22,7 @@ use Rattle.fields.proofs.Numbers.{c25-ordered, numbers-ordered}
 use Rattle.fields.proofs.Lengths.{lengths-ordered}
 use Rattle.fields.proofs.RoundTrip.{some-first}
 use Rattle.tables.specs.Located.{Located, empty, stretch, octetsOf, plainTables}
+use Rattle.tables.proofs.EntryLaws.{entry-made, entry-is, entry-at}
 use Rattle.read_names.specs.Strings.{Got, got, refused, IdRead, OptionalRead, StringRead, idAt, optionalAt, numberBit, spelledAt, literalAt, valueAt}
 use Rattle.theorems.specs.Places.{ifSpelled, optionSpelled, inField, inOption}
 use Rattle.theorems.proofs.Lists.{fault, test, test-lt, test-le, test-not, test-ge, either-lt, either-eq, drop-head}
@@ -36,19 +37,16 @@ long-enough bit = omega arith
 
 module _ (s : Octets) where
   -- entry n of a table, both ways
-  entry-sound : (v : Vocabulary Located) (t : StringTable) (n k : ℕ) → n ≡ suc k → n ≤ length (strings v t) → Entry (strings (plainTables s v) t) k [] (octetsOf s (getD (strings v t) (n - 1) empty))
-  unfolding octetsOf
-  entry-sound v t n k e h = let z : n - 1 ≡ k = omega arith in rw z (entry-map (octetsOf s) v t k empty (omega arith))
+  entry-sound : (v : Vocabulary Located) (t : StringTable) (n k : ℕ) → n ≡ suc k → n ≤ length (strings v t) → Entry (strings (plainTables s v) t) k (octetsOf s (getD (strings v t) (n - 1) empty))
+  entry-sound v t n k e h = let z : n - 1 ≡ k = omega arith in rw z (entry-map (octetsOf s) v t (entry-at (strings v t) k empty (omega arith)))
 
-  entry-complete : (v : Vocabulary Located) (t : StringTable) (k : ℕ) (x : Octets) → Entry (strings (plainTables s v) t) k [] x
+  entry-complete : (v : Vocabulary Located) (t : StringTable) (k : ℕ) (x : Octets) → Entry (strings (plainTables s v) t) k x
       → (suc k ≤ length (strings v t)) × (octetsOf s (getD (strings v t) (suc k - 1) empty) ≡ x)
-  unfolding octetsOf
   entry-complete v t k x en =
       let l = length-strings (octetsOf s) v t in
-      let h = en .made in
+      let h = entry-made en in
       let z : suc k - 1 ≡ k = omega arith in
-      let e = entry-map (octetsOf s) v t k empty (omega arith) in
-      (omega arith, rw z (sym (e .is) ∙ en .is))
+      (omega arith, rw z (sym (entry-is [] (entry-map (octetsOf s) v t (entry-at (strings v t) k empty (omega arith)))) ∙ entry-is [] en))
 
 -- C.14 and C.15: where their fields stand in the first octet
 pub record Shape (q : Layout) : Type 0 where

@@ -34,7 +34,7 @@ module _ {L M : Version} (long : L .octets ≤ M .octets) (many : L .entries ≤
   named : {q : NameLayout} {lead : ℕ} {v w : Vocabulary Octets} {x : Name Octets} {h : NameHow} {o : Octets}
       → Named L q lead v x h o w → Named M q lead v x h o w
   named (in-parts lone up un ul new room) = in-parts lone (optional up) (optional un) (identifying ul) new (omega arith)
-  named (by-number small fits en) = by-number small fits en
+  named (by-number small fits en m) = by-number small fits en m
 
   declares : {v w : Vocabulary Octets} {p n : Option Octets} {hp hn : Option How} {o : Octets} → Declared L v p n hp hn o w → Declared M v p n hp hn o w
   declares (declared up un) = declared (optional up) (optional un)

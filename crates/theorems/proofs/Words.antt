@@ -3,14 +3,17 @@ use mathlib.Core.Path.{_≡_, refl, sym, ap, _∙_}
 use mathlib.Core.Bool.{Bool, true, false}
 use mathlib.Core.Option.{some, Option·map}
 use mathlib.Core.List.{List, [], _∷_, _++_, map}
-use Prim.Native.Nat.{ℕ, zero, suc, _-_, _<_}
-use native.Mathlib.Omega.{arith}
+use Prim.Native.Nat.{ℕ, zero, suc, _-_}
 use lib.Dec.{eqb}
-use lib.ListN.{length, getD, length-map, List·getD-map}
+use lib.ListN.{length, length-map, List·getD-map}
 use Rattle.format.specs.Events.{nameMap}
-use Rattle.format.specs.Tables.{StringTable, PREFIX, NAMESPACE-NAME, LOCAL-NAME, OTHER-NCNAME, OTHER-URI, ATTRIBUTE-VALUE, CONTENT-CHARACTER-CHUNK, OTHER-STRING, NameTable, ELEMENT-NAME, ATTRIBUTE-NAME, Triple, Vocabulary, strings, names, place, extended, adding, addingName, vocabularyMap, starting, Entry, partOf, nameOf, Version}
+use Rattle.format.specs.Numbers.{pick}
+use Rattle.format.specs.Tables.{StringTable, PREFIX, NAMESPACE-NAME, LOCAL-NAME, OTHER-NCNAME, OTHER-URI, ATTRIBUTE-VALUE, CONTENT-CHARACTER-CHUNK, OTHER-STRING, NameTable, ELEMENT-NAME, ATTRIBUTE-NAME, Triple, Vocabulary, strings, names, adding, addingName, vocabularyMap, starting, Entry, first, later, Version}
 use Rattle.format.specs.Strings.{keeping}
+use Rattle.tables.specs.Rows.{place}
 use Rattle.tables.specs.Told.{entriesOf}
+use Rattle.tables.proofs.Adding.{extended, adding-is}
+use Rattle.read_names.specs.Names.{partOf, nameOf}
 
 pub map-append : {A B : Type 0} (f : A → B) (a b : List A) → map f (a ++ b) ≡ map f a ++ map f b
 map-append f [] b = refl
@@ -41,9 +44,10 @@ module _ {S T : Type 0} (f : S → T) where
   extended-map false l x = refl
 
   pub adding-map : (v : Vocabulary S) (t : StringTable) (x : S) → vocabularyMap f (adding v t x) ≡ adding (vocabularyMap f v) t (f x)
-  unfolding vocabularyMap adding
+  unfolding vocabularyMap
   adding-map v t x =
-      λ i. record {
+      rw (adding-is v t x, adding-is (vocabularyMap f v) t (f x))
+      (λ i. record {
         prefixes = extended-map (eqb (place t) 0) (v .prefixes) x i;
         namespaces = extended-map (eqb (place t) 1) (v .namespaces) x i;
         locals = extended-map (eqb (place t) 2) (v .locals) x i;
@@ -54,7 +58,7 @@ module _ {S T : Type 0} (f : S → T) where
         others = extended-map (eqb (place t) 7) (v .others) x i;
         elements = v .elements;
         attributes = v .attributes;
-      }
+      })
 
   pub keeping-map : (added : Bool) (v : Vocabulary S) (t : StringTable) (x : S) → vocabularyMap f (keeping added v t x) ≡ keeping added (vocabularyMap f v) t (f x)
   keeping-map true v t x = adding-map v t x
@@ -65,14 +69,21 @@ module _ {S T : Type 0} (f : S → T) where
   adding-name-map v ELEMENT-NAME x = refl
   adding-name-map v ATTRIBUTE-NAME x = refl
 
+  one-map : (b : Bool) (x : S) → map f (pick b (x ∷ []) []) ≡ pick b (f x ∷ []) []
+  one-map true x = refl
+  one-map false x = refl
+
   pub starting-map : (L : Version) (p n : S) → vocabularyMap f (starting L p n) ≡ starting L (f p) (f n)
   unfolding vocabularyMap starting
-  starting-map L p n = rw (extended-map (L .builtIn) [] p, extended-map (L .builtIn) [] n)
+  starting-map L p n = rw (one-map (L .builtIn) p, one-map (L .builtIn) n)
 
   -- an entry, a part of a name, a name
-  pub entry-map : (v : Vocabulary S) (t : StringTable) (k : ℕ) (d : S) → k < length (strings v t) → Entry (strings (vocabularyMap f v) t) k (f d) (f (getD (strings v t) k d))
-  entry-map v t k d h =
-      record { made = let l = length-strings v t in omega arith; is = ap (λ (l : List T). getD l k (f d)) (strings-map v t) ∙ List·getD-map f (strings v t) k d }
+  entry-in : {l : List S} {k : ℕ} {x : S} → Entry l k x → Entry (map f l) k (f x)
+  entry-in first = first
+  entry-in (later e) = later (entry-in e)
+
+  pub entry-map : (v : Vocabulary S) (t : StringTable) {k : ℕ} {x : S} → Entry (strings v t) k x → Entry (strings (vocabularyMap f v) t) k (f x)
+  entry-map v t e = rw (strings-map v t) (entry-in e)
 
   part-map : (l : List S) (d : S) (n : ℕ) → Option·map f (partOf l d n) ≡ partOf (map f l) (f d) n
   part-map l d zero = refl

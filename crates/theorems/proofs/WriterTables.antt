@@ -4,27 +4,27 @@ use Prim.Native.Nat.{ℕ, zero, suc, _+_, _*_}
 use mathlib.Core.Path.{_≡_, subst}
 use mathlib.Core.Bool.{Bool, true, false, not, _&&_}
 use mathlib.Core.Option.{Option, none, some}
-use mathlib.Core.List.{List, [], _∷_, _++_, map}
+use mathlib.Core.List.{List, [], _∷_, map}
 use lib.Dec.{eqb}
 use lib.ListN.{length}
 use Rattle.format.specs.Octets.{Octets, Halves}
 use Rattle.format.specs.Events as E
 use Rattle.format.specs.Events.{Name, How, spelled, numbered, NameHow, Item, _by_}
-use Rattle.format.specs.Tables.{StringTable, PREFIX, NAMESPACE-NAME, LOCAL-NAME, OTHER-NCNAME, ATTRIBUTE-VALUE, CONTENT-CHARACTER-CHUNK, OTHER-STRING, Vocabulary, strings, names, Version}
+use Rattle.format.specs.Tables.{StringTable, PREFIX, NAMESPACE-NAME, LOCAL-NAME, OTHER-NCNAME, ATTRIBUTE-VALUE, CONTENT-CHARACTER-CHUNK, OTHER-STRING, Vocabulary, strings, names, starting, Version}
 use Rattle.format.specs.Strings.{keeping, Layout, c14, c15}
 use Rattle.format.specs.Names.{NameLayout, ofElement, ofAttribute}
 use Rattle.format.specs.Items.{State}
 use Rattle.format.specs.Document.{header, beginning}
-use Rattle.format.specs.Uses.{madeIn, ofString, ofOption, ofName, ofItem, acts}
+use Rattle.format.specs.Uses.{ofString, ofOption, ofName, ofItem, acts, after}
 use Rattle.events.specs.declared.Event.{Event}
-use Rattle.tables.specs.Located.{Located, empty, octetsOf, start}
+use Rattle.tables.specs.Located.{Located, builtInPrefix, builtInNamespace, octetsOf, start}
 use Rattle.tables.specs.Search.{numberIn, numberOfTriple}
 use Rattle.write_names.specs.Choices.{Wrote, writeId, writeOptional, writeName, worthAdding, writeLiteral, writeValue}
 use Rattle.writer.specs.Events.{isContent, isListing, eventOf}
 use Rattle.writer.specs.Items.{writeItem, nameLead}
 use Rattle.writer.specs.Writing.{announced, Result, written, refusal, plus, isAttribute, settled, fits, halvesOf, judge, finish, run, writing}
 use Rattle.theorems.proofs.Lists.{test, either}
-use Rattle.theorems.proofs.Earlier.{Adds, adds-none, adds-both, adds-string, adds-name, adds-number, adds-name-number}
+use Rattle.theorems.proofs.Earlier.{Adds, adds-none, adds-both, adds-string, adds-name, adds-number, adds-name-number, adds-start}
 
 -- ---- strings and names
 number-adds : (t : StringTable) (v : Vocabulary Located) (x : Located) (k : ℕ) → Adds v (ofString t x (numbered k)) v
@@ -39,7 +39,7 @@ abbrev WroteString : StringTable → Vocabulary Located → Located → Wrote Ho
 WroteString t v x w = Adds v (ofString t x (w .how)) (w .tables)
 
 abbrev WrotePart : StringTable → Vocabulary Located → Option Located → Wrote (Option How) → Type 0
-WrotePart t v x w = Adds v (ofOption empty t x (w .how)) (w .tables)
+WrotePart t v x w = Adds v (ofOption t x (w .how)) (w .tables)
 
 module _ (text : Octets) where
   id-adds : (t : StringTable) (v : Vocabulary Located) (x : Located) → WroteString t v x (writeId text t v x)
@@ -54,13 +54,13 @@ module _ (text : Octets) where
   part-adds t v (some x) = id-adds t v x
 
   name-adds : (q : NameLayout) (lead : ℕ) (v : Vocabulary Located) (x : Name Located)
-      → Adds v (ofName empty (q .table) x (writeName q lead text v x .how)) (writeName q lead text v x .tables)
+      → Adds v (ofName (q .table) x (writeName q lead text v x .how)) (writeName q lead text v x .tables)
   unfolding writeName
   name-adds q lead v x =
       let p = writeOptional text PREFIX v (x .prefix) in
       let n = writeOptional text NAMESPACE-NAME (p .tables) (x .namespace) in
       let l = writeId text LOCAL-NAME (n .tables) (x .local) in
-      either (λ (w : Wrote NameHow). Adds v (ofName empty (q .table) x (w .how)) (w .tables))
+      either (λ (w : Wrote NameHow). Adds v (ofName (q .table) x (w .how)) (w .tables))
       (eqb (numberOfTriple (names (l .tables) (q .table)) (record { prefix = p .number; namespace = n .number; local = l .number })) 0) _ _
       (λ e.
       adds-both (part-adds PREFIX v (x .prefix))
@@ -79,30 +79,30 @@ module _ (text : Octets) where
     value-adds t v x = either (WroteString t v x) (eqb (length (octetsOf text x)) 0) _ _ (λ e. adds-none) (λ e. literal-adds c14 t v x)
 
     -- ---- one event
-    item-adds : (a : Bool) (v : State Located) (e : E.Event Located) → Adds (v .tables) (ofItem empty (e by writeItem L text a v e .choice)) (writeItem L text a v e .state .tables)
+    item-adds : (a : Bool) (v : State Located) (e : E.Event Located) → Adds (v .tables) (ofItem (e by writeItem L text a v e .choice)) (writeItem L text a v e .state .tables)
     unfolding writeItem ofElement ofAttribute
-    item-adds a v (E.Namespace p n) = adds-both (part-adds PREFIX (v .tables) p) (part-adds NAMESPACE-NAME (writeOptional text PREFIX (v .tables) p .tables) n)
-    item-adds a v (E.Start x) = name-adds ofElement (nameLead (v .mode) a) (v .tables) x
-    item-adds a v (E.Attribute x y) = adds-both (name-adds ofAttribute 0 (v .tables) x) (value-adds ATTRIBUTE-VALUE (writeName ofAttribute 0 text (v .tables) x .tables) y)
-    item-adds a v (E.Text y) = literal-adds c15 CONTENT-CHARACTER-CHUNK (v .tables) y
-    item-adds a v (E.Comment y) = value-adds OTHER-STRING (v .tables) y
-    item-adds a v (E.Instruction x y) = adds-both (id-adds OTHER-NCNAME (v .tables) x) (value-adds OTHER-STRING (writeId text OTHER-NCNAME (v .tables) x .tables) y)
+    item-adds a v (E.Namespace p n) = adds-both (part-adds PREFIX (v .tables) p) (adds-both (part-adds NAMESPACE-NAME (writeOptional text PREFIX (v .tables) p .tables) n) adds-none)
+    item-adds a v (E.Start x) = adds-both (name-adds ofElement (nameLead (v .mode) a) (v .tables) x) adds-none
+    item-adds a v (E.Attribute x y) = adds-both (name-adds ofAttribute 0 (v .tables) x) (adds-both (value-adds ATTRIBUTE-VALUE (writeName ofAttribute 0 text (v .tables) x .tables) y) adds-none)
+    item-adds a v (E.Text y) = adds-both (literal-adds c15 CONTENT-CHARACTER-CHUNK (v .tables) y) adds-none
+    item-adds a v (E.Comment y) = adds-both (value-adds OTHER-STRING (v .tables) y) adds-none
+    item-adds a v (E.Instruction x y) = adds-both (id-adds OTHER-NCNAME (v .tables) x) (adds-both (value-adds OTHER-STRING (writeId text OTHER-NCNAME (v .tables) x .tables) y) adds-none)
     item-adds a v E.End = adds-none
 
     -- the end of an attribute list adds nothing
     settled-adds : (a : Bool) (v : State Located) (e : E.Event Located)
-        → Adds (v .tables) (ofItem empty (e by writeItem L text a (settled v e) e .choice)) (writeItem L text a (settled v e) e .state .tables)
+        → Adds (v .tables) (ofItem (e by writeItem L text a (settled v e) e .choice)) (writeItem L text a (settled v e) e .state .tables)
     unfolding settled
     settled-adds a v e =
-        either (λ (u : State Located). Adds (v .tables) (ofItem empty (e by writeItem L text a u e .choice)) (writeItem L text a u e .state .tables))
+        either (λ (u : State Located). Adds (v .tables) (ofItem (e by writeItem L text a u e .choice)) (writeItem L text a u e .state .tables))
         (isListing (v .mode) && not (isAttribute e)) _ _ (λ q. item-adds a _ e) (λ q. item-adds a v e)
 
     -- ---- a run
     abbrev AddsAll : Vocabulary Located → Result → Type 0
-    AddsAll v (written items hs z) = Adds v (acts empty items) (z .tables)
+    AddsAll v (written items hs z) = Adds v (acts items) (z .tables)
     AddsAll v (refusal n p) = Unit {0}
 
-    plus-adds : {v w : Vocabulary Located} (i : Item Located) (hs : Halves) → Adds v (ofItem empty i) w → (r : Result) → AddsAll w r → AddsAll v (plus i hs r)
+    plus-adds : {v w : Vocabulary Located} (i : Item Located) (hs : Halves) → Adds v (ofItem i) w → (r : Result) → AddsAll w r → AddsAll v (plus i hs r)
     plus-adds i hs f (written items rest z) g = adds-both f g
     plus-adds i hs f (refusal n p) g = tt
 
@@ -126,6 +126,7 @@ module _ (text : Octets) where
 
 -- ---- a document
 pub strings-written : (L : Version) (text : Octets) (room : ℕ) (es : List Event) (items : List (Item Located)) (hs : Halves) (z : State Located) → writing L text room es ≡ written items hs z
-    → (t : StringTable) → strings (z .tables) t ≡ strings (start L) t ++ madeIn t (acts empty items)
-unfolding writing beginning
-strings-written L text room es items hs z e = subst (AddsAll text L (start L)) e (run-adds text L room es (2 * length (header L)) (beginning (start L)) 0) .then
+    → (t : StringTable) → strings (z .tables) t ≡ strings (after (starting L builtInPrefix builtInNamespace) (acts items)) t
+unfolding writing beginning start
+strings-written L text room es items hs z e =
+    adds-start L builtInPrefix builtInNamespace (subst (AddsAll text L (start L)) e (run-adds text L room es (2 * length (header L)) (beginning (start L)) 0))

@@ -3,17 +3,17 @@
 use Prim.Native.Nat.{ℕ, _+_, _-_, _*_, _/_, _%_, _^_, _≤_, _<_}
 use mathlib.Core.Path.{_≡_}
 use mathlib.Core.Logic.{_↔_}
-use mathlib.Core.List.{List, [], _++_, map}
+use mathlib.Core.List.{List, _++_, map}
 use lib.ListN.{length, replicate}
 use Rattle.format.specs.Octets.{Octets, Halves}
 use Rattle.format.specs.Refusals.{SIZE, TEXT, FULL, DEPTH, ROOM, EVENT}
 use Rattle.format.specs.Events.{Item}
-use Rattle.format.specs.Tables.{StringTable, Vocabulary, strings, Version}
+use Rattle.format.specs.Tables.{StringTable, Vocabulary, strings, starting, Version}
 use Rattle.format.specs.Items.{State}
 use Rattle.format.specs.Document.{Document, header}
-use Rattle.format.specs.Uses.{madeIn, acts, Known, MadeBy}
+use Rattle.format.specs.Uses.{acts, after, Known, Holds}
 use Rattle.format.specs.Allowed.{All}
-use Rattle.tables.specs.Located.{Located, empty, plain, plainTables, plainState, start}
+use Rattle.tables.specs.Located.{Located, builtInPrefix, builtInNamespace, plain, plainTables, plainState}
 use Rattle.tables.specs.Counts.{tableWords, entryWords, wordsOf}
 use Rattle.tables.specs.Told.{toldAccepted, toldRefused, entriesOf, wholeWord}
 use Rattle.events.specs.declared.Event.{Event}
@@ -74,8 +74,8 @@ pub record HandsOut (L : Version) (s : Octets) (room : ℕ) (items : List (Item 
   pub tables-are : plainTables s tables ≡ z .tables
   pub well-made : All (λ (i : Item Located). WellMade s (recordOf (i .event))) events
   pub spelled : allSpelled events ≡ spelledIn (w .rule)
-  pub earlier : Known empty (strings (start L)) (λ t. []) (acts empty events)
-  pub tables-made : MadeBy empty (start L) (acts empty events) tables
+  pub earlier : Known (starting L builtInPrefix builtInNamespace) (acts events)
+  pub tables-made : Holds tables (after (starting L builtInPrefix builtInNamespace) (acts events))
 
 pub record Demand3 (L : Version) (s : Octets) (room table : ℕ) (o : Read.Outcome) : Type 0 where
   -- what the rules write is accepted, if there is a record for each event and the right table room, and this is handed out
@@ -114,7 +114,7 @@ pub record LeavesWritten (L : Version) (es : List Event) (text : Octets) (room :
   pub tables-are : plainTables text tables ≡ z .tables
   pub given : map (λ (i : Item Located). recordOf (i .event)) items ≡ es
   pub chosen : map (plain text) items ≡ itemsOf L (plains text es)
-  pub strings-made : (t : StringTable) → strings tables t ≡ strings (start L) t ++ madeIn t (acts empty items)
+  pub strings-made : (t : StringTable) → strings tables t ≡ strings (after (starting L builtInPrefix builtInNamespace) (acts items)) t
 
 -- 01 refuses them so.
 pub data RefusedBy (L : Version) (es : List Event) (text : Octets) (room table : ℕ) : (number place : ℕ) → Type 0 where

@@ -11,14 +11,14 @@ use Rattle.format.specs.Octets.{Octets}
 use Rattle.format.specs.Events.{Name, Event, Namespace, Start, Attribute, Text, Comment, Instruction, End, How, spelled, numbered, NameHow, inParts, byNumber}
 use Rattle.format.specs.Events.{Choice, forNamespace, forStart, forAttribute, forText, forComment, forInstruction, forEnd, Item}
 use Rattle.format.specs.Tables.{StringTable, PREFIX, NAMESPACE-NAME, LOCAL-NAME, OTHER-NCNAME, ATTRIBUTE-VALUE, CONTENT-CHARACTER-CHUNK, OTHER-STRING}
-use Rattle.format.specs.Tables.{NameTable, ELEMENT-NAME, ATTRIBUTE-NAME, Triple, noTriple, Vocabulary, strings, names, adding, addingName, holds, holdsName, Entry, nameOf}
+use Rattle.format.specs.Tables.{NameTable, ELEMENT-NAME, ATTRIBUTE-NAME, Triple, Vocabulary, strings, names, adding, addingName, holds, holdsName, Entry, Means}
 use Rattle.format.specs.Strings.{keeping}
 
 -- `PermitsId t v x h n w`: with the tables v, the identifying string x of table t may be written as h says; its number is n, and the tables are w then. Spelled where the table does
 -- not hold it, and then it is added (7.13.7 b); or the number, from 1, of any entry that is this very string (7.13.7 a).
 pub data PermitsId (t : StringTable) (v : Vocabulary Octets) (x : Octets) : How → ℕ → Vocabulary Octets → Type 0 where
   id-new : holds (strings v t) x ≡ false → PermitsId t v x (spelled true) (suc (length (strings v t))) (adding v t x)
-  id-entry : {k : ℕ} → Entry (strings v t) k [] x → PermitsId t v x (numbered (suc k)) (suc k) v
+  id-entry : {k : ℕ} → Entry (strings v t) k x → PermitsId t v x (numbered (suc k)) (suc k) v
 
 -- One that may be absent; then its number is 0.
 pub data PermitsIfAny (t : StringTable) (v : Vocabulary Octets) : Option Octets → Option How → ℕ → Vocabulary Octets → Type 0 where
@@ -28,13 +28,13 @@ pub data PermitsIfAny (t : StringTable) (v : Vocabulary Octets) : Option Octets 
 -- A chunk, `PermitsString t v x h w`: spelled, also where the table holds it, and added or not, as one likes (7.14.7 b); or the number of any entry that is this very string (7.14.7 a).
 pub data PermitsString (t : StringTable) (v : Vocabulary Octets) (x : Octets) : How → Vocabulary Octets → Type 0 where
   string-spelled : (added : Bool) → PermitsString t v x (spelled added) (keeping added v t x)
-  string-entry : {k : ℕ} → Entry (strings v t) k [] x → PermitsString t v x (numbered (suc k)) v
+  string-entry : {k : ℕ} → Entry (strings v t) k x → PermitsString t v x (numbered (suc k)) v
 
 -- A value, comment or content may be empty: number 0 (7.14.6). It is not spelled then, so no table ever holds an empty string, and 0 is the only way to write one. Else it is as a chunk.
 pub data PermitsValue (t : StringTable) (v : Vocabulary Octets) : Octets → How → Vocabulary Octets → Type 0 where
   value-none : PermitsValue t v [] (numbered 0) v
   value-spelled : {x : Octets} (added : Bool) → 0 < length x → PermitsValue t v x (spelled added) (keeping added v t x)
-  value-entry : {x : Octets} {k : ℕ} → Entry (strings v t) k [] x → PermitsValue t v x (numbered (suc k)) v
+  value-entry : {x : Octets} {k : ℕ} → Entry (strings v t) k x → PermitsValue t v x (numbered (suc k)) v
 
 -- A name: by its parts, each as above, where the table does not hold the triple of their numbers, and then it is added (7.16.7.3, 7.16.7.5); or the number of any entry whose triple
 -- names this very name (7.16.7.2).
@@ -43,7 +43,7 @@ pub data PermitsName (t : NameTable) (v : Vocabulary Octets) : Name Octets → N
       → PermitsIfAny PREFIX v p hp kp v₁ → PermitsIfAny NAMESPACE-NAME v₁ n hn kn v₂ → PermitsId LOCAL-NAME v₂ l hl kl v₃
       → holdsName (names v₃ t) (record { prefix = kp; namespace = kn; local = kl }) ≡ false
       → PermitsName t v (record { prefix = p; namespace = n; local = l }) (inParts hp hn hl) (addingName v₃ t (record { prefix = kp; namespace = kn; local = kl }))
-  name-entry : {k : ℕ} {x : Triple} → Entry (names v t) k noTriple x → PermitsName t v (nameOf v [] x) (byNumber (suc k)) v
+  name-entry : {k : ℕ} {x : Triple} {y : Name Octets} → Entry (names v t) k x → Means v x y → PermitsName t v y (byNumber (suc k)) v
 
 -- `Permits v e c w`: with the tables v, the choice c may be made for the event e, and the tables are w then.
 pub data Permits (v : Vocabulary Octets) : Event Octets → Choice → Vocabulary Octets → Type 0 where

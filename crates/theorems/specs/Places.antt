@@ -4,13 +4,13 @@ use mathlib.Core.Option.{Option, none, some}
 use mathlib.Core.List.{List, [], _∷_, _++_}
 use lib.ListN.{length}
 use Rattle.format.specs.Octets.{Octets, Halves}
-use Rattle.format.specs.Events.{Name, How, spelled, numbered, NameHow, inParts, byNumber, Choice, forNamespace, forStart, forAttribute, forText, forComment, forInstruction, forEnd, Item}
+use Rattle.format.specs.Events.{Name, How, spelled, numbered, NameHow, inParts, byNumber, Item}
 use Rattle.format.specs.Tables.{Vocabulary, Version}
 use Rattle.format.specs.Names.{NameLayout, Named, in-parts, by-number, Declared, declared}
 use Rattle.format.specs.Items.{State, ItemWrittenAs, o-start, o-first-namespace, o-namespace, o-named-start, o-attribute, o-text, o-comment, o-instruction}
 use Rattle.format.specs.Document.{aligned, Written, document-end, attributes-end, element-end, item}
-use Rattle.format.specs.Uses.{nameIn, stringIn}
-use Rattle.tables.specs.Located.{Located, empty, stretch}
+use Rattle.format.specs.Uses.{Part, string, name, parts, PartHow, stringHow, nameHow, hows, inTurn}
+use Rattle.tables.specs.Located.{Located, stretch}
 
 -- ---- which strings are spelled, in order
 abbrev pub ifSpelled : Located → How → List Located
@@ -26,17 +26,14 @@ abbrev pub nameSpelled : Name Located → NameHow → List Located
 nameSpelled x (inParts p n l) = optionSpelled (x .prefix) p ++ (optionSpelled (x .namespace) n ++ ifSpelled (x .local) l)
 nameSpelled x (byNumber k) = []
 
-abbrev pub choiceSpelled : Name Located → Located → Choice → List Located
-choiceSpelled x y (forNamespace p n) = optionSpelled (x .prefix) p ++ optionSpelled (x .namespace) n
-choiceSpelled x y (forStart h) = nameSpelled x h
-choiceSpelled x y (forAttribute h g) = nameSpelled x h ++ ifSpelled y g
-choiceSpelled x y (forText h) = ifSpelled y h
-choiceSpelled x y (forComment h) = ifSpelled y h
-choiceSpelled x y (forInstruction h g) = ifSpelled (x .local) h ++ ifSpelled y g
-choiceSpelled x y forEnd = []
+abbrev pub partSpelled : Part Located → PartHow → List Located
+partSpelled (string t x) (stringHow h) = optionSpelled x h
+partSpelled (string t x) (nameHow h) = []
+partSpelled (name t x) (stringHow h) = []
+partSpelled (name t x) (nameHow h) = nameSpelled x h
 
 abbrev pub itemSpelled : Item Located → List Located
-itemSpelled i = choiceSpelled (nameIn empty (i .event)) (stringIn empty (i .event)) (i .choice)
+itemSpelled i = inTurn partSpelled (parts (i .event)) (hows (i .choice))
 
 unfoldable pub allSpelled : List (Item Located) → List Located
 allSpelled [] = []
@@ -57,7 +54,7 @@ module _ {L : Version} where
   abbrev pub inName : (k : ℕ) {q : NameLayout} {lead : ℕ} {v w : Vocabulary Octets} {x : Name Octets} {h : NameHow} {o : Octets} → Named L q lead v x h o w → List Located
   inName k (in-parts {p = p} {n = n} {l = l} {hp = hp} {hn = hn} {hl = hl} {op = op} {on = on} {ol = ol} paired up un ul new room) =
       inOption (suc k) hp p op ++ (inOption (suc k + length op) hn n on ++ inField (suc k + length op + length on) hl l ol)
-  inName k (by-number small fits en) = []
+  inName k (by-number small fits en m) = []
 
   abbrev pub inDeclared : (k : ℕ) {v w : Vocabulary Octets} {p n : Option Octets} {hp hn : Option How} {o : Octets} → Declared L v p n hp hn o w → List Located
   inDeclared k (declared {p = p} {n = n} {hp = hp} {hn = hn} {op = op} {on = on} up un) = inOption (suc k) hp p op ++ inOption (suc k + length op) hn n on

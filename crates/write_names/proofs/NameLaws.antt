@@ -11,7 +11,7 @@ use lib.Dec.{eqb}
 use lib.ListN.{length, set}
 use Rattle.format.specs.Numbers.{pick, spell}
 use Rattle.format.specs.Events.{Name, How, Choice}
-use Rattle.format.specs.Tables.{StringTable, PREFIX, NAMESPACE-NAME, LOCAL-NAME, NameTable, ELEMENT-NAME, ATTRIBUTE-NAME, Triple, Vocabulary, strings, names, adding, addingName, place, link}
+use Rattle.format.specs.Tables.{StringTable, PREFIX, NAMESPACE-NAME, LOCAL-NAME, NameTable, ELEMENT-NAME, ATTRIBUTE-NAME, Triple, Vocabulary, strings, names, adding, addingName, link}
 use Rattle.format.specs.Names.{has, NameLayout, ofElement, ofAttribute}
 use Rattle.fields.specs.PutContracts.{Puts}
 use Rattle.fields.proofs.Puts.{puts-append, puts-octet}
@@ -21,6 +21,7 @@ use Rattle.tables.specs.Located.{Located, octetsOf}
 use Rattle.tables.specs.Search.{numberIn, numberOfTriple}
 use Rattle.tables.specs.Rows.{tableOf, tripleAt, entries, vocabulary}
 use Rattle.tables.specs.Kept.{nameTableOf, countOf, layoutOf, tripleOf}
+use Rattle.tables.proofs.Adding.{names-adding}
 use Rattle.tables.proofs.Laws.{length-strings, length-names, names-are, name-number-within}
 use Rattle.events.specs.declared.EventString.{EventString}
 use Rattle.events.specs.declared.EventString.the-variants.{Absent, Empty, Stretch, XmlPrefix, XmlNamespace}
@@ -99,26 +100,21 @@ held-by text t u v XmlNamespace e = rw e
 
 module _ (text : List ℕ) (v : Vocabulary Located) where
   namespaces-kept : (p : Option Located) → strings (writeOptional text PREFIX v p .tables) NAMESPACE-NAME ≡ strings v NAMESPACE-NAME
-  unfolding adding strings place
+  unfolding adding strings
   namespaces-kept = optional-keeps (λ (u : Vocabulary Located). strings u NAMESPACE-NAME) text PREFIX v (λ x. refl)
 
   locals-kept : (p n : Option Located) → strings (writeOptional text NAMESPACE-NAME (writeOptional text PREFIX v p .tables) n .tables) LOCAL-NAME ≡ strings v LOCAL-NAME
-  unfolding adding strings place
+  unfolding adding strings
   locals-kept p n =
       optional-keeps (λ (u : Vocabulary Located). strings u LOCAL-NAME) text NAMESPACE-NAME (writeOptional text PREFIX v p .tables) (λ x. refl) n
       ∙ optional-keeps (λ (u : Vocabulary Located). strings u LOCAL-NAME) text PREFIX v (λ x. refl) p
 
-names-adding : (v : Vocabulary Located) (t : StringTable) (q : NameTable) (x : Located) → names (adding v t x) q ≡ names v q
-unfolding adding names
-names-adding v t ELEMENT-NAME x = refl
-names-adding v t ATTRIBUTE-NAME x = refl
-
 pub names-kept : (text : List ℕ) (v : Vocabulary Located) (q : NameTable) (p n : Option Located) (l : Located)
     → names (writeId text LOCAL-NAME (writeOptional text NAMESPACE-NAME (writeOptional text PREFIX v p .tables) n .tables) l .tables) q ≡ names v q
 names-kept text v q p n l =
-    id-keeps (λ (u : Vocabulary Located). names u q) text LOCAL-NAME (writeOptional text NAMESPACE-NAME (writeOptional text PREFIX v p .tables) n .tables) (names-adding _ _ q) l
-    ∙ optional-keeps (λ (u : Vocabulary Located). names u q) text NAMESPACE-NAME (writeOptional text PREFIX v p .tables) (names-adding _ _ q) n
-    ∙ optional-keeps (λ (u : Vocabulary Located). names u q) text PREFIX v (names-adding _ _ q) p
+    id-keeps (λ (u : Vocabulary Located). names u q) text LOCAL-NAME (writeOptional text NAMESPACE-NAME (writeOptional text PREFIX v p .tables) n .tables) (λ x. names-adding _ _ x q) l
+    ∙ optional-keeps (λ (u : Vocabulary Located). names u q) text NAMESPACE-NAME (writeOptional text PREFIX v p .tables) (λ x. names-adding _ _ x q) n
+    ∙ optional-keeps (λ (u : Vocabulary Located). names u q) text PREFIX v (λ x. names-adding _ _ x q) p
 
 -- ---- a name's number
 layout-table : (t : ℕ) → layoutOf t .table ≡ nameTableOf t

@@ -11,13 +11,14 @@ use lib.Dec.{eqb}
 use lib.ListN.{length, replicate, length-append, length-replicate}
 use Rattle.format.specs.Numbers.{pick}
 use Rattle.format.specs.Events.{How}
-use Rattle.format.specs.Tables.{StringTable, PREFIX, NAMESPACE-NAME, LOCAL-NAME, OTHER-NCNAME, NameTable, ELEMENT-NAME, ATTRIBUTE-NAME, Triple, Vocabulary, strings, names, extended, adding, addingName, place, starting, link}
+use Rattle.format.specs.Tables.{StringTable, PREFIX, NAMESPACE-NAME, LOCAL-NAME, OTHER-NCNAME, NameTable, ELEMENT-NAME, ATTRIBUTE-NAME, Triple, Vocabulary, strings, names, adding, addingName, starting, link}
 use Rattle.tables.specs.declared.Counts.{Counts}
 use Rattle.tables.specs.Located.{Located, stretch, builtInPrefix, builtInNamespace, octetsOf, start}
 use Rattle.tables.specs.Search.{numberIn}
 use Rattle.tables.specs.Counts.{countsOf, tableWords}
-use Rattle.tables.specs.Rows.{tableOf, vocabulary}
+use Rattle.tables.specs.Rows.{tableOf, place, vocabulary}
 use Rattle.tables.specs.Kept.{nameTableOf, countOf, oneMore, stored}
+use Rattle.tables.proofs.Adding.{extended, adding-is}
 use Rattle.tables.proofs.Laws.{length-strings, length-names, counted-start, counted-more, string-added, name-added, clean-start, clean-string, clean-name, inside-start, inside-string, inside-name, vocabulary-start}
 use Rattle.tables.proofs.Found.{both-true}
 use Rattle.tables.proofs.Rooms.{stored-length}
@@ -42,7 +43,6 @@ module _ (text : List ℕ) (c : Counts) (w : List ℕ) (t : ℕ) (order : InOrde
     string-more = string-added c w t (order .counted) room (order .room) p n small some
 
     pub order-string : InOrder text (oneMore c t) (stored w t (countOf c t) p n 0)
-    unfolding adding
     order-string =
         record {
           size = order .size;
@@ -50,8 +50,8 @@ module _ (text : List ℕ) (c : Counts) (w : List ℕ) (t : ℕ) (order : InOrde
           counted = counted-more c t (omega arith) room (order .counted);
           clean = clean-string c w t (order .counted) room (order .room) p n small some (order .clean);
           inside = rw string-more (inside-string text (vocabulary c w) (tableOf t) (stretch p n) (order .inside) lies);
-          prefix = rw string-more (begins-extended (eqb (place (tableOf t)) 0) builtInPrefix (stretch p n) (vocabulary c w .prefixes) (order .prefix));
-          namespace = rw string-more (begins-extended (eqb (place (tableOf t)) 1) builtInNamespace (stretch p n) (vocabulary c w .namespaces) (order .namespace));
+          prefix = rw (string-more, adding-is (vocabulary c w) (tableOf t) (stretch p n)) (begins-extended (eqb (place (tableOf t)) 0) builtInPrefix (stretch p n) (vocabulary c w .prefixes) (order .prefix));
+          namespace = rw (string-more, adding-is (vocabulary c w) (tableOf t) (stretch p n)) (begins-extended (eqb (place (tableOf t)) 1) builtInNamespace (stretch p n) (vocabulary c w .namespaces) (order .namespace));
         }
 
   module _ (x : Triple) (low : 8 ≤ t) (high : t < 10) where
@@ -117,16 +117,16 @@ longer true l x = simp length-append (omega arith)
 longer false l x = omega arith
 
 grows-string : (v : Vocabulary Located) (t : StringTable) (x : Located) → Grows v (adding v t x)
-unfolding adding
 grows-string v t x =
-    record {
+    rw (adding-is v t x)
+    (record {
       prefixes = longer (eqb (place t) 0) (v .prefixes) x;
       namespaces = longer (eqb (place t) 1) (v .namespaces) x;
       locals = longer (eqb (place t) 2) (v .locals) x;
       ncnames = longer (eqb (place t) 3) (v .ncnames) x;
       elements = omega arith;
       attributes = omega arith;
-    }
+    })
 
 pub grows-name : (v : Vocabulary Located) (t : NameTable) (x : Triple) → Grows v (addingName v t x)
 unfolding addingName
@@ -219,7 +219,7 @@ within-order text c w order =
 -- an entry behind 256 others
 module _ (v : Vocabulary Located) where
   pub full-string : (t : ℕ) (x : Located) → t < 4 → 256 ≤ length (strings v (tableOf t)) → within link (adding v (tableOf t) x) ≡ false
-  unfolding adding strings tableOf place
+  unfolding adding strings tableOf
   full-string zero x h f = not-within (adding v PREFIX x) λ q. let l = within-lengths (adding v PREFIX x) q in let n = length-append (v .prefixes) (x ∷ []) in omega arith
   full-string (suc zero) x h f =
       not-within (adding v NAMESPACE-NAME x) λ q. let l = within-lengths (adding v NAMESPACE-NAME x) q in let n = length-append (v .namespaces) (x ∷ []) in omega arith

@@ -13,7 +13,7 @@ use lib.ListN.{length, set, length-append, length-map}
 use Rattle.format.specs.Numbers.{numbers, c25, sizes, pick}
 use Rattle.format.specs.Events as E
 use Rattle.format.specs.Events.{Choice}
-use Rattle.format.specs.Tables.{StringTable, PREFIX, NAMESPACE-NAME, LOCAL-NAME, ATTRIBUTE-VALUE, CONTENT-CHARACTER-CHUNK, OTHER-STRING, Vocabulary, strings, names, adding, place, link}
+use Rattle.format.specs.Tables.{StringTable, PREFIX, NAMESPACE-NAME, LOCAL-NAME, ATTRIBUTE-VALUE, CONTENT-CHARACTER-CHUNK, OTHER-STRING, Vocabulary, strings, names, adding, link}
 use Rattle.format.specs.Strings.{c15, keeping}
 use Rattle.format.specs.Names.{NameLayout, ofElement, ofAttribute}
 use Rattle.format.specs.Items as F
@@ -269,7 +269,7 @@ module _ (text : List ℕ) (a : Bool) (st : State) (w : List ℕ) (e : Event) wh
 
   pub instruction-full : within link (writeId text (tableOf 3) (vocabulary (st .counts) w) (locatedOf (e .name)) .tables) ≡ false
       → within link (writeItem link text a (known st w) (eventOf Instruction e) .state .tables) ≡ false
-  unfolding eventOf writeItem tableOf adding place within
+  unfolding eventOf writeItem tableOf adding within
   instruction-full f = value-within text OTHER-STRING _ (locatedOf (e .value)) refl ∙ f
 
   pub instruction-lands : Fit text st w Instruction e → {at : ℕ} → (at ≡ aligned (st .at) / 2) × (at ≤ 16385) → {out out₁ out₂ out′ w₁ w′ : List ℕ} {h g : Here} → out₁ ≡ set out at 0xE1
@@ -331,7 +331,7 @@ module _ (text : List ℕ) (a : Bool) (st : State) (w : List ℕ) (e : Event) wh
 
     pub attribute-full : within link (writeName (layoutOf 9) 0 text (vocabulary (st .counts) w) (namedOf name) .tables) ≡ false
         → within link (writeItem link text a (known st w) (eventOf Attribute e) .state .tables) ≡ false
-    unfolding eventOf writeItem layoutOf adding place within
+    unfolding eventOf writeItem layoutOf adding within
     attribute-full f = value-within text ATTRIBUTE-VALUE _ (locatedOf (e .value)) refl ∙ rw is at f
 
     pub attribute-lands : {at : ℕ} → (at ≡ aligned (st .at) / 2) × (at ≤ 16385) → {out out₁ out′ w₁ w′ : List ℕ} {h g : Here}
