@@ -35,65 +35,65 @@ module _ (s : List ℕ) where
   into-placed (got b next v) f h k = k b next v h
   into-placed (refused n p) f h k = h
 
-  module _ (L : Version) where
+  module _ (V : Version) where
     -- ---- items
-    start-placed : (k : ℕ) (a : Bool) (v : State Located) (g : Got NameRead) → k ≤ length s → Within s g → Placed (startOf L k a v g)
+    start-placed : (k : ℕ) (a : Bool) (v : State Located) (g : Got NameRead) → k ≤ length s → Within s g → Placed (startOf V k a v g)
     start-placed k a v g h w = into-placed g _ w λ x next u l. h
 
-    namespace-placed : (k : ℕ) (v : State Located) (a : Bool) → k ≤ length s → Placed (namespaceAt L s k v a)
+    namespace-placed : (k : ℕ) (v : State Located) (a : Bool) → k ≤ length s → Placed (namespaceAt V s k v a)
     unfolding namespaceAt
-    namespace-placed k v a h = into-placed (declaredAt L s k (v .tables)) _ (declared-within s L k (v .tables) h) λ d next w l. h
+    namespace-placed k v a h = into-placed (declaredAt V s k (v .tables)) _ (declared-within s V k (v .tables) h) λ d next w l. h
 
-    element-placed : (k b : ℕ) (a : Bool) (v : State Located) → k < length s → Placed (elementAt L s k b a v)
+    element-placed : (k b : ℕ) (a : Bool) (v : State Located) → k < length s → Placed (elementAt V s k b a v)
     unfolding elementAt
     element-placed k b a v h =
         tests Placed (namePadding b) _ _ (λ _. omega arith)
         λ _. tests Placed (mayStart v) _ _
         (λ _. tests Placed (ltb b 0x38) _ _
-        (λ _. into-placed (numberedAt L ofElement s k (v .tables)) _ (numbered-within s L ofElement k (v .tables) (omega arith))
-        λ x next w l. tests Placed (ltb (v .level) (L .depth)) _ _ (λ _. omega arith) (λ _. omega arith))
+        (λ _. into-placed (numberedAt V ofElement s k (v .tables)) _ (numbered-within s V ofElement k (v .tables) (omega arith))
+        λ x next w l. tests Placed (ltb (v .level) (V .depth)) _ _ (λ _. omega arith) (λ _. omega arith))
         λ _. tests Placed (leb 0x3C b && lonePrefix b) _ _ (λ _. omega arith)
-        λ _. tests Placed (ltb (v .level) (L .depth)) _ _
-        (λ _. tests Placed (eqb b 0x38) _ _ (λ _. namespace-placed (suc k) v a h) (λ _. start-placed k a v (partsAt L ofElement s b k (v .tables)) (omega arith) (parts-within s L ofElement b k (v .tables) h)))
+        λ _. tests Placed (ltb (v .level) (V .depth)) _ _
+        (λ _. tests Placed (eqb b 0x38) _ _ (λ _. namespace-placed (suc k) v a h) (λ _. start-placed k a v (partsAt V ofElement s b k (v .tables)) (omega arith) (parts-within s V ofElement b k (v .tables) h)))
         (λ _. omega arith))
         (λ _. omega arith)
 
-    named-placed : (k : ℕ) (a : Bool) (v : State Located) → k ≤ length s → Placed (namedAt L s k a v)
+    named-placed : (k : ℕ) (a : Bool) (v : State Located) → k ≤ length s → Placed (namedAt V s k a v)
     unfolding namedAt
     named-placed k a v h =
         tests Placed (ltb k (length s)) _ _
         (λ e. tests Placed (eqb (getD s k 0 % 64 / 4) 14) _ _ (λ _. omega arith)
         λ _. tests Placed (ltb (getD s k 0) 0x40) _ _
-        (λ _. tests Placed (namePadding (getD s k 0)) _ _ (λ _. omega arith) (λ _. start-placed k a v (nameAt L ofElement s (getD s k 0) k (v .tables)) h (name-within s L ofElement (getD s k 0) k (v .tables) (ltb-true _ _ e))))
+        (λ _. tests Placed (namePadding (getD s k 0)) _ _ (λ _. omega arith) (λ _. start-placed k a v (nameAt V ofElement s (getD s k 0) k (v .tables)) h (name-within s V ofElement (getD s k 0) k (v .tables) (ltb-true _ _ e))))
         (λ _. omega arith))
         (λ _. omega arith)
 
-    attribute-placed : (k : ℕ) (v : State Located) → k ≤ length s → Placed (attributeAt L s k v)
+    attribute-placed : (k : ℕ) (v : State Located) → k ≤ length s → Placed (attributeAt V s k v)
     unfolding attributeAt
     attribute-placed k v h =
         tests Placed (ltb k (length s)) _ _
         (λ e. tests Placed (ltb (getD s k 0) 0x80) _ _
         (λ _. tests Placed (ltb (getD s k 0) 0x7C) _ _
-        (λ _. into-placed (nameAt L ofAttribute s (getD s k 0) k (v .tables)) _ (name-within s L ofAttribute (getD s k 0) k (v .tables) (ltb-true _ _ e))
-        λ x k₁ w₁ h₁. into-placed (valueAt L s ATTRIBUTE-VALUE k₁ w₁) _ (value-within s L ATTRIBUTE-VALUE k₁ w₁ h₁) λ y k₂ w₂ h₂. h)
+        (λ _. into-placed (nameAt V ofAttribute s (getD s k 0) k (v .tables)) _ (name-within s V ofAttribute (getD s k 0) k (v .tables) (ltb-true _ _ e))
+        λ x k₁ w₁ h₁. into-placed (valueAt V s ATTRIBUTE-VALUE k₁ w₁) _ (value-within s V ATTRIBUTE-VALUE k₁ w₁ h₁) λ y k₂ w₂ h₂. h)
         (λ _. omega arith))
         (λ _. omega arith))
         (λ _. omega arith)
 
-    instruction-placed : (k : ℕ) (v : State Located) → k < length s → Placed (instructionAt L s k v)
+    instruction-placed : (k : ℕ) (v : State Located) → k < length s → Placed (instructionAt V s k v)
     unfolding instructionAt
     instruction-placed k v h =
-        into-placed (idAt L s OTHER-NCNAME (suc k) (v .tables)) _ (id-within s L OTHER-NCNAME (suc k) (v .tables) h)
-        λ x k₁ w₁ h₁. into-placed (valueAt L s OTHER-STRING k₁ w₁) _ (value-within s L OTHER-STRING k₁ w₁ h₁) λ y k₂ w₂ h₂. omega arith
+        into-placed (idAt V s OTHER-NCNAME (suc k) (v .tables)) _ (id-within s V OTHER-NCNAME (suc k) (v .tables) h)
+        λ x k₁ w₁ h₁. into-placed (valueAt V s OTHER-STRING k₁ w₁) _ (value-within s V OTHER-STRING k₁ w₁ h₁) λ y k₂ w₂ h₂. omega arith
 
-    other-placed : (k : ℕ) (v : State Located) → k ≤ length s → Placed (otherAt L s k v)
+    other-placed : (k : ℕ) (v : State Located) → k ≤ length s → Placed (otherAt V s k v)
     unfolding otherAt
     other-placed k v h =
         tests Placed (ltb (getD s k 0) 0xF0) _ _
         (λ _. tests Placed (eqb (getD s k 0 / 4) (pick (ltb 0 (v .level)) 0x32 0x31)) _ _ (λ _. omega arith) (λ _. omega arith))
         (λ _. omega arith)
 
-    child-placed : (k : ℕ) (v : State Located) → k ≤ length s → Placed (childAt L s k v)
+    child-placed : (k : ℕ) (v : State Located) → k ≤ length s → Placed (childAt V s k v)
     unfolding childAt chunkAt commentAt
     child-placed k v h =
         tests Placed (ltb k (length s)) _ _
@@ -102,15 +102,15 @@ module _ (s : List ℕ) where
         λ _. tests Placed (ltb (getD s k 0) 0x80) _ _ (λ _. element-placed k (getD s k 0 - 0x40) true v l)
         λ _. tests Placed (ltb (getD s k 0) 0xC0) _ _
         (λ _. tests Placed (ltb 0 (v .level)) _ _
-        (λ _. into-placed (literalAt L c15 s CONTENT-CHARACTER-CHUNK k (v .tables)) _ (literal-within s L c15 CONTENT-CHARACTER-CHUNK k (v .tables) h) λ y next w n. h)
+        (λ _. into-placed (literalAt V c15 s CONTENT-CHARACTER-CHUNK k (v .tables)) _ (literal-within s V c15 CONTENT-CHARACTER-CHUNK k (v .tables) h) λ y next w n. h)
         (λ _. omega arith))
         λ _. tests Placed (eqb (getD s k 0) 0xE1) _ _ (λ _. instruction-placed k v l)
         λ _. tests Placed (eqb (getD s k 0) 0xE2) _ _
-        (λ _. into-placed (valueAt L s OTHER-STRING (suc k) (v .tables)) _ (value-within s L OTHER-STRING (suc k) (v .tables) l) λ y next w n. h)
+        (λ _. into-placed (valueAt V s OTHER-STRING (suc k) (v .tables)) _ (value-within s V OTHER-STRING (suc k) (v .tables) l) λ y next w n. h)
         (λ _. other-placed k v h))
         (λ _. omega arith)
 
-    item-placed : (k : ℕ) (v : State Located) (m : Mode) → k ≤ length s → Placed (itemAt L s k v m)
+    item-placed : (k : ℕ) (v : State Located) (m : Mode) → k ≤ length s → Placed (itemAt V s k v m)
     unfolding itemAt declaringAt
     item-placed k v content h = child-placed k v h
     item-placed k v (declaring a) h =
@@ -135,7 +135,7 @@ module _ (s : List ℕ) where
     end-placed m (declaring a) h = omega arith
     end-placed m content h = tests Placed (ltb 0 (m .state .level)) _ _ (λ _. omega arith) (λ _. document-placed m h)
 
-    pub step-placed : (m : Stand) → m .at ≤ 2 * length s → Placed (step L s m)
+    pub step-placed : (m : Stand) → m .at ≤ 2 * length s → Placed (step V s m)
     unfolding step aligned
     step-placed m h =
         tests Placed (byHalves (m .state .mode) && endsAt s (m .at)) _ _

@@ -39,7 +39,7 @@ octet k v = record { at = 2 * k; state = v }
 unfoldable pub namePadding : ℕ → Bool
 namePadding b = (eqb (b / 8) 6 && not (eqb (b % 8) 0)) || (eqb (b / 4) 14 && not (eqb (b % 4) 0))
 
-module _ (L : Version) where
+module _ (V : Version) where
   -- A Start whose name is read.
   abbrev pub startOf : ℕ → Bool → State Located → Got NameRead → Step
   startOf k a v g = into g λ x next w. more k (Start (x .name) by forStart (x .how)) (octet next (opened v w a))
@@ -47,7 +47,7 @@ module _ (L : Version) where
   -- The declaration at k, of the element whose attribute bit is a.
   unfoldable pub namespaceAt : Octets → ℕ → State Located → Bool → Step
   namespaceAt s k v a =
-      into (declaredAt L s k (v .tables))
+      into (declaredAt V s k (v .tables))
       λ d next w. more k (Namespace (d .prefix) (d .namespace) by forNamespace (d .prefixHow) (d .namespaceHow)) (octet next (moved v w (declaring a)))
 
   -- An element whose first octet holds the attribute bit a and the six bits b: padding (6); a second root (15). A number: its faults, then depth (13).
@@ -57,10 +57,10 @@ module _ (L : Version) where
       pick (namePadding b) (stop PADDING k)
       (pick (mayStart v)
       (pick (ltb b 0x38)
-      (into (numberedAt L ofElement s k (v .tables)) λ x next w. pick (ltb (v .level) (L .depth)) (more k (Start (x .name) by forStart (x .how)) (octet next (opened v w a))) (stop DEPTH k))
+      (into (numberedAt V ofElement s k (v .tables)) λ x next w. pick (ltb (v .level) (V .depth)) (more k (Start (x .name) by forStart (x .how)) (octet next (opened v w a))) (stop DEPTH k))
       (pick (leb 0x3C b && lonePrefix b) (stop STRUCTURE k)
-      (pick (ltb (v .level) (L .depth))
-      (pick (eqb b 0x38) (namespaceAt s (suc k) v a) (startOf k a v (partsAt L ofElement s b k (v .tables))))
+      (pick (ltb (v .level) (V .depth))
+      (pick (eqb b 0x38) (namespaceAt s (suc k) v a) (startOf k a v (partsAt V ofElement s b k (v .tables))))
       (stop DEPTH k))))
       (stop STRUCTURE k))
 
@@ -71,7 +71,7 @@ module _ (L : Version) where
       (pick (eqb (getD s k 0 % 64 / 4) 14) (stop CODE k)
       (pick (ltb (getD s k 0) 0x40)
       (pick (namePadding (getD s k 0)) (stop PADDING k)
-      (startOf k a v (nameAt L ofElement s (getD s k 0) k (v .tables))))
+      (startOf k a v (nameAt V ofElement s (getD s k 0) k (v .tables))))
       (stop PADDING k)))
       (stop TRUNCATED k)
 
@@ -81,8 +81,8 @@ module _ (L : Version) where
       pick (ltb k (length s))
       (pick (ltb (getD s k 0) 0x80)
       (pick (ltb (getD s k 0) 0x7C)
-      (into (nameAt L ofAttribute s (getD s k 0) k (v .tables))
-      λ x k₁ w₁. into (valueAt L s ATTRIBUTE-VALUE k₁ w₁)
+      (into (nameAt V ofAttribute s (getD s k 0) k (v .tables))
+      λ x k₁ w₁. into (valueAt V s ATTRIBUTE-VALUE k₁ w₁)
       λ y k₂ w₂. more k (Attribute (x .name) (y .string) by forAttribute (x .how) (y .how)) (octet k₂ (moved v w₂ (listing true))))
       (stop PADDING k))
       (stop CODE k))
@@ -90,16 +90,16 @@ module _ (L : Version) where
 
   unfoldable pub chunkAt : Octets → ℕ → State Located → Step
   chunkAt s k v =
-      into (literalAt L c15 s CONTENT-CHARACTER-CHUNK k (v .tables)) λ y next w. more k (Text (y .string) by forText (y .how)) (octet next (knowing v w))
+      into (literalAt V c15 s CONTENT-CHARACTER-CHUNK k (v .tables)) λ y next w. more k (Text (y .string) by forText (y .how)) (octet next (knowing v w))
 
   unfoldable pub commentAt : Octets → ℕ → State Located → Step
   commentAt s k v =
-      into (valueAt L s OTHER-STRING (suc k) (v .tables)) λ y next w. more k (Comment (y .string) by forComment (y .how)) (octet next (knowing v w))
+      into (valueAt V s OTHER-STRING (suc k) (v .tables)) λ y next w. more k (Comment (y .string) by forComment (y .how)) (octet next (knowing v w))
 
   unfoldable pub instructionAt : Octets → ℕ → State Located → Step
   instructionAt s k v =
-      into (idAt L s OTHER-NCNAME (suc k) (v .tables))
-      λ x k₁ w₁. into (valueAt L s OTHER-STRING k₁ w₁)
+      into (idAt V s OTHER-NCNAME (suc k) (v .tables))
+      λ x k₁ w₁. into (valueAt V s OTHER-STRING k₁ w₁)
       λ y k₂ w₂. more k (Instruction (x .string) (y .string) by forInstruction (x .how) (y .how)) (octet k₂ (knowing v w₂))
 
   -- Entity references (110010) are inside elements, type declarations (110001) outside: another format (8). All else is not assigned (5), but 1111 here

@@ -55,7 +55,7 @@ pub record StringRead : Type 0 where
 abbrev pub numberBit : Layout → ℕ
 numberBit q = q .lengthBit - 3
 
-module _ (L : Version) where
+module _ (V : Version) where
   -- C.13 at octet k. Spelled: 2, 6, 2, 9, then held already (11), no room in the table (12). Numbered: 2, 5, 2, 7, then beyond the table (10).
   unfoldable pub idAt : Octets → StringTable → ℕ → Vocabulary Located → Got IdRead
   idAt s t k v =
@@ -63,7 +63,7 @@ module _ (L : Version) where
       (number (fieldAt (lengths 2) noTop 2 s k)
       λ n next. spelling s k next n
       (pick (holds (map (octetsOf s) (strings v t)) (octetsOf s (stretch next n))) (refused REPEAT k)
-      (pick (ltb (length (strings v t)) (L .entries))
+      (pick (ltb (length (strings v t)) (V .entries))
       (got (record { string = stretch next n; how = spelled true; number = suc (length (strings v t)) }) (next + n) (adding v t (stretch next n)))
       (refused FULL k))))
       (number (fieldAt c25 top 2 s k)
@@ -80,7 +80,7 @@ module _ (L : Version) where
   spelledAt q s t k added v =
       number (fieldAt (lengths (q .lengthBit)) noTop (q .lengthBit) s k)
       λ n next. spelling s k next n
-      (pick (not added || ltb (length (strings v t)) (L .entries))
+      (pick (not added || ltb (length (strings v t)) (V .entries))
       (got (record { string = stretch next n; how = spelled added }) (next + n) (keeping added v t (stretch next n)))
       (refused FULL k))
 

@@ -22,114 +22,114 @@ use Rattle.theorems.proofs.Entries.{ranged-started}
 use Rattle.theorems.proofs.Run.{Inside, Right, run-right, fuel-free, NotShort, run-not-short, trace-few, placesOf, room-short, room-enough, Reads, run-complete}
 use Rattle.theorems.proofs.Opening.{Opened, opening-sound, opening-complete}
 
-pub plain-start : (L : Version) (s : Octets) → plainState s (beginning (start L)) ≡ beginning (started L)
+pub plain-start : (V : Version) (s : Octets) → plainState s (beginning (start V)) ≡ beginning (started V)
 unfolding beginning start octetsOf
-plain-start L s = λ i. record { tables = starting-map (octetsOf s) L builtInPrefix builtInNamespace i; level = 0; root = false; mode = content }
+plain-start V s = λ i. record { tables = starting-map (octetsOf s) V builtInPrefix builtInNamespace i; level = 0; root = false; mode = content }
 
 -- the starting tables hold no triple, so all that they hold is in range
-inside : (L : Version) {s : Octets} (body : ℕ) → 2 * body ≤ 2 * length s → Inside s (origin body (start L))
+inside : (V : Version) {s : Octets} (body : ℕ) → 2 * body ≤ 2 * length s → Inside s (origin body (start V))
 unfolding beginning
-inside L {s} body h = record { at = h; ranged = rw (ap (λ (v : State Octets). v .tables) (plain-start L s)) (ranged-started L) }
+inside V {s} body h = record { at = h; ranged = rw (ap (λ (v : State Octets). v .tables) (plain-start V s)) (ranged-started V) }
 
-module _ (L : Version) (ok : Bounded L) (s : Octets) (bytes : AreOctets s) where
+module _ (V : Version) (ok : Bounded V) (s : Octets) (bytes : AreOctets s) where
   abbrev at : ℕ
-  at = length (header L)
+  at = length (header V)
 
-  brief : length s ≤ L .octets → length s ≤ longest
+  brief : length s ≤ V .octets → length s ≤ longest
   brief h = let k = ok .few-octets in omega arith
 
   -- what a result means
   abbrev pub Means : Result → Type 0
-  Means (accepted is m) = Document L (map (plain s) is) (plainState s (m .state)) s
+  Means (accepted is m) = Document V (map (plain s) is) (plainState s (m .state)) s
   Means (refusal n p) = Refusal s n p
 
-  from-run : s ≡ header L ++ drop at s → (h : length s ≤ L .octets) (a : Result) → Right L s bytes (brief h) (origin at (start L)) a → Means a
+  from-run : s ≡ header V ++ drop at s → (h : length s ≤ V .octets) (a : Result) → Right V s bytes (brief h) (origin at (start V)) a → Means a
   from-run d h (accepted is m) r =
       record {
         body = drop (2 * at) (halves s);
-        here = ap halves d ∙ halves-append (header L) (drop at s) ∙ ap (λ (l : Octets). halves (header L) ++ l) (sym (halves-drop at s));
-        rule = subst (λ (v : State Octets). Written L (2 * at) v (map (plain s) is) (drop (2 * at) (halves s)) (plainState s (m .state))) (plain-start L s) r;
+        here = ap halves d ∙ halves-append (header V) (drop at s) ∙ ap (λ (l : Octets). halves (header V) ++ l) (sym (halves-drop at s));
+        rule = subst (λ (v : State Octets). Written V (2 * at) v (map (plain s) is) (drop (2 * at) (halves s)) (plainState s (m .state))) (plain-start V s) r;
         short = h;
       }
   from-run d h (refusal n p) r = r
 
   -- by what the opening answers
-  opened : (P : Opening → Type 0) → (s ≡ header L ++ drop at s → length s ≤ L .octets → at ≤ length s → P (onward at (start L))) → ((n p : ℕ) → Refusal s n p × (n ≡ 14 → ⊥) → P (halt n p)) → P (opening L s)
-  opened P f g = from (opening L s) (opening-sound L s)
+  opened : (P : Opening → Type 0) → (s ≡ header V ++ drop at s → length s ≤ V .octets → at ≤ length s → P (onward at (start V))) → ((n p : ℕ) → Refusal s n p × (n ≡ 14 → ⊥) → P (halt n p)) → P (opening V s)
+  opened P f g = from (opening V s) (opening-sound V s)
     where
-      from : (o : Opening) → Opened L s o → P o
+      from : (o : Opening) → Opened V s o → P o
       from (onward body tables) k = subst P (sym (k .0)) (f (k .1) (k .2) (k .3))
       from (halt n p) k = g n p k
 
   module _ (room : ℕ) where
-    pub means : Means (reading L s room)
+    pub means : Means (reading V s room)
     unfolding reading
     means =
-        opened (λ (o : Opening). Means (resultFrom L s room o))
-        (λ d h l. from-run d h (run L s (fuelOf s) room (origin at (start L))) (run-right L s bytes (brief h) (fuelOf s) room (origin at (start L)) (inside L at (omega arith)))) (λ n p k. k .0)
+        opened (λ (o : Opening). Means (resultFrom V s room o))
+        (λ d h l. from-run d h (run V s (fuelOf s) room (origin at (start V))) (run-right V s bytes (brief h) (fuelOf s) room (origin at (start V)) (inside V at (omega arith)))) (λ n p k. k .0)
 
-    not-short : length (marks L s) ≤ room → NotShort (reading L s room)
+    not-short : length (marks V s) ≤ room → NotShort (reading V s room)
     unfolding reading marks
     not-short =
-        opened (λ (o : Opening). length (marksFrom L s o) ≤ room → NotShort (resultFrom L s room o))
-        (λ d h l few. run-not-short L s bytes (brief h) (fuelOf s) room (origin at (start L)) (inside L at (omega arith)) few) (λ n p k few. k .1)
+        opened (λ (o : Opening). length (marksFrom V s o) ≤ room → NotShort (resultFrom V s room o))
+        (λ d h l few. run-not-short V s bytes (brief h) (fuelOf s) room (origin at (start V)) (inside V at (omega arith)) few) (λ n p k few. k .1)
 
     -- the number that comes back then
     never-14 : (a : Result) → Means a → NotShort a → numberOf a % 32 ≡ 14 → ⊥
     never-14 (accepted is m) g h e = omega arith
     never-14 (refusal n p) g h e = h (let k = g .1 in omega arith)
 
-    pub number-never-14 : length (marks L s) ≤ room → numberOf (reading L s room) % 32 ≡ 14 → ⊥
-    number-never-14 h = never-14 (reading L s room) means (not-short h)
+    pub number-never-14 : length (marks V s) ≤ room → numberOf (reading V s room) % 32 ≡ 14 → ⊥
+    number-never-14 h = never-14 (reading V s room) means (not-short h)
 
   -- an event takes three quarters of an octet at least
-  pub marks-few : length (marks L s) ≤ 4 * (L .octets - length (header L)) / 3
+  pub marks-few : length (marks V s) ≤ 4 * (V .octets - length (header V)) / 3
   unfolding marks beginning
   marks-few =
-      opened (λ (o : Opening). length (marksFrom L s o) ≤ 4 * (L .octets - length (header L)) / 3)
-      (λ d h l. let t = trace-few L s bytes (brief h) (fuelOf s) (origin at (start L)) (inside L at (omega arith)) in omega arith) (λ n p k. omega arith)
+      opened (λ (o : Opening). length (marksFrom V s o) ≤ 4 * (V .octets - length (header V)) / 3)
+      (λ d h l. let t = trace-few V s bytes (brief h) (fuelOf s) (origin at (start V)) (inside V at (omega arith)) in omega arith) (λ n p k. omega arith)
 
-  pub more-fuel : (more room body : ℕ) (tables : Vocabulary Located) → opening L s ≡ onward body tables → run L s (more + fuelOf s) room (origin body tables) ≡ run L s (fuelOf s) room (origin body tables)
+  pub more-fuel : (more room body : ℕ) (tables : Vocabulary Located) → opening V s ≡ onward body tables → run V s (more + fuelOf s) room (origin body tables) ≡ run V s (fuelOf s) room (origin body tables)
   unfolding beginning
   more-fuel more room body tables e =
-      opened (λ (o : Opening). o ≡ onward body tables → run L s (more + fuelOf s) room (origin body tables) ≡ run L s (fuelOf s) room (origin body tables))
+      opened (λ (o : Opening). o ≡ onward body tables → run V s (more + fuelOf s) room (origin body tables) ≡ run V s (fuelOf s) room (origin body tables))
       (λ d h l q.
       let b : at ≡ body = cc in
-      let w : start L ≡ tables = cc in
-      rw (← b, ← w) (fuel-free L s bytes (brief h) (fuelOf s) more room (origin at (start L)) (inside L at (omega arith)) (omega arith)))
+      let w : start V ≡ tables = cc in
+      rw (← b, ← w) (fuel-free V s bytes (brief h) (fuelOf s) more room (origin at (start V)) (inside V at (omega arith)) (omega arith)))
       (λ n p k q. absurd (let y : _≡_ {A = ℕ} 0 1 = cc in omega arith)) e
 
-module _ (L : Version) (s : Octets) where
+module _ (V : Version) (s : Octets) where
   -- what the rules write is read, with a record for every event; the tables after every event are theirs
-  module _ (items : List (Item Octets)) (z : State Octets) (w : Document L items z s) where
+  module _ (items : List (Item Octets)) (z : State Octets) (w : Document V items z s) where
     abbrev from : ℕ
-    from = length (header L)
+    from = length (header V)
 
-    whole : s ≡ header L ++ drop from s
-    whole = let z : 0 + from ≡ from = omega arith in rw z at (halves-complete s 0 (header L) (w .body) (w .here))
+    whole : s ≡ header V ++ drop from s
+    whole = let z : 0 + from ≡ from = omega arith in rw z at (halves-complete s 0 (header V) (w .body) (w .here))
 
-    opens : opening L s ≡ onward from (start L)
-    opens = opening-complete L s whole (w .short)
+    opens : opening V s ≡ onward from (start V)
+    opens = opening-complete V s whole (w .short)
 
-    reads-all : (room : ℕ) → length items ≤ room → Reads L s (fuelOf s) room (origin from (start L)) items z (knownAfter L (w .rule)) (spelledIn (w .rule))
+    reads-all : (room : ℕ) → length items ≤ room → Reads V s (fuelOf s) room (origin from (start V)) items z (knownAfter V (w .rule)) (spelledIn (w .rule))
     unfolding beginning
     reads-all room h =
-        let lead = halves-length (header L) in
-        let z : 0 + length (halves (header L)) ≡ 2 * from = omega arith in
-        let e : drop (2 * from) (halves s) ≡ w .body = rw z at (drop-past (halves s) 0 (halves (header L)) (w .body) (w .here)) in
+        let lead = halves-length (header V) in
+        let z : 0 + length (halves (header V)) ≡ 2 * from = omega arith in
+        let e : drop (2 * from) (halves s) ≡ w .body = rw z at (drop-past (halves s) 0 (halves (header V)) (w .body) (w .here)) in
         let lh = ap length e in
         let ld = length-drop (2 * from) (halves s) in
         let hl = halves-length s in
-        run-complete L s (w .rule) (origin from (start L)) (fuelOf s) room refl (plain-start L s) e (omega arith) h
+        run-complete V s (w .rule) (origin from (start V)) (fuelOf s) room refl (plain-start V s) e (omega arith) h
 
-    pub accepts : (room : ℕ) → length items ≤ room → Accepts L s room items z
+    pub accepts : (room : ℕ) → length items ≤ room → Accepts V s room items z
     unfolding reading
     accepts room h =
         let r = reads-all room h in
         record { events = r .events; last = r .last; reads = rw (opens) (r .runs); are = r .are; end-is = r .end-is }
 
     -- the strings that are handed out as spelled have the places where the rules spell them
-    pub spelled-is : (room : ℕ) → length items ≤ room → (events : List (Item Located)) (last : Stand) → reading L s room ≡ accepted events last → allSpelled events ≡ spelledIn (w .rule)
+    pub spelled-is : (room : ℕ) → length items ≤ room → (events : List (Item Located)) (last : Stand) → reading V s room ≡ accepted events last → allSpelled events ≡ spelledIn (w .rule)
     unfolding accepts
     spelled-is room h events last e =
         let a = accepts room h in
@@ -137,23 +137,23 @@ module _ (L : Version) (s : Octets) where
         let same : events ≡ a .events = cc in
         ap allSpelled same ∙ reads-all room h .spells
 
-    pub known-is : map (λ (k : Mark). plainState s (k .stand .state)) (marks L s) ≡ knownAfter L (w .rule)
+    pub known-is : map (λ (k : Mark). plainState s (k .stand .state)) (marks V s) ≡ knownAfter V (w .rule)
     unfolding marks
     known-is = rw (opens) (reads-all (length items) (omega arith) .known)
 
   -- room
-  short-from : (room : ℕ) (o : Opening) → room < length (marksFrom L s o) → resultFrom L s room o ≡ refusal 14 (getD (placesOf (marksFrom L s o)) room 0)
-  short-from room (onward body tables) h = room-short L s (fuelOf s) room (origin body tables) h
+  short-from : (room : ℕ) (o : Opening) → room < length (marksFrom V s o) → resultFrom V s room o ≡ refusal 14 (getD (placesOf (marksFrom V s o)) room 0)
+  short-from room (onward body tables) h = room-short V s (fuelOf s) room (origin body tables) h
   short-from room (halt n p) h = absurd (omega arith)
 
-  pub too-short : (room : ℕ) → room < length (marks L s) → reading L s room ≡ refusal 14 (getD (placesOf (marks L s)) room 0)
+  pub too-short : (room : ℕ) → room < length (marks V s) → reading V s room ≡ refusal 14 (getD (placesOf (marks V s)) room 0)
   unfolding reading marks
-  too-short room h = short-from room (opening L s) h
+  too-short room h = short-from room (opening V s) h
 
-  enough-from : (room : ℕ) (o : Opening) → length (marksFrom L s o) ≤ room → resultFrom L s room o ≡ resultFrom L s (length (marksFrom L s o)) o
-  enough-from room (onward body tables) h = room-enough L s (fuelOf s) room (origin body tables) h
+  enough-from : (room : ℕ) (o : Opening) → length (marksFrom V s o) ≤ room → resultFrom V s room o ≡ resultFrom V s (length (marksFrom V s o)) o
+  enough-from room (onward body tables) h = room-enough V s (fuelOf s) room (origin body tables) h
   enough-from room (halt n p) h = refl
 
-  pub long-enough : (room : ℕ) → length (marks L s) ≤ room → reading L s room ≡ reading L s (length (marks L s))
+  pub long-enough : (room : ℕ) → length (marks V s) ≤ room → reading V s room ≡ reading V s (length (marks V s))
   unfolding reading marks
-  long-enough room h = enough-from room (opening L s) h
+  long-enough room h = enough-from room (opening V s) h

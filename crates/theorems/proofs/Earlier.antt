@@ -124,24 +124,24 @@ module _ {S : Type 0} where
       }
 
   -- at the start the tables hold no name
-  same-start : (L : Version) (p u : S) → Same {N = Triple} {M = Name S} (starting L p u) (starting L p u)
+  same-start : (V : Version) (p u : S) → Same {N = Triple} {M = Name S} (starting V p u) (starting V p u)
   unfolding strings starting
-  same-start L p u PREFIX = refl
-  same-start L p u NAMESPACE-NAME = refl
-  same-start L p u LOCAL-NAME = refl
-  same-start L p u OTHER-NCNAME = refl
-  same-start L p u OTHER-URI = refl
-  same-start L p u ATTRIBUTE-VALUE = refl
-  same-start L p u CONTENT-CHARACTER-CHUNK = refl
-  same-start L p u OTHER-STRING = refl
+  same-start V p u PREFIX = refl
+  same-start V p u NAMESPACE-NAME = refl
+  same-start V p u LOCAL-NAME = refl
+  same-start V p u OTHER-NCNAME = refl
+  same-start V p u OTHER-URI = refl
+  same-start V p u ATTRIBUTE-VALUE = refl
+  same-start V p u CONTENT-CHARACTER-CHUNK = refl
+  same-start V p u OTHER-STRING = refl
 
-  holds-start : (L : Version) (p u : S) → Holds (starting L p u) (starting L p u)
+  holds-start : (V : Version) (p u : S) → Holds (starting V p u) (starting V p u)
   unfolding names starting
-  holds-start L p u = record { strings-are = same-start L p u; names-are = λ t. elim t [ ELEMENT-NAME ↦ no-triple | ATTRIBUTE-NAME ↦ no-triple ] }
+  holds-start V p u = record { strings-are = same-start V p u; names-are = λ t. elim t [ ELEMENT-NAME ↦ no-triple | ATTRIBUTE-NAME ↦ no-triple ] }
 
   -- what acts add to the starting tables
-  pub adds-start : (L : Version) (p u : S) {l : List (Act S)} {z : Vocabulary S} → Adds (starting L p u) l z → Same z (after (starting L p u) l)
-  adds-start L p u f = f .then (starting L p u) (same-start L p u)
+  pub adds-start : (V : Version) (p u : S) {l : List (Act S)} {z : Vocabulary S} → Adds (starting V p u) l z → Same z (after (starting V p u) l)
+  adds-start V p u f = f .then (starting V p u) (same-start V p u)
 
 module _ {S : Type 0} {d : S} {Spelt : S → Type 0} where
   id-does : {t : StringTable} {v w : Vocabulary S} {x : S} {h : How} {n : ℕ} → IdDone d Spelt t v x h n w → Does v (ofString t x h) w
@@ -178,9 +178,9 @@ module _ {S : Type 0} {d : S} {Spelt : S → Type 0} where
   all-does no-item = none-done
   all-does (an-item u r) = both (item-does u) (all-does r)
 
-  pub earlier : (L : Version) (p u : S) {items : List (Item S)} {z : Vocabulary S} → Done d Spelt (starting L p u) items z → Known (starting L p u) (acts items)
-  earlier L p u {items} r = subst (Known (starting L p u)) (append-nil (acts items)) (all-does r .known (starting L p u) (holds-start L p u) [] tt)
+  pub earlier : (V : Version) (p u : S) {items : List (Item S)} {z : Vocabulary S} → Done d Spelt (starting V p u) items z → Known (starting V p u) (acts items)
+  earlier V p u {items} r = subst (Known (starting V p u)) (append-nil (acts items)) (all-does r .known (starting V p u) (holds-start V p u) [] tt)
 
   -- and at the end what was made, behind that
-  pub made : (L : Version) (p u : S) {items : List (Item S)} {z : Vocabulary S} → Done d Spelt (starting L p u) items z → Holds z (after (starting L p u) (acts items))
-  made L p u r = all-does r .then (starting L p u) (holds-start L p u)
+  pub made : (V : Version) (p u : S) {items : List (Item S)} {z : Vocabulary S} → Done d Spelt (starting V p u) items z → Holds z (after (starting V p u) (acts items))
+  made V p u r = all-does r .then (starting V p u) (holds-start V p u)

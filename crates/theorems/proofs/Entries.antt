@@ -135,32 +135,32 @@ at-most-one : (b : Bool) (x : Octets) → length (pick b (x ∷ []) []) ≤ 1
 at-most-one true x = omega arith
 at-most-one false x = omega arith
 
-few-started : (L : Version) (t : StringTable) → length (strings (started L) t) ≤ 1
+few-started : (V : Version) (t : StringTable) → length (strings (started V) t) ≤ 1
 unfolding strings starting
-few-started L PREFIX = at-most-one (L .builtIn) xmlPrefix
-few-started L NAMESPACE-NAME = at-most-one (L .builtIn) xmlNamespace
-few-started L LOCAL-NAME = omega arith
-few-started L OTHER-NCNAME = omega arith
-few-started L OTHER-URI = omega arith
-few-started L ATTRIBUTE-VALUE = omega arith
-few-started L CONTENT-CHARACTER-CHUNK = omega arith
-few-started L OTHER-STRING = omega arith
+few-started V PREFIX = at-most-one (V .builtIn) xmlPrefix
+few-started V NAMESPACE-NAME = at-most-one (V .builtIn) xmlNamespace
+few-started V LOCAL-NAME = omega arith
+few-started V OTHER-NCNAME = omega arith
+few-started V OTHER-URI = omega arith
+few-started V ATTRIBUTE-VALUE = omega arith
+few-started V CONTENT-CHARACTER-CHUNK = omega arith
+few-started V OTHER-STRING = omega arith
 
-none-started : (L : Version) (t : NameTable) → length (names (started L) t) ≡ 0
+none-started : (V : Version) (t : NameTable) → length (names (started V) t) ≡ 0
 unfolding names starting
-none-started L ELEMENT-NAME = refl
-none-started L ATTRIBUTE-NAME = refl
+none-started V ELEMENT-NAME = refl
+none-started V ATTRIBUTE-NAME = refl
 
-pub ranged-started : (L : Version) → Ranged (started L)
-ranged-started L t k x e = absurd (let z = none-started L t in let h = entry-made e in omega arith)
+pub ranged-started : (V : Version) → Ranged (started V)
+ranged-started V t k x e = absurd (let z = none-started V t in let h = entry-made e in omega arith)
 
 -- a list that is short enough passes no limit
-pub few-after : (L : Version) {items : List (Item Octets)} {w : Vocabulary Octets} → PermitsAll (started L) items w → length items < L .entries → InLimits L w
-few-after L ps h =
+pub few-after : (V : Version) {items : List (Item Octets)} {w : Vocabulary Octets} → PermitsAll (started V) items w → length items < V .entries → InLimits V w
+few-after V ps h =
     let a = all-add ps in
     record {
-      few = λ t. let x = a .few t in let y = few-started L t in omega arith;
-      few-names = λ t. let x = a .few-names t in let y = none-started L t in omega arith;
+      few = λ t. let x = a .few t in let y = few-started V t in omega arith;
+      few-names = λ t. let x = a .few-names t in let y = none-started V t in omega arith;
     }
 
 -- ---- a limit is kept by every table, or passed by one
@@ -186,10 +186,10 @@ module _ {X : Type 0} (n : ℕ) where
       case n (f ATTRIBUTE-NAME) (passed ATTRIBUTE-NAME) λ b.
       kept (λ t. elim t [ ELEMENT-NAME ↦ a | ATTRIBUTE-NAME ↦ b ])
 
-pub in-limits : (L : Version) (v : Vocabulary Octets) → Dec (InLimits L v)
-in-limits L v =
-    of-strings (L .entries) (λ t. length (strings v t))
+pub in-limits : (V : Version) (v : Vocabulary Octets) → Dec (InLimits V v)
+in-limits V v =
+    of-strings (V .entries) (λ t. length (strings v t))
     (λ a.
-    of-names (L .entries) (λ t. length (names v t)) (λ b. yes (record { few = a; few-names = b }))
+    of-names (V .entries) (λ t. length (names v t)) (λ b. yes (record { few = a; few-names = b }))
     (λ t h. no (λ f. let x = f .few-names t in omega arith)))
     (λ t h. no (λ f. let x = f .few t in omega arith))

@@ -30,28 +30,28 @@ turn-fits go rec room m (quiet n) = rec room n
 turn-fits go rec room m done = omega arith
 turn-fits go rec room m (stop n p) = tt
 
-run-fits : (L : Version) (s : Octets) (fuel room : ℕ) (m : Stand) → Fits room (run L s fuel room m)
+run-fits : (V : Version) (s : Octets) (fuel room : ℕ) (m : Stand) → Fits room (run V s fuel room m)
 unfolding run
-run-fits L s zero room m = tt
-run-fits L s (suc fuel) room m = turn-fits (λ r n. run L s fuel r n) (λ r n. run-fits L s fuel r n) room m (step L s m)
+run-fits V s zero room m = tt
+run-fits V s (suc fuel) room m = turn-fits (λ r n. run V s fuel r n) (λ r n. run-fits V s fuel r n) room m (step V s m)
 
-from-fits : (L : Version) (s : Octets) (room : ℕ) (o : Opening) → Fits room (resultFrom L s room o)
-from-fits L s room (onward body tables) = run-fits L s (fuelOf s) room (origin body tables)
-from-fits L s room (halt n p) = tt
+from-fits : (V : Version) (s : Octets) (room : ℕ) (o : Opening) → Fits room (resultFrom V s room o)
+from-fits V s room (onward body tables) = run-fits V s (fuelOf s) room (origin body tables)
+from-fits V s room (halt n p) = tt
 
-pub accepted-fits : (L : Version) (s : Octets) (room : ℕ) (items : List (Item Octets)) (z : State Octets) → Accepts L s room items z → length items ≤ room
+pub accepted-fits : (V : Version) (s : Octets) (room : ℕ) (items : List (Item Octets)) (z : State Octets) → Accepts V s room items z → length items ≤ room
 unfolding reading
-accepted-fits L s room items z a =
-    let h : length (a .events) ≤ room = subst (Fits room) (a .reads) (from-fits L s room (opening L s)) in
+accepted-fits V s room items z a =
+    let h : length (a .events) ≤ room = subst (Fits room) (a .reads) (from-fits V s room (opening V s)) in
     let l = length-map (a .events) (plain s) in
     let k = ap length (a .are) in
     omega arith
 
 -- and it has a document's size
-sized-is : (L : Version) (s : Octets) (room : ℕ) (is : List (Item Located)) (m : Stand) → reading L s room ≡ accepted is m → (b : Bool) → sized L s ≡ b → sized L s ≡ true
+sized-is : (V : Version) (s : Octets) (room : ℕ) (is : List (Item Located)) (m : Stand) → reading V s room ≡ accepted is m → (b : Bool) → sized V s ≡ b → sized V s ≡ true
 unfolding reading opening
-sized-is L s room is m r true e = e
-sized-is L s room is m r false e = let q = rw e at r in absurd (let z : _≡_ {A = ℕ} 0 1 = cc in omega arith)
+sized-is V s room is m r true e = e
+sized-is V s room is m r false e = let q = rw e at r in absurd (let z : _≡_ {A = ℕ} 0 1 = cc in omega arith)
 
-pub accepted-sized : (L : Version) (s : Octets) (room : ℕ) (is : List (Item Located)) (m : Stand) → reading L s room ≡ accepted is m → sized L s ≡ true
-accepted-sized L s room is m r = sized-is L s room is m r (sized L s) refl
+pub accepted-sized : (V : Version) (s : Octets) (room : ℕ) (is : List (Item Located)) (m : Stand) → reading V s room ≡ accepted is m → sized V s ≡ true
+accepted-sized V s room is m r = sized-is V s room is m r (sized V s) refl

@@ -142,17 +142,17 @@ module _ {S : Type 0} (P : StringTable → S → Type 0) (d : S) where
     all-hold (an-item u r) g = let a = item-holds u g in (a .0, all-hold r (a .1))
 
     -- at the start the tables hold at most two strings, and no name
-    good-start : (L : Version) {p n : S} → P PREFIX p → P NAMESPACE-NAME n → Good (starting L p n)
+    good-start : (V : Version) {p n : S} → P PREFIX p → P NAMESPACE-NAME n → Good (starting V p n)
     unfolding strings names starting
-    good-start L {p} {n} a b = record { of-strings = two-strings; of-names = λ t. elim t [ ELEMENT-NAME ↦ tt | ATTRIBUTE-NAME ↦ tt ] }
+    good-start V {p} {n} a b = record { of-strings = two-strings; of-names = λ t. elim t [ ELEMENT-NAME ↦ tt | ATTRIBUTE-NAME ↦ tt ] }
       where
         if-built-in : (t : StringTable) (x : S) → P t x → (b : Bool) → All (P t) (pick b (x ∷ []) [])
         if-built-in t x h true = (h, tt)
         if-built-in t x h false = tt
 
-        two-strings : (t : StringTable) → All (P t) (strings {N = Triple} (starting L p n) t)
-        two-strings PREFIX = if-built-in PREFIX p a (L .builtIn)
-        two-strings NAMESPACE-NAME = if-built-in NAMESPACE-NAME n b (L .builtIn)
+        two-strings : (t : StringTable) → All (P t) (strings {N = Triple} (starting V p n) t)
+        two-strings PREFIX = if-built-in PREFIX p a (V .builtIn)
+        two-strings NAMESPACE-NAME = if-built-in NAMESPACE-NAME n b (V .builtIn)
         two-strings LOCAL-NAME = tt
         two-strings OTHER-NCNAME = tt
         two-strings OTHER-URI = tt
@@ -160,8 +160,8 @@ module _ {S : Type 0} (P : StringTable → S → Type 0) (d : S) where
         two-strings CONTENT-CHARACTER-CHUNK = tt
         two-strings OTHER-STRING = tt
 
-    pub holds : (L : Version) {p n : S} {items : List (Item S)} {z : Vocabulary S} → P PREFIX p → P NAMESPACE-NAME n → Done d Spelt (starting L p n) items z → All (λ i. Holds (i .event)) items
-    holds L a b r = all-hold r (good-start L a b)
+    pub holds : (V : Version) {p n : S} {items : List (Item S)} {z : Vocabulary S} → P PREFIX p → P NAMESPACE-NAME n → Done d Spelt (starting V p n) items z → All (λ i. Holds (i .event)) items
+    holds V a b r = all-hold r (good-start V a b)
 
 -- ---- 01's strings
 abbrev OfTable : StringTable → Octets → Type 0
@@ -192,6 +192,6 @@ two-said : Said xmlPrefix × Said xmlNamespace
 unfolding xmlPrefix xmlNamespace rows between first next after isText
 two-said = ((omega arith, text-exact xmlPrefix .0 refl), (omega arith, text-exact xmlNamespace .0 refl))
 
-pub all-allowed : {L : Version} {items : List (Item Octets)} {z : State Octets} {s : Octets} → Document L items z s → All (λ i. Allowed (i .event)) items
-all-allowed {L} {items} w =
-    all-so (λ i. Allowed (i .event)) (λ i a. as-allowed (i .event) a) items (holds OfTable [] Said (λ t x a. a) L (two-said .0) (two-said .1) (document-done w))
+pub all-allowed : {V : Version} {items : List (Item Octets)} {z : State Octets} {s : Octets} → Document V items z s → All (λ i. Allowed (i .event)) items
+all-allowed {V} {items} w =
+    all-so (λ i. Allowed (i .event)) (λ i a. as-allowed (i .event) a) items (holds OfTable [] Said (λ t x a. a) V (two-said .0) (two-said .1) (document-done w))

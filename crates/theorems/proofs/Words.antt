@@ -73,9 +73,9 @@ module _ {S T : Type 0} (f : S → T) where
   one-map true x = refl
   one-map false x = refl
 
-  pub starting-map : (L : Version) (p n : S) → vocabularyMap f (starting L p n) ≡ starting L (f p) (f n)
+  pub starting-map : (V : Version) (p n : S) → vocabularyMap f (starting V p n) ≡ starting V (f p) (f n)
   unfolding vocabularyMap starting
-  starting-map L p n = rw (one-map (L .builtIn) p, one-map (L .builtIn) n)
+  starting-map V p n = rw (one-map (V .builtIn) p, one-map (V .builtIn) n)
 
   -- an entry, a part of a name, a name
   entry-in : {l : List S} {k : ℕ} {x : S} → Entry l k x → Entry (map f l) k (f x)

@@ -52,10 +52,10 @@ writeName q lead text v x =
     })
     (record { octets = spell (q .numberForms) lead k; how = byNumber k; number = k; tables = v })
 
-module _ (L : Version) where
+module _ (V : Version) where
   -- A string of 1 to 5 octets is added where its table has room.
   unfoldable pub worthAdding : {S : Type 0} → List S → Octets → Bool
-  worthAdding table x = leb (length x) 5 && ltb (length table) (L .entries)
+  worthAdding table x = leb (length x) 5 && ltb (length table) (V .entries)
 
   -- C.14, C.15: numbered if its table holds it, else spelled.
   unfoldable pub writeLiteral : Layout → Octets → StringTable → Vocabulary Located → Located → Wrote How
@@ -74,6 +74,6 @@ module _ (L : Version) where
 
 -- No table has an entry too many (12).
 unfoldable pub within : {S : Type 0} → Version → Vocabulary S → Bool
-within L v =
-    leb (length (v .prefixes)) (L .entries) && (leb (length (v .namespaces)) (L .entries) && (leb (length (v .locals)) (L .entries)
-    && (leb (length (v .ncnames)) (L .entries) && (leb (length (v .elements)) (L .entries) && leb (length (v .attributes)) (L .entries)))))
+within V v =
+    leb (length (v .prefixes)) (V .entries) && (leb (length (v .namespaces)) (V .entries) && (leb (length (v .locals)) (V .entries)
+    && (leb (length (v .ncnames)) (V .entries) && (leb (length (v .elements)) (V .entries) && leb (length (v .attributes)) (V .entries)))))

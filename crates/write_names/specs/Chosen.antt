@@ -47,12 +47,12 @@ chooseName t v x =
     (record { how = inParts (p .how) (n .how) (l .how); number = suc (length (names (l .tables) t)); tables = addingName (l .tables) t triple })
     (record { how = byNumber k; number = k; tables = v })
 
-module _ (L : Version) where
+module _ (V : Version) where
   -- A chunk, value, comment or content: the lowest number where its table holds it; else spelled, and added if it is short and its table has room.
   unfoldable pub chooseLiteral : StringTable → Vocabulary Octets → Octets → Chose How
   chooseLiteral t v x =
       let k : ℕ = numberIn (strings v t) x in
-      let added : Bool = worthAdding L (strings v t) x in
+      let added : Bool = worthAdding V (strings v t) x in
       pick (eqb k 0)
       (record { how = spelled added; number = 0; tables = keeping added v t x })
       (record { how = numbered k; number = k; tables = v })

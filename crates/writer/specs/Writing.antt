@@ -79,10 +79,10 @@ owed m e = pick (isListing m && not (isAttribute e)) (15 ∷ []) []
 unfoldable pub settled : {S : Type 0} → State S → E.Event S → State S
 settled v e = pick (isListing (v .mode) && not (isAttribute e)) (moved v (v .tables) content) v
 
-module _ (L : Version) (text : Octets) (room : ℕ) where
+module _ (V : Version) (text : Octets) (room : ℕ) where
   -- So many halves, in whole octets, fit the output lent and the limit of a document.
   unfoldable pub fits : ℕ → Bool
-  fits at = leb (aligned at / 2) (min room (L .octets))
+  fits at = leb (aligned at / 2) (min room (V .octets))
 
   -- An event's halves from the half `at`: the end owed; then 1111 for an End, or the octets from the next whole octet.
   unfoldable pub halvesOf : ℕ → State Located → E.Event Located → WroteItem → Halves
@@ -93,8 +93,8 @@ module _ (L : Version) (text : Octets) (room : ℕ) where
   judge at v e w hs =
       pick (wellMade text (e .kind) e && goesOn v (eventOf (e .kind) e))
       (pick (allText text (eventOf (e .kind) e))
-      (pick (opens (v .mode) (eventOf (e .kind) e) && leb (L .depth) (v .level)) DEPTH
-      (pick (within L (w .state .tables)) (pick (fits (at + length hs)) 0 ROOM) FULL))
+      (pick (opens (v .mode) (eventOf (e .kind) e) && leb (V .depth) (v .level)) DEPTH
+      (pick (within V (w .state .tables)) (pick (fits (at + length hs)) 0 ROOM) FULL))
       TEXT)
       EVENT
 
@@ -109,7 +109,7 @@ module _ (L : Version) (text : Octets) (room : ℕ) where
   unfoldable pub run : ℕ → State Located → ℕ → List Event → Result
   run at v i [] = finish at v i
   run at v i (e ∷ es) =
-      let w : WroteItem = writeItem L text (announced (e ∷ es)) (settled v (eventOf (e .kind) e)) (eventOf (e .kind) e) in
+      let w : WroteItem = writeItem V text (announced (e ∷ es)) (settled v (eventOf (e .kind) e)) (eventOf (e .kind) e) in
       let hs : Halves = halvesOf at v (eventOf (e .kind) e) w in
       elim (judge at v e w hs) [
         | zero ↦ plus (eventOf (e .kind) e by w .choice) hs (run (at + length hs) (w .state) (suc i) es)
@@ -120,7 +120,7 @@ module _ (L : Version) (text : Octets) (room : ℕ) where
   unfoldable pub trace : ℕ → State Located → List Event → List (State Located)
   trace at v [] = []
   trace at v (e ∷ es) =
-      let w : WroteItem = writeItem L text (announced (e ∷ es)) (settled v (eventOf (e .kind) e)) (eventOf (e .kind) e) in
+      let w : WroteItem = writeItem V text (announced (e ∷ es)) (settled v (eventOf (e .kind) e)) (eventOf (e .kind) e) in
       let hs : Halves = halvesOf at v (eventOf (e .kind) e) w in
       elim (judge at v e w hs) [
         | zero ↦ w .state ∷ trace (at + length hs) (w .state) es
@@ -162,23 +162,23 @@ accepting s v room =
       tables = wordsOf entryWords v;
     }
 
-module _ (L : Version) where
+module _ (V : Version) where
   abbrev pub outcome : Result → ℕ → Outcome
-  outcome (written is hs z) room = accepting (header L ++ joined hs) (z .tables) room
+  outcome (written is hs z) room = accepting (header V ++ joined hs) (z .tables) room
   outcome (refusal n p) room = refusing n p room tableWords
 
   -- From these events over this text area, with so much output lent: the header is event 0's.
   unfoldable pub writing : Octets → ℕ → List Event → Result
-  writing text room es = run L text room (2 * length (header L)) (beginning (start L)) 0 es
+  writing text room es = run V text room (2 * length (header V)) (beginning (start V)) 0 es
 
   -- And what is known after each of them.
   unfoldable pub knownWriting : Octets → ℕ → List Event → List (State Located)
-  knownWriting text room es = trace L text room (2 * length (header L)) (beginning (start L)) es
+  knownWriting text room es = trace V text room (2 * length (header V)) (beginning (start V)) es
 
   -- Writing, with `room` octets of output and `table` table words lent: SIZE (1), since a text area is no longer than a document; then the table room (14), both at
   -- place 0; then the events.
   unfoldable pub writeOf : List Event → Octets → (room table : ℕ) → Outcome
   writeOf es text room table =
-      pick (leb (length text) (L .octets))
+      pick (leb (length text) (V .octets))
       (pick (eqb table tableWords) (outcome (writing text room es) room) (refusing ROOM 0 room table))
       (refusing SIZE 0 room table)
