@@ -1,7 +1,7 @@
-//! One field under judgement: it collects its faults, and the one that 01 names first is answered.
+//! One field under judgement: it collects its faults, and the one that the requirements name first is answered.
 use crate::words::Refusal;
 
-/// The faults of one field, in 01's order of judgement.
+/// The faults of one field, in the required order of judgement.
 #[derive(Clone, Copy, PartialEq, Eq, PartialOrd, Ord, Debug)]
 pub enum Fault {
     Code,

@@ -23,7 +23,7 @@ pub struct Style {
     pub on: usize,
     /// Short strings only, so that full tables fit into a document.
     pub short: bool,
-    /// A table (0 to 9, in 01's order) that is filled to about its limit first.
+    /// A table (0 to 9, in the required order) that is filled to about its limit first.
     pub fill: Option<usize>,
     /// How often a string, number or name breaks the rule of its table, in a thousand.
     pub wrong: usize,

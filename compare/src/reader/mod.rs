@@ -1,4 +1,4 @@
-//! An independent reader: recursive descent over annex C. Each field collects all its faults, and 01's order of judgement picks the one
+//! An independent reader: recursive descent over annex C. Each field collects all its faults, and the requirements' order of judgement picks the one
 //! that is answered; nothing here decides the order by the order of its tests.
 mod items;
 mod strings;

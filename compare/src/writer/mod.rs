@@ -1,4 +1,4 @@
-//! An independent writer with 01's choices: events one by one into a row of bits, on which the ends that are owed are put before an event.
+//! An independent writer with the required choices: events one by one into a row of bits, on which the ends that are owed are put before an event.
 mod items;
 mod judged;
 mod strings;
@@ -90,7 +90,7 @@ impl<'a> Writer<'a> {
         self.finish(room).map_err(|number| Refusal { number, place: events.len(), field: "end of the list" })
     }
 
-    /// The first of these events, judged in 01's order; Err is the refusal's number.
+    /// The first of these events, judged in the required order; Err is the refusal's number.
     fn first(&mut self, events: &[Option<Event>], room: usize) -> Result<(), u32> {
         let e = events[0].filter(|e| self.may_come(e.kind) && self.strings_right(e)).ok_or(16u32)?;
         if !self.well_formed(&e) {

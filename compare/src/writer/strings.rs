@@ -1,4 +1,4 @@
-//! Strings and names with 01's choices: the lowest number that fits, else spelled.
+//! Strings and names with the required choices: the lowest number that fits, else spelled.
 use super::Writer;
 use crate::forms::{Form, C22, C23, C25};
 use crate::words::*;

@@ -1,4 +1,4 @@
--- Which records are events as 01 has them ("Events"), over the octets that their stretches lie in: the document's for a reader, the text area's for a writer.
+-- Which records are events as the requirements have them ("Events"), over the octets that their stretches lie in: the document's for a reader, the text area's for a writer.
 use Prim.Native.Nat.{ℕ, _+_, _≤_, _<_}
 use mathlib.Core.Path.{_≡_}
 use lib.ListN.{length}

@@ -37,7 +37,7 @@ utf8 n =
     ((0xF0 + n / 262144) ∷ tail (n / 4096) ∷ tail (n / 64) ∷ tail n ∷ [])))
 
 -- The octets of characters, one behind the other.
-unfoldable pub utf8s : Octets → Octets
+unfoldable pub utf8s : List ℕ → Octets
 utf8s [] = []
 utf8s (n ∷ ns) = utf8 n ++ utf8s ns
 
@@ -48,6 +48,6 @@ All P (x ∷ l) = P x × All P l
 
 -- These octets are text: they are those of some characters.
 pub record IsText (x : Octets) : Type 0 where
-  pub says : Octets
+  pub says : List ℕ
   pub are : All IsCharacter says
   pub octets : x ≡ utf8s says

@@ -35,65 +35,65 @@ module _ (s : List ℕ) where
   into-placed (got b next v) f h k = k b next v h
   into-placed (refused n p) f h k = h
 
-  module _ (V : Version) where
+  module _ (ver : Version) where
     -- ---- items
-    start-placed : (k : ℕ) (a : Bool) (v : State Located) (g : Got NameRead) → k ≤ length s → Within s g → Placed (startOf V k a v g)
+    start-placed : (k : ℕ) (a : Bool) (v : State Located) (g : Got NameRead) → k ≤ length s → Within s g → Placed (startOf ver k a v g)
     start-placed k a v g h w = into-placed g _ w λ x next u l. h
 
-    namespace-placed : (k : ℕ) (v : State Located) (a : Bool) → k ≤ length s → Placed (namespaceAt V s k v a)
+    namespace-placed : (k : ℕ) (v : State Located) (a : Bool) → k ≤ length s → Placed (namespaceAt ver s k v a)
     unfolding namespaceAt
-    namespace-placed k v a h = into-placed (declaredAt V s k (v .tables)) _ (declared-within s V k (v .tables) h) λ d next w l. h
+    namespace-placed k v a h = into-placed (declaredAt ver s k (v .tables)) _ (declared-within s ver k (v .tables) h) λ d next w l. h
 
-    element-placed : (k b : ℕ) (a : Bool) (v : State Located) → k < length s → Placed (elementAt V s k b a v)
+    element-placed : (k b : ℕ) (a : Bool) (v : State Located) → k < length s → Placed (elementAt ver s k b a v)
     unfolding elementAt
     element-placed k b a v h =
         tests Placed (namePadding b) _ _ (λ _. omega arith)
         λ _. tests Placed (mayStart v) _ _
         (λ _. tests Placed (ltb b 0x38) _ _
-        (λ _. into-placed (numberedAt V ofElement s k (v .tables)) _ (numbered-within s V ofElement k (v .tables) (omega arith))
-        λ x next w l. tests Placed (ltb (v .level) (V .depth)) _ _ (λ _. omega arith) (λ _. omega arith))
+        (λ _. into-placed (numberedAt ver ofElement s k (v .tables)) _ (numbered-within s ver ofElement k (v .tables) (omega arith))
+        λ x next w l. tests Placed (ltb (v .level) (ver .depth)) _ _ (λ _. omega arith) (λ _. omega arith))
         λ _. tests Placed (leb 0x3C b && lonePrefix b) _ _ (λ _. omega arith)
-        λ _. tests Placed (ltb (v .level) (V .depth)) _ _
-        (λ _. tests Placed (eqb b 0x38) _ _ (λ _. namespace-placed (suc k) v a h) (λ _. start-placed k a v (partsAt V ofElement s b k (v .tables)) (omega arith) (parts-within s V ofElement b k (v .tables) h)))
+        λ _. tests Placed (ltb (v .level) (ver .depth)) _ _
+        (λ _. tests Placed (eqb b 0x38) _ _ (λ _. namespace-placed (suc k) v a h) (λ _. start-placed k a v (partsAt ver ofElement s b k (v .tables)) (omega arith) (parts-within s ver ofElement b k (v .tables) h)))
         (λ _. omega arith))
         (λ _. omega arith)
 
-    named-placed : (k : ℕ) (a : Bool) (v : State Located) → k ≤ length s → Placed (namedAt V s k a v)
+    named-placed : (k : ℕ) (a : Bool) (v : State Located) → k ≤ length s → Placed (namedAt ver s k a v)
     unfolding namedAt
     named-placed k a v h =
         tests Placed (ltb k (length s)) _ _
         (λ e. tests Placed (eqb (getD s k 0 % 64 / 4) 14) _ _ (λ _. omega arith)
         λ _. tests Placed (ltb (getD s k 0) 0x40) _ _
-        (λ _. tests Placed (namePadding (getD s k 0)) _ _ (λ _. omega arith) (λ _. start-placed k a v (nameAt V ofElement s (getD s k 0) k (v .tables)) h (name-within s V ofElement (getD s k 0) k (v .tables) (ltb-true _ _ e))))
+        (λ _. tests Placed (namePadding (getD s k 0)) _ _ (λ _. omega arith) (λ _. start-placed k a v (nameAt ver ofElement s (getD s k 0) k (v .tables)) h (name-within s ver ofElement (getD s k 0) k (v .tables) (ltb-true _ _ e))))
         (λ _. omega arith))
         (λ _. omega arith)
 
-    attribute-placed : (k : ℕ) (v : State Located) → k ≤ length s → Placed (attributeAt V s k v)
+    attribute-placed : (k : ℕ) (v : State Located) → k ≤ length s → Placed (attributeAt ver s k v)
     unfolding attributeAt
     attribute-placed k v h =
         tests Placed (ltb k (length s)) _ _
         (λ e. tests Placed (ltb (getD s k 0) 0x80) _ _
         (λ _. tests Placed (ltb (getD s k 0) 0x7C) _ _
-        (λ _. into-placed (nameAt V ofAttribute s (getD s k 0) k (v .tables)) _ (name-within s V ofAttribute (getD s k 0) k (v .tables) (ltb-true _ _ e))
-        λ x k₁ w₁ h₁. into-placed (valueAt V s ATTRIBUTE-VALUE k₁ w₁) _ (value-within s V ATTRIBUTE-VALUE k₁ w₁ h₁) λ y k₂ w₂ h₂. h)
+        (λ _. into-placed (nameAt ver ofAttribute s (getD s k 0) k (v .tables)) _ (name-within s ver ofAttribute (getD s k 0) k (v .tables) (ltb-true _ _ e))
+        λ x k₁ w₁ h₁. into-placed (valueAt ver s ATTRIBUTE-VALUE k₁ w₁) _ (value-within s ver ATTRIBUTE-VALUE k₁ w₁ h₁) λ y k₂ w₂ h₂. h)
         (λ _. omega arith))
         (λ _. omega arith))
         (λ _. omega arith)
 
-    instruction-placed : (k : ℕ) (v : State Located) → k < length s → Placed (instructionAt V s k v)
+    instruction-placed : (k : ℕ) (v : State Located) → k < length s → Placed (instructionAt ver s k v)
     unfolding instructionAt
     instruction-placed k v h =
-        into-placed (idAt V s OTHER-NCNAME (suc k) (v .tables)) _ (id-within s V OTHER-NCNAME (suc k) (v .tables) h)
-        λ x k₁ w₁ h₁. into-placed (valueAt V s OTHER-STRING k₁ w₁) _ (value-within s V OTHER-STRING k₁ w₁ h₁) λ y k₂ w₂ h₂. omega arith
+        into-placed (idAt ver s OTHER-NCNAME (suc k) (v .tables)) _ (id-within s ver OTHER-NCNAME (suc k) (v .tables) h)
+        λ x k₁ w₁ h₁. into-placed (valueAt ver s OTHER-STRING k₁ w₁) _ (value-within s ver OTHER-STRING k₁ w₁ h₁) λ y k₂ w₂ h₂. omega arith
 
-    other-placed : (k : ℕ) (v : State Located) → k ≤ length s → Placed (otherAt V s k v)
+    other-placed : (k : ℕ) (v : State Located) → k ≤ length s → Placed (otherAt ver s k v)
     unfolding otherAt
     other-placed k v h =
         tests Placed (ltb (getD s k 0) 0xF0) _ _
         (λ _. tests Placed (eqb (getD s k 0 / 4) (pick (ltb 0 (v .level)) 0x32 0x31)) _ _ (λ _. omega arith) (λ _. omega arith))
         (λ _. omega arith)
 
-    child-placed : (k : ℕ) (v : State Located) → k ≤ length s → Placed (childAt V s k v)
+    child-placed : (k : ℕ) (v : State Located) → k ≤ length s → Placed (childAt ver s k v)
     unfolding childAt chunkAt commentAt
     child-placed k v h =
         tests Placed (ltb k (length s)) _ _
@@ -102,15 +102,15 @@ module _ (s : List ℕ) where
         λ _. tests Placed (ltb (getD s k 0) 0x80) _ _ (λ _. element-placed k (getD s k 0 - 0x40) true v l)
         λ _. tests Placed (ltb (getD s k 0) 0xC0) _ _
         (λ _. tests Placed (ltb 0 (v .level)) _ _
-        (λ _. into-placed (literalAt V c15 s CONTENT-CHARACTER-CHUNK k (v .tables)) _ (literal-within s V c15 CONTENT-CHARACTER-CHUNK k (v .tables) h) λ y next w n. h)
+        (λ _. into-placed (literalAt ver c15 s CONTENT-CHARACTER-CHUNK k (v .tables)) _ (literal-within s ver c15 CONTENT-CHARACTER-CHUNK k (v .tables) h) λ y next w n. h)
         (λ _. omega arith))
         λ _. tests Placed (eqb (getD s k 0) 0xE1) _ _ (λ _. instruction-placed k v l)
         λ _. tests Placed (eqb (getD s k 0) 0xE2) _ _
-        (λ _. into-placed (valueAt V s OTHER-STRING (suc k) (v .tables)) _ (value-within s V OTHER-STRING (suc k) (v .tables) l) λ y next w n. h)
+        (λ _. into-placed (valueAt ver s OTHER-STRING (suc k) (v .tables)) _ (value-within s ver OTHER-STRING (suc k) (v .tables) l) λ y next w n. h)
         (λ _. other-placed k v h))
         (λ _. omega arith)
 
-    item-placed : (k : ℕ) (v : State Located) (m : Mode) → k ≤ length s → Placed (itemAt V s k v m)
+    item-placed : (k : ℕ) (v : State Located) (m : Mode) → k ≤ length s → Placed (itemAt ver s k v m)
     unfolding itemAt declaringAt
     item-placed k v content h = child-placed k v h
     item-placed k v (declaring a) h =
@@ -135,7 +135,7 @@ module _ (s : List ℕ) where
     end-placed m (declaring a) h = omega arith
     end-placed m content h = tests Placed (ltb 0 (m .state .level)) _ _ (λ _. omega arith) (λ _. document-placed m h)
 
-    pub step-placed : (m : Stand) → m .at ≤ 2 * length s → Placed (step V s m)
+    pub step-placed : (m : Stand) → m .at ≤ 2 * length s → Placed (step ver s m)
     unfolding step aligned
     step-placed m h =
         tests Placed (byHalves (m .state .mode) && endsAt s (m .at)) _ _

@@ -1,4 +1,4 @@
--- Reading one item: which kind its first octet says, its fields, the event, its choices and its place; each field's tests in 01's order.
+-- Reading one item: which kind its first octet says, its fields, the event, its choices and its place; each field's tests in the required order.
 use Prim.Native.Nat.{ℕ, suc, _-_, _*_, _/_, _%_}
 use mathlib.Core.Bool.{Bool, true, false, not, _&&_, _||_}
 use lib.ListN.{length, getD}
@@ -20,7 +20,7 @@ pub record Stand : Type 0 where
   pub at : ℕ
   pub state : State Located
 
--- A step's answer: an event, its choices and its place (01, "ROOM for an event"); an end that is no event; the document's end; a refusal.
+-- A step's answer: an event, its choices and its place (the requirements, "ROOM for an event"); an end that is no event; the document's end; a refusal.
 pub data Step : Type 0 where
   more : (place : ℕ) → Item Located → Stand → Step
   quiet : Stand → Step
@@ -39,7 +39,7 @@ octet k v = record { at = 2 * k; state = v }
 unfoldable pub namePadding : ℕ → Bool
 namePadding b = (eqb (b / 8) 6 && not (eqb (b % 8) 0)) || (eqb (b / 4) 14 && not (eqb (b % 4) 0))
 
-module _ (V : Version) where
+module _ (ver : Version) where
   -- A Start whose name is read.
   abbrev pub startOf : ℕ → Bool → State Located → Got NameRead → Step
   startOf k a v g = into g λ x next w. more k (Start (x .name) by forStart (x .how)) (octet next (opened v w a))
@@ -47,7 +47,7 @@ module _ (V : Version) where
   -- The declaration at k, of the element whose attribute bit is a.
   unfoldable pub namespaceAt : Octets → ℕ → State Located → Bool → Step
   namespaceAt s k v a =
-      into (declaredAt V s k (v .tables))
+      into (declaredAt ver s k (v .tables))
       λ d next w. more k (Namespace (d .prefix) (d .namespace) by forNamespace (d .prefixHow) (d .namespaceHow)) (octet next (moved v w (declaring a)))
 
   -- An element whose first octet holds the attribute bit a and the six bits b: padding (6); a second root (15). A number: its faults, then depth (13).
@@ -57,10 +57,10 @@ module _ (V : Version) where
       pick (namePadding b) (stop PADDING k)
       (pick (mayStart v)
       (pick (ltb b 0x38)
-      (into (numberedAt V ofElement s k (v .tables)) λ x next w. pick (ltb (v .level) (V .depth)) (more k (Start (x .name) by forStart (x .how)) (octet next (opened v w a))) (stop DEPTH k))
+      (into (numberedAt ver ofElement s k (v .tables)) λ x next w. pick (ltb (v .level) (ver .depth)) (more k (Start (x .name) by forStart (x .how)) (octet next (opened v w a))) (stop DEPTH k))
       (pick (leb 0x3C b && lonePrefix b) (stop STRUCTURE k)
-      (pick (ltb (v .level) (V .depth))
-      (pick (eqb b 0x38) (namespaceAt s (suc k) v a) (startOf k a v (partsAt V ofElement s b k (v .tables))))
+      (pick (ltb (v .level) (ver .depth))
+      (pick (eqb b 0x38) (namespaceAt s (suc k) v a) (startOf k a v (partsAt ver ofElement s b k (v .tables))))
       (stop DEPTH k))))
       (stop STRUCTURE k))
 
@@ -71,7 +71,7 @@ module _ (V : Version) where
       (pick (eqb (getD s k 0 % 64 / 4) 14) (stop CODE k)
       (pick (ltb (getD s k 0) 0x40)
       (pick (namePadding (getD s k 0)) (stop PADDING k)
-      (startOf k a v (nameAt V ofElement s (getD s k 0) k (v .tables))))
+      (startOf k a v (nameAt ver ofElement s (getD s k 0) k (v .tables))))
       (stop PADDING k)))
       (stop TRUNCATED k)
 
@@ -81,8 +81,8 @@ module _ (V : Version) where
       pick (ltb k (length s))
       (pick (ltb (getD s k 0) 0x80)
       (pick (ltb (getD s k 0) 0x7C)
-      (into (nameAt V ofAttribute s (getD s k 0) k (v .tables))
-      λ x k₁ w₁. into (valueAt V s ATTRIBUTE-VALUE k₁ w₁)
+      (into (nameAt ver ofAttribute s (getD s k 0) k (v .tables))
+      λ x k₁ w₁. into (valueAt ver s ATTRIBUTE-VALUE k₁ w₁)
       λ y k₂ w₂. more k (Attribute (x .name) (y .string) by forAttribute (x .how) (y .how)) (octet k₂ (moved v w₂ (listing true))))
       (stop PADDING k))
       (stop CODE k))
@@ -90,16 +90,16 @@ module _ (V : Version) where
 
   unfoldable pub chunkAt : Octets → ℕ → State Located → Step
   chunkAt s k v =
-      into (literalAt V c15 s CONTENT-CHARACTER-CHUNK k (v .tables)) λ y next w. more k (Text (y .string) by forText (y .how)) (octet next (knowing v w))
+      into (literalAt ver c15 s CONTENT-CHARACTER-CHUNK k (v .tables)) λ y next w. more k (Text (y .string) by forText (y .how)) (octet next (knowing v w))
 
   unfoldable pub commentAt : Octets → ℕ → State Located → Step
   commentAt s k v =
-      into (valueAt V s OTHER-STRING (suc k) (v .tables)) λ y next w. more k (Comment (y .string) by forComment (y .how)) (octet next (knowing v w))
+      into (valueAt ver s OTHER-STRING (suc k) (v .tables)) λ y next w. more k (Comment (y .string) by forComment (y .how)) (octet next (knowing v w))
 
   unfoldable pub instructionAt : Octets → ℕ → State Located → Step
   instructionAt s k v =
-      into (idAt V s OTHER-NCNAME (suc k) (v .tables))
-      λ x k₁ w₁. into (valueAt V s OTHER-STRING k₁ w₁)
+      into (idAt ver s OTHER-NCNAME (suc k) (v .tables))
+      λ x k₁ w₁. into (valueAt ver s OTHER-STRING k₁ w₁)
       λ y k₂ w₂. more k (Instruction (x .string) (y .string) by forInstruction (x .how) (y .how)) (octet k₂ (knowing v w₂))
 
   -- Entity references (110010) are inside elements, type declarations (110001) outside: another format (8). All else is not assigned (5), but 1111 here

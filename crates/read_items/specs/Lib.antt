@@ -1,4 +1,4 @@
--- The reading definition of one step: read Items, then Steps. Code says how the code's answers stand for it; ItemStages are cuts of it where the code is cut.
+-- The reading definition of one step: read Items, then Steps. The others are contracts of the code: how its answers stand for the definition.
 pub mod Items
 pub mod Steps
 pub mod Contracts

@@ -45,9 +45,9 @@ byHalves content = true
 byHalves (declaring a) = false
 byHalves (listing some) = true
 
-module _ (V : Version) where
+module _ (ver : Version) where
   -- One step: an end, or the item at the next octet behind padding that is right (6).
   unfoldable pub step : Octets → Stand → Step
   step s m =
       pick (byHalves (m .state .mode) && endsAt s (m .at)) (endAt s m (m .state .mode))
-      (pick (padsAt s (m .at)) (itemAt V s (aligned (m .at) / 2) (m .state) (m .state .mode)) (stop PADDING (m .at / 2)))
+      (pick (padsAt s (m .at)) (itemAt ver s (aligned (m .at) / 2) (m .state) (m .state .mode)) (stop PADDING (m .at / 2)))

@@ -1,12 +1,12 @@
 // One step of reading: an item, by the first octet of what stands there, or an end.
-// May depend on format, fields, tables, events and names.
+// May depend on format, fields, tables, events and read_names.
 mod ends;
 mod items;
 
 use events::Event;
 use tables::Counts;
 
-// The refusal of an element too deep; others are in `names` and `fields`.
+// The refusal of an element too deep; others are in `read_names` and `fields`.
 pub const DEPTH: u32 = 13;
 
 // Among children; among the declarations of an element whose attribute bit is this; in an attribute list, with a member or not.

@@ -50,28 +50,28 @@ module _ (s : List ℕ) where
   spelling-within k next n a h f =
       tests Within (leb (next + n) (length s)) _ _ (λ e. tests Within (isText (take n (drop next s))) _ _ (λ _. f (leb-true _ _ e)) (λ _. omega arith)) (λ _. omega arith)
 
-  module _ (V : Version) where
-    pub id-within : (t : StringTable) (k : ℕ) (v : Vocabulary Located) → k ≤ length s → Within (idAt V s t k v)
+  module _ (ver : Version) where
+    pub id-within : (t : StringTable) (k : ℕ) (v : Vocabulary Located) → k ≤ length s → Within (idAt ver s t k v)
     unfolding idAt
     id-within t k v h =
         tests Within (ltb (getD s k 0) 0x80) _ _
         (λ _. number-within (lengths 2) noTop 2 k _ h λ n next l. spelling-within k next n _ h λ e.
         tests Within (holds (map (octetsOf s) (strings v t)) (octetsOf s (stretch next n))) _ _ (λ _. omega arith)
-        λ _. tests Within (ltb (length (strings v t)) (V .entries)) _ _ (λ _. e) (λ _. omega arith))
+        λ _. tests Within (ltb (length (strings v t)) (ver .entries)) _ _ (λ _. e) (λ _. omega arith))
         (λ _. number-within c25 top 2 k _ h λ n next l. tests Within (leb n (length (strings v t))) _ _ (λ _. l) (λ _. omega arith))
 
-    optional-within : (there : Bool) (t : StringTable) (k : ℕ) (v : Vocabulary Located) → k ≤ length s → Within (optionalAt V there s t k v)
+    optional-within : (there : Bool) (t : StringTable) (k : ℕ) (v : Vocabulary Located) → k ≤ length s → Within (optionalAt ver there s t k v)
     unfolding optionalAt
-    optional-within true t k v h = then-within (idAt V s t k v) _ (id-within t k v h) λ i next w l. l
+    optional-within true t k v h = then-within (idAt ver s t k v) _ (id-within t k v h) λ i next w l. l
     optional-within false t k v h = h
 
-    spelled-within : (q : Layout) (t : StringTable) (k : ℕ) (added : Bool) (v : Vocabulary Located) → k ≤ length s → Within (spelledAt V q s t k added v)
+    spelled-within : (q : Layout) (t : StringTable) (k : ℕ) (added : Bool) (v : Vocabulary Located) → k ≤ length s → Within (spelledAt ver q s t k added v)
     unfolding spelledAt
     spelled-within q t k added v h =
         number-within (lengths (q .lengthBit)) noTop (q .lengthBit) k _ h λ n next l. spelling-within k next n _ h λ e.
-        tests Within (not added || ltb (length (strings v t)) (V .entries)) _ _ (λ _. e) (λ _. omega arith)
+        tests Within (not added || ltb (length (strings v t)) (ver .entries)) _ _ (λ _. e) (λ _. omega arith)
 
-    pub literal-within : (q : Layout) (t : StringTable) (k : ℕ) (v : Vocabulary Located) → k ≤ length s → Within (literalAt V q s t k v)
+    pub literal-within : (q : Layout) (t : StringTable) (k : ℕ) (v : Vocabulary Located) → k ≤ length s → Within (literalAt ver q s t k v)
     unfolding literalAt
     literal-within q t k v h =
         tests Within (ltb (getD s k 0) (q .spelledBits + 2 ^ (9 - q .lengthBit))) _ _ (λ _. spelled-within q t k false v h)
@@ -80,38 +80,38 @@ module _ (s : List ℕ) where
         λ _. tests Within (ltb (getD s k 0) (q .numberedBits)) _ _ (λ _. omega arith)
         λ _. number-within (q .numberForms) top (numberBit q) k _ h λ n next l. tests Within (leb n (length (strings v t))) _ _ (λ _. l) (λ _. omega arith)
 
-    pub value-within : (t : StringTable) (k : ℕ) (v : Vocabulary Located) → k ≤ length s → Within (valueAt V s t k v)
+    pub value-within : (t : StringTable) (k : ℕ) (v : Vocabulary Located) → k ≤ length s → Within (valueAt ver s t k v)
     unfolding valueAt
     value-within t k v h =
         tests Within (eqb (getD s k 0) 0xFF) _ _ (λ e. there-is s k (let o = eqb-true (getD s k 0) 0xFF e in omega arith)) (λ _. literal-within c14 t k v h)
 
     -- ---- names
-    pub parts-within : (q : NameLayout) (b k : ℕ) (v : Vocabulary Located) → k < length s → Within (partsAt V q s b k v)
+    pub parts-within : (q : NameLayout) (b k : ℕ) (v : Vocabulary Located) → k < length s → Within (partsAt ver q s b k v)
     unfolding partsAt
     parts-within q b k v h =
         tests Within (lonePrefix b) _ _ (λ _. omega arith)
-        λ _. then-within (optionalAt V (prefixBit b) s PREFIX (suc k) v) _ (optional-within (prefixBit b) PREFIX (suc k) v h)
-        λ p k₁ v₁ h₁. then-within (optionalAt V (namespaceBit b) s NAMESPACE-NAME k₁ v₁) _ (optional-within (namespaceBit b) NAMESPACE-NAME k₁ v₁ h₁)
-        λ n k₂ v₂ h₂. then-within (idAt V s LOCAL-NAME k₂ v₂) _ (id-within LOCAL-NAME k₂ v₂ h₂)
+        λ _. then-within (optionalAt ver (prefixBit b) s PREFIX (suc k) v) _ (optional-within (prefixBit b) PREFIX (suc k) v h)
+        λ p k₁ v₁ h₁. then-within (optionalAt ver (namespaceBit b) s NAMESPACE-NAME k₁ v₁) _ (optional-within (namespaceBit b) NAMESPACE-NAME k₁ v₁ h₁)
+        λ n k₂ v₂ h₂. then-within (idAt ver s LOCAL-NAME k₂ v₂) _ (id-within LOCAL-NAME k₂ v₂ h₂)
         λ l k₃ v₃ h₃. tests Within (holdsName (names v₃ (q .table)) (record { prefix = p .number; namespace = n .number; local = l .number })) _ _ (λ _. omega arith)
-        λ _. tests Within (ltb (length (names v₃ (q .table))) (V .entries)) _ _ (λ _. h₃) (λ _. omega arith)
+        λ _. tests Within (ltb (length (names v₃ (q .table))) (ver .entries)) _ _ (λ _. h₃) (λ _. omega arith)
 
-    pub numbered-within : (q : NameLayout) (k : ℕ) (v : Vocabulary Located) → k ≤ length s → Within (numberedAt V q s k v)
+    pub numbered-within : (q : NameLayout) (k : ℕ) (v : Vocabulary Located) → k ≤ length s → Within (numberedAt ver q s k v)
     unfolding numberedAt
     numbered-within q k v h =
         number-within (q .numberForms) top (nameBit (q .table)) k _ h λ n next l. tests Within (leb n (length (names v (q .table)))) _ _ (λ _. l) (λ _. omega arith)
 
-    pub name-within : (q : NameLayout) (b k : ℕ) (v : Vocabulary Located) → k < length s → Within (nameAt V q s b k v)
+    pub name-within : (q : NameLayout) (b k : ℕ) (v : Vocabulary Located) → k < length s → Within (nameAt ver q s b k v)
     unfolding nameAt
     name-within q b k v h = tests Within (ltb b (q .inPartsBits)) _ _ (λ _. numbered-within q k v (omega arith)) (λ _. parts-within q b k v h)
 
-    pub declared-within : (k : ℕ) (v : Vocabulary Located) → k ≤ length s → Within (declaredAt V s k v)
+    pub declared-within : (k : ℕ) (v : Vocabulary Located) → k ≤ length s → Within (declaredAt ver s k v)
     unfolding declaredAt
     declared-within k v h =
         tests Within (ltb k (length s)) _ _
         (λ e. tests Within (ltb (getD s k 0) 0xCC) _ _ (λ _. omega arith)
         λ _. tests Within (ltb (getD s k 0) 0xD0) _ _
-        (λ _. then-within (optionalAt V (prefixBit (getD s k 0)) s PREFIX (suc k) v) _ (optional-within (prefixBit (getD s k 0)) PREFIX (suc k) v (ltb-true _ _ e))
-        λ p k₁ v₁ h₁. then-within (optionalAt V (namespaceBit (getD s k 0)) s NAMESPACE-NAME k₁ v₁) _ (optional-within (namespaceBit (getD s k 0)) NAMESPACE-NAME k₁ v₁ h₁) λ n k₂ v₂ h₂. h₂)
+        (λ _. then-within (optionalAt ver (prefixBit (getD s k 0)) s PREFIX (suc k) v) _ (optional-within (prefixBit (getD s k 0)) PREFIX (suc k) v (ltb-true _ _ e))
+        λ p k₁ v₁ h₁. then-within (optionalAt ver (namespaceBit (getD s k 0)) s NAMESPACE-NAME k₁ v₁) _ (optional-within (namespaceBit (getD s k 0)) NAMESPACE-NAME k₁ v₁ h₁) λ n k₂ v₂ h₂. h₂)
         λ _. tests Within (ltb (getD s k 0) 0xF0) _ _ (λ _. omega arith) λ _. tests Within (eqb (getD s k 0) 0xF0) _ _ (λ _. omega arith) (λ _. omega arith))
         (λ _. omega arith)

@@ -1,4 +1,4 @@
--- The reading definition of strings and names: read Strings, then Names. Code says how the code's answers stand for it; Stages and NameStages are cuts of it where the code is cut.
+-- The reading definition of strings and names: read Strings, then Names. The others are contracts of the code: how its answers stand for the definition, and what each function that reads a part of it answers.
 pub mod Strings
 pub mod Names
 pub mod Contracts

@@ -42,9 +42,9 @@ eventStringsAt w x = record { prefix = eventStringAt w 0 (x .prefix); namespace 
 
 -- A name in parts whose strings end before `next`: its triple is there already (11), no room in the table (12), both at k.
 unfoldable pub newName : Version → NameTable → Triple → Parts → (k next : ℕ) → Vocabulary Located → S.Got Parts
-newName V t x y k next v =
+newName ver t x y k next v =
     pick (holdsName (names v t) x) (S.refused REPEAT k)
-    (pick (ltb (length (names v t)) (V .entries)) (S.got y next (addingName v t x)) (S.refused FULL k))
+    (pick (ltb (length (names v t)) (ver .entries)) (S.got y next (addingName v t x)) (S.refused FULL k))
 
 -- Tables that were in order of a document are so afterwards.
 abbrev pub KeepsTidy : Here → Words → Named → Words → Type 0

@@ -1,4 +1,4 @@
--- Reading a name (C.17, C.18) and a namespace declaration (C.12), each field's tests in 01's order.
+-- Reading a name (C.17, C.18) and a namespace declaration (C.12), each field's tests in the required order.
 use Prim.Native.Nat.{ℕ, zero, suc, _-_, _%_}
 use mathlib.Core.Bool.{Bool}
 use mathlib.Core.Option.{Option, none, some}
@@ -51,18 +51,18 @@ nameOf v d x = record { prefix = partOf (v .prefixes) d (x .prefix); namespace =
 abbrev pub noTriple : Triple
 noTriple = record { prefix = 0; namespace = 0; local = 0 }
 
-module _ (V : Version) where
+module _ (ver : Version) where
   -- A name in parts, its p and n in the octet b at k: p without n (15); the strings; then the triple is there already (11), no room in the table (12).
   unfoldable pub partsAt : NameLayout → Octets → ℕ → ℕ → Vocabulary Located → Got NameRead
   partsAt q s b k v =
       pick (lonePrefix b) (refused STRUCTURE k)
-      (then (optionalAt V (prefixBit b) s PREFIX (suc k) v)
-      λ p k₁ v₁. then (optionalAt V (namespaceBit b) s NAMESPACE-NAME k₁ v₁)
-      λ n k₂ v₂. then (idAt V s LOCAL-NAME k₂ v₂)
+      (then (optionalAt ver (prefixBit b) s PREFIX (suc k) v)
+      λ p k₁ v₁. then (optionalAt ver (namespaceBit b) s NAMESPACE-NAME k₁ v₁)
+      λ n k₂ v₂. then (idAt ver s LOCAL-NAME k₂ v₂)
       λ l k₃ v₃.
       let x : Triple = record { prefix = p .number; namespace = n .number; local = l .number } in
       pick (holdsName (names v₃ (q .table)) x) (refused REPEAT k)
-      (pick (ltb (length (names v₃ (q .table))) (V .entries))
+      (pick (ltb (length (names v₃ (q .table))) (ver .entries))
       (got (record { name = record { prefix = p .string; namespace = n .string; local = l .string }; how = inParts (p .how) (n .how) (l .how) }) k₃ (addingName v₃ (q .table) x))
       (refused FULL k)))
 
@@ -84,8 +84,8 @@ module _ (V : Version) where
       pick (ltb k (length s))
       (pick (ltb (getD s k 0) 0xCC) (refused CODE k)
       (pick (ltb (getD s k 0) 0xD0)
-      (then (optionalAt V (prefixBit (getD s k 0)) s PREFIX (suc k) v)
-      λ p k₁ v₁. then (optionalAt V (namespaceBit (getD s k 0)) s NAMESPACE-NAME k₁ v₁)
+      (then (optionalAt ver (prefixBit (getD s k 0)) s PREFIX (suc k) v)
+      λ p k₁ v₁. then (optionalAt ver (namespaceBit (getD s k 0)) s NAMESPACE-NAME k₁ v₁)
       λ n k₂ v₂. got (record { prefix = p .string; namespace = n .string; prefixHow = p .how; namespaceHow = n .how }) k₂ v₂)
       (pick (ltb (getD s k 0) 0xF0) (refused CODE k)
       (pick (eqb (getD s k 0) 0xF0) (refused STRUCTURE k) (refused PADDING k)))))

@@ -1,4 +1,4 @@
--- Reading a string: C.13, C.14, C.15. Each field's tests stand in 01's order; the first that fails gives the refusal, at the field's first octet.
+-- Reading a string: C.13, C.14, C.15. Each field's tests stand in the required order; the first that fails gives the refusal, at the field's first octet.
 use Prim.Native.Nat.{ℕ, suc, _+_, _-_, _^_}
 use mathlib.Core.Bool.{Bool, true, false, not, _||_}
 use mathlib.Core.Option.{Option, none, some}
@@ -55,7 +55,7 @@ pub record StringRead : Type 0 where
 abbrev pub numberBit : Layout → ℕ
 numberBit q = q .lengthBit - 3
 
-module _ (V : Version) where
+module _ (ver : Version) where
   -- C.13 at octet k. Spelled: 2, 6, 2, 9, then held already (11), no room in the table (12). Numbered: 2, 5, 2, 7, then beyond the table (10).
   unfoldable pub idAt : Octets → StringTable → ℕ → Vocabulary Located → Got IdRead
   idAt s t k v =
@@ -63,7 +63,7 @@ module _ (V : Version) where
       (number (fieldAt (lengths 2) noTop 2 s k)
       λ n next. spelling s k next n
       (pick (holds (map (octetsOf s) (strings v t)) (octetsOf s (stretch next n))) (refused REPEAT k)
-      (pick (ltb (length (strings v t)) (V .entries))
+      (pick (ltb (length (strings v t)) (ver .entries))
       (got (record { string = stretch next n; how = spelled true; number = suc (length (strings v t)) }) (next + n) (adding v t (stretch next n)))
       (refused FULL k))))
       (number (fieldAt c25 top 2 s k)
@@ -80,7 +80,7 @@ module _ (V : Version) where
   spelledAt q s t k added v =
       number (fieldAt (lengths (q .lengthBit)) noTop (q .lengthBit) s k)
       λ n next. spelling s k next n
-      (pick (not added || ltb (length (strings v t)) (V .entries))
+      (pick (not added || ltb (length (strings v t)) (ver .entries))
       (got (record { string = stretch next n; how = spelled added }) (next + n) (keeping added v t (stretch next n)))
       (refused FULL k))
 

@@ -72,7 +72,7 @@ NextGood s left (Faulty n p) c w = (length w ≡ tableWords) × (p ≤ length s)
 abbrev pub Reaches : Octets → Place → Counts → Words → Next → Counts → Words → Type 0
 Reaches s p c v r d w = (seenNext r d w ≡ nextOf s (p .left) (standAt p c v)) × NextGood s (p .left) r d w
 
--- ---- the answer behind n events. An event is one that has no record
+-- ---- the answer behind n events. Where a further event was found, there was no record for it
 abbrev pub finished : Next → ℕ → Counts → Answer
 finished (Found p e next) n c = Refused ROOM p
 finished Finished n c = Accepted n c

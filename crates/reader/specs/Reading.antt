@@ -51,20 +51,20 @@ marked go (quiet n) = go n
 marked go done = []
 marked go (stop n p) = []
 
-module _ (V : Version) where
+module _ (ver : Version) where
   -- Steps until the document's end, with records for `room` events. `fuel` bounds the steps.
   unfoldable pub run : Octets → (fuel room : ℕ) → Stand → Result
   run s zero room m = refusal TRUNCATED (m .at / 2)
-  run s (suc fuel) room m = turn (λ left n. run s fuel left n) room m (step V s m)
+  run s (suc fuel) room m = turn (λ left n. run s fuel left n) room m (step ver s m)
 
   -- The marks of the events, up to the document's end or the first fault.
   unfoldable pub trace : Octets → (fuel : ℕ) → Stand → List Mark
   trace s zero m = []
-  trace s (suc fuel) m = marked (λ n. trace s fuel n) (step V s m)
+  trace s (suc fuel) m = marked (λ n. trace s fuel n) (step ver s m)
 
 -- SIZE: a document is not empty, and not over the limit.
 unfoldable pub sized : Version → Octets → Bool
-sized V s = leb 1 (length s) && leb (length s) (V .octets)
+sized ver s = leb 1 (length s) && leb (length s) (ver .octets)
 
 -- What stands before the first item: the octet where the body starts, and the tables then; or a refusal.
 pub data Opening : Type 0 where
@@ -73,13 +73,13 @@ pub data Opening : Type 0 where
 
 -- SIZE (1). The identification: missing (2), other octets (3). The octet behind it: missing (2), its padding bit (6), a presence bit (4).
 unfoldable pub opening : Version → Octets → Opening
-opening V s =
-    let n : ℕ = length (V .identification) in
-    pick (sized V s)
+opening ver s =
+    let n : ℕ = length (ver .identification) in
+    pick (sized ver s)
     (pick (leb n (length s))
-    (pick (same (take n s) (V .identification))
+    (pick (same (take n s) (ver .identification))
     (pick (leb (suc n) (length s))
-    (pick (ltb (getD s n 0) 0x80) (pick (eqb (getD s n 0) 0) (onward (suc n) (start V)) (halt OPTIONAL-PART n)) (halt PADDING n))
+    (pick (ltb (getD s n 0) 0x80) (pick (eqb (getD s n 0) 0) (onward (suc n) (start ver)) (halt OPTIONAL-PART n)) (halt PADDING n))
     (halt TRUNCATED n))
     (halt HEADER 0))
     (halt TRUNCATED 0))
@@ -92,22 +92,22 @@ origin body tables = record { at = 2 * body; state = beginning tables }
 abbrev pub fuelOf : Octets → ℕ
 fuelOf s = suc (2 * length s)
 
-module _ (V : Version) (s : Octets) where
+module _ (ver : Version) (s : Octets) where
   -- With these octets and records for `room` events: what the opening lets be read.
   abbrev pub resultFrom : (room : ℕ) → Opening → Result
-  resultFrom room (onward body tables) = run V s (fuelOf s) room (origin body tables)
+  resultFrom room (onward body tables) = run ver s (fuelOf s) room (origin body tables)
   resultFrom room (halt n p) = refusal n p
 
   unfoldable pub reading : (room : ℕ) → Result
-  reading room = resultFrom room (opening V s)
+  reading room = resultFrom room (opening ver s)
 
   -- The marks of the events that the document hands out.
   abbrev pub marksFrom : Opening → List Mark
-  marksFrom (onward body tables) = trace V s (fuelOf s) (origin body tables)
+  marksFrom (onward body tables) = trace ver s (fuelOf s) (origin body tables)
   marksFrom (halt n p) = []
 
   unfoldable pub marks : List Mark
-  marks = marksFrom (opening V s)
+  marks = marksFrom (opening ver s)
 
   -- The octets s are accepted, with records for `room` events; these are the items handed out, and this is known at the end, with octets in place of places.
   pub record Accepts (room : ℕ) (items : List (Item Octets)) (z : State Octets) : Type 0 where
@@ -117,12 +117,12 @@ module _ (V : Version) (s : Octets) where
     pub are : map (plain s) events ≡ items
     pub end-is : plainState s (last .state) ≡ z
 
--- What 01's table says of each answer.
+-- What the requirements' table says of each answer.
 abbrev pub told : A.Answer → Told
 told (Accepted n c) = toldAccepted n (listed c)
 told (Refused k p) = toldRefused k p
 
--- What a call answers and leaves: the answer, as an enum and in 01's numbers, every event record, every table word.
+-- What a call answers and leaves: the answer, as an enum and in the requirements' numbers, every event record, every table word.
 pub record Outcome : Type 0 where
   pub answer : A.Answer
   pub told : Told
@@ -152,9 +152,9 @@ outcome (refusal n p) room = refusing n p room tableWords
 
 -- Reading, with `room` event records and `table` table words lent: SIZE, then the table room (14), both at place 0, then the fields.
 unfoldable pub readOf : Version → Octets → (room table : ℕ) → Outcome
-readOf V s room table =
-    pick (sized V s)
-    (pick (eqb table tableWords) (outcome (reading V s room) room) (refusing ROOM 0 room table))
+readOf ver s room table =
+    pick (sized ver s)
+    (pick (eqb table tableWords) (outcome (reading ver s room) room) (refusing ROOM 0 room table))
     (refusing SIZE 0 room table)
 
 -- The number that comes back to C: 0, or the place times 32 plus the refusal's number.
@@ -164,4 +164,4 @@ numberOf (refusal n p) = p * 32 + n
 
 -- The check: as a reader with an event record for each half of the longest document, which are 32,768 on the link.
 unfoldable pub checkOf : Version → Octets → ℕ
-checkOf V s = numberOf (reading V s (2 * V .octets))
+checkOf ver s = numberOf (reading ver s (2 * ver .octets))

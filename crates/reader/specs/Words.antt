@@ -39,4 +39,4 @@ inWords r o = leaving (answerWord (o .answer)) (rowWords (o .row) ++ replicate (
 -- With r, t and c words lent for records, tables and counts: SIZE (1), then the room of the counts, which are the tables' (14), both at place 0; then what
 -- reading into r / 13 event records and t table words leaves.
 unfoldable pub readWords : Version → Octets → (r t c : ℕ) → WordsLeft
-readWords V s r t c = pick (sized V s) (pick (eqb c 10) (inWords r (readOf V s (r / 13) t)) (nothing ROOM r t c)) (nothing SIZE r t c)
+readWords ver s r t c = pick (sized ver s) (pick (eqb c 10) (inWords r (readOf ver s (r / 13) t)) (nothing ROOM r t c)) (nothing SIZE r t c)

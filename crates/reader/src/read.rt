@@ -127,7 +127,7 @@ fn step(p: Place, s: &[u8], tables: &mut [u32], counts: &mut Counts) -> Next
     t.next
 }
 
-// What the last answer comes to after n events. An event is one that has no record.
+// What the last answer comes to after n events. Where it is a further event, there was no record for it.
 fn finish(a: Next, n: usize, c: Counts) -> Answer
     requires { ⌜ Small a n ⌝ }
     ensures { λ r. ⌜ r ≡ finished a n c ⌝ }

@@ -1,11 +1,11 @@
--- An answer in the numbers and values that 01's table gives each case.
+-- An answer in the numbers and values that the requirements' table gives each case.
 use Prim.Native.Nat.{ℕ, _+_, _*_, _^_}
 use mathlib.Core.List.{[], _∷_}
 use lib.ListN.{length, replicate}
 use Rattle.format.specs.Octets.{Words}
 use Rattle.format.specs.Tables.{Vocabulary}
 
--- The number, 0 for accepted; the place; the count of events (writer: of octets); and the ten tables' counts, in 01's order.
+-- The number, 0 for accepted; the place; the count of events (writer: of octets); and the ten tables' counts, in the required order.
 pub record Told : Type 0 where
   pub number : ℕ
   pub place : ℕ

@@ -13,7 +13,7 @@ ghost use Rattle.tables.specs.Rows.{tableOf, builtIn, stringAt, tripleAt
 ghost use Rattle.tables.specs.Search.{numberIn, numberOfTriple};
 ghost use Rattle.tables.specs.Kept.{listed, countOf, oneMore, rowAt, stored, Ends, Inside};
 
-// How many entries each table has, in 01's order.
+// How many entries each table has, in the required order.
 pub struct Counts {
     pub prefix: u32,
     pub namespace: u32,
@@ -53,7 +53,7 @@ impl Counts {
         }
     }
 
-    // The count of a table by its number, from 0 in 01's order.
+    // The count of a table by its number, from 0 in the required order.
     pub fn of(self, table: usize) -> u32
         requires { ⌜ table < 10 ⌝ }
         ensures { λ r. ⌜ r ≡ countOf self table ⌝ }
@@ -94,7 +94,7 @@ impl Counts {
     }
 }
 
-// The ten counts, in 01's order.
+// The ten counts, in the required order.
 pub fn put_counts(w: &mut [u32], c: Counts)
     requires { ⌜ length (now w) ≡ 10 ⌝ }
     ensures { λ _. ⌜ now (w .exit) ≡ listed c ⌝ }

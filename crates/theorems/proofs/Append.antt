@@ -1,4 +1,4 @@
--- 01's choices for a list in two parts: those for the first part, then those for the second with the tables that the first leaves.
+-- The required choices for a list in two parts: those for the first part, then those for the second with the tables that the first leaves.
 use mathlib.Core.Path.{_≡_, refl, ap}
 use mathlib.Core.List.{List, [], _∷_, _++_}
 use Rattle.format.specs.Octets.{Octets}

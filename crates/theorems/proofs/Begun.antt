@@ -39,41 +39,41 @@ item-group : (at : ℕ) (o : Octets) (hs ks : Halves) → (pad at ++ (halves o +
 item-group at o hs ks = simp append-assoc
 
 -- What is written, in two: the items xs, and the rest of the document.
-pub record Split (V : Version) (at : ℕ) (v : State Octets) (xs ys : List (Item Octets)) (hs : Halves) (z : State Octets) : Type 0 where
+pub record Split (ver : Version) (at : ℕ) (v : State Octets) (xs ys : List (Item Octets)) (hs : Halves) (z : State Octets) : Type 0 where
   pub front-halves : Halves
   pub rest-halves : Halves
   pub mid : State Octets
-  pub begun : Begun V at v xs front-halves mid
-  pub rest : Written V (at + length front-halves) mid ys rest-halves z
+  pub begun : Begun ver at v xs front-halves mid
+  pub rest : Written ver (at + length front-halves) mid ys rest-halves z
   pub are : hs ≡ front-halves ++ rest-halves
 
-module _ {V : Version} where
+module _ {ver : Version} where
   -- ---- what is begun goes on
   pub begun-more : {at : ℕ} {v w z : State Octets} {xs ys : List (Item Octets)} {hs ks : Halves}
-      → Begun V at v xs hs w → Begun V (at + length hs) w ys ks z → Begun V at v (xs ++ ys) (hs ++ ks) z
+      → Begun ver at v xs hs w → Begun ver (at + length hs) w ys ks z → Begun ver at v (xs ++ ys) (hs ++ ks) z
   begun-more {at} begun r = rw (none-on at) at r
   begun-more {at} (after-attributes {hs = hs} md b) r = after-attributes md (begun-more b (rw (end-on at (length hs)) at r))
   begun-more {at} (after-end {hs = hs} md lv b) r = after-end md lv (begun-more b (rw (end-on at (length hs)) at r))
   begun-more {at} {ks = ks} (after-item {o = o} {hs = hs} u b) r = rw (item-group at o hs ks) (after-item u (begun-more b (rw (item-on at o hs) at r)))
 
   pub begun-written : {at : ℕ} {v w z : State Octets} {xs ys : List (Item Octets)} {hs ks : Halves}
-      → Begun V at v xs hs w → Written V (at + length hs) w ys ks z → Written V at v (xs ++ ys) (hs ++ ks) z
+      → Begun ver at v xs hs w → Written ver (at + length hs) w ys ks z → Written ver at v (xs ++ ys) (hs ++ ks) z
   begun-written {at} begun r = rw (none-on at) at r
   begun-written {at} (after-attributes {hs = hs} md b) r = attributes-end md (begun-written b (rw (end-on at (length hs)) at r))
   begun-written {at} (after-end {hs = hs} md lv b) r = element-end md lv (begun-written b (rw (end-on at (length hs)) at r))
   begun-written {at} {ks = ks} (after-item {o = o} {hs = hs} u b) r = rw (item-group at o hs ks) (item u (begun-written b (rw (item-on at o hs) at r)))
 
   -- the same, said of another place or of other halves
-  elsewhere : {at at′ : ℕ} {v z : State Octets} {items : List (Item Octets)} {hs hs′ : Halves} → at ≡ at′ → hs ≡ hs′ → (r : Written V at v items hs z)
-      → (u : Written V at′ v items hs′ z) × (knownAfter V u ≡ knownAfter V r)
+  elsewhere : {at at′ : ℕ} {v z : State Octets} {items : List (Item Octets)} {hs hs′ : Halves} → at ≡ at′ → hs ≡ hs′ → (r : Written ver at v items hs z)
+      → (u : Written ver at′ v items hs′ z) × (knownAfter ver u ≡ knownAfter ver r)
   elsewhere {at′ = at′} {v} {z} {items} {hs} a h r =
-      subst (λ (l : Octets). (u : Written V at′ v items l z) × (knownAfter V u ≡ knownAfter V r)) h
-      (subst (λ (k : ℕ). (u : Written V k v items hs z) × (knownAfter V u ≡ knownAfter V r)) a (r, refl))
+      subst (λ (l : Octets). (u : Written ver at′ v items l z) × (knownAfter ver u ≡ knownAfter ver r)) h
+      (subst (λ (k : ℕ). (u : Written ver k v items hs z) × (knownAfter ver u ≡ knownAfter ver r)) a (r, refl))
 
   -- one item in front: what is known behind it is known first
   pub front : {at : ℕ} {v w z : State Octets} {i : Item Octets} {items : List (Item Octets)} {own : Octets} {hs : Halves}
-      → Begun V at v (i ∷ []) own w → (r : Written V (at + length own) w items hs z)
-      → (u : Written V at v (i ∷ items) (own ++ hs) z) × (knownAfter V u ≡ w ∷ knownAfter V r)
+      → Begun ver at v (i ∷ []) own w → (r : Written ver (at + length own) w items hs z)
+      → (u : Written ver at v (i ∷ items) (own ++ hs) z) × (knownAfter ver u ≡ w ∷ knownAfter ver r)
   unfolding knownAfter
   front {at} (after-attributes {hs = own} md b) r =
       let k = elsewhere (end-on at (length own)) refl r in
@@ -88,8 +88,8 @@ module _ {V : Version} where
       (f .0, f .1 ∙ ap (λ (l : List (State Octets)). w ∷ l) (k .1))
 
   -- ---- what is written begins
-  behind-end : {at : ℕ} {v u z : State Octets} {xs xs′ ys : List (Item Octets)} {hs : Halves} (s : Split V (suc at) u xs ys hs z)
-      → Begun V at v xs′ (15 ∷ s .front-halves) (s .mid) → Split V at v xs′ ys (15 ∷ hs) z
+  behind-end : {at : ℕ} {v u z : State Octets} {xs xs′ ys : List (Item Octets)} {hs : Halves} (s : Split ver (suc at) u xs ys hs z)
+      → Begun ver at v xs′ (15 ∷ s .front-halves) (s .mid) → Split ver at v xs′ ys (15 ∷ hs) z
   behind-end {at} s b =
       record {
         front-halves = 15 ∷ s .front-halves;
@@ -101,8 +101,8 @@ module _ {V : Version} where
       }
 
   first-split : {at : ℕ} {v z : State Octets} {x : Item Octets} {xs ys items : List (Item Octets)} {hs : Halves}
-      → Written V at v (x ∷ items) hs z → ((k : ℕ) (u : State Octets) (l : Octets) → Written V k u items l z → Split V k u xs ys l z)
-      → Split V at v (x ∷ xs) ys hs z
+      → Written ver at v (x ∷ items) hs z → ((k : ℕ) (u : State Octets) (l : Octets) → Written ver k u items l z → Split ver k u xs ys l z)
+      → Split ver at v (x ∷ xs) ys hs z
   first-split (attributes-end md w) go = let s = first-split w go in behind-end s (after-attributes md (s .begun))
   first-split (element-end md lv w) go = let s = go _ _ _ w in behind-end s (after-end md lv (s .begun))
   first-split {at} (item {o = o} u w) go =
@@ -117,7 +117,7 @@ module _ {V : Version} where
       }
 
   pub begun-of-written : {at : ℕ} {v z : State Octets} {hs : Halves} (xs ys : List (Item Octets))
-      → Written V at v (xs ++ ys) hs z → Split V at v xs ys hs z
+      → Written ver at v (xs ++ ys) hs z → Split ver at v xs ys hs z
   begun-of-written {at} {v} {hs = hs} [] ys w = record { front-halves = []; rest-halves = hs; mid = v; begun = begun; rest = rw (none-on at) w; are = refl }
   begun-of-written (x ∷ xs) ys w = first-split w (λ k u l. begun-of-written xs ys)
 
@@ -158,14 +158,14 @@ unfolding spell
 spell-size [] lead lead′ n = refl
 spell-size (form code zeros bits low ∷ fs) lead lead′ n = simp (length-pick, spell-size fs lead lead′ n)
 
-module _ {V : Version} where
+module _ {ver : Version} where
   -- and so are a name's
   behind-bits : {q : NameLayout} {lead : ℕ} {v w : Vocabulary Octets} {x : Name Octets} {h : NameHow} {o : Octets} (lead′ : ℕ)
-      → Named V q lead v x h o w → (o′ : Octets) × Named V q lead′ v x h o′ w × (length o ≡ length o′)
+      → Named ver q lead v x h o w → (o′ : Octets) × Named ver q lead′ v x h o′ w × (length o ≡ length o′)
   behind-bits lead′ (in-parts lone up un ul new room) = (_, in-parts lone up un ul new room, refl)
   behind-bits {q} {lead} lead′ (by-number {k = k} small fits en m) = (_, by-number small fits en m, spell-size (q .numberForms) lead lead′ (suc k))
 
-  octets-alike : {v v′ w w′ : State Octets} {i : Item Octets} {o o′ : Octets} → Alike v v′ → ItemWrittenAs V v i o w → ItemWrittenAs V v′ i o′ w′
+  octets-alike : {v v′ w w′ : State Octets} {i : Item Octets} {o o′ : Octets} → Alike v v′ → ItemWrittenAs ver v i o w → ItemWrittenAs ver v′ i o′ w′
       → (length o ≡ length o′) × Alike w w′
   octets-alike e (o-start a md may deep u) (o-start b md′ may′ deep′ u′) =
       let t = behind-bits (64 * bit b) u in
@@ -201,17 +201,17 @@ module _ {V : Version} where
 
   -- an attribute does not follow the end of its list
   no-attribute : {at : ℕ} {v w : State Octets} {i : Item Octets} {items : List (Item Octets)} {hs : Halves}
-      → Begun V at v (i ∷ items) hs w → v .mode ≡ content → isAttribute (i .event) ≡ false
+      → Begun ver at v (i ∷ items) hs w → v .mode ≡ content → isAttribute (i .event) ≡ false
   no-attribute (after-attributes md b) e = clash (cc)
   no-attribute (after-end md lv b) e = refl
   no-attribute (after-item u b) e = where-attributes u ∙ ap inList e
 
   no-list : {at : ℕ} {v v′ u w : State Octets} {i : Item Octets} {o : Octets} {items : List (Item Octets)} {hs : Halves} {X : Type 0}
-      → bitless (v′ .mode) ≡ bitless (v .mode) → v .mode ≡ listing true → Begun V at (moved v (v .tables) content) (i ∷ items) hs w → ItemWrittenAs V v′ i o u → X
+      → bitless (v′ .mode) ≡ bitless (v .mode) → v .mode ≡ listing true → Begun ver at (moved v (v .tables) content) (i ∷ items) hs w → ItemWrittenAs ver v′ i o u → X
   no-list {v′ = v′} e md b u = let y = member-bitless (v′ .mode) (cc) in clash (cc (no-attribute b refl, where-attributes u))
 
   pub begun-alike : {at : ℕ} {v v′ w w′ : State Octets} {items : List (Item Octets)} {hs hs′ : Halves}
-      → Alike v v′ → Begun V at v items hs w → Begun V at v′ items hs′ w′ → (length hs ≡ length hs′) × Alike w w′
+      → Alike v v′ → Begun ver at v items hs w → Begun ver at v′ items hs′ w′ → (length hs ≡ length hs′) × Alike w w′
   begun-alike e begun begun = (refl, e)
   begun-alike e (after-attributes md b) (after-attributes md′ b′) =
       let r = begun-alike (record { tables = e .tables; level = e .level; root = e .root; mode = refl }) b b′ in
@@ -233,51 +233,51 @@ module _ {V : Version} where
       (omega (arith, q .0, r .0), r .1)
 
   pub begun-size : {at : ℕ} {v w w′ : State Octets} {items : List (Item Octets)} {hs hs′ : Halves}
-      → Begun V at v items hs w → Begun V at v items hs′ w′ → (length hs ≡ length hs′) × Alike w w′
+      → Begun ver at v items hs w → Begun ver at v items hs′ w′ → (length hs ≡ length hs′) × Alike w w′
   begun-size {v = v} = begun-alike (alike v)
 
 -- ---- the limits: a table gets an entry where it has room for one, an element opens where it may
-module _ {V : Version} where
-  adding-fits : {v : Vocabulary Octets} (t : StringTable) (x : Octets) → length (strings v t) < V .entries → InLimits V v → InLimits V (adding v t x)
+module _ {ver : Version} where
+  adding-fits : {v : Vocabulary Octets} (t : StringTable) (x : Octets) → length (strings v t) < ver .entries → InLimits ver v → InLimits ver (adding v t x)
   adding-fits {v} t x room f =
       record {
-        few = λ u. rw (strings-adding v t x u) (extended-few (eqb (place t) (place u)) (V .entries) (strings v u) x (f .few u) (λ e. rw (← (same-table t u e)) room));
+        few = λ u. rw (strings-adding v t x u) (extended-few (eqb (place t) (place u)) (ver .entries) (strings v u) x (f .few u) (λ e. rw (← (same-table t u e)) room));
         few-names = λ u. rw (names-adding v t x u) (f .few-names u);
       }
 
-  adding-name-fits : {v : Vocabulary Octets} (t : NameTable) (x : Triple) → length (names v t) < V .entries → InLimits V v → InLimits V (addingName v t x)
+  adding-name-fits : {v : Vocabulary Octets} (t : NameTable) (x : Triple) → length (names v t) < ver .entries → InLimits ver v → InLimits ver (addingName v t x)
   adding-name-fits {v} t x room f =
       record {
         few = λ u. rw (strings-adding-name v t x u) (f .few u);
-        few-names = λ u. rw (names-adding-name v t x u) (extended-few (sameNames t u) (V .entries) (names v u) x (f .few-names u) (λ e. rw (← (same-name-table t u e)) room));
+        few-names = λ u. rw (names-adding-name v t x u) (extended-few (sameNames t u) (ver .entries) (names v u) x (f .few-names u) (λ e. rw (← (same-name-table t u e)) room));
       }
 
-  identifying-fits : {t : StringTable} {v w : Vocabulary Octets} {x : Octets} {h : How} {n : ℕ} {o : Octets} → Identifying V t v x h n o w → InLimits V v → InLimits V w
+  identifying-fits : {t : StringTable} {v w : Vocabulary Octets} {x : Octets} {h : How} {n : ℕ} {o : Octets} → Identifying ver t v x h n o w → InLimits ver v → InLimits ver w
   identifying-fits {t} (id-spelled {x = x} sp new room) f = adding-fits t x room f
   identifying-fits (id-numbered small en) f = f
 
-  optional-fits : {t : StringTable} {v w : Vocabulary Octets} {x : Option Octets} {h : Option How} {n : ℕ} {o : Octets} → Optional V t v x h n o w → InLimits V v → InLimits V w
+  optional-fits : {t : StringTable} {v w : Vocabulary Octets} {x : Option Octets} {h : Option How} {n : ℕ} {o : Octets} → Optional ver t v x h n o w → InLimits ver v → InLimits ver w
   optional-fits absent f = f
   optional-fits (present u) f = identifying-fits u f
 
-  literal-fits : {q : Layout} {t : StringTable} {v w : Vocabulary Octets} {x : Octets} {h : How} {o : Octets} → Literal V q t v x h o w → InLimits V v → InLimits V w
+  literal-fits : {q : Layout} {t : StringTable} {v w : Vocabulary Octets} {x : Octets} {h : How} {o : Octets} → Literal ver q t v x h o w → InLimits ver v → InLimits ver w
   literal-fits {t = t} (literal-spelled {x = x} {added = true} sp room) f = adding-fits t x (room refl) f
   literal-fits (literal-spelled {added = false} sp room) f = f
   literal-fits (literal-numbered small fits en) f = f
 
-  value-fits : {t : StringTable} {v w : Vocabulary Octets} {x : Octets} {h : How} {o : Octets} → Value V t v x h o w → InLimits V v → InLimits V w
+  value-fits : {t : StringTable} {v w : Vocabulary Octets} {x : Octets} {h : How} {o : Octets} → Value ver t v x h o w → InLimits ver v → InLimits ver w
   value-fits value-empty f = f
   value-fits (value u) f = literal-fits u f
 
-  named-fits : {q : NameLayout} {lead : ℕ} {v w : Vocabulary Octets} {x : Name Octets} {h : NameHow} {o : Octets} → Named V q lead v x h o w → InLimits V v → InLimits V w
+  named-fits : {q : NameLayout} {lead : ℕ} {v w : Vocabulary Octets} {x : Name Octets} {h : NameHow} {o : Octets} → Named ver q lead v x h o w → InLimits ver v → InLimits ver w
   named-fits {q} (in-parts {kp = kp} {kn = kn} {kl = kl} lone up un ul new room) f =
       adding-name-fits (q .table) (record { prefix = kp; namespace = kn; local = kl }) room (identifying-fits ul (optional-fits un (optional-fits up f)))
   named-fits (by-number small fits en m) f = f
 
-  declared-fits : {v w : Vocabulary Octets} {p n : Option Octets} {hp hn : Option How} {o : Octets} → Declared V v p n hp hn o w → InLimits V v → InLimits V w
+  declared-fits : {v w : Vocabulary Octets} {p n : Option Octets} {hp hn : Option How} {o : Octets} → Declared ver v p n hp hn o w → InLimits ver v → InLimits ver w
   declared-fits (declared up un) f = optional-fits un (optional-fits up f)
 
-  octets-fit : {v w : State Octets} {i : Item Octets} {o : Octets} → ItemWrittenAs V v i o w → InLimits V (v .tables) → InLimits V (w .tables)
+  octets-fit : {v w : State Octets} {i : Item Octets} {o : Octets} → ItemWrittenAs ver v i o w → InLimits ver (v .tables) → InLimits ver (w .tables)
   octets-fit (o-start a md may deep u) f = named-fits u f
   octets-fit (o-first-namespace md may deep u) f = declared-fits u f
   octets-fit (o-namespace md u) f = declared-fits u f
@@ -287,14 +287,14 @@ module _ {V : Version} where
   octets-fit (o-comment md u) f = value-fits u f
   octets-fit (o-instruction md u1 u2) f = value-fits u2 (identifying-fits u1 f)
 
-  pub fits-on : {at : ℕ} {v w : State Octets} {items : List (Item Octets)} {hs : Halves} → Begun V at v items hs w → InLimits V (v .tables) → InLimits V (w .tables)
+  pub fits-on : {at : ℕ} {v w : State Octets} {items : List (Item Octets)} {hs : Halves} → Begun ver at v items hs w → InLimits ver (v .tables) → InLimits ver (w .tables)
   fits-on begun f = f
   fits-on (after-attributes md b) f = fits-on b f
   fits-on (after-end md lv b) f = fits-on b f
   fits-on (after-item u b) f = fits-on b (octets-fit u f)
 
-  pub shallow-is : {v w : State Octets} {i : Item Octets} {o : Octets} → ItemWrittenAs V v i o w
-      → (isDeclaration (i .event) || isStart (i .event)) ≡ true → isDeclaring (v .mode) ≡ false → v .level < V .depth
+  pub shallow-is : {v w : State Octets} {i : Item Octets} {o : Octets} → ItemWrittenAs ver v i o w
+      → (isDeclaration (i .event) || isStart (i .event)) ≡ true → isDeclaring (v .mode) ≡ false → v .level < ver .depth
   shallow-is (o-start a md may deep u) opens e = deep
   shallow-is (o-first-namespace md may deep u) opens e = deep
   shallow-is (o-namespace md u) opens e = clash (cc)
@@ -304,8 +304,8 @@ module _ {V : Version} where
   shallow-is (o-comment md u) opens e = clash opens
   shallow-is (o-instruction md u1 u2) opens e = clash opens
 
-  pub written-shallow : {at : ℕ} {v z : State Octets} {i : Item Octets} {items : List (Item Octets)} {hs : Halves} → Written V at v (i ∷ items) hs z
-      → (isDeclaration (i .event) || isStart (i .event)) ≡ true → isDeclaring (v .mode) ≡ false → v .level < V .depth
+  pub written-shallow : {at : ℕ} {v z : State Octets} {i : Item Octets} {items : List (Item Octets)} {hs : Halves} → Written ver at v (i ∷ items) hs z
+      → (isDeclaration (i .event) || isStart (i .event)) ≡ true → isDeclaring (v .mode) ≡ false → v .level < ver .depth
   written-shallow (attributes-end md w) opens e = written-shallow w opens refl
   written-shallow (element-end md lv w) opens e = clash opens
   written-shallow (item u w) opens e = shallow-is u opens e
@@ -315,8 +315,8 @@ start-declares : (a : Bool) → isDeclaring (afterStart a) ≡ false
 start-declares true = refl
 start-declares false = refl
 
-module _ {V : Version} where
-  octets-level : {v w : State Octets} {i : Item Octets} {o : Octets} → ItemWrittenAs V v i o w → w .level ≡ openThen (v .level) (i .event)
+module _ {ver : Version} where
+  octets-level : {v w : State Octets} {i : Item Octets} {o : Octets} → ItemWrittenAs ver v i o w → w .level ≡ openThen (v .level) (i .event)
   octets-level (o-start a md may deep u) = refl
   octets-level (o-first-namespace md may deep u) = refl
   octets-level (o-namespace md u) = refl
@@ -326,14 +326,14 @@ module _ {V : Version} where
   octets-level (o-comment md u) = refl
   octets-level (o-instruction md u1 u2) = refl
 
-  pub level-is : {at : ℕ} {v w : State Octets} {items : List (Item Octets)} {hs : Halves} → Begun V at v items hs w → w .level ≡ openAfter (v .level) (events items)
+  pub level-is : {at : ℕ} {v w : State Octets} {items : List (Item Octets)} {hs : Halves} → Begun ver at v items hs w → w .level ≡ openAfter (v .level) (events items)
   unfolding openAfter
   level-is begun = refl
   level-is (after-attributes md b) = level-is b
   level-is (after-end md lv b) = level-is b
   level-is (after-item {items = items} u b) = level-is b ∙ ap (λ (n : ℕ). openAfter n (events items)) (octets-level u)
 
-  octets-declare : {v w : State Octets} {i : Item Octets} {o : Octets} → ItemWrittenAs V v i o w → isDeclaring (w .mode) ≡ isDeclaration (i .event)
+  octets-declare : {v w : State Octets} {i : Item Octets} {o : Octets} → ItemWrittenAs ver v i o w → isDeclaring (w .mode) ≡ isDeclaration (i .event)
   octets-declare (o-start a md may deep u) = start-declares a
   octets-declare (o-first-namespace md may deep u) = refl
   octets-declare (o-namespace md u) = refl
@@ -343,7 +343,7 @@ module _ {V : Version} where
   octets-declare (o-comment md u) = cc
   octets-declare (o-instruction md u1 u2) = cc
 
-  pub declaring-is : {at : ℕ} {v w : State Octets} {items : List (Item Octets)} {hs : Halves} → Begun V at v items hs w
+  pub declaring-is : {at : ℕ} {v w : State Octets} {items : List (Item Octets)} {hs : Halves} → Begun ver at v items hs w
       → isDeclaring (w .mode) ≡ declaresLast (isDeclaring (v .mode)) (events items)
   unfolding declaresLast
   declaring-is begun = refl

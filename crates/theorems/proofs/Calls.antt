@@ -31,44 +31,44 @@ use Rattle.theorems.proofs.Document as Whole
 use Rattle.theorems.proofs.Demands.{check-needs-none}
 
 -- The octets are what the rules write, from some items.
-pub record Written (V : Version) (s : Octets) : Type 0 where
+pub record Written (ver : Version) (s : Octets) : Type 0 where
   pub items : List (Item Octets)
   pub last : State Octets
-  pub writes : Document V items last s
+  pub writes : Document ver items last s
 
 -- A call with this room left the records of these events, blank records behind them, and these tables; and the rules write s from the events.
-pub record Handed (V : Version) (s : Octets) (room : ℕ) (o : Outcome) : Type 0 where
+pub record Handed (ver : Version) (s : Octets) (room : ℕ) (o : Outcome) : Type 0 where
   pub events : List (Item Located)
   pub last : State Located
   pub is : o ≡ accepting (map (λ (i : Item Located). recordOf (i .event)) events) (last .tables) room
-  pub writes : Document V (map (plain s) events) (plainState s last) s
+  pub writes : Document ver (map (plain s) events) (plainState s last) s
 
-module _ (V : Version) (ok : Bounded V) (s : Octets) (bytes : AreOctets s) where
+module _ (ver : Version) (ok : Bounded ver) (s : Octets) (bytes : AreOctets s) where
   module _ (room : ℕ) where
-    from-result : (a : Result) → Whole.Means V ok s bytes a → (n : ℕ) (c : Counts) → outcome a room .answer ≡ Accepted n c → Handed V s room (outcome a room)
+    from-result : (a : Result) → Whole.Means ver ok s bytes a → (n : ℕ) (c : Counts) → outcome a room .answer ≡ Accepted n c → Handed ver s room (outcome a room)
     from-result (accepted is m) w n c e = record { events = is; last = m .state; is = refl; writes = w }
     from-result (refusal k p) w n c e = absurd (let z : _≡_ {A = ℕ} 0 1 = cc in omega arith)
 
     by-room : (table n : ℕ) (c : Counts) (b d : Bool)
-        → pick b (pick d (outcome (reading V s room) room) (refusing 14 0 room table)) (refusing 1 0 room table) .answer ≡ Accepted n c
-        → Handed V s room (pick b (pick d (outcome (reading V s room) room) (refusing 14 0 room table)) (refusing 1 0 room table))
-    by-room table n c true true e = from-result (reading V s room) (Whole.means V ok s bytes room) n c e
+        → pick b (pick d (outcome (reading ver s room) room) (refusing 14 0 room table)) (refusing 1 0 room table) .answer ≡ Accepted n c
+        → Handed ver s room (pick b (pick d (outcome (reading ver s room) room) (refusing 14 0 room table)) (refusing 1 0 room table))
+    by-room table n c true true e = from-result (reading ver s room) (Whole.means ver ok s bytes room) n c e
     by-room table n c true false e = absurd (let z : _≡_ {A = ℕ} 0 1 = cc in omega arith)
     by-room table n c false d e = absurd (let z : _≡_ {A = ℕ} 0 1 = cc in omega arith)
 
     -- 13. READ ACCEPTS what the rules write, and the events in the row are those.
-    pub read-accepts : (table n : ℕ) (c : Counts) → readOf V s room table .answer ≡ Accepted n c → Handed V s room (readOf V s room table)
+    pub read-accepts : (table n : ℕ) (c : Counts) → readOf ver s room table .answer ≡ Accepted n c → Handed ver s room (readOf ver s room table)
     unfolding readOf
-    read-accepts table n c e = by-room table n c (sized V s) (eqb table tableWords) e
+    read-accepts table n c e = by-room table n c (sized ver s) (eqb table tableWords) e
 
     --     And all that the rules write, if there is a record for each event and the table room is right; the events in the row are those of the items, and the
     --     tables in the words those that the rules know at the end.
-    pub written-is-read : (items : List (Item Octets)) (z : State Octets) → Document V items z s → length items ≤ room
-        → (h : Handed V s room (readOf V s room tableWords)) × (map (plain s) (h .events) ≡ items) × (plainState s (h .last) ≡ z)
+    pub written-is-read : (items : List (Item Octets)) (z : State Octets) → Document ver items z s → length items ≤ room
+        → (h : Handed ver s room (readOf ver s room tableWords)) × (map (plain s) (h .events) ≡ items) × (plainState s (h .last) ≡ z)
     unfolding readOf
     written-is-read items z w h =
-        let a = Whole.accepts V s items z w room h in
-        let y = accepted-sized V s room (a .events) (a .last) (a .reads) in (
+        let a = Whole.accepts ver s items z w room h in
+        let y = accepted-sized ver s room (a .events) (a .last) (a .reads) in (
           record {
             events = a .events;
             last = a .last .state;
@@ -79,26 +79,26 @@ module _ (V : Version) (ok : Bounded V) (s : Octets) (bytes : AreOctets s) where
           a .end-is,
         )
 
-  from-number : (a : Result) → Whole.Means V ok s bytes a → numberOf a ≡ 0 → Written V s
+  from-number : (a : Result) → Whole.Means ver ok s bytes a → numberOf a ≡ 0 → Written ver s
   from-number (accepted is m) w e = record { items = map (plain s) is; last = plainState s (m .state); writes = w }
   from-number (refusal n p) w e = let h = w .0 in absurd (omega arith)
 
   -- 14. THE CHECK answers 0 for what the rules write, and for nothing else.
-  pub check-accepts : checkOf V s ≡ 0 → Written V s
+  pub check-accepts : checkOf ver s ≡ 0 → Written ver s
   unfolding checkOf
-  check-accepts e = from-number (reading V s (2 * V .octets)) (Whole.means V ok s bytes (2 * V .octets)) e
+  check-accepts e = from-number (reading ver s (2 * ver .octets)) (Whole.means ver ok s bytes (2 * ver .octets)) e
 
-  pub written-is-checked : (items : List (Item Octets)) (z : State Octets) → Document V items z s → checkOf V s ≡ 0
+  pub written-is-checked : (items : List (Item Octets)) (z : State Octets) → Document ver items z s → checkOf ver s ≡ 0
   written-is-checked items z w =
-      let a = Whole.accepts V s items z w (2 * V .octets + length items) (omega arith) in
-      check-needs-none V ok s bytes (2 * V .octets + length items) (omega arith) ∙ ap numberOf (a .reads)
+      let a = Whole.accepts ver s items z w (2 * ver .octets + length items) (omega arith) in
+      check-needs-none ver ok s bytes (2 * ver .octets + length items) (omega arith) ∙ ap numberOf (a .reads)
 
   -- 15. READ INTO WORDS: what is accepted is left as the words of what `read` leaves; so the rules write s from the events in these words (13).
   module _ (r t : ℕ) where
     abbrev left : Outcome
-    left = readOf V s (r / 13) t
+    left = readOf ver s (r / 13) t
 
-    from-refusal : (a : Result) → Whole.Means V ok s bytes a → (k p : ℕ) → outcome a (r / 13) .answer ≡ Refused k p → (1 ≤ k) × (k ≤ 15)
+    from-refusal : (a : Result) → Whole.Means ver ok s bytes a → (k p : ℕ) → outcome a (r / 13) .answer ≡ Refused k p → (1 ≤ k) × (k ≤ 15)
     from-refusal (accepted is m) w k p e = absurd (let z : _≡_ {A = ℕ} 0 1 = cc in omega arith)
     from-refusal (refusal n place) w k p e =
         let ek : n ≡ k = cc in
@@ -107,49 +107,49 @@ module _ (V : Version) (ok : Bounded V) (s : Octets) (bytes : AreOctets s) where
         (omega arith, omega arith)
 
     refused-small : (b d : Bool) (k p : ℕ)
-        → pick b (pick d (outcome (reading V s (r / 13)) (r / 13)) (refusing 14 0 (r / 13) t)) (refusing 1 0 (r / 13) t) .answer ≡ Refused k p → (1 ≤ k) × (k ≤ 15)
-    refused-small true true k p e = from-refusal (reading V s (r / 13)) (Whole.means V ok s bytes (r / 13)) k p e
+        → pick b (pick d (outcome (reading ver s (r / 13)) (r / 13)) (refusing 14 0 (r / 13) t)) (refusing 1 0 (r / 13) t) .answer ≡ Refused k p → (1 ≤ k) × (k ≤ 15)
+    refused-small true true k p e = from-refusal (reading ver s (r / 13)) (Whole.means ver ok s bytes (r / 13)) k p e
     refused-small true false k p e = let ek : 14 ≡ k = cc in (omega arith, omega arith)
     refused-small false d k p e = let ek : 1 ≡ k = cc in (omega arith, omega arith)
 
-    by-answer : (n : ℕ) (a : Answer) → left .answer ≡ a → answerWord a ≡ n * 2 ^ 32 → Handed V s (r / 13) left
+    by-answer : (n : ℕ) (a : Answer) → left .answer ≡ a → answerWord a ≡ n * 2 ^ 32 → Handed ver s (r / 13) left
     unfolding readOf
     by-answer n (Accepted m c) e q = read-accepts (r / 13) t m c e
-    by-answer n (Refused k p) e q = let f = refused-small (sized V s) (eqb t tableWords) k p e in absurd (let low = f .0 in let high = f .1 in omega arith)
+    by-answer n (Refused k p) e q = let f = refused-small (sized ver s) (eqb t tableWords) k p e in absurd (let low = f .0 in let high = f .1 in omega arith)
 
     by-words : (c n : ℕ) (b d : Bool) → pick b (pick d (inWords r left) (nothing 14 r t c)) (nothing 1 r t c) .answer ≡ n * 2 ^ 32
-        → Handed V s (r / 13) left × (pick b (pick d (inWords r left) (nothing 14 r t c)) (nothing 1 r t c) ≡ inWords r left)
+        → Handed ver s (r / 13) left × (pick b (pick d (inWords r left) (nothing 14 r t c)) (nothing 1 r t c) ≡ inWords r left)
     unfolding inWords
     by-words c n true true e = (by-answer n (left .answer) refl e, refl)
     by-words c n true false e = absurd (omega arith)
     by-words c n false d e = absurd (omega arith)
 
-    pub words-accept : (c n : ℕ) → readWords V s r t c .answer ≡ n * 2 ^ 32 → Handed V s (r / 13) left × (readWords V s r t c ≡ inWords r left)
+    pub words-accept : (c n : ℕ) → readWords ver s r t c .answer ≡ n * 2 ^ 32 → Handed ver s (r / 13) left × (readWords ver s r t c ≡ inWords r left)
     unfolding readWords
-    words-accept c n e = by-words c n (sized V s) (eqb c 10) e
+    words-accept c n e = by-words c n (sized ver s) (eqb c 10) e
 
   --     And all that the rules write is, if there are words for each event and the tables' room is right.
-  pub written-is-worded : (items : List (Item Octets)) (z : State Octets) → Document V items z s → (r : ℕ) → length items ≤ r / 13
-      → Handed V s (r / 13) (readOf V s (r / 13) tableWords) × (readWords V s r tableWords 10 ≡ inWords r (readOf V s (r / 13) tableWords))
+  pub written-is-worded : (items : List (Item Octets)) (z : State Octets) → Document ver items z s → (r : ℕ) → length items ≤ r / 13
+      → Handed ver s (r / 13) (readOf ver s (r / 13) tableWords) × (readWords ver s r tableWords 10 ≡ inWords r (readOf ver s (r / 13) tableWords))
   unfolding readWords
   written-is-worded items z w r h =
-      let a = Whole.accepts V s items z w (r / 13) h in
-      (written-is-read (r / 13) items z w h .0, rw (accepted-sized V s (r / 13) (a .events) (a .last) (a .reads)))
+      let a = Whole.accepts ver s items z w (r / 13) h in
+      (written-is-read (r / 13) items z w h .0, rw (accepted-sized ver s (r / 13) (a .events) (a .last) (a .reads)))
 
 -- 16. DEMAND 1: what a call answers and leaves depends on the octets, and on how much room is lent, but not on what stood in it: e and t before one call, f and u
 --     before another.
-module _ (V : Version) (s : Octets) (e f : List Event) (t u : Words) (a b : Answer) (e′ f′ : List Event) (t′ u′ : Words) where
-  pub whatever-stood : length e ≡ length f → length t ≡ length u → Leaves a e′ t′ (readOf V s (length e) (length t)) → Leaves b f′ u′ (readOf V s (length f) (length u))
+module _ (ver : Version) (s : Octets) (e f : List Event) (t u : Words) (a b : Answer) (e′ f′ : List Event) (t′ u′ : Words) where
+  pub whatever-stood : length e ≡ length f → length t ≡ length u → Leaves a e′ t′ (readOf ver s (length e) (length t)) → Leaves b f′ u′ (readOf ver s (length f) (length u))
       → (a ≡ b) × (e′ ≡ f′) × (t′ ≡ u′)
   whatever-stood l m x y = let y′ = rw (← l, ← m) at y in (x .0 ∙ sym (y′ .0), x .2 ∙ sym (y′ .2), x .3 ∙ sym (y′ .3))
 
 --     And a second call on what the first left, whose lengths are what they were, answers and leaves the same.
-pub read-twice : (V : Version) (s : Octets) (e e′ e″ : List Event) (t t′ t″ : Octets) (a b : Answer) → length e′ ≡ length e → length t′ ≡ length t
-    → Leaves a e′ t′ (readOf V s (length e) (length t)) → Leaves b e″ t″ (readOf V s (length e′) (length t′)) → (b ≡ a) × (e″ ≡ e′) × (t″ ≡ t′)
-read-twice V s e e′ e″ t t′ t″ a b l m x y = whatever-stood V s e′ e t′ t b a e″ e′ t″ t′ l m y x
+pub read-twice : (ver : Version) (s : Octets) (e e′ e″ : List Event) (t t′ t″ : Octets) (a b : Answer) → length e′ ≡ length e → length t′ ≡ length t
+    → Leaves a e′ t′ (readOf ver s (length e) (length t)) → Leaves b e″ t″ (readOf ver s (length e′) (length t′)) → (b ≡ a) × (e″ ≡ e′) × (t″ ≡ t′)
+read-twice ver s e e′ e″ t t′ t″ a b l m x y = whatever-stood ver s e′ e t′ t b a e″ e′ t″ t′ l m y x
 
 --     The same of reading into words.
-pub words-whatever-stood : (V : Version) (s : Octets) (r q t u c d : Words) (a b : ℕ) (r′ q′ t′ u′ c′ d′ : Words) → length r ≡ length q → length t ≡ length u → length c ≡ length d
-    → leaving a r′ t′ c′ ≡ readWords V s (length r) (length t) (length c) → leaving b q′ u′ d′ ≡ readWords V s (length q) (length u) (length d)
+pub words-whatever-stood : (ver : Version) (s : Octets) (r q t u c d : Words) (a b : ℕ) (r′ q′ t′ u′ c′ d′ : Words) → length r ≡ length q → length t ≡ length u → length c ≡ length d
+    → leaving a r′ t′ c′ ≡ readWords ver s (length r) (length t) (length c) → leaving b q′ u′ d′ ≡ readWords ver s (length q) (length u) (length d)
     → leaving a r′ t′ c′ ≡ leaving b q′ u′ d′
-words-whatever-stood V s r q t u c d a b r′ q′ t′ u′ c′ d′ l m n x y = x ∙ rw (l, m, n) (sym y)
+words-whatever-stood ver s r q t u c d a b r′ q′ t′ u′ c′ d′ l m n x y = x ∙ rw (l, m, n) (sym y)

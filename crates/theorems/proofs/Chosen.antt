@@ -1,4 +1,4 @@
--- The choices that 01 fixes, for strings and names: the octets that go with each are what the rules write, and the tables are theirs.
+-- The choices that the requirements fix, for strings and names: the octets that go with each are what the rules write, and the tables are theirs.
 use mathlib.Core.Path.{_≡_, refl, sym, ap, _∙_, subst}
 use mathlib.Core.Bool.{Bool, true, false, not}
 use mathlib.Core.Option.{Option, none, some}
@@ -61,7 +61,7 @@ adding-name-grows v t x =
       names-grow = λ u. let e = ap length (names-adding-name v t x u) in let g = extended-grows (sameNames t u) (names v u) x in omega arith;
     }
 
-pub fits-before : {V : Version} {S : Type 0} {v w : Vocabulary S} → Grows v w → InLimits V w → InLimits V v
+pub fits-before : {ver : Version} {S : Type 0} {v w : Vocabulary S} → Grows v w → InLimits ver w → InLimits ver v
 fits-before g f =
     record {
       few = λ t. let a = g .strings-grow t in let b = f .few t in omega arith;
@@ -98,7 +98,7 @@ nameOctets q lead x (inParts hp hn hl) =
     (lead + q .inPartsBits + 2 * has (x .prefix) + has (x .namespace)) ∷ (optionalOctets (x .prefix) hp ++ (optionalOctets (x .namespace) hn ++ idOctets (x .local) hl))
 nameOctets q lead x (byNumber k) = spell (q .numberForms) lead k
 
--- ---- an identifying string is held, or new: 01's choice is a permitted one
+-- ---- an identifying string is held, or new: the required choice is a permitted one
 abbrev IdCase : StringTable → Vocabulary Octets → Octets → Chose How → Type 0
 IdCase t v x c = PermitsId t v x (c .how) (c .number) (c .tables)
 
@@ -123,8 +123,8 @@ pub id-grows : {t : StringTable} {v w : Vocabulary Octets} {x : Octets} {h : How
 id-grows {v = v} (id-entry en) = same-size v
 id-grows {t} {v} {x = x} (id-new h) = adding-grows v t x
 
-module _ (V : Version) (small : V .entries ≤ top) where
-  pub id-rule : {t : StringTable} {v w : Vocabulary Octets} {x : Octets} {h : How} {n : ℕ} → Spelling x → InLimits V w → PermitsId t v x h n w → Identifying V t v x h n (idOctets x h) w
+module _ (ver : Version) (small : ver .entries ≤ top) where
+  pub id-rule : {t : StringTable} {v w : Vocabulary Octets} {x : Octets} {h : How} {n : ℕ} → Spelling x → InLimits ver w → PermitsId t v x h n w → Identifying ver t v x h n (idOctets x h) w
   id-rule {t} {v} sp f (id-entry {k = j} en) = let a = f .few t in let h = entry-made en in id-numbered {k = j} (omega arith) en
   id-rule {t} {v} {x = x} sp f (id-new h) = let o = one-longer v t x in let a = f .few t in id-spelled sp h (omega arith)
 
@@ -146,32 +146,32 @@ abbrev pub SpellingIfAny : Option Octets → Type 0
 SpellingIfAny none = Unit {0}
 SpellingIfAny (some x) = Spelling x
 
-module _ (V : Version) (small : V .entries ≤ top) where
-  pub optional-rule : {t : StringTable} {v w : Vocabulary Octets} {x : Option Octets} {h : Option How} {n : ℕ} → SpellingIfAny x → InLimits V w → PermitsIfAny t v x h n w
-      → Optional V t v x h n (optionalOctets x h) w
+module _ (ver : Version) (small : ver .entries ≤ top) where
+  pub optional-rule : {t : StringTable} {v w : Vocabulary Octets} {x : Option Octets} {h : Option How} {n : ℕ} → SpellingIfAny x → InLimits ver w → PermitsIfAny t v x h n w
+      → Optional ver t v x h n (optionalOctets x h) w
   optional-rule sp f not-there = absent
-  optional-rule sp f (there c) = present (id-rule V small sp f c)
+  optional-rule sp f (there c) = present (id-rule ver small sp f c)
 
 -- ---- C.14, C.15
-pub data LiteralCase (V : Version) (t : StringTable) (v : Vocabulary Octets) (x : Octets) : Chose How → Type 0 where
-  lit-held : {j : ℕ} → Entry (strings v t) j x → LiteralCase V t v x (record { how = numbered (suc j); number = suc j; tables = v })
-  lit-new : {added : Bool} → (added ≡ true → length (strings v t) < V .entries) → LiteralCase V t v x (record { how = spelled added; number = 0; tables = keeping added v t x })
+pub data LiteralCase (ver : Version) (t : StringTable) (v : Vocabulary Octets) (x : Octets) : Chose How → Type 0 where
+  lit-held : {j : ℕ} → Entry (strings v t) j x → LiteralCase ver t v x (record { how = numbered (suc j); number = suc j; tables = v })
+  lit-new : {added : Bool} → (added ≡ true → length (strings v t) < ver .entries) → LiteralCase ver t v x (record { how = spelled added; number = 0; tables = keeping added v t x })
 
-module _ (V : Version) (t : StringTable) (v : Vocabulary Octets) (x : Octets) where
-  literal-from : (k : ℕ) (added : Bool) → numberIn (strings v t) x ≡ k → (added ≡ true → length (strings v t) < V .entries)
-      → LiteralCase V t v x (pick (eqb k 0) (record { how = spelled added; number = 0; tables = keeping added v t x }) (record { how = numbered k; number = k; tables = v }))
+module _ (ver : Version) (t : StringTable) (v : Vocabulary Octets) (x : Octets) where
+  literal-from : (k : ℕ) (added : Bool) → numberIn (strings v t) x ≡ k → (added ≡ true → length (strings v t) < ver .entries)
+      → LiteralCase ver t v x (pick (eqb k 0) (record { how = spelled added; number = 0; tables = keeping added v t x }) (record { how = numbered k; number = k; tables = v }))
   literal-from zero added e r = lit-new r
   literal-from (suc n) added e r = rw (ne-eqb (suc n) 0 (λ z. omega arith)) (lit-held {j = n} (found t v x n e))
 
-  worth-room : worthAdding V (strings v t) x ≡ true → length (strings v t) < V .entries
+  worth-room : worthAdding ver (strings v t) x ≡ true → length (strings v t) < ver .entries
   unfolding worthAdding
-  worth-room e = ltb-true (length (strings v t)) (V .entries) (both-true (leb (length x) 5) (ltb (length (strings v t)) (V .entries)) e .1)
+  worth-room e = ltb-true (length (strings v t)) (ver .entries) (both-true (leb (length x) 5) (ltb (length (strings v t)) (ver .entries)) e .1)
 
-  pub literal-case : LiteralCase V t v x (chooseLiteral V t v x)
+  pub literal-case : LiteralCase ver t v x (chooseLiteral ver t v x)
   unfolding chooseLiteral
-  literal-case = literal-from (numberIn (strings v t) x) (worthAdding V (strings v t) x) refl worth-room
+  literal-case = literal-from (numberIn (strings v t) x) (worthAdding ver (strings v t) x) refl worth-room
 
-pub literal-permits : {V : Version} {t : StringTable} {v : Vocabulary Octets} {x : Octets} {c : Chose How} → LiteralCase V t v x c → PermitsString t v x (c .how) (c .tables)
+pub literal-permits : {ver : Version} {t : StringTable} {v : Vocabulary Octets} {x : Octets} {c : Chose How} → LiteralCase ver t v x c → PermitsString t v x (c .how) (c .tables)
 literal-permits (lit-held en) = string-entry en
 literal-permits (lit-new {added = a} r) = string-spelled a
 
@@ -179,14 +179,14 @@ pub literal-grows : {t : StringTable} {v w : Vocabulary Octets} {x : Octets} {h 
 literal-grows {v = v} (string-entry en) = same-size v
 literal-grows {t} {v} {x = x} (string-spelled a) = keeping-grows a v t x
 
-module _ (V : Version) (small : V .entries ≤ top) where
+module _ (ver : Version) (small : ver .entries ≤ top) where
   -- one that is added had room
-  had-room : (added : Bool) (v : Vocabulary Octets) (t : StringTable) (x : Octets) → InLimits V (keeping added v t x) → added ≡ true → length (strings v t) < V .entries
+  had-room : (added : Bool) (v : Vocabulary Octets) (t : StringTable) (x : Octets) → InLimits ver (keeping added v t x) → added ≡ true → length (strings v t) < ver .entries
   had-room true v t x f e = let o = one-longer v t x in let a = f .few t in omega arith
   had-room false v t x f e = clash e
 
-  pub literal-rule : {q : Layout} {t : StringTable} {v w : Vocabulary Octets} {x : Octets} {h : How} → top ≤ sizes (q .numberForms) → Spelling x → InLimits V w
-      → PermitsString t v x h w → Literal V q t v x h (literalOctets q x h) w
+  pub literal-rule : {q : Layout} {t : StringTable} {v w : Vocabulary Octets} {x : Octets} {h : How} → top ≤ sizes (q .numberForms) → Spelling x → InLimits ver w
+      → PermitsString t v x h w → Literal ver q t v x h (literalOctets q x h) w
   literal-rule {t = t} big sp f (string-entry {k = j} en) =
       let a = f .few t in
       let h = entry-made en in
@@ -194,16 +194,16 @@ module _ (V : Version) (small : V .entries ≤ top) where
   literal-rule {t = t} {v = v} {x = x} big sp f (string-spelled added) = literal-spelled sp (had-room added v t x f)
 
 -- ---- values
-pub data ValueCase (V : Version) (t : StringTable) (v : Vocabulary Octets) (x : Octets) : Chose How → Type 0 where
-  is-empty : x ≡ [] → ValueCase V t v x (record { how = numbered 0; number = 0; tables = v })
-  is-literal : {c : Chose How} → 0 < length x → LiteralCase V t v x c → ValueCase V t v x c
+pub data ValueCase (ver : Version) (t : StringTable) (v : Vocabulary Octets) (x : Octets) : Chose How → Type 0 where
+  is-empty : x ≡ [] → ValueCase ver t v x (record { how = numbered 0; number = 0; tables = v })
+  is-literal : {c : Chose How} → 0 < length x → LiteralCase ver t v x c → ValueCase ver t v x c
 
-pub value-case : (V : Version) (t : StringTable) (v : Vocabulary Octets) (x : Octets) → ValueCase V t v x (chooseValue V t v x)
+pub value-case : (ver : Version) (t : StringTable) (v : Vocabulary Octets) (x : Octets) → ValueCase ver t v x (chooseValue ver t v x)
 unfolding chooseValue
-value-case V t v [] = is-empty refl
-value-case V t v (b ∷ x) = rw (ne-eqb (length (b ∷ x)) 0 (λ z. omega arith)) (is-literal (omega arith) (literal-case V t v (b ∷ x)))
+value-case ver t v [] = is-empty refl
+value-case ver t v (b ∷ x) = rw (ne-eqb (length (b ∷ x)) 0 (λ z. omega arith)) (is-literal (omega arith) (literal-case ver t v (b ∷ x)))
 
-pub value-permits : {V : Version} {t : StringTable} {v : Vocabulary Octets} {x : Octets} {c : Chose How} → ValueCase V t v x c → PermitsValue t v x (c .how) (c .tables)
+pub value-permits : {ver : Version} {t : StringTable} {v : Vocabulary Octets} {x : Octets} {c : Chose How} → ValueCase ver t v x c → PermitsValue t v x (c .how) (c .tables)
 value-permits (is-empty e) = rw e value-none
 value-permits (is-literal h (lit-held en)) = value-entry en
 value-permits (is-literal h (lit-new {added = a} r)) = value-spelled a h
@@ -217,15 +217,15 @@ value-grows {v = v} (value-entry en) = same-size v
 abbrev pub SpellingIfSome : Octets → Type 0
 SpellingIfSome x = 0 < length x → Spelling x
 
-pub literal-value : {V : Version} {t : StringTable} {v : Vocabulary Octets} {x : Octets} {c : Chose How} → LiteralCase V t v x c → valueOctets x (c .how) ≡ literalOctets c14 x (c .how)
+pub literal-value : {ver : Version} {t : StringTable} {v : Vocabulary Octets} {x : Octets} {c : Chose How} → LiteralCase ver t v x c → valueOctets x (c .how) ≡ literalOctets c14 x (c .how)
 literal-value (lit-held en) = refl
 literal-value (lit-new r) = refl
 
-module _ (V : Version) (small : V .entries ≤ top) where
-  pub value-rule : {t : StringTable} {v w : Vocabulary Octets} {x : Octets} {h : How} → SpellingIfSome x → InLimits V w → PermitsValue t v x h w → Value V t v x h (valueOctets x h) w
+module _ (ver : Version) (small : ver .entries ≤ top) where
+  pub value-rule : {t : StringTable} {v w : Vocabulary Octets} {x : Octets} {h : How} → SpellingIfSome x → InLimits ver w → PermitsValue t v x h w → Value ver t v x h (valueOctets x h) w
   unfolding c14 sizes c25
   value-rule sp f value-none = value-empty
-  value-rule {t} {v} {x = x} sp f (value-spelled added long) = value (literal-spelled (sp long) (had-room V small added v t x f))
+  value-rule {t} {v} {x = x} sp f (value-spelled added long) = value (literal-spelled (sp long) (had-room ver small added v t x f))
   value-rule {t} sp f (value-entry {k = j} en) =
       let a = f .few t in
       let h = entry-made en in
@@ -406,8 +406,8 @@ pub record NameSaid (x : Name Octets) : Type 0 where
   pub local : Spelling (x .local)
   pub pair : has (x .prefix) ≤ has (x .namespace)
 
-module _ (V : Version) (small : V .entries ≤ top) (q : NameLayout) (big : top ≤ sizes (q .numberForms)) (lead : ℕ) where
-  pub name-rule : {v w : Vocabulary Octets} {x : Name Octets} {h : NameHow} → NameSaid x → InLimits V w → PermitsName (q .table) v x h w → Named V q lead v x h (nameOctets q lead x h) w
+module _ (ver : Version) (small : ver .entries ≤ top) (q : NameLayout) (big : top ≤ sizes (q .numberForms)) (lead : ℕ) where
+  pub name-rule : {v w : Vocabulary Octets} {x : Name Octets} {h : NameHow} → NameSaid x → InLimits ver w → PermitsName (q .table) v x h w → Named ver q lead v x h (nameOctets q lead x h) w
   name-rule s f (name-entry {k = j} en m) =
       let a = f .few-names (q .table) in
       let h = entry-made en in
@@ -420,4 +420,4 @@ module _ (V : Version) (small : V .entries ≤ top) (q : NameLayout) (big : top 
       let longer = ap length (names-adding-name w (q .table) y (q .table)) in
       let one = same-names-longer (q .table) (names w (q .table)) y in
       let room = f .few-names (q .table) in
-      in-parts (s .pair) (optional-rule V small (s .prefix) fp up) (optional-rule V small (s .namespace) fn un) (id-rule V small (s .local) fl ul) new (omega arith)
+      in-parts (s .pair) (optional-rule ver small (s .prefix) fp up) (optional-rule ver small (s .namespace) fn un) (id-rule ver small (s .local) fl ul) new (omega arith)

@@ -25,15 +25,15 @@ use Rattle.theorems.proofs.Document as Whole
 use Rattle.theorems.proofs.Fits.{accepted-fits, accepted-sized}
 use Rattle.theorems.proofs.Demands.{accepted-is-written, one-pair, refused, records-well-made, made-earlier-places, spelled-places, tables-made-places}
 
-module _ (V : Version) (s : Octets) (room table : ℕ) where
-  pub accepts : (items : List (Item Octets)) (z : State Octets) (w : Document V items z s) → length items ≤ room → table ≡ tableWords → HandsOut V s room items z w (readOf V s room table)
+module _ (ver : Version) (s : Octets) (room table : ℕ) where
+  pub accepts : (items : List (Item Octets)) (z : State Octets) (w : Document ver items z s) → length items ≤ room → table ≡ tableWords → HandsOut ver s room items z w (readOf ver s room table)
   unfolding readOf
   accepts items z w h right =
-      let a = Whole.accepts V s items z w room h in
+      let a = Whole.accepts ver s items z w room h in
       let known : plainState s (a .last .state) ≡ z = a .end-is in
       let is : length (a .events) ≡ length items = sym (length-map (a .events) (plain s)) ∙ ap length (a .are) in
       let as-many : length (map (λ (i : Item Located). recordOf (i .event)) (a .events)) ≡ length items = length-map (a .events) (λ (i : Item Located). recordOf (i .event)) ∙ is in
-      rw (accepted-sized V s room (a .events) (a .last) (a .reads), eq-eqb table tableWords right, a .reads)
+      rw (accepted-sized ver s room (a .events) (a .last) (a .reads), eq-eqb table tableWords right, a .reads)
       (record {
         events = a .events;
         tables = a .last .state .tables;
@@ -42,26 +42,26 @@ module _ (V : Version) (s : Octets) (room table : ℕ) where
         table-words = refl;
         events-are = a .are;
         tables-are = ap (λ (u : State Octets). u .tables) known;
-        well-made = records-well-made V s room (a .events) (a .last) (a .reads);
-        spelled = spelled-places V items z s w room h (a .events) (a .last) (a .reads);
-        earlier = made-earlier-places V s room (a .events) (a .last) (a .reads);
-        tables-made = tables-made-places V s room (a .events) (a .last) (a .reads);
+        well-made = records-well-made ver s room (a .events) (a .last) (a .reads);
+        spelled = spelled-places ver items z s w room h (a .events) (a .last) (a .reads);
+        earlier = made-earlier-places ver s room (a .events) (a .last) (a .reads);
+        tables-made = tables-made-places ver s room (a .events) (a .last) (a .reads);
       })
 
-module _ (V : Version) (ok : Bounded V) (s : Octets) (bytes : AreOctets s) (room table : ℕ) where
-  only-from : table ≡ tableWords → (r : Result) → reading V s room ≡ r → outcome r room .told .number ≡ 0
-      → (items : List (Item Octets)) × (z : State Octets) × Document V items z s × (length items ≤ room) × (table ≡ tableWords)
+module _ (ver : Version) (ok : Bounded ver) (s : Octets) (bytes : AreOctets s) (room table : ℕ) where
+  only-from : table ≡ tableWords → (r : Result) → reading ver s room ≡ r → outcome r room .told .number ≡ 0
+      → (items : List (Item Octets)) × (z : State Octets) × Document ver items z s × (length items ≤ room) × (table ≡ tableWords)
   only-from right (accepted is m) q e =
-      let a : Accepts V s room (map (plain s) is) (plainState s (m .state)) = record { events = is; last = m; reads = q; are = refl; end-is = refl } in
-      (map (plain s) is, plainState s (m .state), accepted-is-written V ok s bytes room _ _ a, accepted-fits V s room _ _ a, right)
-  only-from right (refusal n p) q e = absurd (let k = refused V ok s bytes room n p q .0 in omega arith)
+      let a : Accepts ver s room (map (plain s) is) (plainState s (m .state)) = record { events = is; last = m; reads = q; are = refl; end-is = refl } in
+      (map (plain s) is, plainState s (m .state), accepted-is-written ver ok s bytes room _ _ a, accepted-fits ver s room _ _ a, right)
+  only-from right (refusal n p) q e = absurd (let k = refused ver ok s bytes room n p q .0 in omega arith)
 
-  only : (b d : Bool) → eqb table tableWords ≡ d → pick b (pick d (outcome (reading V s room) room) (refusing 14 0 room table)) (refusing 1 0 room table) .told .number ≡ 0
-      → (items : List (Item Octets)) × (z : State Octets) × Document V items z s × (length items ≤ room) × (table ≡ tableWords)
-  only true true q e = only-from (eqb-true table tableWords q) (reading V s room) refl e
+  only : (b d : Bool) → eqb table tableWords ≡ d → pick b (pick d (outcome (reading ver s room) room) (refusing 14 0 room table)) (refusing 1 0 room table) .told .number ≡ 0
+      → (items : List (Item Octets)) × (z : State Octets) × Document ver items z s × (length items ≤ room) × (table ≡ tableWords)
+  only true true q e = only-from (eqb-true table tableWords q) (reading ver s room) refl e
   only true false q e = absurd (omega arith)
   only false d q e = absurd (omega arith)
 
-  pub demand-3 : Demand3 V s room table (readOf V s room table)
+  pub demand-3 : Demand3 ver s room table (readOf ver s room table)
   unfolding readOf
-  demand-3 = record { accepts = accepts V s room table; only = only (sized V s) (eqb table tableWords) refl; one-pair = λ items others y z w u. one-pair V ok s bytes items others y z w u }
+  demand-3 = record { accepts = accepts ver s room table; only = only (sized ver s) (eqb table tableWords) refl; one-pair = λ items others y z w u. one-pair ver ok s bytes items others y z w u }

@@ -32,21 +32,21 @@ use Rattle.theorems.proofs.DemandThree.{demand-3}
 use Rattle.theorems.proofs.DemandTwo.{demand-2}
 
 -- ---- reading
-module _ (V : Version) (ok : Bounded V) (s : Octets) (bytes : AreOctets s) where
-  pub demand-3-check : (Read.checkOf V s ≡ 0) ↔ ((items : List (Item Octets)) × (z : State Octets) × Document V items z s)
-  demand-3-check = (λ e. let w = check-accepts V ok s bytes e in (w .items, w .last, w .writes), λ w. written-is-checked V ok s bytes (w .0) (w .1) (w .2))
+module _ (ver : Version) (ok : Bounded ver) (s : Octets) (bytes : AreOctets s) where
+  pub demand-3-check : (Read.checkOf ver s ≡ 0) ↔ ((items : List (Item Octets)) × (z : State Octets) × Document ver items z s)
+  demand-3-check = (λ e. let w = check-accepts ver ok s bytes e in (w .items, w .last, w .writes), λ w. written-is-checked ver ok s bytes (w .0) (w .1) (w .2))
 
   -- The check answers as the reader with an event record for each half of the longest document: 32,768 on the link.
-  pub check-is-reading : Read.checkOf V s ≡ lowWord (Read.readOf V s (2 * V .octets) tableWords .told)
+  pub check-is-reading : Read.checkOf ver s ≡ lowWord (Read.readOf ver s (2 * ver .octets) tableWords .told)
   unfolding Read.checkOf Read.readOf Read.reading Read.opening
-  check-is-reading = from-size (Read.sized V s) refl
+  check-is-reading = from-size (Read.sized ver s) refl
     where
-      told : (a : Read.Result) → Read.numberOf a ≡ lowWord (Read.outcome a (2 * V .octets) .told)
+      told : (a : Read.Result) → Read.numberOf a ≡ lowWord (Read.outcome a (2 * ver .octets) .told)
       told (Read.accepted is m) = refl
       told (Read.refusal n p) = refl
 
-      from-size : (b : Bool) → Read.sized V s ≡ b → Read.numberOf (Read.reading V s (2 * V .octets)) ≡ lowWord (pick b (Read.outcome (Read.reading V s (2 * V .octets)) (2 * V .octets)) (Read.refusing 1 0 (2 * V .octets) tableWords) .told)
-      from-size true e = told (Read.reading V s (2 * V .octets))
+      from-size : (b : Bool) → Read.sized ver s ≡ b → Read.numberOf (Read.reading ver s (2 * ver .octets)) ≡ lowWord (pick b (Read.outcome (Read.reading ver s (2 * ver .octets)) (2 * ver .octets)) (Read.refusing 1 0 (2 * ver .octets) tableWords) .told)
+      from-size true e = told (Read.reading ver s (2 * ver .octets))
       from-size false e = rw e
 
   module _ (r t : ℕ) where
@@ -55,22 +55,22 @@ module _ (V : Version) (ok : Bounded V) (s : Octets) (bytes : AreOctets s) where
     row-accepted o (ReadAnswers.accepts n p) h = n
     row-accepted o (ReadAnswers.refuses k l told row tables) h = let e = ap wholeWord told in let low = k .0 in let high = k .1 in absurd (omega arith)
 
-    read-words-accepted : (c : ℕ) → ReadWords.readWords V s r t c .answer % 2 ^ 32 ≡ 0 → (c ≡ 10) × (rows-read V s r t .told .number ≡ 0)
+    read-words-accepted : (c : ℕ) → ReadWords.readWords ver s r t c .answer % 2 ^ 32 ≡ 0 → (c ≡ 10) × (rows-read ver s r t .told .number ≡ 0)
     read-words-accepted c e =
         elim (ℕ-discrete c 10) [
-          | yes h ↦ (h, row-accepted (rows-read V s r t) (read-answers V ok s bytes (r / 13) t) (let w = read-worded V s r t c h in rw (w .answer) at e))
-          | no h ↦ absurd (read-zeros V s r t c h (λ w. w .answer % 2 ^ 32 ≡ 0 → ⊥) (λ z. omega arith) (λ z. omega arith) e)
+          | yes h ↦ (h, row-accepted (rows-read ver s r t) (read-answers ver ok s bytes (r / 13) t) (let w = read-worded ver s r t c h in rw (w .answer) at e))
+          | no h ↦ absurd (read-zeros ver s r t c h (λ w. w .answer % 2 ^ 32 ≡ 0 → ⊥) (λ z. omega arith) (λ z. omega arith) e)
         ]
 
-    read-words-only : (c : ℕ) → ReadWords.readWords V s r t c .answer % 2 ^ 32 ≡ 0
-        → (items : List (Item Octets)) × (z : State Octets) × Document V items z s × (length items ≤ r / 13) × (t ≡ tableWords) × (c ≡ 10)
-    read-words-only c e = let a = read-words-accepted c e in let b = demand-3 V ok s bytes (r / 13) t .only (a .1) in (b .0, b .1, b .2, b .3, b .4, a .0)
+    read-words-only : (c : ℕ) → ReadWords.readWords ver s r t c .answer % 2 ^ 32 ≡ 0
+        → (items : List (Item Octets)) × (z : State Octets) × Document ver items z s × (length items ≤ r / 13) × (t ≡ tableWords) × (c ≡ 10)
+    read-words-only c e = let a = read-words-accepted c e in let b = demand-3 ver ok s bytes (r / 13) t .only (a .1) in (b .0, b .1, b .2, b .3, b .4, a .0)
 
     -- DEMAND 3 of `lomphachit_read`
-    pub demand-3-words : (c : ℕ) → Demand3Words V s r t c (ReadWords.readWords V s r t c)
+    pub demand-3-words : (c : ℕ) → Demand3Words ver s r t c (ReadWords.readWords ver s r t c)
     demand-3-words c =
         record {
-          accepts = λ items z w l m h. (rows-read V s r t, demand-3 V ok s bytes (r / 13) t .accepts items z w l m, read-worded V s r t c h);
+          accepts = λ items z w l m h. (rows-read ver s r t, demand-3 ver ok s bytes (r / 13) t .accepts items z w l m, read-worded ver s r t c h);
           only = read-words-only c;
         }
 
@@ -83,7 +83,7 @@ numbered WriterNumber.depth = omega arith
 numbered WriterNumber.room = omega arith
 numbered WriterNumber.event = omega arith
 
-module _ (V : Version) (ok : Bounded V) (records : Words) (text : Octets) (r t : ℕ) where
+module _ (ver : Version) (ok : Bounded ver) (records : Words) (text : Octets) (r t : ℕ) where
   abbrev es : List Event
   es = recordsOf records
 
@@ -103,42 +103,42 @@ module _ (V : Version) (ok : Bounded V) (records : Words) (text : Octets) (r t :
 
   module _ (c : ℕ) where
     abbrev left : WriteWords.WordsLeft
-    left = WriteWords.writeWords V records text r t c
+    left = WriteWords.writeWords ver records text r t c
 
-    write-words-accepted : left .answer % 2 ^ 32 ≡ 0 → (c ≡ 10) × (rows-written V records text r t .told .number ≡ 0)
+    write-words-accepted : left .answer % 2 ^ 32 ≡ 0 → (c ≡ 10) × (rows-written ver records text r t .told .number ≡ 0)
     write-words-accepted e =
         elim (ℕ-discrete c 10) [
-          | yes h ↦ (h, row-written (rows-written V records text r t) (write-answers V ok es text r t) (let w = write-worded V records text r t c h in rw (w .answer) at e))
-          | no h ↦ absurd (write-zeros V records text r t c h (λ w. w .answer % 2 ^ 32 ≡ 0 → ⊥) (λ l z. omega arith) (λ l z. omega arith) e)
+          | yes h ↦ (h, row-written (rows-written ver records text r t) (write-answers ver ok es text r t) (let w = write-worded ver records text r t c h in rw (w .answer) at e))
+          | no h ↦ absurd (write-zeros ver records text r t c h (λ w. w .answer % 2 ^ 32 ≡ 0 → ⊥) (λ l z. omega arith) (λ l z. omega arith) e)
         ]
 
-    abbrev d : Demand2 V es text r t (rows-written V records text r t)
-    d = demand-2 V ok es text r t
+    abbrev d : Demand2 ver es text r t (rows-written ver records text r t)
+    d = demand-2 ver ok es text r t
 
-    refused-so : (n p : ℕ) → 1 ≤ n → n < 32 → left .answer ≡ p * 32 + n → WordsRefusedBy V es text r t c n p
+    refused-so : (n p : ℕ) → 1 ≤ n → n < 32 → left .answer ≡ p * 32 + n → WordsRefusedBy ver es text r t c n p
     refused-so n p low high e =
         elim (ℕ-discrete c 10) [
           | yes h ↦
-              let w = write-worded V records text r t c h in
-              WordsRefusedBy.as-records h (d .refuses n p .0 (row-refused (rows-written V records text r t) (write-answers V ok es text r t) n p low high (rw (w .answer) at e)))
+              let w = write-worded ver records text r t c h in
+              WordsRefusedBy.as-records h (d .refuses n p .0 (row-refused (rows-written ver records text r t) (write-answers ver ok es text r t) n p low high (rw (w .answer) at e)))
           | no h ↦
-              write-zeros V records text r t c h (λ w. w .answer ≡ p * 32 + n → WordsRefusedBy V es text r t c n p)
+              write-zeros ver records text r t c h (λ w. w .answer ≡ p * 32 + n → WordsRefusedBy ver es text r t c n p)
               (λ l q. let a : n ≡ 1 = omega arith in let b : p ≡ 0 = omega arith in rw (a, b) (WordsRefusedBy.text-too-long l))
               (λ l q. let a : n ≡ 14 = omega arith in let b : p ≡ 0 = omega arith in rw (a, b) (WordsRefusedBy.wrong-count-room l h))
               e
         ]
 
-    refuses-so : {n p : ℕ} → WordsRefusedBy V es text r t c n p → left .answer ≡ p * 32 + n
+    refuses-so : {n p : ℕ} → WordsRefusedBy ver es text r t c n p → left .answer ≡ p * 32 + n
     unfolding WriteWords.writeWords
     refuses-so (WordsRefusedBy.text-too-long l) = rw (lt-leb _ _ l)
     refuses-so (WordsRefusedBy.wrong-count-room l h) = rw (le-leb _ _ l, ne-eqb _ _ h)
-    refuses-so {n} {p} (WordsRefusedBy.as-records h f) = let w = write-worded V records text r t c h in let e = w .answer ∙ ap wholeWord (d .refuses n p .1 f) in omega arith
+    refuses-so {n} {p} (WordsRefusedBy.as-records h f) = let w = write-worded ver records text r t c h in let e = w .answer ∙ ap wholeWord (d .refuses n p .1 f) in omega arith
 
     -- DEMAND 2 of `lomphachit_write`
-    pub demand-2-words : Demand2Words V es text r t c left
+    pub demand-2-words : Demand2Words ver es text r t c left
     demand-2-words =
         record {
-          accepts = λ s z a h. (rows-written V records text r t, d .accepts s z a, write-worded V records text r t c h);
+          accepts = λ s z a h. (rows-written ver records text r t, d .accepts s z a, write-worded ver records text r t c h);
           only = λ e. let a = write-words-accepted e in (a .0, d .only (a .1));
           refuses = λ n p low high. (refused-so n p low high, refuses-so);
         }

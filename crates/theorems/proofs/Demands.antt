@@ -43,22 +43,22 @@ use Rattle.theorems.proofs.Permitted as Permitted
 use Rattle.theorems.proofs.WriterDocument as Made
 use Rattle.theorems.proofs.Given as Given
 
-module _ (V : Version) (ok : Bounded V) (s : Octets) (bytes : AreOctets s) where
+module _ (ver : Version) (ok : Bounded ver) (s : Octets) (bytes : AreOctets s) where
   -- 1. SOUND: octets that are accepted are what the rules write, from the items handed out, and the tables at the end are the rules'.
-  pub accepted-is-written : (room : ℕ) (items : List (Item Octets)) (z : State Octets) → Accepts V s room items z → Document V items z s
+  pub accepted-is-written : (room : ℕ) (items : List (Item Octets)) (z : State Octets) → Accepts ver s room items z → Document ver items z s
   accepted-is-written room items z a =
-      subst₂ (λ (l : List (Item Octets)) (y : State Octets). Document V l y s) (a .are) (a .end-is) (subst (Whole.Means V ok s bytes) (a .reads) (Whole.means V ok s bytes room))
+      subst₂ (λ (l : List (Item Octets)) (y : State Octets). Document ver l y s) (a .are) (a .end-is) (subst (Whole.Means ver ok s bytes) (a .reads) (Whole.means ver ok s bytes room))
 
   --    COMPLETE: what the rules write is accepted, with those items, if there is a record for each event.
-  pub written-is-accepted : (room : ℕ) (items : List (Item Octets)) (z : State Octets) → Document V items z s → length items ≤ room → Accepts V s room items z
-  written-is-accepted room items z w h = Whole.accepts V s items z w room h
+  pub written-is-accepted : (room : ℕ) (items : List (Item Octets)) (z : State Octets) → Document ver items z s → length items ≤ room → Accepts ver s room items z
+  written-is-accepted room items z w h = Whole.accepts ver s items z w room h
 
   --    EXACTLY: the octets are accepted with these events, choices and tables exactly when the rules write them so, within the limits and the room.
-  pub exactly : (room : ℕ) (items : List (Item Octets)) (z : State Octets) → Accepts V s room items z ↔ (Document V items z s × (length items ≤ room))
-  exactly room items z = (λ a. (accepted-is-written room items z a, accepted-fits V s room items z a), λ w. written-is-accepted room items z (w .0) (w .1))
+  pub exactly : (room : ℕ) (items : List (Item Octets)) (z : State Octets) → Accepts ver s room items z ↔ (Document ver items z s × (length items ≤ room))
+  exactly room items z = (λ a. (accepted-is-written room items z a, accepted-fits ver s room items z a), λ w. written-is-accepted room items z (w .0) (w .1))
 
   -- 2. UNIQUE: two pairs of events and choices that the rules write as the same octets are the same pair.
-  pub one-pair : (items others : List (Item Octets)) (y z : State Octets) → Document V items y s → Document V others z s → (items ≡ others) × (y ≡ z)
+  pub one-pair : (items others : List (Item Octets)) (y z : State Octets) → Document ver items y s → Document ver others z s → (items ≡ others) × (y ≡ z)
   one-pair items others y z w u =
       let a = written-is-accepted (length items + length others) items y w (omega arith) in
       let b = written-is-accepted (length items + length others) others z u (omega arith) in
@@ -68,151 +68,151 @@ module _ (V : Version) (ok : Bounded V) (s : Octets) (bytes : AreOctets s) where
       (sym (a .are) ∙ ap (map (plain s)) p ∙ b .are, sym (a .end-is) ∙ ap (λ (m : Stand). plainState s (m .state)) q ∙ b .end-is)
 
 --    And one pair is written as one run of octets only.
-pub one-document : (V : Version) (items : List (Item Octets)) (y z : State Octets) (s t : Octets) → Document V items y s → Document V items z t → (s ≡ t) × (y ≡ z)
-one-document V items y z s t w u = One.one-document w u
+pub one-document : (ver : Version) (items : List (Item Octets)) (y z : State Octets) (s t : Octets) → Document ver items y s → Document ver items z t → (s ≡ t) × (y ≡ z)
+one-document ver items y z s t w u = One.one-document w u
 
 -- 3. ROOM: with too few records the answer is 14, at the place of the first event that has none (`marks` ends at the first fault, so no field before it is
 --    faulty); with a record for each event, more room changes nothing.
-pub room-short : (V : Version) (s : Octets) (room : ℕ) → room < length (marks V s) → reading V s room ≡ refusal 14 (getD (map (λ (k : Mark). k .place) (marks V s)) room 0)
-room-short V s room h = Whole.too-short V s room h
+pub room-short : (ver : Version) (s : Octets) (room : ℕ) → room < length (marks ver s) → reading ver s room ≡ refusal 14 (getD (map (λ (k : Mark). k .place) (marks ver s)) room 0)
+room-short ver s room h = Whole.too-short ver s room h
 
-pub room-enough : (V : Version) (s : Octets) (room : ℕ) → length (marks V s) ≤ room → reading V s room ≡ reading V s (length (marks V s))
-room-enough V s room h = Whole.long-enough V s room h
+pub room-enough : (ver : Version) (s : Octets) (room : ℕ) → length (marks ver s) ≤ room → reading ver s room ≡ reading ver s (length (marks ver s))
+room-enough ver s room h = Whole.long-enough ver s room h
 
 -- 4. MADE EARLIER: every number, save the 0 of the empty string, is, when it is used, that of an entry made earlier in the document or built in; and the
 --    entry is the very string, or the whole name, that the event says.
-pub made-earlier : (V : Version) (items : List (Item Octets)) (z : State Octets) (s : Octets) → Document V items z s → Known (starting V xmlPrefix xmlNamespace) (acts items)
-made-earlier V items z s w = Before.earlier V xmlPrefix xmlNamespace (document-done w)
+pub made-earlier : (ver : Version) (items : List (Item Octets)) (z : State Octets) (s : Octets) → Document ver items z s → Known (starting ver xmlPrefix xmlNamespace) (acts items)
+made-earlier ver items z s w = Before.earlier ver xmlPrefix xmlNamespace (document-done w)
 
 --    PLACES: in what the reader hands out, the string behind a number has the very place and length of the entry made earlier, or is built in; so each part of a
 --    name behind a number.
-pub made-earlier-places : (V : Version) (s : Octets) (room : ℕ) (events : List (Item Located)) (last : Stand) → reading V s room ≡ accepted events last
-    → Known (starting V builtInPrefix builtInNamespace) (acts events)
-made-earlier-places V s room events last e = Places.earlier-places V s room events last e
+pub made-earlier-places : (ver : Version) (s : Octets) (room : ℕ) (events : List (Item Located)) (last : Stand) → reading ver s room ≡ accepted events last
+    → Known (starting ver builtInPrefix builtInNamespace) (acts events)
+made-earlier-places ver s room events last e = Places.earlier-places ver s room events last e
 
 --    SPELLED: the strings that the choices spell have, in order, the very places and lengths at which the rules write them.
-pub spelled-places : (V : Version) (items : List (Item Octets)) (z : State Octets) (s : Octets) (w : Document V items z s) (room : ℕ) → length items ≤ room
-    → (events : List (Item Located)) (last : Stand) → reading V s room ≡ accepted events last → allSpelled events ≡ spelledIn (w .rule)
-spelled-places V items z s w room h events last e = Whole.spelled-is V s items z w room h events last e
+pub spelled-places : (ver : Version) (items : List (Item Octets)) (z : State Octets) (s : Octets) (w : Document ver items z s) (room : ℕ) → length items ≤ room
+    → (events : List (Item Located)) (last : Stand) → reading ver s room ≡ accepted events last → allSpelled events ≡ spelledIn (w .rule)
+spelled-places ver items z s w room h events last e = Whole.spelled-is ver s items z w room h events last e
 
 --    MADE: the tables at the end hold the built-in entries, then what the choices of the items make, in order, and nothing else; and the reader's tables have the
 --    very places that its events have.
-pub tables-made : (V : Version) (items : List (Item Octets)) (z : State Octets) (s : Octets) → Document V items z s → Holds (z .tables) (after (starting V xmlPrefix xmlNamespace) (acts items))
-tables-made V items z s w = Before.made V xmlPrefix xmlNamespace (document-done w)
+pub tables-made : (ver : Version) (items : List (Item Octets)) (z : State Octets) (s : Octets) → Document ver items z s → Holds (z .tables) (after (starting ver xmlPrefix xmlNamespace) (acts items))
+tables-made ver items z s w = Before.made ver xmlPrefix xmlNamespace (document-done w)
 
-pub tables-made-places : (V : Version) (s : Octets) (room : ℕ) (events : List (Item Located)) (last : Stand) → reading V s room ≡ accepted events last
-    → Holds (last .state .tables) (after (starting V builtInPrefix builtInNamespace) (acts events))
-tables-made-places V s room events last e = Places.made-places V s room events last e
+pub tables-made-places : (ver : Version) (s : Octets) (room : ℕ) (events : List (Item Located)) (last : Stand) → reading ver s room ≡ accepted events last
+    → Holds (last .state .tables) (after (starting ver builtInPrefix builtInNamespace) (acts events))
+tables-made-places ver s room events last e = Places.made-places ver s room events last e
 
 -- 5. TABLES: what the reader knows after each event is what the rules know then.
-pub tables : (V : Version) (items : List (Item Octets)) (z : State Octets) (s : Octets) (w : Document V items z s) → map (λ (k : Mark). plainState s (k .stand .state)) (marks V s) ≡ knownAfter V (w .rule)
-tables V items z s w = Whole.known-is V s items z w
+pub tables : (ver : Version) (items : List (Item Octets)) (z : State Octets) (s : Octets) (w : Document ver items z s) → map (λ (k : Mark). plainState s (k .stand .state)) (marks ver s) ≡ knownAfter ver (w .rule)
+tables ver items z s w = Whole.known-is ver s items z w
 
-module _ (V : Version) (ok : Bounded V) (s : Octets) (bytes : AreOctets s) where
-  -- 6. REFUSED means refused by a number that 01 gives a reader, at a place in the document or at its end.
-  pub refused : (room n p : ℕ) → reading V s room ≡ refusal n p → (1 ≤ n) × (n ≤ 15) × (p ≤ length s)
-  refused room n p e = subst (Whole.Means V ok s bytes) e (Whole.means V ok s bytes room)
+module _ (ver : Version) (ok : Bounded ver) (s : Octets) (bytes : AreOctets s) where
+  -- 6. REFUSED means refused by a number that the requirements give a reader, at a place in the document or at its end.
+  pub refused : (room n p : ℕ) → reading ver s room ≡ refusal n p → (1 ≤ n) × (n ≤ 15) × (p ≤ length s)
+  refused room n p e = subst (Whole.Means ver ok s bytes) e (Whole.means ver ok s bytes room)
 
   --    The events are few (21,838 at most on the link), so the check's records never run out, and it need not hold them.
-  pub events-few : length (marks V s) ≤ 4 * (V .octets - length (header V)) / 3
-  events-few = Whole.marks-few V ok s bytes
+  pub events-few : length (marks ver s) ≤ 4 * (ver .octets - length (header ver)) / 3
+  events-few = Whole.marks-few ver ok s bytes
 
-  pub check-needs-none : (room : ℕ) → 4 * (V .octets - length (header V)) / 3 ≤ room → checkOf V s ≡ numberOf (reading V s room)
+  pub check-needs-none : (room : ℕ) → 4 * (ver .octets - length (header ver)) / 3 ≤ room → checkOf ver s ≡ numberOf (reading ver s room)
   unfolding checkOf
   check-needs-none room h =
       let f = events-few in
-      ap numberOf (Whole.long-enough V s (2 * V .octets) (omega arith) ∙ sym (Whole.long-enough V s room (omega arith)))
+      ap numberOf (Whole.long-enough ver s (2 * ver .octets) (omega arith) ∙ sym (Whole.long-enough ver s room (omega arith)))
 
   --    So the check never answers 14.
-  pub check-never-14 : checkOf V s % 32 ≡ 14 → ⊥
+  pub check-never-14 : checkOf ver s % 32 ≡ 14 → ⊥
   unfolding checkOf
-  check-never-14 = Whole.number-never-14 V ok s bytes (2 * V .octets) (let f = events-few in omega arith)
+  check-never-14 = Whole.number-never-14 ver ok s bytes (2 * ver .octets) (let f = events-few in omega arith)
 
   --    The bound on the steps never decides: behind a right header, more fuel changes nothing.
-  pub steps-enough : (more room body : ℕ) (tables : Vocabulary Located) → opening V s ≡ onward body tables → run V s (more + fuelOf s) room (origin body tables) ≡ run V s (fuelOf s) room (origin body tables)
-  steps-enough more room body tables e = Whole.more-fuel V ok s bytes more room body tables e
+  pub steps-enough : (more room body : ℕ) (tables : Vocabulary Located) → opening ver s ≡ onward body tables → run ver s (more + fuelOf s) room (origin body tables) ≡ run ver s (fuelOf s) room (origin body tables)
+  steps-enough more room body tables e = Whole.more-fuel ver ok s bytes more room body tables e
 
 -- 7. The limits of a version lie within the standard's: what the rules write within the first, they write within the second (2^20 entries; lengths to 2^32 are in the
 --    rules; no limit on octets and open elements). It says nothing of documents that X.891 allows and the rules do not write: those of the parts that the version does not
---    carry, and those in which an identifying string or a name is spelled again that its table holds (01's REPEAT is stricter than 7.13.7).
-pub within-standard-limits : (V : Version) → Bounded V → (items : List (Item Octets)) (z : State Octets) (s : Octets) (depth octets : ℕ) → V .octets ≤ octets → V .depth ≤ depth
-    → Document V items z s → Document (standard V depth octets) items z s
-within-standard-limits V ok items z s depth octets long deep w = Wider.in-standard depth octets (ok .few-entries) long deep w
+--    carry, and those in which an identifying string or a name is spelled again that its table holds (the requirements' REPEAT is stricter than 7.13.7).
+pub within-standard-limits : (ver : Version) → Bounded ver → (items : List (Item Octets)) (z : State Octets) (s : Octets) (depth octets : ℕ) → ver .octets ≤ octets → ver .depth ≤ depth
+    → Document ver items z s → Document (standard ver depth octets) items z s
+within-standard-limits ver ok items z s depth octets long deep w = Wider.in-standard depth octets (ok .few-entries) long deep w
 
--- 8. What the rules write are documents in the sense of 01: comments and instructions, one root element, comments and instructions.
-pub a-document : (V : Version) (items : List (Item Octets)) (z : State Octets) (s : Octets) → Document V items z s → IsDocument (map (λ (i : Item Octets). i .event) items)
-a-document V items z s w = Tree.is-document w
+-- 8. What the rules write are documents in the sense of the requirements: comments and instructions, one root element, comments and instructions.
+pub a-document : (ver : Version) (items : List (Item Octets)) (z : State Octets) (s : Octets) → Document ver items z s → IsDocument (map (λ (i : Item Octets). i .event) items)
+a-document ver items z s w = Tree.is-document w
 
--- 9. Their strings are as 01 allows: text; empty only where 01 says so; a prefix only with a namespace.
-pub allowed : (V : Version) (items : List (Item Octets)) (z : State Octets) (s : Octets) → Document V items z s → All (λ (i : Item Octets). Allowed (i .event)) items
-allowed V items z s w = Plain.all-allowed w
+-- 9. Their strings are as the requirements allow: text; empty only where the requirements say so; a prefix only with a namespace.
+pub allowed : (ver : Version) (items : List (Item Octets)) (z : State Octets) (s : Octets) → Document ver items z s → All (λ (i : Item Octets). Allowed (i .event)) items
+allowed ver items z s w = Plain.all-allowed w
 
 --    Text is the octets of one list of characters only.
 pub text-says-one : (x : Octets) (s t : IsText x) → s .says ≡ t .says
 text-says-one x s t = one-list (s .says) (t .says) (s .are) (t .are) (sym (s .octets) ∙ t .octets)
 
 --    RECORDS: so is every record that the reader hands out; its stretches lie in the document, and what is built in stands only where it can.
-pub records-well-made : (V : Version) (s : Octets) (room : ℕ) (events : List (Item Located)) (last : Stand) → reading V s room ≡ accepted events last
+pub records-well-made : (ver : Version) (s : Octets) (room : ℕ) (events : List (Item Located)) (last : Stand) → reading ver s room ≡ accepted events last
     → All (λ (i : Item Located). WellMade s (recordOf (i .event))) events
-records-well-made V s room events last e = Records.well-made s V room events last e
+records-well-made ver s room events last e = Records.well-made s ver room events last e
 
--- 10. THE RULES CAN WRITE EVERY DOCUMENT: a list that is a document, its events as 01 allows them, no string over 2^32 octets, fewer than 2^20 events, is written with
---     01's choices within wide enough limits.
-module _ (V : Version) (es : List (E.Event Octets)) (doc : IsDocument es) (may : All Allowed es) (short : All (λ (e : E.Event Octets). All (λ (x : Octets). length x ≤ longest) (stringsOf e)) es) where
-  pub every-document : length es < top → WrittenWidely V es
-  every-document few = Every.every-document V es doc may short few
+-- 10. THE RULES CAN WRITE EVERY DOCUMENT: a list that is a document, its events as the requirements allow them, no string over 2^32 octets, fewer than 2^20 events, is written with
+--     the required choices within wide enough limits.
+module _ (ver : Version) (es : List (E.Event Octets)) (doc : IsDocument es) (may : All Allowed es) (short : All (λ (e : E.Event Octets). All (λ (x : Octets). length x ≤ longest) (stringsOf e)) es) where
+  pub every-document : length es < top → WrittenWidely ver es
+  every-document few = Every.every-document ver es doc may short few
 
   --     If not within the version's own, then it passes one of them: on the link 32 open elements, 256 entries of a table, or 16,384 octets.
-  pub beyond-limits : Bounded V → (w : WrittenWidely V es) → OrPasses V es (w .last) (w .octets)
-  beyond-limits ok w = Every.beyond-limits V es doc may short (ok .few-entries) w
+  pub beyond-limits : Bounded ver → (w : WrittenWidely ver es) → OrPasses ver es (w .last) (w .octets)
+  beyond-limits ok w = Every.beyond-limits ver es doc may short (ok .few-entries) w
 
---     AND WITH EVERY CHOICE: not only 01's own. Whatever choices are permitted (specs/Permitted: a chunk or value spelled again, added or not; any number that names the
+--     AND WITH EVERY CHOICE: not only the requirements' own. Whatever choices are permitted (specs/Permitted: a chunk or value spelled again, added or not; any number that names the
 --     string or name), the rules write these items, and the tables behind them are those that the choices leave. So the rules, and the reader with them, are not narrowed to our writer.
-module _ (V : Version) (items : List (Item Octets)) (w : Vocabulary Octets) where
+module _ (ver : Version) (items : List (Item Octets)) (w : Vocabulary Octets) where
   abbrev es : List (E.Event Octets)
   es = map (λ (i : Item Octets). i .event) items
 
   pub every-choice : IsDocument es → All Allowed es → All (λ (e : E.Event Octets). All (λ (x : Octets). length x ≤ longest) (stringsOf e)) es → length items < top
-      → PermitsAll (started V) items w → WrittenAs V items w
-  every-choice doc may short few permits = Every.every-choice V items doc may short permits few
+      → PermitsAll (started ver) items w → WrittenAs ver items w
+  every-choice doc may short few permits = Every.every-choice ver items doc may short permits few
 
 --     And no other choices: what the rules write is permitted, and leaves those tables.
-pub permitted : (V : Version) (items : List (Item Octets)) (z : State Octets) (s : Octets) → Document V items z s → PermitsAll (started V) items (z .tables)
+pub permitted : (ver : Version) (items : List (Item Octets)) (z : State Octets) (s : Octets) → Document ver items z s → PermitsAll (started ver) items (z .tables)
 unfolding beginning
-permitted V items z s d = Permitted.permitted (d .rule)
+permitted ver items z s d = Permitted.permitted (d .rule)
 
 -- DEMAND 2, of the definitions: what the writer makes of records over a text area (no longer than a document).
--- 11. WRITTEN BY THE RULES: its octets are those that the rules write from the plain events and 01's choices, its tables are the rules', and they fit the output.
-pub written-by-the-rules : (V : Version) (ok : Bounded V) (text : Octets) (room : ℕ) (es : List Event) (items : List (Item Located)) (hs : Halves) (z : State Located) → length text ≤ V .octets → writing V text room es ≡ written items hs z
-    → Document V (map (plain text) items) (plainState text z) (header V ++ joined hs) × (length (header V ++ joined hs) ≤ room)
-written-by-the-rules V ok text room es items hs z short e = let m = Made.meant V ok text short room es items hs z e in (m .writes, m .fits)
+-- 11. WRITTEN BY THE RULES: its octets are those that the rules write from the plain events and the required choices, its tables are the rules', and they fit the output.
+pub written-by-the-rules : (ver : Version) (ok : Bounded ver) (text : Octets) (room : ℕ) (es : List Event) (items : List (Item Located)) (hs : Halves) (z : State Located) → length text ≤ ver .octets → writing ver text room es ≡ written items hs z
+    → Document ver (map (plain text) items) (plainState text z) (header ver ++ joined hs) × (length (header ver ++ joined hs) ≤ room)
+written-by-the-rules ver ok text room es items hs z short e = let m = Made.meant ver ok text short room es items hs z e in (m .writes, m .fits)
 
 -- 12. ROUND TRIP: reading what the writer wrote, with a record for each event, gives back the same events, and the reader's tables are the writer's.
-pub round-trip : (V : Version) (ok : Bounded V) (text : Octets) (room : ℕ) (es : List Event) (items : List (Item Located)) (hs : Halves) (z : State Located) → length text ≤ V .octets → writing V text room es ≡ written items hs z
-    → (records : ℕ) → length items ≤ records → Accepts V (header V ++ joined hs) records (map (plain text) items) (plainState text z)
-round-trip V ok text room es items hs z short e records h =
+pub round-trip : (ver : Version) (ok : Bounded ver) (text : Octets) (room : ℕ) (es : List Event) (items : List (Item Located)) (hs : Halves) (z : State Located) → length text ≤ ver .octets → writing ver text room es ≡ written items hs z
+    → (records : ℕ) → length items ≤ records → Accepts ver (header ver ++ joined hs) records (map (plain text) items) (plainState text z)
+round-trip ver ok text room es items hs z short e records h =
     let l = length-map items (plain text) in
-    Whole.accepts V (header V ++ joined hs) (map (plain text) items) (plainState text z) (written-by-the-rules V ok text room es items hs z short e .0) records (omega arith)
+    Whole.accepts ver (header ver ++ joined hs) (map (plain text) items) (plainState text z) (written-by-the-rules ver ok text room es items hs z short e .0) records (omega arith)
 
 --     GIVEN: the events that were written are, as records, the very list that was given.
-pub the-events-given : (V : Version) (text : Octets) (room : ℕ) (es : List Event) (items : List (Item Located)) (hs : Halves) (z : State Located) → writing V text room es ≡ written items hs z
+pub the-events-given : (ver : Version) (text : Octets) (room : ℕ) (es : List Event) (items : List (Item Located)) (hs : Halves) (z : State Located) → writing ver text room es ≡ written items hs z
     → map (λ (i : Item Located). recordOf (i .event)) items ≡ es
-the-events-given V text room es items hs z e = Given.given-back V text room es items hs z e
+the-events-given ver text room es items hs z e = Given.given-back ver text room es items hs z e
 
 --     TABLES: after each event the reader's tables are the writer's, as octets.
-pub same-tables : (V : Version) (ok : Bounded V) (text : Octets) (room : ℕ) (es : List Event) (items : List (Item Located)) (hs : Halves) (z : State Located) → length text ≤ V .octets → writing V text room es ≡ written items hs z
-    → map (λ (k : Mark). plainState (header V ++ joined hs) (k .stand .state)) (marks V (header V ++ joined hs)) ≡ map (plainState text) (knownWriting V text room es)
-same-tables V ok text room es items hs z short e =
-    let m = Made.meant V ok text short room es items hs z e in
-    tables V (map (plain text) items) (plainState text z) (header V ++ joined hs) (m .writes) ∙ m .known
+pub same-tables : (ver : Version) (ok : Bounded ver) (text : Octets) (room : ℕ) (es : List Event) (items : List (Item Located)) (hs : Halves) (z : State Located) → length text ≤ ver .octets → writing ver text room es ≡ written items hs z
+    → map (λ (k : Mark). plainState (header ver ++ joined hs) (k .stand .state)) (marks ver (header ver ++ joined hs)) ≡ map (plainState text) (knownWriting ver text room es)
+same-tables ver ok text room es items hs z short e =
+    let m = Made.meant ver ok text short room es items hs z e in
+    tables ver (map (plain text) items) (plainState text z) (header ver ++ joined hs) (m .writes) ∙ m .known
 
 --     And so they are what the rules know then.
-pub writer-tables : (V : Version) (ok : Bounded V) (text : Octets) (room : ℕ) (es : List Event) (items : List (Item Located)) (hs : Halves) (z : State Located) → length text ≤ V .octets → writing V text room es ≡ written items hs z
-    → (w : Document V (map (plain text) items) (plainState text z) (header V ++ joined hs)) → map (plainState text) (knownWriting V text room es) ≡ knownAfter V (w .rule)
-writer-tables V ok text room es items hs z short e w = sym (same-tables V ok text room es items hs z short e) ∙ tables V (map (plain text) items) (plainState text z) (header V ++ joined hs) w
+pub writer-tables : (ver : Version) (ok : Bounded ver) (text : Octets) (room : ℕ) (es : List Event) (items : List (Item Located)) (hs : Halves) (z : State Located) → length text ≤ ver .octets → writing ver text room es ≡ written items hs z
+    → (w : Document ver (map (plain text) items) (plainState text z) (header ver ++ joined hs)) → map (plainState text) (knownWriting ver text room es) ≡ knownAfter ver (w .rule)
+writer-tables ver ok text room es items hs z short e w = sym (same-tables ver ok text room es items hs z short e) ∙ tables ver (map (plain text) items) (plainState text z) (header ver ++ joined hs) w
 
 --     There are tables for each event.
-pub tables-for-each : (V : Version) (ok : Bounded V) (text : Octets) (room : ℕ) (es : List Event) (items : List (Item Located)) (hs : Halves) (z : State Located) → length text ≤ V .octets → writing V text room es ≡ written items hs z
-    → length (knownWriting V text room es) ≡ length es
-tables-for-each V ok text room es items hs z short e =
-    Made.each-known V ok text short room es items hs z e ∙ sym (length-map items (λ (i : Item Located). recordOf (i .event))) ∙ ap length (the-events-given V text room es items hs z e)
+pub tables-for-each : (ver : Version) (ok : Bounded ver) (text : Octets) (room : ℕ) (es : List Event) (items : List (Item Located)) (hs : Halves) (z : State Located) → length text ≤ ver .octets → writing ver text room es ≡ written items hs z
+    → length (knownWriting ver text room es) ≡ length es
+tables-for-each ver ok text room es items hs z short e =
+    Made.each-known ver ok text short room es items hs z e ∙ sym (length-map items (λ (i : Item Located). recordOf (i .event))) ∙ ap length (the-events-given ver text room es items hs z e)

@@ -22,114 +22,114 @@ use Rattle.theorems.proofs.Entries.{ranged-started}
 use Rattle.theorems.proofs.Run.{Inside, Right, run-right, fuel-free, NotShort, run-not-short, trace-few, placesOf, room-short, room-enough, Reads, run-complete}
 use Rattle.theorems.proofs.Opening.{Opened, opening-sound, opening-complete}
 
-pub plain-start : (V : Version) (s : Octets) → plainState s (beginning (start V)) ≡ beginning (started V)
+pub plain-start : (ver : Version) (s : Octets) → plainState s (beginning (start ver)) ≡ beginning (started ver)
 unfolding beginning start octetsOf
-plain-start V s = λ i. record { tables = starting-map (octetsOf s) V builtInPrefix builtInNamespace i; level = 0; root = false; mode = content }
+plain-start ver s = λ i. record { tables = starting-map (octetsOf s) ver builtInPrefix builtInNamespace i; level = 0; root = false; mode = content }
 
 -- the starting tables hold no triple, so all that they hold is in range
-inside : (V : Version) {s : Octets} (body : ℕ) → 2 * body ≤ 2 * length s → Inside s (origin body (start V))
+inside : (ver : Version) {s : Octets} (body : ℕ) → 2 * body ≤ 2 * length s → Inside s (origin body (start ver))
 unfolding beginning
-inside V {s} body h = record { at = h; ranged = rw (ap (λ (v : State Octets). v .tables) (plain-start V s)) (ranged-started V) }
+inside ver {s} body h = record { at = h; ranged = rw (ap (λ (v : State Octets). v .tables) (plain-start ver s)) (ranged-started ver) }
 
-module _ (V : Version) (ok : Bounded V) (s : Octets) (bytes : AreOctets s) where
+module _ (ver : Version) (ok : Bounded ver) (s : Octets) (bytes : AreOctets s) where
   abbrev at : ℕ
-  at = length (header V)
+  at = length (header ver)
 
-  brief : length s ≤ V .octets → length s ≤ longest
+  brief : length s ≤ ver .octets → length s ≤ longest
   brief h = let k = ok .few-octets in omega arith
 
   -- what a result means
   abbrev pub Means : Result → Type 0
-  Means (accepted is m) = Document V (map (plain s) is) (plainState s (m .state)) s
+  Means (accepted is m) = Document ver (map (plain s) is) (plainState s (m .state)) s
   Means (refusal n p) = Refusal s n p
 
-  from-run : s ≡ header V ++ drop at s → (h : length s ≤ V .octets) (a : Result) → Right V s bytes (brief h) (origin at (start V)) a → Means a
+  from-run : s ≡ header ver ++ drop at s → (h : length s ≤ ver .octets) (a : Result) → Right ver s bytes (brief h) (origin at (start ver)) a → Means a
   from-run d h (accepted is m) r =
       record {
         body = drop (2 * at) (halves s);
-        here = ap halves d ∙ halves-append (header V) (drop at s) ∙ ap (λ (l : Octets). halves (header V) ++ l) (sym (halves-drop at s));
-        rule = subst (λ (v : State Octets). Written V (2 * at) v (map (plain s) is) (drop (2 * at) (halves s)) (plainState s (m .state))) (plain-start V s) r;
+        here = ap halves d ∙ halves-append (header ver) (drop at s) ∙ ap (λ (l : Octets). halves (header ver) ++ l) (sym (halves-drop at s));
+        rule = subst (λ (v : State Octets). Written ver (2 * at) v (map (plain s) is) (drop (2 * at) (halves s)) (plainState s (m .state))) (plain-start ver s) r;
         short = h;
       }
   from-run d h (refusal n p) r = r
 
   -- by what the opening answers
-  opened : (P : Opening → Type 0) → (s ≡ header V ++ drop at s → length s ≤ V .octets → at ≤ length s → P (onward at (start V))) → ((n p : ℕ) → Refusal s n p × (n ≡ 14 → ⊥) → P (halt n p)) → P (opening V s)
-  opened P f g = from (opening V s) (opening-sound V s)
+  opened : (P : Opening → Type 0) → (s ≡ header ver ++ drop at s → length s ≤ ver .octets → at ≤ length s → P (onward at (start ver))) → ((n p : ℕ) → Refusal s n p × (n ≡ 14 → ⊥) → P (halt n p)) → P (opening ver s)
+  opened P f g = from (opening ver s) (opening-sound ver s)
     where
-      from : (o : Opening) → Opened V s o → P o
+      from : (o : Opening) → Opened ver s o → P o
       from (onward body tables) k = subst P (sym (k .0)) (f (k .1) (k .2) (k .3))
       from (halt n p) k = g n p k
 
   module _ (room : ℕ) where
-    pub means : Means (reading V s room)
+    pub means : Means (reading ver s room)
     unfolding reading
     means =
-        opened (λ (o : Opening). Means (resultFrom V s room o))
-        (λ d h l. from-run d h (run V s (fuelOf s) room (origin at (start V))) (run-right V s bytes (brief h) (fuelOf s) room (origin at (start V)) (inside V at (omega arith)))) (λ n p k. k .0)
+        opened (λ (o : Opening). Means (resultFrom ver s room o))
+        (λ d h l. from-run d h (run ver s (fuelOf s) room (origin at (start ver))) (run-right ver s bytes (brief h) (fuelOf s) room (origin at (start ver)) (inside ver at (omega arith)))) (λ n p k. k .0)
 
-    not-short : length (marks V s) ≤ room → NotShort (reading V s room)
+    not-short : length (marks ver s) ≤ room → NotShort (reading ver s room)
     unfolding reading marks
     not-short =
-        opened (λ (o : Opening). length (marksFrom V s o) ≤ room → NotShort (resultFrom V s room o))
-        (λ d h l few. run-not-short V s bytes (brief h) (fuelOf s) room (origin at (start V)) (inside V at (omega arith)) few) (λ n p k few. k .1)
+        opened (λ (o : Opening). length (marksFrom ver s o) ≤ room → NotShort (resultFrom ver s room o))
+        (λ d h l few. run-not-short ver s bytes (brief h) (fuelOf s) room (origin at (start ver)) (inside ver at (omega arith)) few) (λ n p k few. k .1)
 
     -- the number that comes back then
     never-14 : (a : Result) → Means a → NotShort a → numberOf a % 32 ≡ 14 → ⊥
     never-14 (accepted is m) g h e = omega arith
     never-14 (refusal n p) g h e = h (let k = g .1 in omega arith)
 
-    pub number-never-14 : length (marks V s) ≤ room → numberOf (reading V s room) % 32 ≡ 14 → ⊥
-    number-never-14 h = never-14 (reading V s room) means (not-short h)
+    pub number-never-14 : length (marks ver s) ≤ room → numberOf (reading ver s room) % 32 ≡ 14 → ⊥
+    number-never-14 h = never-14 (reading ver s room) means (not-short h)
 
   -- an event takes three quarters of an octet at least
-  pub marks-few : length (marks V s) ≤ 4 * (V .octets - length (header V)) / 3
+  pub marks-few : length (marks ver s) ≤ 4 * (ver .octets - length (header ver)) / 3
   unfolding marks beginning
   marks-few =
-      opened (λ (o : Opening). length (marksFrom V s o) ≤ 4 * (V .octets - length (header V)) / 3)
-      (λ d h l. let t = trace-few V s bytes (brief h) (fuelOf s) (origin at (start V)) (inside V at (omega arith)) in omega arith) (λ n p k. omega arith)
+      opened (λ (o : Opening). length (marksFrom ver s o) ≤ 4 * (ver .octets - length (header ver)) / 3)
+      (λ d h l. let t = trace-few ver s bytes (brief h) (fuelOf s) (origin at (start ver)) (inside ver at (omega arith)) in omega arith) (λ n p k. omega arith)
 
-  pub more-fuel : (more room body : ℕ) (tables : Vocabulary Located) → opening V s ≡ onward body tables → run V s (more + fuelOf s) room (origin body tables) ≡ run V s (fuelOf s) room (origin body tables)
+  pub more-fuel : (more room body : ℕ) (tables : Vocabulary Located) → opening ver s ≡ onward body tables → run ver s (more + fuelOf s) room (origin body tables) ≡ run ver s (fuelOf s) room (origin body tables)
   unfolding beginning
   more-fuel more room body tables e =
-      opened (λ (o : Opening). o ≡ onward body tables → run V s (more + fuelOf s) room (origin body tables) ≡ run V s (fuelOf s) room (origin body tables))
+      opened (λ (o : Opening). o ≡ onward body tables → run ver s (more + fuelOf s) room (origin body tables) ≡ run ver s (fuelOf s) room (origin body tables))
       (λ d h l q.
       let b : at ≡ body = cc in
-      let w : start V ≡ tables = cc in
-      rw (← b, ← w) (fuel-free V s bytes (brief h) (fuelOf s) more room (origin at (start V)) (inside V at (omega arith)) (omega arith)))
+      let w : start ver ≡ tables = cc in
+      rw (← b, ← w) (fuel-free ver s bytes (brief h) (fuelOf s) more room (origin at (start ver)) (inside ver at (omega arith)) (omega arith)))
       (λ n p k q. absurd (let y : _≡_ {A = ℕ} 0 1 = cc in omega arith)) e
 
-module _ (V : Version) (s : Octets) where
+module _ (ver : Version) (s : Octets) where
   -- what the rules write is read, with a record for every event; the tables after every event are theirs
-  module _ (items : List (Item Octets)) (z : State Octets) (w : Document V items z s) where
+  module _ (items : List (Item Octets)) (z : State Octets) (w : Document ver items z s) where
     abbrev from : ℕ
-    from = length (header V)
+    from = length (header ver)
 
-    whole : s ≡ header V ++ drop from s
-    whole = let z : 0 + from ≡ from = omega arith in rw z at (halves-complete s 0 (header V) (w .body) (w .here))
+    whole : s ≡ header ver ++ drop from s
+    whole = let z : 0 + from ≡ from = omega arith in rw z at (halves-complete s 0 (header ver) (w .body) (w .here))
 
-    opens : opening V s ≡ onward from (start V)
-    opens = opening-complete V s whole (w .short)
+    opens : opening ver s ≡ onward from (start ver)
+    opens = opening-complete ver s whole (w .short)
 
-    reads-all : (room : ℕ) → length items ≤ room → Reads V s (fuelOf s) room (origin from (start V)) items z (knownAfter V (w .rule)) (spelledIn (w .rule))
+    reads-all : (room : ℕ) → length items ≤ room → Reads ver s (fuelOf s) room (origin from (start ver)) items z (knownAfter ver (w .rule)) (spelledIn (w .rule))
     unfolding beginning
     reads-all room h =
-        let lead = halves-length (header V) in
-        let z : 0 + length (halves (header V)) ≡ 2 * from = omega arith in
-        let e : drop (2 * from) (halves s) ≡ w .body = rw z at (drop-past (halves s) 0 (halves (header V)) (w .body) (w .here)) in
+        let lead = halves-length (header ver) in
+        let z : 0 + length (halves (header ver)) ≡ 2 * from = omega arith in
+        let e : drop (2 * from) (halves s) ≡ w .body = rw z at (drop-past (halves s) 0 (halves (header ver)) (w .body) (w .here)) in
         let lh = ap length e in
         let ld = length-drop (2 * from) (halves s) in
         let hl = halves-length s in
-        run-complete V s (w .rule) (origin from (start V)) (fuelOf s) room refl (plain-start V s) e (omega arith) h
+        run-complete ver s (w .rule) (origin from (start ver)) (fuelOf s) room refl (plain-start ver s) e (omega arith) h
 
-    pub accepts : (room : ℕ) → length items ≤ room → Accepts V s room items z
+    pub accepts : (room : ℕ) → length items ≤ room → Accepts ver s room items z
     unfolding reading
     accepts room h =
         let r = reads-all room h in
         record { events = r .events; last = r .last; reads = rw (opens) (r .runs); are = r .are; end-is = r .end-is }
 
     -- the strings that are handed out as spelled have the places where the rules spell them
-    pub spelled-is : (room : ℕ) → length items ≤ room → (events : List (Item Located)) (last : Stand) → reading V s room ≡ accepted events last → allSpelled events ≡ spelledIn (w .rule)
+    pub spelled-is : (room : ℕ) → length items ≤ room → (events : List (Item Located)) (last : Stand) → reading ver s room ≡ accepted events last → allSpelled events ≡ spelledIn (w .rule)
     unfolding accepts
     spelled-is room h events last e =
         let a = accepts room h in
@@ -137,23 +137,23 @@ module _ (V : Version) (s : Octets) where
         let same : events ≡ a .events = cc in
         ap allSpelled same ∙ reads-all room h .spells
 
-    pub known-is : map (λ (k : Mark). plainState s (k .stand .state)) (marks V s) ≡ knownAfter V (w .rule)
+    pub known-is : map (λ (k : Mark). plainState s (k .stand .state)) (marks ver s) ≡ knownAfter ver (w .rule)
     unfolding marks
     known-is = rw (opens) (reads-all (length items) (omega arith) .known)
 
   -- room
-  short-from : (room : ℕ) (o : Opening) → room < length (marksFrom V s o) → resultFrom V s room o ≡ refusal 14 (getD (placesOf (marksFrom V s o)) room 0)
-  short-from room (onward body tables) h = room-short V s (fuelOf s) room (origin body tables) h
+  short-from : (room : ℕ) (o : Opening) → room < length (marksFrom ver s o) → resultFrom ver s room o ≡ refusal 14 (getD (placesOf (marksFrom ver s o)) room 0)
+  short-from room (onward body tables) h = room-short ver s (fuelOf s) room (origin body tables) h
   short-from room (halt n p) h = absurd (omega arith)
 
-  pub too-short : (room : ℕ) → room < length (marks V s) → reading V s room ≡ refusal 14 (getD (placesOf (marks V s)) room 0)
+  pub too-short : (room : ℕ) → room < length (marks ver s) → reading ver s room ≡ refusal 14 (getD (placesOf (marks ver s)) room 0)
   unfolding reading marks
-  too-short room h = short-from room (opening V s) h
+  too-short room h = short-from room (opening ver s) h
 
-  enough-from : (room : ℕ) (o : Opening) → length (marksFrom V s o) ≤ room → resultFrom V s room o ≡ resultFrom V s (length (marksFrom V s o)) o
-  enough-from room (onward body tables) h = room-enough V s (fuelOf s) room (origin body tables) h
+  enough-from : (room : ℕ) (o : Opening) → length (marksFrom ver s o) ≤ room → resultFrom ver s room o ≡ resultFrom ver s (length (marksFrom ver s o)) o
+  enough-from room (onward body tables) h = room-enough ver s (fuelOf s) room (origin body tables) h
   enough-from room (halt n p) h = refl
 
-  pub long-enough : (room : ℕ) → length (marks V s) ≤ room → reading V s room ≡ reading V s (length (marks V s))
+  pub long-enough : (room : ℕ) → length (marks ver s) ≤ room → reading ver s room ≡ reading ver s (length (marks ver s))
   unfolding reading marks
-  long-enough room h = enough-from room (opening V s) h
+  long-enough room h = enough-from room (opening ver s) h

@@ -15,9 +15,9 @@ use Rattle.theorems.proofs.Structure.{Rest, back, ended-back, all-left}
 abbrev pub events : List (Item Octets) → List (Event Octets)
 events items = map (λ (i : Item Octets). i .event) items
 
-module _ {V : Version} where
+module _ {ver : Version} where
   -- an item in front of what is left behind it: the rules go on as `goesOn` does
-  fronts : {v w : State Octets} {i : Item Octets} {o : Octets} (es : List (Event Octets)) → ItemWrittenAs V v i o w → Rest w es → Rest v (i .event ∷ es)
+  fronts : {v w : State Octets} {i : Item Octets} {o : Octets} (es : List (Event Octets)) → ItemWrittenAs ver v i o w → Rest w es → Rest v (i .event ∷ es)
   unfolding goesOn mayStart
   fronts {v} es (o-start a {x = x} md may deep u) k = back a v (Start x) es (rw md may) k
   fronts {v} es (o-first-namespace {a = a} {p = p} {n = n} md may deep u) k = back a v (Namespace p n) es (rw md may) k
@@ -28,7 +28,7 @@ module _ {V : Version} where
   fronts {v} es (o-comment {y = y} md u) k = back false v (Comment y) es (rw md) (rw md at k)
   fronts {v} es (o-instruction {x = x} {y = y} md u1 u2) k = back false v (Instruction x y) es (rw md) (rw md at k)
 
-  left : {at : ℕ} {v z : State Octets} {items : List (Item Octets)} {hs : Halves} → Written V at v items hs z → Rest v (events items)
+  left : {at : ℕ} {v z : State Octets} {items : List (Item Octets)} {hs : Halves} → Written ver at v items hs z → Rest v (events items)
   unfolding goesOn
   left {v = v} (document-end md lv rt) = ended-back v (md, lv, rt)
   left {items = items} (attributes-end md w) = rw md (events items, no-attribute, left w, refl)
@@ -36,5 +36,5 @@ module _ {V : Version} where
   left (item {items = items} u w) = fronts (events items) u (left w)
 
   pub is-document : {items : List (Item Octets)} {z : State Octets} {s : Octets}
-      → Document V items z s → IsDocument (events items)
-  is-document {items = items} d = all-left (started V) (events items) .1 (left (d .rule))
+      → Document ver items z s → IsDocument (events items)
+  is-document {items = items} d = all-left (started ver) (events items) .1 (left (d .rule))

@@ -124,24 +124,24 @@ module _ {S : Type 0} where
       }
 
   -- at the start the tables hold no name
-  same-start : (V : Version) (p u : S) → Same {N = Triple} {M = Name S} (starting V p u) (starting V p u)
+  same-start : (ver : Version) (p u : S) → Same {N = Triple} {M = Name S} (starting ver p u) (starting ver p u)
   unfolding strings starting
-  same-start V p u PREFIX = refl
-  same-start V p u NAMESPACE-NAME = refl
-  same-start V p u LOCAL-NAME = refl
-  same-start V p u OTHER-NCNAME = refl
-  same-start V p u OTHER-URI = refl
-  same-start V p u ATTRIBUTE-VALUE = refl
-  same-start V p u CONTENT-CHARACTER-CHUNK = refl
-  same-start V p u OTHER-STRING = refl
+  same-start ver p u PREFIX = refl
+  same-start ver p u NAMESPACE-NAME = refl
+  same-start ver p u LOCAL-NAME = refl
+  same-start ver p u OTHER-NCNAME = refl
+  same-start ver p u OTHER-URI = refl
+  same-start ver p u ATTRIBUTE-VALUE = refl
+  same-start ver p u CONTENT-CHARACTER-CHUNK = refl
+  same-start ver p u OTHER-STRING = refl
 
-  holds-start : (V : Version) (p u : S) → Holds (starting V p u) (starting V p u)
+  holds-start : (ver : Version) (p u : S) → Holds (starting ver p u) (starting ver p u)
   unfolding names starting
-  holds-start V p u = record { strings-are = same-start V p u; names-are = λ t. elim t [ ELEMENT-NAME ↦ no-triple | ATTRIBUTE-NAME ↦ no-triple ] }
+  holds-start ver p u = record { strings-are = same-start ver p u; names-are = λ t. elim t [ ELEMENT-NAME ↦ no-triple | ATTRIBUTE-NAME ↦ no-triple ] }
 
   -- what acts add to the starting tables
-  pub adds-start : (V : Version) (p u : S) {l : List (Act S)} {z : Vocabulary S} → Adds (starting V p u) l z → Same z (after (starting V p u) l)
-  adds-start V p u f = f .then (starting V p u) (same-start V p u)
+  pub adds-start : (ver : Version) (p u : S) {l : List (Act S)} {z : Vocabulary S} → Adds (starting ver p u) l z → Same z (after (starting ver p u) l)
+  adds-start ver p u f = f .then (starting ver p u) (same-start ver p u)
 
 module _ {S : Type 0} {d : S} {Spelt : S → Type 0} where
   id-does : {t : StringTable} {v w : Vocabulary S} {x : S} {h : How} {n : ℕ} → IdDone d Spelt t v x h n w → Does v (ofString t x h) w
@@ -178,9 +178,9 @@ module _ {S : Type 0} {d : S} {Spelt : S → Type 0} where
   all-does no-item = none-done
   all-does (an-item u r) = both (item-does u) (all-does r)
 
-  pub earlier : (V : Version) (p u : S) {items : List (Item S)} {z : Vocabulary S} → Done d Spelt (starting V p u) items z → Known (starting V p u) (acts items)
-  earlier V p u {items} r = subst (Known (starting V p u)) (append-nil (acts items)) (all-does r .known (starting V p u) (holds-start V p u) [] tt)
+  pub earlier : (ver : Version) (p u : S) {items : List (Item S)} {z : Vocabulary S} → Done d Spelt (starting ver p u) items z → Known (starting ver p u) (acts items)
+  earlier ver p u {items} r = subst (Known (starting ver p u)) (append-nil (acts items)) (all-does r .known (starting ver p u) (holds-start ver p u) [] tt)
 
   -- and at the end what was made, behind that
-  pub made : (V : Version) (p u : S) {items : List (Item S)} {z : Vocabulary S} → Done d Spelt (starting V p u) items z → Holds z (after (starting V p u) (acts items))
-  made V p u r = all-does r .then (starting V p u) (holds-start V p u)
+  pub made : (ver : Version) (p u : S) {items : List (Item S)} {z : Vocabulary S} → Done d Spelt (starting ver p u) items z → Holds z (after (starting ver p u) (acts items))
+  made ver p u r = all-does r .then (starting ver p u) (holds-start ver p u)

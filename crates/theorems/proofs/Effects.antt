@@ -61,34 +61,34 @@ module _ {S : Type 0} (d : S) (Spelt : S → Type 0) where
     an-item : {v : Vocabulary S} {i : Item S} {w z : Vocabulary S} {items : List (Item S)} → ItemDone v i w → Done w items z → Done v (i ∷ items) z
 
 -- ---- the rules do so; what they spell is text, and not empty
-module _ {V : Version} where
-  id-done : {t : StringTable} {v w : Vocabulary Octets} {x : Octets} {h : How} {n : ℕ} {o : Octets} → Identifying V t v x h n o w → IdDone [] Said t v x h n w
+module _ {ver : Version} where
+  id-done : {t : StringTable} {v w : Vocabulary Octets} {x : Octets} {h : How} {n : ℕ} {o : Octets} → Identifying ver t v x h n o w → IdDone [] Said t v x h n w
   id-done (id-spelled sp new room) = id-made (sp .some, sp .formed)
   id-done (id-numbered small en) = id-used en
 
   part-done : {t : StringTable} {v w : Vocabulary Octets} {x : Option Octets} {h : Option How} {n : ℕ} {o : Octets}
-      → Optional V t v x h n o w → PartDone [] Said t v x h n w
+      → Optional ver t v x h n o w → PartDone [] Said t v x h n w
   part-done absent = no-part
   part-done (present u) = a-part (id-done u)
 
-  string-done : {q : Layout} {t : StringTable} {v w : Vocabulary Octets} {x : Octets} {h : How} {o : Octets} → Literal V q t v x h o w → StringDone [] Said t v x h w
+  string-done : {q : Layout} {t : StringTable} {v w : Vocabulary Octets} {x : Octets} {h : How} {o : Octets} → Literal ver q t v x h o w → StringDone [] Said t v x h w
   string-done (literal-spelled {added = added} sp room) = string-made added (sp .some, sp .formed)
   string-done (literal-numbered small fits en) = string-used en
 
-  value-done : {t : StringTable} {v w : Vocabulary Octets} {x : Octets} {h : How} {o : Octets} → Value V t v x h o w → ValueDone [] Said t v x h w
+  value-done : {t : StringTable} {v w : Vocabulary Octets} {x : Octets} {h : How} {o : Octets} → Value ver t v x h o w → ValueDone [] Said t v x h w
   value-done value-empty = empty-value
   value-done (value u) = a-value (string-done u)
 
   name-done : {q : NameLayout} {lead : ℕ} {v w : Vocabulary Octets} {x : Name Octets} {h : NameHow} {o : Octets}
-      → Named V q lead v x h o w → NameDone [] Said (q .table) v x h w
+      → Named ver q lead v x h o w → NameDone [] Said (q .table) v x h w
   name-done (in-parts lone up un ul new room) = name-made lone (part-done up) (part-done un) (id-done ul)
   name-done {q} {v = v} (by-number {k = k} small fits en m) = subst (λ (y : Name Octets). NameDone [] Said (q .table) v y (byNumber (suc k)) v) (means-is [] m) (name-used en)
 
   namespace-done : {v w : Vocabulary Octets} {p n : Option Octets} {hp hn : Option How} {o : Octets}
-      → Declared V v p n hp hn o w → ItemDone [] Said v (Namespace p n by forNamespace hp hn) w
+      → Declared ver v p n hp hn o w → ItemDone [] Said v (Namespace p n by forNamespace hp hn) w
   namespace-done (declared up un) = done-namespace (part-done up) (part-done un)
 
-  octets-done : {v w : State Octets} {i : Item Octets} {o : Octets} → ItemWrittenAs V v i o w → ItemDone [] Said (v .tables) i (w .tables)
+  octets-done : {v w : State Octets} {i : Item Octets} {o : Octets} → ItemWrittenAs ver v i o w → ItemDone [] Said (v .tables) i (w .tables)
   unfolding ofElement ofAttribute
   octets-done (o-start a md may deep u) = done-start (name-done u)
   octets-done (o-first-namespace md may deep u) = namespace-done u
@@ -99,13 +99,13 @@ module _ {V : Version} where
   octets-done (o-comment md u) = done-comment (value-done u)
   octets-done (o-instruction md u1 u2) = done-instruction (id-done u1) (value-done u2)
 
-  written-done : {at : ℕ} {v z : State Octets} {items : List (Item Octets)} {hs : Halves} → Written V at v items hs z → Done [] Said (v .tables) items (z .tables)
+  written-done : {at : ℕ} {v z : State Octets} {items : List (Item Octets)} {hs : Halves} → Written ver at v items hs z → Done [] Said (v .tables) items (z .tables)
   written-done (document-end md lv rt) = no-item
   written-done (attributes-end md w) = written-done w
   written-done (element-end md lv w) = an-item done-end (written-done w)
   written-done (item u w) = an-item (octets-done u) (written-done w)
 
   pub document-done : {items : List (Item Octets)} {z : State Octets} {s : Octets}
-      → Document V items z s → Done [] Said (started V) items (z .tables)
+      → Document ver items z s → Done [] Said (started ver) items (z .tables)
   unfolding beginning
   document-done d = written-done (d .rule)

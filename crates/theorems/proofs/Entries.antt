@@ -119,7 +119,7 @@ all-add (an-item p ps) =
       few-names = λ t. let x = names-for p t in let y = b .few-names t in omega arith;
     }
 
--- 01's choices, along a list
+-- The required choices, along a list
 pub chosen-permitted : (C : Version) (v : Vocabulary Octets) (es : List (Event Octets)) → Ranged v → PermitsAll v (chosen C v es) (tablesAfter C v es)
 unfolding chosen tablesAfter
 chosen-permitted C v [] r = no-item
@@ -135,32 +135,32 @@ at-most-one : (b : Bool) (x : Octets) → length (pick b (x ∷ []) []) ≤ 1
 at-most-one true x = omega arith
 at-most-one false x = omega arith
 
-few-started : (V : Version) (t : StringTable) → length (strings (started V) t) ≤ 1
+few-started : (ver : Version) (t : StringTable) → length (strings (started ver) t) ≤ 1
 unfolding strings starting
-few-started V PREFIX = at-most-one (V .builtIn) xmlPrefix
-few-started V NAMESPACE-NAME = at-most-one (V .builtIn) xmlNamespace
-few-started V LOCAL-NAME = omega arith
-few-started V OTHER-NCNAME = omega arith
-few-started V OTHER-URI = omega arith
-few-started V ATTRIBUTE-VALUE = omega arith
-few-started V CONTENT-CHARACTER-CHUNK = omega arith
-few-started V OTHER-STRING = omega arith
+few-started ver PREFIX = at-most-one (ver .builtIn) xmlPrefix
+few-started ver NAMESPACE-NAME = at-most-one (ver .builtIn) xmlNamespace
+few-started ver LOCAL-NAME = omega arith
+few-started ver OTHER-NCNAME = omega arith
+few-started ver OTHER-URI = omega arith
+few-started ver ATTRIBUTE-VALUE = omega arith
+few-started ver CONTENT-CHARACTER-CHUNK = omega arith
+few-started ver OTHER-STRING = omega arith
 
-none-started : (V : Version) (t : NameTable) → length (names (started V) t) ≡ 0
+none-started : (ver : Version) (t : NameTable) → length (names (started ver) t) ≡ 0
 unfolding names starting
-none-started V ELEMENT-NAME = refl
-none-started V ATTRIBUTE-NAME = refl
+none-started ver ELEMENT-NAME = refl
+none-started ver ATTRIBUTE-NAME = refl
 
-pub ranged-started : (V : Version) → Ranged (started V)
-ranged-started V t k x e = absurd (let z = none-started V t in let h = entry-made e in omega arith)
+pub ranged-started : (ver : Version) → Ranged (started ver)
+ranged-started ver t k x e = absurd (let z = none-started ver t in let h = entry-made e in omega arith)
 
 -- a list that is short enough passes no limit
-pub few-after : (V : Version) {items : List (Item Octets)} {w : Vocabulary Octets} → PermitsAll (started V) items w → length items < V .entries → InLimits V w
-few-after V ps h =
+pub few-after : (ver : Version) {items : List (Item Octets)} {w : Vocabulary Octets} → PermitsAll (started ver) items w → length items < ver .entries → InLimits ver w
+few-after ver ps h =
     let a = all-add ps in
     record {
-      few = λ t. let x = a .few t in let y = few-started V t in omega arith;
-      few-names = λ t. let x = a .few-names t in let y = none-started V t in omega arith;
+      few = λ t. let x = a .few t in let y = few-started ver t in omega arith;
+      few-names = λ t. let x = a .few-names t in let y = none-started ver t in omega arith;
     }
 
 -- ---- a limit is kept by every table, or passed by one
@@ -186,10 +186,10 @@ module _ {X : Type 0} (n : ℕ) where
       case n (f ATTRIBUTE-NAME) (passed ATTRIBUTE-NAME) λ b.
       kept (λ t. elim t [ ELEMENT-NAME ↦ a | ATTRIBUTE-NAME ↦ b ])
 
-pub in-limits : (V : Version) (v : Vocabulary Octets) → Dec (InLimits V v)
-in-limits V v =
-    of-strings (V .entries) (λ t. length (strings v t))
+pub in-limits : (ver : Version) (v : Vocabulary Octets) → Dec (InLimits ver v)
+in-limits ver v =
+    of-strings (ver .entries) (λ t. length (strings v t))
     (λ a.
-    of-names (V .entries) (λ t. length (names v t)) (λ b. yes (record { few = a; few-names = b }))
+    of-names (ver .entries) (λ t. length (names v t)) (λ b. yes (record { few = a; few-names = b }))
     (λ t h. no (λ f. let x = f .few-names t in omega arith)))
     (λ t h. no (λ f. let x = f .few t in omega arith))

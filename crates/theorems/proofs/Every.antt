@@ -1,4 +1,4 @@
--- The rules can write every document with every permitted choice: nothing in them is narrower than 01. So with 01's choices every list of events that is a document is written, and on
+-- The rules can write every document with every permitted choice: nothing in them is narrower than the requirements. So with the required choices every list of events that is a document is written, and on
 -- within the limits of a version too, unless it is over one of them.
 use Prim.Native.Nat.{ℕ, _*_, _≤_, _<_}
 use mathlib.Core.Path.{_≡_, refl, sym, ap, subst}
@@ -57,15 +57,15 @@ deep-on depth a v e es h = rw (level-is a v e) (omega arith)
 
 -- ---- what is left of a document can be written, from wherever a document comes
 -- The halves that the items are written as, and what is known then: these tables.
-pub record CanWrite (V : Version) (at : ℕ) (v : State Octets) (items : List (Item Octets)) (tables : Vocabulary Octets) : Type 0 where
+pub record CanWrite (ver : Version) (at : ℕ) (v : State Octets) (items : List (Item Octets)) (tables : Vocabulary Octets) : Type 0 where
   pub halves : Halves
   pub last : State Octets
-  pub rule : Written V at v items halves last
+  pub rule : Written ver at v items halves last
   pub known : last .tables ≡ tables
 
-module _ (V : Version) (small : V .entries ≤ top) where
-  can-write : {w : Vocabulary Octets} (items : List (Item Octets)) (at : ℕ) (v : State Octets) → Rest v (events items) → Sane v → All Said (events items) → deepest (v .level) (events items) ≤ V .depth → InLimits V w
-      → Ahead (v .mode) (announcedBy (events items)) → PermitsAll (v .tables) items w → CanWrite V at v items w
+module _ (ver : Version) (small : ver .entries ≤ top) where
+  can-write : {w : Vocabulary Octets} (items : List (Item Octets)) (at : ℕ) (v : State Octets) → Rest v (events items) → Sane v → All Said (events items) → deepest (v .level) (events items) ≤ ver .depth → InLimits ver w
+      → Ahead (v .mode) (announcedBy (events items)) → PermitsAll (v .tables) items w → CanWrite ver at v items w
   unfolding announcedBy
   can-write [] at v k s sd dp i ah no-item = let e = ended v s k in record { halves = _; last = v; rule = document-end (e .0) (e .1) (e .2); known = refl }
   can-write (x ∷ items) at v k s sd dp i ah (an-item {u = u} p ps) =
@@ -73,10 +73,10 @@ module _ (V : Version) (small : V .entries ≤ top) where
       let es = events items in
       let a = announcedBy (e ∷ es) in
       let go = goes v e es s k in
-      let d : (opens (v .mode) e ≡ true → v .level < V .depth) = λ t. let y = deep v e es s k t in omega arith in
-      let b = front V small at a v e ah (sd .0) go (shallow (opens (v .mode) e) (V .depth) (v .level) d) (fits-before (all-grow ps) i)
+      let d : (opens (v .mode) e ≡ true → v .level < ver .depth) = λ t. let y = deep v e es s k t in omega arith in
+      let b = front ver small at a v e ah (sd .0) go (shallow (opens (v .mode) e) (ver .depth) (v .level) d) (fits-before (all-grow ps) i)
       (subst (λ (y : Vocabulary Octets). Permits y e (x .choice) u) (sym (words-settled v e)) p) in
-      let next = can-write items _ (knowing (stepped a v e) u) (on a v e es s k (λ t. sym (later-start e (attributeFirst es) (announcedBy es) t))) (sane-on a v e s go) (sd .1) (deep-on (V .depth) a v e es dp) i
+      let next = can-write items _ (knowing (stepped a v e) u) (on a v e es s k (λ t. sym (later-start e (attributeFirst es) (announcedBy es) t))) (sane-on a v e s go) (sd .1) (deep-on (ver .depth) a v e es dp) i
       (ahead-next a (announcedBy es) v e (later-declared e (attributeFirst es) (announcedBy es))) ps in
       record { halves = _; last = next .last; rule = B.front (rw (next-state a v e go p) at b) (next .rule) .0; known = next .known }
 
@@ -86,60 +86,60 @@ sayable : (es : List (Event Octets)) → All Allowed es → All (λ e. All Short
 sayable [] a b = tt
 sayable (e ∷ es) a b = (said e (a .0) (by-kind Short e (b .0)), sayable es (a .1) (b .1))
 
-module _ (V : Version) (items : List (Item Octets)) {w : Vocabulary Octets} (doc : IsDocument (events items)) (allowed : All Allowed (events items)) (short : All (λ e. All Short (stringsOf e)) (events items)) (may : PermitsAll (started V) items w) where
+module _ (ver : Version) (items : List (Item Octets)) {w : Vocabulary Octets} (doc : IsDocument (events items)) (allowed : All Allowed (events items)) (short : All (λ e. All Short (stringsOf e)) (events items)) (may : PermitsAll (started ver) items w) where
   -- within the limits of M
-  from-start : (M : Version) → M .entries ≤ top → deepest 0 (events items) ≤ M .depth → InLimits M w → CanWrite M (2 * length (header V)) (beginning (started V)) items w
+  from-start : (M : Version) → M .entries ≤ top → deepest 0 (events items) ≤ M .depth → InLimits M w → CanWrite M (2 * length (header ver)) (beginning (started ver)) items w
   unfolding beginning
   from-start M small shallow i =
-      can-write M small items (2 * length (header V)) (beginning (started V)) (all-left (started V) (events items) .0 doc) (sane-first (started V)) (sayable (events items) allowed short) shallow i tt may
+      can-write M small items (2 * length (header ver)) (beginning (started ver)) (all-left (started ver) (events items) .0 doc) (sane-first (started ver)) (sayable (events items) allowed short) shallow i tt may
 
-  -- Every list of items whose events are a document, its strings as 01 allows them, and whose choices are permitted, is written; it only has to be shorter than a table may be.
-  pub every-choice : length items < top → WrittenAs V items w
+  -- Every list of items whose events are a document, its strings as the requirements allow them, and whose choices are permitted, is written; it only has to be shorter than a table may be.
+  pub every-choice : length items < top → WrittenAs ver items w
   unfolding standard starting header
   every-choice few =
-      let c = from-start (standard V (deepest 0 (events items)) 0) (omega arith) (omega arith) (few-after (standard V (deepest 0 (events items)) 0) may few) in
+      let c = from-start (standard ver (deepest 0 (events items)) 0) (omega arith) (omega arith) (few-after (standard ver (deepest 0 (events items)) 0) may few) in
       record {
-        octets = header V ++ joined (c .halves);
+        octets = header ver ++ joined (c .halves);
         last = c .last;
         writes = λ depth size deep long. document-of (written (omega arith) (omega arith) deep (c .rule)) long;
         known = c .known;
       }
 
--- So every document is, with 01's choices.
-module _ (V : Version) (es : List (Event Octets)) (doc : IsDocument es) (allowed : All Allowed es) (short : All (λ e. All Short (stringsOf e)) es) where
-  abbrev same : events (chosen V (started V) es) ≡ es
-  same = chosen-events V (started V) es
+-- So every document is, with the required choices.
+module _ (ver : Version) (es : List (Event Octets)) (doc : IsDocument es) (allowed : All Allowed es) (short : All (λ e. All Short (stringsOf e)) es) where
+  abbrev same : events (chosen ver (started ver) es) ≡ es
+  same = chosen-events ver (started ver) es
 
-  abbrev may : PermitsAll (started V) (chosen V (started V) es) (tablesAfter V (started V) es)
-  may = chosen-permitted V (started V) es (ranged-started V)
+  abbrev may : PermitsAll (started ver) (chosen ver (started ver) es) (tablesAfter ver (started ver) es)
+  may = chosen-permitted ver (started ver) es (ranged-started ver)
 
-  abbrev doc′ : IsDocument (events (chosen V (started V) es))
+  abbrev doc′ : IsDocument (events (chosen ver (started ver) es))
   doc′ = subst IsDocument (sym same) doc
 
-  abbrev allowed′ : All Allowed (events (chosen V (started V) es))
+  abbrev allowed′ : All Allowed (events (chosen ver (started ver) es))
   allowed′ = subst (All Allowed) (sym same) allowed
 
-  abbrev short′ : All (λ e. All Short (stringsOf e)) (events (chosen V (started V) es))
+  abbrev short′ : All (λ e. All Short (stringsOf e)) (events (chosen ver (started ver) es))
   short′ = subst (All (λ e. All Short (stringsOf e))) (sym same) short
 
-  pub every-document : length es < top → WrittenWidely V es
+  pub every-document : length es < top → WrittenWidely ver es
   every-document few =
-      let l = length-map (chosen V (started V) es) (λ (i : Item Octets). i .event) in
+      let l = length-map (chosen ver (started ver) es) (λ (i : Item Octets). i .event) in
       let k = ap length same in
-      let c = every-choice V (chosen V (started V) es) doc′ allowed′ short′ may (omega arith) in
+      let c = every-choice ver (chosen ver (started ver) es) doc′ allowed′ short′ may (omega arith) in
       record { octets = c .octets; last = c .last; writes = λ depth size deep long. c .writes depth size (rw same deep) long; tables = c .known }
 
   -- Within the version's limits too, unless it is over one.
-  pub beyond-limits : V .entries ≤ top → (w : WrittenWidely V es) → OrPasses V es (w .last) (w .octets)
+  pub beyond-limits : ver .entries ≤ top → (w : WrittenWidely ver es) → OrPasses ver es (w .last) (w .octets)
   unfolding standard starting header
   beyond-limits small w =
-      case (V .depth) (deepest 0 es) over-depth λ shallow.
-      case (V .octets) (length (w .octets)) over-octets λ long.
-      elim (in-limits V (tablesAfter V (started V) es)) [
+      case (ver .depth) (deepest 0 es) over-depth λ shallow.
+      case (ver .octets) (length (w .octets)) over-octets λ long.
+      elim (in-limits ver (tablesAfter ver (started ver) es)) [
         | no f ↦ over-entries f
         | yes i ↦
-            let d = w .writes (V .depth) (V .octets) shallow long in
-            let c = from-start V (chosen V (started V) es) doc′ allowed′ short′ may V small (rw same shallow) i in
+            let d = w .writes (ver .depth) (ver .octets) shallow long in
+            let c = from-start ver (chosen ver (started ver) es) doc′ allowed′ short′ may ver small (rw same shallow) i in
             let o = one-writing (d .rule) (written (omega arith) (omega arith) (omega arith) (c .rule)) in
             within-limits (record { body = d .body; here = d .here; rule = rw (o .0, o .1) (c .rule); short = long })
       ]

@@ -30,28 +30,28 @@ turn-fits go rec room m (quiet n) = rec room n
 turn-fits go rec room m done = omega arith
 turn-fits go rec room m (stop n p) = tt
 
-run-fits : (V : Version) (s : Octets) (fuel room : ℕ) (m : Stand) → Fits room (run V s fuel room m)
+run-fits : (ver : Version) (s : Octets) (fuel room : ℕ) (m : Stand) → Fits room (run ver s fuel room m)
 unfolding run
-run-fits V s zero room m = tt
-run-fits V s (suc fuel) room m = turn-fits (λ r n. run V s fuel r n) (λ r n. run-fits V s fuel r n) room m (step V s m)
+run-fits ver s zero room m = tt
+run-fits ver s (suc fuel) room m = turn-fits (λ r n. run ver s fuel r n) (λ r n. run-fits ver s fuel r n) room m (step ver s m)
 
-from-fits : (V : Version) (s : Octets) (room : ℕ) (o : Opening) → Fits room (resultFrom V s room o)
-from-fits V s room (onward body tables) = run-fits V s (fuelOf s) room (origin body tables)
-from-fits V s room (halt n p) = tt
+from-fits : (ver : Version) (s : Octets) (room : ℕ) (o : Opening) → Fits room (resultFrom ver s room o)
+from-fits ver s room (onward body tables) = run-fits ver s (fuelOf s) room (origin body tables)
+from-fits ver s room (halt n p) = tt
 
-pub accepted-fits : (V : Version) (s : Octets) (room : ℕ) (items : List (Item Octets)) (z : State Octets) → Accepts V s room items z → length items ≤ room
+pub accepted-fits : (ver : Version) (s : Octets) (room : ℕ) (items : List (Item Octets)) (z : State Octets) → Accepts ver s room items z → length items ≤ room
 unfolding reading
-accepted-fits V s room items z a =
-    let h : length (a .events) ≤ room = subst (Fits room) (a .reads) (from-fits V s room (opening V s)) in
+accepted-fits ver s room items z a =
+    let h : length (a .events) ≤ room = subst (Fits room) (a .reads) (from-fits ver s room (opening ver s)) in
     let l = length-map (a .events) (plain s) in
     let k = ap length (a .are) in
     omega arith
 
 -- and it has a document's size
-sized-is : (V : Version) (s : Octets) (room : ℕ) (is : List (Item Located)) (m : Stand) → reading V s room ≡ accepted is m → (b : Bool) → sized V s ≡ b → sized V s ≡ true
+sized-is : (ver : Version) (s : Octets) (room : ℕ) (is : List (Item Located)) (m : Stand) → reading ver s room ≡ accepted is m → (b : Bool) → sized ver s ≡ b → sized ver s ≡ true
 unfolding reading opening
-sized-is V s room is m r true e = e
-sized-is V s room is m r false e = let q = rw e at r in absurd (let z : _≡_ {A = ℕ} 0 1 = cc in omega arith)
+sized-is ver s room is m r true e = e
+sized-is ver s room is m r false e = let q = rw e at r in absurd (let z : _≡_ {A = ℕ} 0 1 = cc in omega arith)
 
-pub accepted-sized : (V : Version) (s : Octets) (room : ℕ) (is : List (Item Located)) (m : Stand) → reading V s room ≡ accepted is m → sized V s ≡ true
-accepted-sized V s room is m r = sized-is V s room is m r (sized V s) refl
+pub accepted-sized : (ver : Version) (s : Octets) (room : ℕ) (is : List (Item Located)) (m : Stand) → reading ver s room ≡ accepted is m → sized ver s ≡ true
+accepted-sized ver s room is m r = sized-is ver s room is m r (sized ver s) refl

@@ -33,7 +33,7 @@ passed text e goes n q = record-back text (made-is text e (e .kind) refl (from (
 abbrev pub recordsOf : List (Item Located) → List Event
 recordsOf items = map (λ (i : Item Located). recordOf (i .event)) items
 
-module _ (V : Version) (text : Octets) (room : ℕ) where
+module _ (ver : Version) (text : Octets) (room : ℕ) where
   abbrev GivenBack : List Event → Result → Type 0
   GivenBack es (written items hs z) = recordsOf items ≡ es
   GivenBack es (refusal n p) = Unit {0}
@@ -42,27 +42,27 @@ module _ (V : Version) (text : Octets) (room : ℕ) where
   plus-given e es j hs q (written items rest z) h = ap₂ (λ (a : Event) (l : List Event). a ∷ l) q h
   plus-given e es j hs q (refusal n p) h = tt
 
-  finish-given : (at : ℕ) (v : State Located) (i : ℕ) → GivenBack [] (finish V text room at v i)
+  finish-given : (at : ℕ) (v : State Located) (i : ℕ) → GivenBack [] (finish ver text room at v i)
   unfolding finish
   finish-given at v i =
-      test (GivenBack []) (refusal 16 i) tt (isContent (v .mode) && (eqb (v .level) 0 && v .root)) _ λ t. test (GivenBack []) (refusal 14 i) tt (fits V text room (suc at)) _ λ f. refl
+      test (GivenBack []) (refusal 16 i) tt (isContent (v .mode) && (eqb (v .level) 0 && v .root)) _ λ t. test (GivenBack []) (refusal 14 i) tt (fits ver text room (suc at)) _ λ f. refl
 
-  turn-given : (e : Event) (es : List Event) (at : ℕ) (v : State Located) (i : ℕ) (w : WroteItem) (hs : Halves) (rest : Result) → GivenBack es rest → (j : ℕ) → judge V text room at v e w hs ≡ j
+  turn-given : (e : Event) (es : List Event) (at : ℕ) (v : State Located) (i : ℕ) (w : WroteItem) (hs : Halves) (rest : Result) → GivenBack es rest → (j : ℕ) → judge ver text room at v e w hs ≡ j
       → GivenBack (e ∷ es) (elim j [ zero ↦ plus (eventOf (e .kind) e by w .choice) hs rest | suc n ↦ refusal (suc n) i ])
   unfolding judge
   turn-given e es at v i w hs rest h zero q =
       plus-given e es (eventOf (e .kind) e by w .choice) hs (passed text e (goesOn v (eventOf (e .kind) e)) _ q) rest h
   turn-given e es at v i w hs rest h (suc n) q = tt
 
-  run-given : (es : List Event) (at : ℕ) (v : State Located) (i : ℕ) → GivenBack es (run V text room at v i es)
+  run-given : (es : List Event) (at : ℕ) (v : State Located) (i : ℕ) → GivenBack es (run ver text room at v i es)
   unfolding run
   run-given [] at v i = finish-given at v i
   run-given (e ∷ es) at v i =
       let ev = eventOf (e .kind) e in
-      let w = writeItem V text (announced (e ∷ es)) (settled v ev) ev in
-      let hs = halvesOf V text room at v ev w in
-      turn-given e es at v i w hs (run V text room (at + length hs) (w .state) (suc i) es) (run-given es (at + length hs) (w .state) (suc i)) (judge V text room at v e w hs) refl
+      let w = writeItem ver text (announced (e ∷ es)) (settled v ev) ev in
+      let hs = halvesOf ver text room at v ev w in
+      turn-given e es at v i w hs (run ver text room (at + length hs) (w .state) (suc i) es) (run-given es (at + length hs) (w .state) (suc i)) (judge ver text room at v e w hs) refl
 
-pub given-back : (V : Version) (text : Octets) (room : ℕ) (es : List Event) (items : List (Item Located)) (hs : Halves) (z : State Located) → writing V text room es ≡ written items hs z → recordsOf items ≡ es
+pub given-back : (ver : Version) (text : Octets) (room : ℕ) (es : List Event) (items : List (Item Located)) (hs : Halves) (z : State Located) → writing ver text room es ≡ written items hs z → recordsOf items ≡ es
 unfolding writing
-given-back V text room es items hs z e = subst (GivenBack V text room es) e (run-given V text room es (2 * length (header V)) (beginning (start V)) 0)
+given-back ver text room es items hs z e = subst (GivenBack ver text room es) e (run-given ver text room es (2 * length (header ver)) (beginning (start ver)) 0)

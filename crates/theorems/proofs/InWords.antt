@@ -21,11 +21,11 @@ use Rattle.theorems.specs.Demands.{InReadWords, InWriteWords}
 use Rattle.theorems.proofs.Lists.{either}
 
 -- ---- reading
-module _ (V : Version) (s : Octets) (r t : ℕ) where
+module _ (ver : Version) (s : Octets) (r t : ℕ) where
   abbrev pub rows-read : Read.Outcome
-  rows-read = Read.readOf V s (r / 13) t
+  rows-read = Read.readOf ver s (r / 13) t
 
-  -- the enum says what 01's numbers say
+  -- the enum says what the requirements' numbers say
   read-result : (a : Read.Result) → Read.told (Read.outcome a (r / 13) .answer) ≡ Read.outcome a (r / 13) .told
   read-result (Read.accepted is m) = ap (toldAccepted _) (sym (entries-are (m .state .tables)))
   read-result (Read.refusal n p) = refl
@@ -34,31 +34,31 @@ module _ (V : Version) (s : Octets) (r t : ℕ) where
   unfolding Read.readOf
   read-told =
       let P : Read.Outcome → Type 0 = λ o. Read.told (o .answer) ≡ o .told in
-      either P (Read.sized V s) _ _ (λ y. either P (eqb t tableWords) _ _ (λ e. read-result (Read.reading V s (r / 13))) (λ n. refl)) (λ n. refl)
+      either P (Read.sized ver s) _ _ (λ y. either P (eqb t tableWords) _ _ (λ e. read-result (Read.reading ver s (r / 13))) (λ n. refl)) (λ n. refl)
 
   pub in-read-words : InReadWords r rows-read (ReadWords.inWords r rows-read)
   unfolding ReadWords.inWords
   in-read-words = record { answer = ap wholeWord read-told; records = refl; tables = refl; counts = ap (λ (u : Told). u .counts) read-told }
 
   module _ (c : ℕ) where
-    read-sized : c ≡ 10 → (b : Bool) → Read.sized V s ≡ b → ReadWords.inWords r rows-read ≡ ReadWords.readWords V s r t c
+    read-sized : c ≡ 10 → (b : Bool) → Read.sized ver s ≡ b → ReadWords.inWords r rows-read ≡ ReadWords.readWords ver s r t c
     unfolding ReadWords.readWords Read.readOf ReadWords.inWords
     read-sized h true e = rw (e, eq-eqb _ _ h)
     read-sized h false e = rw (e, h, blank-all r)
 
-    pub read-worded : c ≡ 10 → InReadWords r rows-read (ReadWords.readWords V s r t c)
-    read-worded h = subst (InReadWords r rows-read) (read-sized h (Read.sized V s) refl) in-read-words
+    pub read-worded : c ≡ 10 → InReadWords r rows-read (ReadWords.readWords ver s r t c)
+    read-worded h = subst (InReadWords r rows-read) (read-sized h (Read.sized ver s) refl) in-read-words
 
-    pub read-zeros : (c ≡ 10 → ⊥) → (P : ReadWords.WordsLeft → Type 0) → P (ReadWords.nothing 1 r t c) → P (ReadWords.nothing 14 r t c) → P (ReadWords.readWords V s r t c)
+    pub read-zeros : (c ≡ 10 → ⊥) → (P : ReadWords.WordsLeft → Type 0) → P (ReadWords.nothing 1 r t c) → P (ReadWords.nothing 14 r t c) → P (ReadWords.readWords ver s r t c)
     unfolding ReadWords.readWords
-    read-zeros h P f g = rw (ne-eqb _ _ h) (either P (Read.sized V s) _ _ (λ e. g) (λ e. f))
+    read-zeros h P f g = rw (ne-eqb _ _ h) (either P (Read.sized ver s) _ _ (λ e. g) (λ e. f))
 
 -- ---- writing
-module _ (V : Version) (records : Words) (text : Octets) (r t : ℕ) where
+module _ (ver : Version) (records : Words) (text : Octets) (r t : ℕ) where
   abbrev pub rows-written : Write.Outcome
-  rows-written = Write.writeOf V (recordsOf records) text r t
+  rows-written = Write.writeOf ver (recordsOf records) text r t
 
-  write-result : (a : Write.Result) → Write.told (Write.outcome V a r .answer) ≡ Write.outcome V a r .told
+  write-result : (a : Write.Result) → Write.told (Write.outcome ver a r .answer) ≡ Write.outcome ver a r .told
   write-result (Write.written is hs z) = ap (toldAccepted _) (sym (entries-are (z .tables)))
   write-result (Write.refusal n p) = refl
 
@@ -66,22 +66,22 @@ module _ (V : Version) (records : Words) (text : Octets) (r t : ℕ) where
   unfolding Write.writeOf
   write-told =
       let P : Write.Outcome → Type 0 = λ o. Write.told (o .answer) ≡ o .told in
-      either P (leb (length text) (V .octets)) _ _ (λ y. either P (eqb t tableWords) _ _ (λ e. write-result (Write.writing V text r (recordsOf records))) (λ n. refl)) (λ n. refl)
+      either P (leb (length text) (ver .octets)) _ _ (λ y. either P (eqb t tableWords) _ _ (λ e. write-result (Write.writing ver text r (recordsOf records))) (λ n. refl)) (λ n. refl)
 
   pub in-write-words : InWriteWords rows-written (WriteWords.inWords rows-written)
   unfolding WriteWords.inWords
   in-write-words = record { answer = ap wholeWord write-told; out = refl; tables = refl; counts = ap (λ (u : Told). u .counts) write-told }
 
   module _ (c : ℕ) where
-    write-sized : c ≡ 10 → (b : Bool) → leb (length text) (V .octets) ≡ b → WriteWords.inWords rows-written ≡ WriteWords.writeWords V records text r t c
+    write-sized : c ≡ 10 → (b : Bool) → leb (length text) (ver .octets) ≡ b → WriteWords.inWords rows-written ≡ WriteWords.writeWords ver records text r t c
     unfolding WriteWords.writeWords Write.writeOf WriteWords.inWords
     write-sized h true e = rw (e, eq-eqb _ _ h)
     write-sized h false e = rw (e, h)
 
-    pub write-worded : c ≡ 10 → InWriteWords rows-written (WriteWords.writeWords V records text r t c)
-    write-worded h = subst (InWriteWords rows-written) (write-sized h (leb (length text) (V .octets)) refl) in-write-words
+    pub write-worded : c ≡ 10 → InWriteWords rows-written (WriteWords.writeWords ver records text r t c)
+    write-worded h = subst (InWriteWords rows-written) (write-sized h (leb (length text) (ver .octets)) refl) in-write-words
 
-    pub write-zeros : (c ≡ 10 → ⊥) → (P : WriteWords.WordsLeft → Type 0) → (V .octets < length text → P (WriteWords.nothing 1 r t c)) → (length text ≤ V .octets → P (WriteWords.nothing 14 r t c))
-        → P (WriteWords.writeWords V records text r t c)
+    pub write-zeros : (c ≡ 10 → ⊥) → (P : WriteWords.WordsLeft → Type 0) → (ver .octets < length text → P (WriteWords.nothing 1 r t c)) → (length text ≤ ver .octets → P (WriteWords.nothing 14 r t c))
+        → P (WriteWords.writeWords ver records text r t c)
     unfolding WriteWords.writeWords
-    write-zeros h P f g = rw (ne-eqb _ _ h) (either P (leb (length text) (V .octets)) _ _ (λ e. g (leb-true _ _ e)) (λ e. f (leb-false _ _ e)))
+    write-zeros h P f g = rw (ne-eqb _ _ h) (either P (leb (length text) (ver .octets)) _ _ (λ e. g (leb-true _ _ e)) (λ e. f (leb-false _ _ e)))

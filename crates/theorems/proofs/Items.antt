@@ -86,10 +86,10 @@ number-unpadded s k b n c e z h =
     (λ w. let q : b ≡ 48 = omega arith in rw q))
 
 -- ---- what is read is what the rules write
-module _ (V : Version) (s : Octets) (bytes : (i : ℕ) → getD s i 0 < 256) (short : length s ≤ longest) where
+module _ (ver : Version) (s : Octets) (bytes : (i : ℕ) → getD s i 0 < 256) (short : length s ≤ longest) where
   pub record ItemRead (k : ℕ) (v : State Located) (p : ℕ) (i : Item Located) (n : Stand) : Type 0 where
     pub octets : Octets
-    pub rule : ItemWrittenAs V (plainState s v) (plain s i) octets (plainState s (n .state))
+    pub rule : ItemWrittenAs ver (plainState s v) (plain s i) octets (plainState s (n .state))
     pub here : drop k s ≡ octets ++ drop (k + length octets) s
     pub next : n .at ≡ 2 * (k + length octets)
     pub inside : k + length octets ≤ length s
@@ -103,14 +103,14 @@ module _ (V : Version) (s : Octets) (bytes : (i : ℕ) → getD s i 0 < 256) (sh
 
   -- the octets and what stands before them
   took : (k : ℕ) (v : State Located) (p : ℕ) (i : Item Located) (next : ℕ) (w : State Located) (o : Octets) → drop k s ≡ o ++ drop next s → next ≡ k + length o → next ≤ length s → p ≤ length s
-      → ItemWrittenAs V (plainState s v) (plain s i) o (plainState s w) → ItemRead k v p i (octet next w)
+      → ItemWrittenAs ver (plainState s v) (plain s i) o (plainState s w) → ItemRead k v p i (octet next w)
   took k v p i next w o d l ll pl u = record { octets = o; rule = u; here = rw (← l) d; next = ap (λ (x : ℕ). 2 * x) l; inside = omega arith; place = pl }
 
   -- a Start, behind the octets `pre`, once its name is read
   module _ (a : Bool) (lead k j : ℕ) (pre : Octets) (v : State Located) (d : drop j s ≡ pre ++ drop k s) (l : k ≡ j + length pre) (kl : k ≤ length s)
-      (f : (x : Name Octets) (h : NameHow) (os : Octets) (w : Vocabulary Octets) → Named V ofElement lead (plainTables s (v .tables)) x h os w
-      → ItemWrittenAs V (plainState s v) (Start x by forStart h) (pre ++ os) (opened (plainState s v) w a)) where
-    start-read : (x : NameRead) (next : ℕ) (w : Vocabulary Located) → FieldRead s (NameR V s bytes short ofElement lead) k (v .tables) x next w
+      (f : (x : Name Octets) (h : NameHow) (os : Octets) (w : Vocabulary Octets) → Named ver ofElement lead (plainTables s (v .tables)) x h os w
+      → ItemWrittenAs ver (plainState s v) (Start x by forStart h) (pre ++ os) (opened (plainState s v) w a)) where
+    start-read : (x : NameRead) (next : ℕ) (w : Vocabulary Located) → FieldRead s (NameR ver s bytes short ofElement lead) k (v .tables) x next w
         → ItemRead j v k (Start (x .name) by forStart (x .how)) (octet next (opened v w a))
     unfolding eventMap
     start-read x next w r =
@@ -118,23 +118,23 @@ module _ (V : Version) (s : Octets) (bytes : (i : ℕ) → getD s i 0 < 256) (sh
         let la = length-append pre (r .octets) in
         took j v k (Start (x .name) by forStart (x .how)) next (opened v w a) (pre ++ r .octets) (d ∙ ap (λ (l : Octets). pre ++ l) (r .here) ∙ sym (append-assoc pre (r .octets) (drop next s))) (omega arith) (r .inside) kl (f _ _ _ _ (r .rule))
 
-    start-sound : (g : Got NameRead) → Ok s (NameR V s bytes short ofElement lead) k (v .tables) g → Took j v (startOf V k a v g)
-    start-sound g r = in-step s (Took j v) (λ c p f. f) (NameR V s bytes short ofElement lead) k (v .tables) g r _ λ x next w r. start-read x next w r
+    start-sound : (g : Got NameRead) → Ok s (NameR ver s bytes short ofElement lead) k (v .tables) g → Took j v (startOf ver k a v g)
+    start-sound g r = in-step s (Took j v) (λ c p f. f) (NameR ver s bytes short ofElement lead) k (v .tables) g r _ λ x next w r. start-read x next w r
 
   namespace-sound : (k j : ℕ) (pre : Octets) (v : State Located) (a : Bool) → drop j s ≡ pre ++ drop k s → k ≡ j + length pre → k ≤ length s
-      → ((p n : Option Octets) (hp hn : Option How) (os : Octets) (w : Vocabulary Octets) → Declared V (plainTables s (v .tables)) p n hp hn os w
-      → ItemWrittenAs V (plainState s v) (Namespace p n by forNamespace hp hn) (pre ++ os) (moved (plainState s v) w (declaring a)))
-      → Took j v (namespaceAt V s k v a)
+      → ((p n : Option Octets) (hp hn : Option How) (os : Octets) (w : Vocabulary Octets) → Declared ver (plainTables s (v .tables)) p n hp hn os w
+      → ItemWrittenAs ver (plainState s v) (Namespace p n by forNamespace hp hn) (pre ++ os) (moved (plainState s v) w (declaring a)))
+      → Took j v (namespaceAt ver s k v a)
   unfolding namespaceAt eventMap
   namespace-sound k j pre v a d l kl f =
-      in-step s (Took j v) (λ c p f. f) (DeclaredR V s bytes short) k (v .tables) (declaredAt V s k (v .tables)) (declared-sound V s bytes short k (v .tables) kl) _
+      in-step s (Took j v) (λ c p f. f) (DeclaredR ver s bytes short) k (v .tables) (declaredAt ver s k (v .tables)) (declared-sound ver s bytes short k (v .tables) kl) _
       λ x next w r.
       let n1 = r .next-is in
       let la = length-append pre (r .octets) in
       took j v k (Namespace (x .prefix) (x .namespace) by forNamespace (x .prefixHow) (x .namespaceHow)) next (moved v w (declaring a)) (pre ++ r .octets)
       (d ∙ ap (λ (l : Octets). pre ++ l) (r .here) ∙ sym (append-assoc pre (r .octets) (drop next s))) (omega arith) (r .inside) kl (f _ _ _ _ _ _ (r .rule))
 
-  element-sound : (a : Bool) (k b : ℕ) (v : State Located) → Ranged (plainTables s (v .tables)) → v .mode ≡ content → getD s k 0 ≡ 64 * bit a + b → b < 64 → k < length s → Took k v (elementAt V s k b a v)
+  element-sound : (a : Bool) (k b : ℕ) (v : State Located) → Ranged (plainTables s (v .tables)) → v .mode ≡ content → getD s k 0 ≡ 64 * bit a + b → b < 64 → k < length s → Took k v (elementAt ver s k b a v)
   unfolding elementAt mayStart ofElement
   element-sound a k b v ranged md z hb h =
       let P : Step → Type 0 = Took k v in
@@ -143,38 +143,38 @@ module _ (V : Version) (s : Octets) (bytes : (i : ℕ) → getD s i 0 < 256) (sh
       test-not P (stop 6 k) (fault s 6 k refl kl) (namePadding b) _
       λ t0. test P (stop 15 k) (fault s 15 k refl kl) (mayStart v) _
       λ t1. either-lt P b 0x38 _ _
-      (λ h1. in-step s P (λ c p f. f) (NameR V s bytes short ofElement (64 * bit a)) k (v .tables) (numberedAt V ofElement s k (v .tables)) (numbered-sound V s bytes short ofElement element-shape (64 * bit a) k (v .tables) ranged kl (omega arith)) _
-      λ x next w r. test-lt P (stop 13 k) (fault s 13 k refl kl) (v .level) (V .depth) _
+      (λ h1. in-step s P (λ c p f. f) (NameR ver s bytes short ofElement (64 * bit a)) k (v .tables) (numberedAt ver ofElement s k (v .tables)) (numbered-sound ver s bytes short ofElement element-shape (64 * bit a) k (v .tables) ranged kl (omega arith)) _
+      λ x next w r. test-lt P (stop 13 k) (fault s 13 k refl kl) (v .level) (ver .depth) _
       λ t2. start-read a (64 * bit a) k k [] v refl (omega arith) kl (λ x hw os w u. o-start a md t1 t2 u) x next w r)
       λ h1. test-not P (stop 15 k) (fault s 15 k refl kl) (leb 0x3C b && lonePrefix b) _
-      λ t3. test-lt P (stop 13 k) (fault s 13 k refl kl) (v .level) (V .depth) _
+      λ t3. test-lt P (stop 13 k) (fault s 13 k refl kl) (v .level) (ver .depth) _
       λ t2. either-eq P b 0x38 _ _
       (λ e. namespace-sound (suc k) k ((64 * bit a + 0x38) ∷ []) v a
       (drop-cons s k 0 h ∙ ap (λ (x : ℕ). x ∷ drop (suc k) s) (let y : getD s k 0 ≡ 64 * bit a + 0x38 = omega arith in y)) (omega arith) h
       (λ p n hp hn os w u. o-first-namespace md t1 t2 u))
       (λ e. let lo = unpadded-parts b t0 (omega arith) hb in
-      start-sound a (64 * bit a) k k [] v refl (omega arith) kl (λ x hw os w u. o-start a md t1 t2 u) (partsAt V ofElement s b k (v .tables)) (parts-sound V s bytes short ofElement (64 * bit a) b k (v .tables) (omega arith) h))
+      start-sound a (64 * bit a) k k [] v refl (omega arith) kl (λ x hw os w u. o-start a md t1 t2 u) (partsAt ver ofElement s b k (v .tables)) (parts-sound ver s bytes short ofElement (64 * bit a) b k (v .tables) (omega arith) h))
 
   -- behind F0
-  named-sound : (a : Bool) (k : ℕ) (v : State Located) → Ranged (plainTables s (v .tables)) → v .mode ≡ declaring a → getD s k 0 ≡ 0xF0 → Took k v (namedAt V s (suc k) a v)
+  named-sound : (a : Bool) (k : ℕ) (v : State Located) → Ranged (plainTables s (v .tables)) → v .mode ≡ declaring a → getD s k 0 ≡ 0xF0 → Took k v (namedAt ver s (suc k) a v)
   unfolding namedAt ofElement
   named-sound a k v ranged md e =
       let P : Step → Type 0 = Took k v in
       let j : ℕ = suc k in
       let o : ℕ = getD s j 0 in
-      let h = inside V s bytes short k 0xF0 e (omega arith) in
+      let h = inside ver s bytes short k 0xF0 e (omega arith) in
       let jl : j ≤ length s = omega arith in
       let d : drop k s ≡ (0xF0 ∷ []) ++ drop j s = drop-cons s k 0 h ∙ ap (λ (x : ℕ). x ∷ drop j s) e in
-      let rule : (x : Name Octets) (hw : NameHow) (os : Octets) (w : Vocabulary Octets) → Named V ofElement 0 (plainTables s (v .tables)) x hw os w
-      → ItemWrittenAs V (plainState s v) (Start x by forStart hw) ((0xF0 ∷ []) ++ os) (opened (plainState s v) w a) = λ x hw os w u. o-named-start md u in
+      let rule : (x : Name Octets) (hw : NameHow) (os : Octets) (w : Vocabulary Octets) → Named ver ofElement 0 (plainTables s (v .tables)) x hw os w
+      → ItemWrittenAs ver (plainState s v) (Start x by forStart hw) ((0xF0 ∷ []) ++ os) (opened (plainState s v) w a) = λ x hw os w u. o-named-start md u in
       test-lt P (stop 2 j) (fault s 2 j refl jl) j (length s) _
       λ h1. either-eq P (o % 64 / 4) 14 _ _ (λ y. fault s 5 j refl jl)
       λ h2. test-lt P (stop 6 j) (fault s 6 j refl jl) o 0x40 _
       λ h3. test-not P (stop 6 j) (fault s 6 j refl jl) (namePadding o) _
-      λ h4. start-sound a 0 j k (0xF0 ∷ []) v d (omega arith) jl rule (nameAt V ofElement s o j (v .tables))
-      (name-sound V s bytes short ofElement element-shape 0 o j (v .tables) ranged (λ y. omega arith) (λ y. omega arith) h1)
+      λ h4. start-sound a 0 j k (0xF0 ∷ []) v d (omega arith) jl rule (nameAt ver ofElement s o j (v .tables))
+      (name-sound ver s bytes short ofElement element-shape 0 o j (v .tables) ranged (λ y. omega arith) (λ y. omega arith) h1)
 
-  attribute-sound : (any : Bool) (k : ℕ) (v : State Located) → Ranged (plainTables s (v .tables)) → k ≤ length s → v .mode ≡ listing any → Took k v (attributeAt V s k v)
+  attribute-sound : (any : Bool) (k : ℕ) (v : State Located) → Ranged (plainTables s (v .tables)) → k ≤ length s → v .mode ≡ listing any → Took k v (attributeAt ver s k v)
   unfolding attributeAt eventMap ofAttribute
   attribute-sound any k v ranged kl md =
       let P : Step → Type 0 = Took k v in
@@ -182,9 +182,9 @@ module _ (V : Version) (s : Octets) (bytes : (i : ℕ) → getD s i 0 < 256) (sh
       test-lt P (stop 2 k) (fault s 2 k refl kl) k (length s) _
       λ h. test-lt P (stop 5 k) (fault s 5 k refl kl) o 0x80 _
       λ h1. test-lt P (stop 6 k) (fault s 6 k refl kl) o 0x7C _
-      λ h2. in-step s P (λ c p f. f) (NameR V s bytes short ofAttribute 0) k (v .tables) (nameAt V ofAttribute s o k (v .tables))
-      (name-sound V s bytes short ofAttribute attribute-shape 0 o k (v .tables) ranged (λ y. omega arith) (λ y. omega arith) h) _
-      λ x k₁ w₁ r₁. in-step s P (λ c p f. f) (ValueR V s bytes short ATTRIBUTE-VALUE) k₁ w₁ (valueAt V s ATTRIBUTE-VALUE k₁ w₁) (value-sound V s bytes short ATTRIBUTE-VALUE k₁ w₁ (r₁ .inside)) _
+      λ h2. in-step s P (λ c p f. f) (NameR ver s bytes short ofAttribute 0) k (v .tables) (nameAt ver ofAttribute s o k (v .tables))
+      (name-sound ver s bytes short ofAttribute attribute-shape 0 o k (v .tables) ranged (λ y. omega arith) (λ y. omega arith) h) _
+      λ x k₁ w₁ r₁. in-step s P (λ c p f. f) (ValueR ver s bytes short ATTRIBUTE-VALUE) k₁ w₁ (valueAt ver s ATTRIBUTE-VALUE k₁ w₁) (value-sound ver s bytes short ATTRIBUTE-VALUE k₁ w₁ (r₁ .inside)) _
       λ y k₂ w₂ r₂.
       let n1 = r₁ .next-is in
       let n2 = r₂ .next-is in
@@ -193,30 +193,30 @@ module _ (V : Version) (s : Octets) (bytes : (i : ℕ) → getD s i 0 < 256) (sh
       (r₁ .here ∙ ap (λ (l : Octets). r₁ .octets ++ l) (r₂ .here) ∙ sym (append-assoc (r₁ .octets) (r₂ .octets) (drop k₂ s)))
       (omega arith) (r₂ .inside) kl (o-attribute md (r₁ .rule) (r₂ .rule))
 
-  chunk-sound : (k : ℕ) (v : State Located) → k ≤ length s → v .mode ≡ content → 0 < v .level → 0x80 ≤ getD s k 0 → getD s k 0 < 0xC0 → Took k v (chunkAt V s k v)
+  chunk-sound : (k : ℕ) (v : State Located) → k ≤ length s → v .mode ≡ content → 0 < v .level → 0x80 ≤ getD s k 0 → getD s k 0 < 0xC0 → Took k v (chunkAt ver s k v)
   unfolding chunkAt eventMap c15
   chunk-sound k v kl md lev lo hi =
-      in-step s (Took k v) (λ c p f. f) (LiteralR V s bytes short c15 CONTENT-CHARACTER-CHUNK) k (v .tables) (literalAt V c15 s CONTENT-CHARACTER-CHUNK k (v .tables))
-      (literal-sound V s bytes short c15 shape15 CONTENT-CHARACTER-CHUNK k (v .tables) kl (omega arith) (omega arith)) _
+      in-step s (Took k v) (λ c p f. f) (LiteralR ver s bytes short c15 CONTENT-CHARACTER-CHUNK) k (v .tables) (literalAt ver c15 s CONTENT-CHARACTER-CHUNK k (v .tables))
+      (literal-sound ver s bytes short c15 shape15 CONTENT-CHARACTER-CHUNK k (v .tables) kl (omega arith) (omega arith)) _
       λ y next w r. took k v k (Text (y .string) by forText (y .how)) next (knowing v w) (r .octets) (r .here) (r .next-is) (r .inside) kl (o-text md lev (r .rule))
 
-  comment-sound : (k : ℕ) (v : State Located) → v .mode ≡ content → getD s k 0 ≡ 0xE2 → k < length s → Took k v (commentAt V s k v)
+  comment-sound : (k : ℕ) (v : State Located) → v .mode ≡ content → getD s k 0 ≡ 0xE2 → k < length s → Took k v (commentAt ver s k v)
   unfolding commentAt eventMap
   comment-sound k v md e h =
       let kl : k ≤ length s = omega arith in
-      in-step s (Took k v) (λ c p f. f) (ValueR V s bytes short OTHER-STRING) (suc k) (v .tables) (valueAt V s OTHER-STRING (suc k) (v .tables)) (value-sound V s bytes short OTHER-STRING (suc k) (v .tables) h) _
+      in-step s (Took k v) (λ c p f. f) (ValueR ver s bytes short OTHER-STRING) (suc k) (v .tables) (valueAt ver s OTHER-STRING (suc k) (v .tables)) (value-sound ver s bytes short OTHER-STRING (suc k) (v .tables) h) _
       λ y next w r.
       let n1 = r .next-is in
       took k v k (Comment (y .string) by forComment (y .how)) next (knowing v w) (0xE2 ∷ r .octets)
       (drop-cons s k 0 h ∙ ap₂ (λ (x : ℕ) (l : Octets). x ∷ l) e (r .here)) (omega arith) (r .inside) kl (o-comment md (r .rule))
 
-  instruction-sound : (k : ℕ) (v : State Located) → v .mode ≡ content → getD s k 0 ≡ 0xE1 → k < length s → Took k v (instructionAt V s k v)
+  instruction-sound : (k : ℕ) (v : State Located) → v .mode ≡ content → getD s k 0 ≡ 0xE1 → k < length s → Took k v (instructionAt ver s k v)
   unfolding instructionAt eventMap
   instruction-sound k v md e h =
       let kl : k ≤ length s = omega arith in
       let P : Step → Type 0 = Took k v in
-      in-step s P (λ c p f. f) (IdR V s bytes short OTHER-NCNAME) (suc k) (v .tables) (idAt V s OTHER-NCNAME (suc k) (v .tables)) (id-sound V s bytes short OTHER-NCNAME (suc k) (v .tables) h) _
-      λ x k₁ w₁ r₁. in-step s P (λ c p f. f) (ValueR V s bytes short OTHER-STRING) k₁ w₁ (valueAt V s OTHER-STRING k₁ w₁) (value-sound V s bytes short OTHER-STRING k₁ w₁ (r₁ .inside)) _
+      in-step s P (λ c p f. f) (IdR ver s bytes short OTHER-NCNAME) (suc k) (v .tables) (idAt ver s OTHER-NCNAME (suc k) (v .tables)) (id-sound ver s bytes short OTHER-NCNAME (suc k) (v .tables) h) _
+      λ x k₁ w₁ r₁. in-step s P (λ c p f. f) (ValueR ver s bytes short OTHER-STRING) k₁ w₁ (valueAt ver s OTHER-STRING k₁ w₁) (value-sound ver s bytes short OTHER-STRING k₁ w₁ (r₁ .inside)) _
       λ y k₂ w₂ r₂.
       let n1 = r₁ .next-is in
       let n2 = r₂ .next-is in
@@ -225,13 +225,13 @@ module _ (V : Version) (s : Octets) (bytes : (i : ℕ) → getD s i 0 < 256) (sh
       (drop-cons s k 0 h ∙ ap₂ (λ (x : ℕ) (l : Octets). x ∷ l) e (r₁ .here ∙ ap (λ (l : Octets). r₁ .octets ++ l) (r₂ .here) ∙ sym (append-assoc (r₁ .octets) (r₂ .octets) (drop k₂ s))))
       (omega arith) (r₂ .inside) kl (o-instruction md (r₁ .rule) (r₂ .rule))
 
-  other-sound : (k : ℕ) (v : State Located) → k ≤ length s → Took k v (otherAt V s k v)
+  other-sound : (k : ℕ) (v : State Located) → k ≤ length s → Took k v (otherAt ver s k v)
   unfolding otherAt
   other-sound k v kl =
       let P : Step → Type 0 = Took k v in
       either-lt P (getD s k 0) 0xF0 _ _ (λ h. either-eq P (getD s k 0 / 4) (pick (ltb 0 (v .level)) 0x32 0x31) _ _ (λ e. fault s 8 k refl kl) (λ e. fault s 5 k refl kl)) (λ h. fault s 6 k refl kl)
 
-  child-sound : (k : ℕ) (v : State Located) → Ranged (plainTables s (v .tables)) → k ≤ length s → v .mode ≡ content → Took k v (childAt V s k v)
+  child-sound : (k : ℕ) (v : State Located) → Ranged (plainTables s (v .tables)) → k ≤ length s → v .mode ≡ content → Took k v (childAt ver s k v)
   unfolding childAt
   child-sound k v ranged kl md =
       let o : ℕ = getD s k 0 in
@@ -243,7 +243,7 @@ module _ (V : Version) (s : Octets) (bytes : (i : ℕ) → getD s i 0 < 256) (sh
       λ h3. either-eq P o 0xE1 _ _ (λ e. instruction-sound k v md e h)
       λ e1. either-eq P o 0xE2 _ _ (λ e. comment-sound k v md e h) (λ e2. other-sound k v kl)
 
-  pub item-sound : (k : ℕ) (v : State Located) (m : Mode) → Ranged (plainTables s (v .tables)) → k ≤ length s → v .mode ≡ m → Took k v (itemAt V s k v m)
+  pub item-sound : (k : ℕ) (v : State Located) (m : Mode) → Ranged (plainTables s (v .tables)) → k ≤ length s → v .mode ≡ m → Took k v (itemAt ver s k v m)
   unfolding itemAt declaringAt
   item-sound k v content ranged kl md = child-sound k v ranged kl md
   item-sound k v (declaring a) ranged kl md =
@@ -252,13 +252,13 @@ module _ (V : Version) (s : Octets) (bytes : (i : ℕ) → getD s i 0 < 256) (sh
   item-sound k v (listing any) ranged kl md = attribute-sound any k v ranged kl md
 
 -- ---- what the rules write is read
-module _ (V : Version) (s : Octets) where
+module _ (ver : Version) (s : Octets) where
   -- p is where its strings are spelled
   pub record ItemHit (k : ℕ) (v : State Located) (i : Item Octets) (o : Octets) (w : State Octets) (p : List Located) : Type 0 where
     pub place : ℕ
     pub found : Item Located
     pub n : State Located
-    pub goes : itemAt V s k v (v .mode) ≡ more place found (octet (k + length o) n)
+    pub goes : itemAt ver s k v (v .mode) ≡ more place found (octet (k + length o) n)
     pub what : plain s found ≡ i
     pub spells : itemSpelled found ≡ p
     pub state : plainState s n ≡ w
@@ -267,19 +267,19 @@ module _ (V : Version) (s : Octets) where
     pub first : byHalves (v .mode) ≡ true → getD s k 0 < 0xF0
 
   -- which child the first octet says
-  element-goes : (a : Bool) (k b : ℕ) (v : State Located) → getD s k 0 ≡ 64 * bit a + b → b < 64 → k < length s → childAt V s k v ≡ elementAt V s k b a v
+  element-goes : (a : Bool) (k b : ℕ) (v : State Located) → getD s k 0 ≡ 64 * bit a + b → b < 64 → k < length s → childAt ver s k v ≡ elementAt ver s k b a v
   unfolding childAt
   element-goes false k b v e h l =
       let z : getD s k 0 ≡ b = omega arith in
       pick-yes (ltb k (length s)) _ _ (lt-ltb k (length s) l)
-      ∙ pick-yes (ltb (getD s k 0) 0x40) _ _ (lt-ltb (getD s k 0) 0x40 (omega arith)) ∙ ap (λ (y : ℕ). elementAt V s k y false v) z
+      ∙ pick-yes (ltb (getD s k 0) 0x40) _ _ (lt-ltb (getD s k 0) 0x40 (omega arith)) ∙ ap (λ (y : ℕ). elementAt ver s k y false v) z
   element-goes true k b v e h l =
       let z : getD s k 0 - 0x40 ≡ b = omega arith in
       pick-yes (ltb k (length s)) _ _ (lt-ltb k (length s) l)
       ∙ pick-no (ltb (getD s k 0) 0x40) _ _ (le-ltb (getD s k 0) 0x40 (omega arith))
-      ∙ pick-yes (ltb (getD s k 0) 0x80) _ _ (lt-ltb (getD s k 0) 0x80 (omega arith)) ∙ ap (λ (y : ℕ). elementAt V s k y true v) z
+      ∙ pick-yes (ltb (getD s k 0) 0x80) _ _ (lt-ltb (getD s k 0) 0x80 (omega arith)) ∙ ap (λ (y : ℕ). elementAt ver s k y true v) z
 
-  chunk-goes : (k : ℕ) (v : State Located) → 0 < v .level → c15 .spelledBits ≤ getD s k 0 → getD s k 0 < c15 .numberedBits + rooms (c15 .numberForms) → k < length s → childAt V s k v ≡ chunkAt V s k v
+  chunk-goes : (k : ℕ) (v : State Located) → 0 < v .level → c15 .spelledBits ≤ getD s k 0 → getD s k 0 < c15 .numberedBits + rooms (c15 .numberForms) → k < length s → childAt ver s k v ≡ chunkAt ver s k v
   unfolding childAt c15 roomsIn shareOf behindFirst numbers
   chunk-goes k v lev lo hi l =
       pick-yes (ltb k (length s)) _ _ (lt-ltb k (length s) l)
@@ -290,7 +290,7 @@ module _ (V : Version) (s : Octets) where
 
   -- an octet from C0 on
   high-goes : (k : ℕ) (v : State Located) → 0xC0 ≤ getD s k 0 → k < length s
-      → childAt V s k v ≡ pick (eqb (getD s k 0) 0xE1) (instructionAt V s k v) (pick (eqb (getD s k 0) 0xE2) (commentAt V s k v) (otherAt V s k v))
+      → childAt ver s k v ≡ pick (eqb (getD s k 0) 0xE1) (instructionAt ver s k v) (pick (eqb (getD s k 0) 0xE2) (commentAt ver s k v) (otherAt ver s k v))
   unfolding childAt
   high-goes k v lo l =
       pick-yes (ltb k (length s)) _ _ (lt-ltb k (length s) l)
@@ -298,13 +298,13 @@ module _ (V : Version) (s : Octets) where
       ∙ pick-no (ltb (getD s k 0) 0x80) _ _ (le-ltb (getD s k 0) 0x80 (omega arith))
       ∙ pick-no (ltb (getD s k 0) 0xC0) _ _ (le-ltb (getD s k 0) 0xC0 (omega arith))
 
-  comment-goes : (k : ℕ) (v : State Located) → getD s k 0 ≡ 0xE2 → k < length s → childAt V s k v ≡ commentAt V s k v
+  comment-goes : (k : ℕ) (v : State Located) → getD s k 0 ≡ 0xE2 → k < length s → childAt ver s k v ≡ commentAt ver s k v
   comment-goes k v e l =
       high-goes k v (omega arith) l
       ∙ pick-no (eqb (getD s k 0) 0xE1) _ _ (ne-eqb (getD s k 0) 0xE1 (omega arith))
       ∙ pick-yes (eqb (getD s k 0) 0xE2) _ _ (eq-eqb (getD s k 0) 0xE2 e)
 
-  instruction-goes : (k : ℕ) (v : State Located) → getD s k 0 ≡ 0xE1 → k < length s → childAt V s k v ≡ instructionAt V s k v
+  instruction-goes : (k : ℕ) (v : State Located) → getD s k 0 ≡ 0xE1 → k < length s → childAt ver s k v ≡ instructionAt ver s k v
   instruction-goes k v e l = high-goes k v (omega arith) l ∙ pick-yes (eqb (getD s k 0) 0xE1) _ _ (eq-eqb (getD s k 0) 0xE1 e)
 
   not-halves : (m : Mode) (a : Bool) {X : Type 0} → m ≡ declaring a → byHalves m ≡ true → X
@@ -315,21 +315,21 @@ module _ (V : Version) (s : Octets) where
     name : NameRead
     tables : Vocabulary Located
     goes : t ≡ more k (Start (name .name) by forStart (name .how)) (octet (k + length os) (opened v tables a))
-    what : NameQ V s x h p name
+    what : NameQ ver s x h p name
     state : plainTables s tables ≡ w
 
-  start-of : (a : Bool) (k : ℕ) (v : State Located) {x : Name Octets} {h : NameHow} {os : Octets} {w : Vocabulary Octets} {p : List Located} (g : Got NameRead) → Hit s (NameQ V s x h p) (k + length os) w g → StartHit a k v x h os w p (startOf V k a v g)
+  start-of : (a : Bool) (k : ℕ) (v : State Located) {x : Name Octets} {h : NameHow} {os : Octets} {w : Vocabulary Octets} {p : List Located} (g : Got NameRead) → Hit s (NameQ ver s x h p) (k + length os) w g → StartHit a k v x h os w p (startOf ver k a v g)
   start-of a k v g h = record { name = h .b; tables = h .v; goes = rw (h .goes); what = h .what; state = h .state }
 
-  element-hit : (a : Bool) (k : ℕ) (v : State Located) {x : Name Octets} {h : NameHow} {os : Octets} {w : Vocabulary Octets} {p : List Located} → mayStart v ≡ true → v .level < V .depth → k < length s
-      → NameHit V s ofElement (64 * bit a) k (v .tables) x h os w p → StartHit a k v x h os w p (childAt V s k v)
+  element-hit : (a : Bool) (k : ℕ) (v : State Located) {x : Name Octets} {h : NameHow} {os : Octets} {w : Vocabulary Octets} {p : List Located} → mayStart v ≡ true → v .level < ver .depth → k < length s
+      → NameHit ver s ofElement (64 * bit a) k (v .tables) x h os w p → StartHit a k v x h os w p (childAt ver s k v)
   unfolding elementAt ofElement roomsIn shareOf behindFirst numbers
   element-hit a k v {os = os} may deep l (hit-numbered o oc hi n c e hit) =
       let z : getD s k 0 % 64 ≡ o = let b1 = one-bit a in omega arith in
       record {
         name = hit .b;
         tables = hit .v;
-        goes = element-goes a k o v oc (omega arith) l ∙ rw (number-unpadded s k o n c e z hi, may, lt-ltb o 0x38 hi, hit .goes, lt-ltb (v .level) (V .depth) deep);
+        goes = element-goes a k o v oc (omega arith) l ∙ rw (number-unpadded s k o n c e z hi, may, lt-ltb o 0x38 hi, hit .goes, lt-ltb (v .level) (ver .depth) deep);
         what = hit .what;
         state = hit .state;
       }
@@ -338,13 +338,13 @@ module _ (V : Version) (s : Octets) where
         name = hit .b;
         tables = hit .v;
         goes = element-goes a k o v oc hi l
-            ∙ rw (parts-unpadded o lo hi, may, le-ltb o 0x38 (omega arith), le-leb 0x3C o lo, lone, lt-ltb (v .level) (V .depth) deep, ne-eqb o 0x38 (omega arith), hit .goes);
+            ∙ rw (parts-unpadded o lo hi, may, le-ltb o 0x38 (omega arith), le-leb 0x3C o lo, lone, lt-ltb (v .level) (ver .depth) deep, ne-eqb o 0x38 (omega arith), hit .goes);
         what = hit .what;
         state = hit .state;
       }
 
   named-hit : (a : Bool) (k : ℕ) (v : State Located) {x : Name Octets} {h : NameHow} {os : Octets} {w : Vocabulary Octets} {p : List Located} → k < length s
-      → NameHit V s ofElement 0 k (v .tables) x h os w p → StartHit a k v x h os w p (namedAt V s k a v)
+      → NameHit ver s ofElement 0 k (v .tables) x h os w p → StartHit a k v x h os w p (namedAt ver s k a v)
   unfolding namedAt nameAt ofElement roomsIn shareOf behindFirst numbers
   named-hit a k v l (hit-numbered o oc hi n c e hit) =
       let q : getD s k 0 ≡ o = omega arith in
@@ -354,28 +354,28 @@ module _ (V : Version) (s : Octets) where
       rw (lt-ltb k (length s) l, q, ne-eqb (o % 64 / 4) 14 (omega arith), lt-ltb o 0x40 hi, parts-unpadded o lo hi, le-ltb o 0x3C lo) (start-of a k v _ hit)
 
   -- an attribute's name
-  attribute-hit : (k : ℕ) (v : Vocabulary Located) {x : Name Octets} {h : NameHow} {os : Octets} {w : Vocabulary Octets} {p : List Located} → NameHit V s ofAttribute 0 k v x h os w p
-      → Hit s (NameQ V s x h p) (k + length os) w (nameAt V ofAttribute s (getD s k 0) k v) × (getD s k 0 < 0x7C)
+  attribute-hit : (k : ℕ) (v : Vocabulary Located) {x : Name Octets} {h : NameHow} {os : Octets} {w : Vocabulary Octets} {p : List Located} → NameHit ver s ofAttribute 0 k v x h os w p
+      → Hit s (NameQ ver s x h p) (k + length os) w (nameAt ver ofAttribute s (getD s k 0) k v) × (getD s k 0 < 0x7C)
   unfolding nameAt ofAttribute roomsIn shareOf behindFirst c25
   attribute-hit k v (hit-numbered o oc hi n c e hit) = (rw (lt-ltb (getD s k 0) 0x78 (omega arith)) hit, omega arith)
   attribute-hit k v (hit-parts o oc lo hi lone hit) = let q : getD s k 0 ≡ o = omega arith in (rw (q, le-ltb o 0x78 lo) hit, omega arith)
 
-  name-first : (a : Bool) {k : ℕ} {v : Vocabulary Located} {x : Name Octets} {h : NameHow} {os : Octets} {w : Vocabulary Octets} {p : List Located} → NameHit V s ofElement (64 * bit a) k v x h os w p → getD s k 0 < 0x80
+  name-first : (a : Bool) {k : ℕ} {v : Vocabulary Located} {x : Name Octets} {h : NameHow} {os : Octets} {w : Vocabulary Octets} {p : List Located} → NameHit ver s ofElement (64 * bit a) k v x h os w p → getD s k 0 < 0x80
   unfolding ofElement roomsIn shareOf behindFirst numbers
   name-first a (hit-numbered o oc hi n c e hit) = let b1 = one-bit a in omega arith
   name-first a (hit-parts o oc lo hi lone hit) = let b1 = one-bit a in omega arith
 
-  pub item-complete : (k : ℕ) (v : State Located) {i : Item Octets} {o : Octets} {w : State Octets} (rest : Octets) (u : ItemWrittenAs V (plainState s v) i o w) → drop k s ≡ o ++ rest → ItemHit k v i o w (inItem k u)
+  pub item-complete : (k : ℕ) (v : State Located) {i : Item Octets} {o : Octets} {w : State Octets} (rest : Octets) (u : ItemWrittenAs ver (plainState s v) i o w) → drop k s ≡ o ++ rest → ItemHit k v i o w (inItem k u)
   unfolding itemAt declaringAt namespaceAt elementAt attributeAt chunkAt commentAt instructionAt eventMap mayStart ofElement ofAttribute
   item-complete k v rest (o-start a {o = os} md may deep u) d =
-      let c = name-complete V s ofElement element-shape (bit a) (64 * bit a) k (omega arith) (v .tables) rest u d in
+      let c = name-complete ver s ofElement element-shape (bit a) (64 * bit a) k (omega arith) (v .tables) rest u d in
       let t = element-hit a k v may deep (c .2) (c .0) in
       let f = name-first a (c .0) in
       record {
         place = k;
         found = Start (t .name .name) by forStart (t .name .how);
         n = opened v (t .tables) a;
-        goes = ap (λ (y : Mode). itemAt V s k v y) md ∙ t .goes;
+        goes = ap (λ (y : Mode). itemAt ver s k v y) md ∙ t .goes;
         what = λ j. Start (t .what .0 j) by forStart (t .what .1 j);
         spells = rw append-nil (t .what .2);
         state = ap (λ (y : Vocabulary Octets). opened (plainState s v) y a) (t .state);
@@ -387,7 +387,7 @@ module _ (V : Version) (s : Octets) where
       let f = drop-head s k (64 * bit a + 0x38) (os ++ rest) d in
       let oc = f .1 in
       let b1 = one-bit a in
-      let c = declared-complete V s (suc k) (v .tables) rest u (f .2) in
+      let c = declared-complete ver s (suc k) (v .tables) rest u (f .2) in
       let h = c .0 in
       let z : suc k + length os ≡ k + suc (length os) = omega arith in
       let pad : namePadding 0x38 ≡ false = unfold namePadding in refl in
@@ -395,7 +395,7 @@ module _ (V : Version) (s : Octets) where
         place = suc k;
         found = Namespace (h .b .prefix) (h .b .namespace) by forNamespace (h .b .prefixHow) (h .b .namespaceHow);
         n = moved v (h .v) (declaring a);
-        goes = ap (λ (y : Mode). itemAt V s k v y) md ∙ element-goes a k 0x38 v oc (omega arith) (f .0) ∙ rw (pad, may, lt-ltb (v .level) (V .depth) deep, h .goes, z);
+        goes = ap (λ (y : Mode). itemAt ver s k v y) md ∙ element-goes a k 0x38 v oc (omega arith) (f .0) ∙ rw (pad, may, lt-ltb (v .level) (ver .depth) deep, h .goes, z);
         what = λ j. Namespace (h .what .0 j) (h .what .1 j) by forNamespace (h .what .2 j) (h .what .3 j);
         spells = rw append-nil (h .what .4);
         state = ap (λ (y : Vocabulary Octets). moved (plainState s v) y (declaring a)) (h .state);
@@ -404,7 +404,7 @@ module _ (V : Version) (s : Octets) where
         first = λ y. omega arith;
       }
   item-complete k v rest (o-namespace {a = a} {o = os} md u) d =
-      let c = declared-complete V s k (v .tables) rest u d in
+      let c = declared-complete ver s k (v .tables) rest u d in
       let h = c .0 in
       let lo = c .1 in
       let hi = c .2 in
@@ -412,7 +412,7 @@ module _ (V : Version) (s : Octets) where
         place = k;
         found = Namespace (h .b .prefix) (h .b .namespace) by forNamespace (h .b .prefixHow) (h .b .namespaceHow);
         n = moved v (h .v) (declaring a);
-        goes = ap (λ (y : Mode). itemAt V s k v y) md ∙ rw (ne-eqb (getD s k 0) 0xF0 (omega arith), h .goes);
+        goes = ap (λ (y : Mode). itemAt ver s k v y) md ∙ rw (ne-eqb (getD s k 0) 0xF0 (omega arith), h .goes);
         what = λ j. Namespace (h .what .0 j) (h .what .1 j) by forNamespace (h .what .2 j) (h .what .3 j);
         spells = rw append-nil (h .what .4);
         state = ap (λ (y : Vocabulary Octets). moved (plainState s v) y (declaring a)) (h .state);
@@ -422,14 +422,14 @@ module _ (V : Version) (s : Octets) where
       }
   item-complete k v rest (o-named-start {a = a} {o = os} md u) d =
       let f = drop-head s k 0xF0 (os ++ rest) d in
-      let c = name-complete V s ofElement element-shape 0 0 (suc k) refl (v .tables) rest u (f .2) in
+      let c = name-complete ver s ofElement element-shape 0 0 (suc k) refl (v .tables) rest u (f .2) in
       let t = named-hit a (suc k) v (c .2) (c .0) in
       let z : suc k + length os ≡ k + suc (length os) = omega arith in
       record {
         place = suc k;
         found = Start (t .name .name) by forStart (t .name .how);
         n = opened v (t .tables) a;
-        goes = ap (λ (y : Mode). itemAt V s k v y) md ∙ rw (eq-eqb (getD s k 0) 0xF0 (f .1), t .goes, z);
+        goes = ap (λ (y : Mode). itemAt ver s k v y) md ∙ rw (eq-eqb (getD s k 0) 0xF0 (f .1), t .goes, z);
         what = λ j. Start (t .what .0 j) by forStart (t .what .1 j);
         spells = rw append-nil (t .what .2);
         state = ap (λ (y : Vocabulary Octets). opened (plainState s v) y a) (t .state);
@@ -439,11 +439,11 @@ module _ (V : Version) (s : Octets) where
       }
   item-complete k v rest (o-attribute {some = any} {y = y} {g = g} {o₁ = o1} {o₂ = o2} {w₁ = w1} {w₂ = w2} md u1 u2) d =
       let d1 : drop k s ≡ o1 ++ (o2 ++ rest) = d ∙ append-assoc o1 o2 rest in
-      let c = name-complete V s ofAttribute attribute-shape 0 0 k refl (v .tables) (o2 ++ rest) u1 d1 in
+      let c = name-complete ver s ofAttribute attribute-shape 0 0 k refl (v .tables) (o2 ++ rest) u1 d1 in
       let t = attribute-hit k (v .tables) (c .0) in
       let h = t .0 in
       let hi = t .1 in
-      let e = value-complete V s ATTRIBUTE-VALUE (k + length o1) (h .v) rest (subst (λ (x : Vocabulary Octets). Value V ATTRIBUTE-VALUE x y g o2 w2) (sym (h .state)) u2) (drop-past s k o1 (o2 ++ rest) d1) in
+      let e = value-complete ver s ATTRIBUTE-VALUE (k + length o1) (h .v) rest (subst (λ (x : Vocabulary Octets). Value ver ATTRIBUTE-VALUE x y g o2 w2) (sym (h .state)) u2) (drop-past s k o1 (o2 ++ rest) d1) in
       let la = length-append o1 o2 in
       let z : k + length o1 + length o2 ≡ k + length (o1 ++ o2) = omega arith in
       let sm = c .1 in
@@ -451,7 +451,7 @@ module _ (V : Version) (s : Octets) where
         place = k;
         found = Attribute (h .b .name) (e .b .string) by forAttribute (h .b .how) (e .b .how);
         n = moved v (e .v) (listing true);
-        goes = ap (λ (y : Mode). itemAt V s k v y) md ∙ rw (lt-ltb k (length s) (c .2), lt-ltb (getD s k 0) 0x80 (omega arith), lt-ltb (getD s k 0) 0x7C hi, h .goes, e .goes, z);
+        goes = ap (λ (y : Mode). itemAt ver s k v y) md ∙ rw (lt-ltb k (length s) (c .2), lt-ltb (getD s k 0) 0x80 (omega arith), lt-ltb (getD s k 0) 0x7C hi, h .goes, e .goes, z);
         what = λ j. Attribute (h .what .0 j) (e .what .0 j) by forAttribute (h .what .1 j) (e .what .1 j);
         spells = rw append-nil (λ j. h .what .2 j ++ e .what .2 j);
         state = ap (λ (y : Vocabulary Octets). moved (plainState s v) y (listing true)) (e .state);
@@ -460,13 +460,13 @@ module _ (V : Version) (s : Octets) where
         first = λ y. omega arith;
       }
   item-complete k v rest (o-text {o = os} md lev u) d =
-      let c = literal-complete V s c15 shape15 CONTENT-CHARACTER-CHUNK k (v .tables) rest u d in
+      let c = literal-complete ver s c15 shape15 CONTENT-CHARACTER-CHUNK k (v .tables) rest u d in
       let h = c .hit in
       record {
         place = k;
         found = Text (h .b .string) by forText (h .b .how);
         n = knowing v (h .v);
-        goes = ap (λ (y : Mode). itemAt V s k v y) md ∙ chunk-goes k v lev (c .low) (c .last) (c .here) ∙ rw (h .goes);
+        goes = ap (λ (y : Mode). itemAt ver s k v y) md ∙ chunk-goes k v lev (c .low) (c .last) (c .here) ∙ rw (h .goes);
         what = λ j. Text (h .what .0 j) by forText (h .what .1 j);
         spells = rw append-nil (h .what .2);
         state = ap (λ (y : Vocabulary Octets). knowing (plainState s v) y) (h .state);
@@ -476,14 +476,14 @@ module _ (V : Version) (s : Octets) where
       }
   item-complete k v rest (o-comment {o = os} md u) d =
       let f = drop-head s k 0xE2 (os ++ rest) d in
-      let h = value-complete V s OTHER-STRING (suc k) (v .tables) rest u (f .2) in
+      let h = value-complete ver s OTHER-STRING (suc k) (v .tables) rest u (f .2) in
       let z : suc k + length os ≡ k + suc (length os) = omega arith in
       let oc = f .1 in
       record {
         place = k;
         found = Comment (h .b .string) by forComment (h .b .how);
         n = knowing v (h .v);
-        goes = ap (λ (y : Mode). itemAt V s k v y) md ∙ comment-goes k v oc (f .0) ∙ rw (h .goes, z);
+        goes = ap (λ (y : Mode). itemAt ver s k v y) md ∙ comment-goes k v oc (f .0) ∙ rw (h .goes, z);
         what = λ j. Comment (h .what .0 j) by forComment (h .what .1 j);
         spells = rw append-nil (h .what .2);
         state = ap (λ (y : Vocabulary Octets). knowing (plainState s v) y) (h .state);
@@ -495,15 +495,15 @@ module _ (V : Version) (s : Octets) where
       let f = drop-head s k 0xE1 ((o1 ++ o2) ++ rest) d in
       let oc = f .1 in
       let d1 : drop (suc k) s ≡ o1 ++ (o2 ++ rest) = f .2 ∙ append-assoc o1 o2 rest in
-      let h = id-complete V s OTHER-NCNAME (suc k) (v .tables) (o2 ++ rest) u1 d1 in
-      let e = value-complete V s OTHER-STRING (suc k + length o1) (h .v) rest (subst (λ (z : Vocabulary Octets). Value V OTHER-STRING z y g o2 w2) (sym (h .state)) u2) (drop-past s (suc k) o1 (o2 ++ rest) d1) in
+      let h = id-complete ver s OTHER-NCNAME (suc k) (v .tables) (o2 ++ rest) u1 d1 in
+      let e = value-complete ver s OTHER-STRING (suc k + length o1) (h .v) rest (subst (λ (z : Vocabulary Octets). Value ver OTHER-STRING z y g o2 w2) (sym (h .state)) u2) (drop-past s (suc k) o1 (o2 ++ rest) d1) in
       let la = length-append o1 o2 in
       let z : suc k + length o1 + length o2 ≡ k + suc (length (o1 ++ o2)) = omega arith in
       record {
         place = k;
         found = Instruction (h .b .string) (e .b .string) by forInstruction (h .b .how) (e .b .how);
         n = knowing v (e .v);
-        goes = ap (λ (y : Mode). itemAt V s k v y) md ∙ instruction-goes k v oc (f .0) ∙ rw (h .goes, e .goes, z);
+        goes = ap (λ (y : Mode). itemAt ver s k v y) md ∙ instruction-goes k v oc (f .0) ∙ rw (h .goes, e .goes, z);
         what = λ j. Instruction (h .what .0 j) (e .what .0 j) by forInstruction (h .what .1 j) (e .what .1 j);
         spells = rw append-nil (λ j. h .what .3 j ++ e .what .2 j);
         state = ap (λ (y : Vocabulary Octets). knowing (plainState s v) y) (e .state);

@@ -41,7 +41,7 @@ join-item : (at : ℕ) (o : Octets) (hs : Halves) → halves (joined hs) ≡ hs 
 unfolding pad
 join-item at o hs k = parity at (λ z. rw z (join-octets o hs k)) (λ z. rw z (λ h. join-two h 0 (halves o ++ hs) (omega arith) (join-octets o hs k)))
 
-joins-from : {V : Version} {at : ℕ} {v z : State Octets} {items : List (Item Octets)} {hs : Halves} → Written V at v items hs z → Joins (at % 2) hs
+joins-from : {ver : Version} {at : ℕ} {v z : State Octets} {items : List (Item Octets)} {hs : Halves} → Written ver at v items hs z → Joins (at % 2) hs
 unfolding pad aligned halves joined
 joins-from (document-end {at = at} md lv rt) =
     parity at (λ z. let y : suc at % 2 ≡ 1 = omega arith in rw (z, y)) (λ z. let y : suc at % 2 ≡ 0 = omega arith in rw (z, y) (λ h. join-two h 15 [] (omega arith) refl))
@@ -52,10 +52,10 @@ joins-from (item {at = at} {o = o} {hs = hs} u w) =
     join-item at o hs (rw y at (joins-from w))
 
 -- ---- behind the header
-module _ {V : Version} {v z : State Octets} {items : List (Item Octets)} {hs : Halves} where
-  pub joins : Written V (2 * length (header V)) v items hs z → halves (joined hs) ≡ hs
-  joins w = let e : 2 * length (header V) % 2 ≡ 0 = omega arith in rw e at (joins-from w)
+module _ {ver : Version} {v z : State Octets} {items : List (Item Octets)} {hs : Halves} where
+  pub joins : Written ver (2 * length (header ver)) v items hs z → halves (joined hs) ≡ hs
+  joins w = let e : 2 * length (header ver) % 2 ≡ 0 = omega arith in rw e at (joins-from w)
 
-abbrev pub document-of : {V : Version} {z : State Octets} {items : List (Item Octets)} {hs : Halves} → Written V (2 * length (header V)) (beginning (started V)) items hs z → length (header V ++ joined hs) ≤ V .octets
-    → Document V items z (header V ++ joined hs)
-document-of {V} {hs = hs} w short = record { body = hs; here = halves-append (header V) (joined hs) ∙ ap (λ (l : Octets). halves (header V) ++ l) (joins w); rule = w; short = short }
+abbrev pub document-of : {ver : Version} {z : State Octets} {items : List (Item Octets)} {hs : Halves} → Written ver (2 * length (header ver)) (beginning (started ver)) items hs z → length (header ver ++ joined hs) ≤ ver .octets
+    → Document ver items z (header ver ++ joined hs)
+document-of {ver} {hs = hs} w short = record { body = hs; here = halves-append (header ver) (joined hs) ∙ ap (λ (l : Octets). halves (header ver) ++ l) (joins w); rule = w; short = short }

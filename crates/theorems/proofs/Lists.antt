@@ -16,7 +16,7 @@ use Rattle.read_items.specs.Steps.{halfAt, endsAt, padsAt}
 use Rattle.tables.proofs.Found.{clash, both-true}
 
 -- ---- tests
--- a refusal: one of 01's numbers for a reader, at a place in the document or at its length
+-- a refusal: one of the requirements' numbers for a reader, at a place in the document or at its length
 abbrev pub Refusal : Octets → ℕ → ℕ → Type 0
 Refusal s n p = (1 ≤ n) × (n ≤ 15) × (p ≤ length s)
 

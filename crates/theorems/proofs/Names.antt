@@ -88,14 +88,14 @@ unfolding ofAttribute roomsIn shareOf behindFirst c25
 attribute-shape = record { numbers-ok = c25-ordered; numbers-fit = omega arith; even = refl }
 
 -- ---- what is read is what the rules write
-module _ (V : Version) (s : Octets) (bytes : (i : ℕ) → getD s i 0 < 256) (short : length s ≤ longest) where
+module _ (ver : Version) (s : Octets) (bytes : (i : ℕ) → getD s i 0 < 256) (short : length s ≤ longest) where
   abbrev pub NameR : NameLayout → ℕ → Vocabulary Octets → NameRead → Octets → Vocabulary Octets → Type 0
-  NameR q lead v b o w = Named V q lead v (nameMap (octetsOf s) (b .name)) (b .how) o w
+  NameR q lead v b o w = Named ver q lead v (nameMap (octetsOf s) (b .name)) (b .how) o w
 
   three-parts : (k : ℕ) (a b c : Octets) (k₁ k₂ k₃ : ℕ) → drop k s ≡ a ++ drop k₁ s → drop k₁ s ≡ b ++ drop k₂ s → drop k₂ s ≡ c ++ drop k₃ s → drop k s ≡ (a ++ (b ++ c)) ++ drop k₃ s
   three-parts k a b c k₁ k₂ k₃ p q r = p ∙ ap (λ (l : Octets). a ++ l) (q ∙ ap (λ (l : Octets). b ++ l) r) ∙ simp append-assoc
 
-  pub numbered-sound : (q : NameLayout) → NameShape q → (lead k : ℕ) (v : Vocabulary Located) → Ranged (plainTables s v) → k ≤ length s → getD s k 0 ≡ lead + getD s k 0 % 2 ^ (9 - nameBit (q .table)) → Ok s (NameR q lead) k v (numberedAt V q s k v)
+  pub numbered-sound : (q : NameLayout) → NameShape q → (lead k : ℕ) (v : Vocabulary Located) → Ranged (plainTables s v) → k ≤ length s → getD s k 0 ≡ lead + getD s k 0 % 2 ^ (9 - nameBit (q .table)) → Ok s (NameR q lead) k v (numberedAt ver q s k v)
   unfolding numberedAt octetsOf strings
   numbered-sound q g lead k v ranged kl z =
       let P : Got NameRead → Type 0 = Ok s (NameR q lead) k v in
@@ -111,26 +111,26 @@ module _ (V : Version) (s : Octets) (bytes : (i : ℕ) → getD s i 0 < 256) (sh
       let i = ranged (q .table) (r .v) x en in
       record {
         octets = spell (q .numberForms) lead n;
-        rule = subst₂ (λ (m : ℕ) (y : Name Octets). Named V q lead (plainTables s v) y (byNumber m) (spell (q .numberForms) lead m) (plainTables s v)) (sym y) (sym (name-map (octetsOf s) v empty x))
+        rule = subst₂ (λ (m : ℕ) (y : Name Octets). Named ver q lead (plainTables s v) y (byNumber m) (spell (q .numberForms) lead m) (plainTables s v)) (sym y) (sym (name-map (octetsOf s) v empty x))
             (by-number (omega arith) (r .small) en (means-at [] (plainTables s v) x (i .prefix) (i .namespace) (i .some-local) (i .local)));
         here = r .here;
         next-is = r .next-is;
         inside = r .inside;
       }
 
-  pub parts-sound : (q : NameLayout) (lead b k : ℕ) (v : Vocabulary Located) → getD s k 0 ≡ lead + q .inPartsBits + b % 4 → k < length s → Ok s (NameR q lead) k v (partsAt V q s b k v)
+  pub parts-sound : (q : NameLayout) (lead b k : ℕ) (v : Vocabulary Located) → getD s k 0 ≡ lead + q .inPartsBits + b % 4 → k < length s → Ok s (NameR q lead) k v (partsAt ver q s b k v)
   unfolding partsAt
   parts-sound q lead b k v z h =
       let kl : k ≤ length s = omega arith in
       let P : Got NameRead → Type 0 = Ok s (NameR q lead) k v in
       either-eq P (b % 4) 2 _ _ (λ y. fault s 15 k refl kl)
-      λ h3. on-field s P (λ c p f. f) (OptionalR V s bytes short (prefixBit b) PREFIX) (suc k) v (optionalAt V (prefixBit b) s PREFIX (suc k) v) (optional-sound V s bytes short (prefixBit b) PREFIX (suc k) v h) _
-      λ p k₁ v₁ r₁. on-field s P (λ c p f. f) (OptionalR V s bytes short (namespaceBit b) NAMESPACE-NAME) k₁ v₁ (optionalAt V (namespaceBit b) s NAMESPACE-NAME k₁ v₁) (optional-sound V s bytes short (namespaceBit b) NAMESPACE-NAME k₁ v₁ (r₁ .inside)) _
-      λ n k₂ v₂ r₂. on-field s P (λ c p f. f) (IdR V s bytes short LOCAL-NAME) k₂ v₂ (idAt V s LOCAL-NAME k₂ v₂) (id-sound V s bytes short LOCAL-NAME k₂ v₂ (r₂ .inside)) _
+      λ h3. on-field s P (λ c p f. f) (OptionalR ver s bytes short (prefixBit b) PREFIX) (suc k) v (optionalAt ver (prefixBit b) s PREFIX (suc k) v) (optional-sound ver s bytes short (prefixBit b) PREFIX (suc k) v h) _
+      λ p k₁ v₁ r₁. on-field s P (λ c p f. f) (OptionalR ver s bytes short (namespaceBit b) NAMESPACE-NAME) k₁ v₁ (optionalAt ver (namespaceBit b) s NAMESPACE-NAME k₁ v₁) (optional-sound ver s bytes short (namespaceBit b) NAMESPACE-NAME k₁ v₁ (r₁ .inside)) _
+      λ n k₂ v₂ r₂. on-field s P (λ c p f. f) (IdR ver s bytes short LOCAL-NAME) k₂ v₂ (idAt ver s LOCAL-NAME k₂ v₂) (id-sound ver s bytes short LOCAL-NAME k₂ v₂ (r₂ .inside)) _
       λ l k₃ v₃ r₃.
       let x : Triple = record { prefix = p .number; namespace = n .number; local = l .number } in
       test-not P (refused 11 k) (fault s 11 k refl kl) (holdsName (names v₃ (q .table)) x) _
-      λ t1. test-lt P (refused 12 k) (fault s 12 k refl kl) (length (names v₃ (q .table))) (V .entries) _
+      λ t1. test-lt P (refused 12 k) (fault s 12 k refl kl) (length (names v₃ (q .table))) (ver .entries) _
       λ t2.
       let bits = bits-are b in
       let lone = bits-paired b h3 in
@@ -152,15 +152,15 @@ module _ (V : Version) (s : Octets) (bytes : (i : ℕ) → getD s i 0 < 256) (sh
 
   -- b is the name's part of its first octet
   pub name-sound : (q : NameLayout) → NameShape q → (lead b k : ℕ) (v : Vocabulary Located) → Ranged (plainTables s v) → (b < q .inPartsBits → getD s k 0 ≡ lead + getD s k 0 % 2 ^ (9 - nameBit (q .table)))
-      → (q .inPartsBits ≤ b → getD s k 0 ≡ lead + q .inPartsBits + b % 4) → k < length s → Ok s (NameR q lead) k v (nameAt V q s b k v)
+      → (q .inPartsBits ≤ b → getD s k 0 ≡ lead + q .inPartsBits + b % 4) → k < length s → Ok s (NameR q lead) k v (nameAt ver q s b k v)
   unfolding nameAt
   name-sound q shape lead b k v ranged f g h =
       either-lt (Ok s (NameR q lead) k v) b (q .inPartsBits) _ _ (λ y. numbered-sound q shape lead k v ranged (omega arith) (f y)) (λ y. parts-sound q lead b k v (g y) h)
 
   abbrev pub DeclaredR : Vocabulary Octets → DeclaredRead → Octets → Vocabulary Octets → Type 0
-  DeclaredR v b o w = Declared V v (Option·map (octetsOf s) (b .prefix)) (Option·map (octetsOf s) (b .namespace)) (b .prefixHow) (b .namespaceHow) o w
+  DeclaredR v b o w = Declared ver v (Option·map (octetsOf s) (b .prefix)) (Option·map (octetsOf s) (b .namespace)) (b .prefixHow) (b .namespaceHow) o w
 
-  pub declared-sound : (k : ℕ) (v : Vocabulary Located) → k ≤ length s → Ok s DeclaredR k v (declaredAt V s k v)
+  pub declared-sound : (k : ℕ) (v : Vocabulary Located) → k ≤ length s → Ok s DeclaredR k v (declaredAt ver s k v)
   unfolding declaredAt
   declared-sound k v kl =
       let P : Got DeclaredRead → Type 0 = Ok s DeclaredR k v in
@@ -168,8 +168,8 @@ module _ (V : Version) (s : Octets) (bytes : (i : ℕ) → getD s i 0 < 256) (sh
       test-lt P (refused 2 k) (fault s 2 k refl kl) k (length s) _
       λ h. test-ge P (refused 5 k) (fault s 5 k refl kl) b 0xCC _
       λ h1. either-lt P b 0xD0 _ _
-      (λ h2. on-field s P (λ c p f. f) (OptionalR V s bytes short (prefixBit b) PREFIX) (suc k) v (optionalAt V (prefixBit b) s PREFIX (suc k) v) (optional-sound V s bytes short (prefixBit b) PREFIX (suc k) v h) _
-      λ p k₁ v₁ r₁. on-field s P (λ c p f. f) (OptionalR V s bytes short (namespaceBit b) NAMESPACE-NAME) k₁ v₁ (optionalAt V (namespaceBit b) s NAMESPACE-NAME k₁ v₁) (optional-sound V s bytes short (namespaceBit b) NAMESPACE-NAME k₁ v₁ (r₁ .inside)) _
+      (λ h2. on-field s P (λ c p f. f) (OptionalR ver s bytes short (prefixBit b) PREFIX) (suc k) v (optionalAt ver (prefixBit b) s PREFIX (suc k) v) (optional-sound ver s bytes short (prefixBit b) PREFIX (suc k) v h) _
+      λ p k₁ v₁ r₁. on-field s P (λ c p f. f) (OptionalR ver s bytes short (namespaceBit b) NAMESPACE-NAME) k₁ v₁ (optionalAt ver (namespaceBit b) s NAMESPACE-NAME k₁ v₁) (optional-sound ver s bytes short (namespaceBit b) NAMESPACE-NAME k₁ v₁ (r₁ .inside)) _
       λ n k₂ v₂ r₂.
       let bits = bits-are b in
       let hp = r₁ .rule .1 in
@@ -188,7 +188,7 @@ module _ (V : Version) (s : Octets) (bytes : (i : ℕ) → getD s i 0 < 256) (sh
       (λ h2. either-lt P b 0xF0 _ _ (λ y. fault s 5 k refl kl) (λ y. either-eq P b 0xF0 _ _ (λ z. fault s 15 k refl kl) (λ z. fault s 6 k refl kl)))
 
 -- ---- what the rules write is read
-module _ (V : Version) (s : Octets) where
+module _ (ver : Version) (s : Octets) where
   -- p is where its parts are spelled
   abbrev pub NameQ : Name Octets → NameHow → List Located → NameRead → Type 0
   NameQ x h p b = (nameMap (octetsOf s) (b .name) ≡ x) × (b .how ≡ h) × (nameSpelled (b .name) (b .how) ≡ p)
@@ -196,16 +196,16 @@ module _ (V : Version) (s : Octets) where
   -- o is the name's part of its first octet
   pub data NameHit (q : NameLayout) (lead k : ℕ) (v : Vocabulary Located) (x : Name Octets) (h : NameHow) (os : Octets) (w : Vocabulary Octets) (p : List Located) : Type 0 where
     hit-numbered : (o : ℕ) → getD s k 0 ≡ lead + o → o < rooms (q .numberForms) → (n : ℕ) (c : Cursor) → fieldAt (q .numberForms) top (nameBit (q .table)) s k ≡ Num n c
-        → Hit s (NameQ x h p) (k + length os) w (numberedAt V q s k v) → NameHit q lead k v x h os w p
+        → Hit s (NameQ x h p) (k + length os) w (numberedAt ver q s k v) → NameHit q lead k v x h os w p
     hit-parts : (o : ℕ) → getD s k 0 ≡ lead + o → q .inPartsBits ≤ o → o < q .inPartsBits + 4 → lonePrefix o ≡ false
-        → Hit s (NameQ x h p) (k + length os) w (partsAt V q s o k v) → NameHit q lead k v x h os w p
+        → Hit s (NameQ x h p) (k + length os) w (partsAt ver q s o k v) → NameHit q lead k v x h os w p
 
   -- the three parts, read; then the triple
   module _ (q : NameLayout) (k : ℕ) (v : Vocabulary Located) (p n : Option Octets) (l : Octets) (hp hn : Option How) (hl : How) (kp kn kl o k₁ k₂ k₃ : ℕ) (w₁ w₂ w₃ : Vocabulary Octets) (sp sn sl : List Located)
       (is : o % 4 ≡ 2 * has p + has n) (paired : has p ≤ has n)
-      (i1 : Hit s (OptionalQ V s p hp kp sp) k₁ w₁ (optionalAt V (there p) s PREFIX (suc k) v))
-      (i2 : Hit s (OptionalQ V s n hn kn sn) k₂ w₂ (optionalAt V (there n) s NAMESPACE-NAME k₁ (i1 .v))) (i3 : Hit s (IdQ V s l hl kl sl) k₃ w₃ (idAt V s LOCAL-NAME k₂ (i2 .v)))
-      (new : holdsName (names w₃ (q .table)) (record { prefix = kp; namespace = kn; local = kl }) ≡ false) (room : length (names w₃ (q .table)) < V .entries) where
+      (i1 : Hit s (OptionalQ ver s p hp kp sp) k₁ w₁ (optionalAt ver (there p) s PREFIX (suc k) v))
+      (i2 : Hit s (OptionalQ ver s n hn kn sn) k₂ w₂ (optionalAt ver (there n) s NAMESPACE-NAME k₁ (i1 .v))) (i3 : Hit s (IdQ ver s l hl kl sl) k₃ w₃ (idAt ver s LOCAL-NAME k₂ (i2 .v)))
+      (new : holdsName (names w₃ (q .table)) (record { prefix = kp; namespace = kn; local = kl }) ≡ false) (room : length (names w₃ (q .table)) < ver .entries) where
     abbrev triple : Triple
     triple = record { prefix = i1 .b .number; namespace = i2 .b .number; local = i3 .b .number }
 
@@ -215,12 +215,12 @@ module _ (V : Version) (s : Octets) where
     names-are : names (i3 .v) (q .table) ≡ names w₃ (q .table)
     names-are = sym (names-map (octetsOf s) (i3 .v) (q .table)) ∙ ap (λ (y : Vocabulary Octets). names y (q .table)) (i3 .state)
 
-    parts-read : Hit s (NameQ (record { prefix = p; namespace = n; local = l }) (inParts hp hn hl) (sp ++ (sn ++ sl))) k₃ (addingName w₃ (q .table) (record { prefix = kp; namespace = kn; local = kl })) (partsAt V q s o k v)
+    parts-read : Hit s (NameQ (record { prefix = p; namespace = n; local = l }) (inParts hp hn hl) (sp ++ (sn ++ sl))) k₃ (addingName w₃ (q .table) (record { prefix = kp; namespace = kn; local = kl })) (partsAt ver q s o k v)
     unfolding partsAt
     parts-read =
         let bb = bits-back p n o is in
         let u = ap (λ (y : List Triple). length y) names-are in
-        rw (not-lone p n o paired is, bb .0, bb .1, i1 .goes, i2 .goes, i3 .goes, ap₂ (λ (y : List Triple) (x : Triple). holdsName y x) names-are triple-is ∙ new, lt-ltb (length (names (i3 .v) (q .table))) (V .entries) (omega arith))
+        rw (not-lone p n o paired is, bb .0, bb .1, i1 .goes, i2 .goes, i3 .goes, ap₂ (λ (y : List Triple) (x : Triple). holdsName y x) names-are triple-is ∙ new, lt-ltb (length (names (i3 .v) (q .table))) (ver .entries) (omega arith))
         (record {
           b = record { name = record { prefix = i1 .b .string; namespace = i2 .b .string; local = i3 .b .string }; how = inParts (i1 .b .how) (i2 .b .how) (i3 .b .how) };
           v = addingName (i3 .v) (q .table) triple;
@@ -230,7 +230,7 @@ module _ (V : Version) (s : Octets) where
         })
 
   pub name-complete : (q : NameLayout) → NameShape q → (times lead k : ℕ) → lead ≡ times * 2 ^ (9 - nameBit (q .table)) → (v : Vocabulary Located) {x : Name Octets} {h : NameHow} {os : Octets} {w : Vocabulary Octets} (rest : Octets)
-      (u : Named V q lead (plainTables s v) x h os w) → drop k s ≡ os ++ rest → NameHit q lead k v x h os w (inName k u) × (0 < length os) × (k < length s)
+      (u : Named ver q lead (plainTables s v) x h os w) → drop k s ≡ os ++ rest → NameHit q lead k v x h os w (inName k u) × (0 < length os) × (k < length s)
   unfolding numberedAt octetsOf
   name-complete q g times lead k e v rest (by-number {k = j} {x = x} small fits en m) d =
       let f = num-first s (q .numberForms) lead (suc j) k rest (g .numbers-ok) (omega arith) fits d in
@@ -261,16 +261,16 @@ module _ (V : Version) (s : Octets) where
       let ev = g .even in
       let is : o % 4 ≡ 2 * has p + has n = omega arith in
       let d1 : drop (suc k) s ≡ op ++ (on ++ (ol ++ rest)) = a .2 ∙ simp append-assoc in
-      let i1 = optional-complete V s PREFIX (suc k) v (on ++ (ol ++ rest)) up d1 in
+      let i1 = optional-complete ver s PREFIX (suc k) v (on ++ (ol ++ rest)) up d1 in
       let k1 : ℕ = suc k + length op in
       let d2 : drop k1 s ≡ on ++ (ol ++ rest) = drop-past s (suc k) op (on ++ (ol ++ rest)) d1 in
-      let i2 = optional-complete V s NAMESPACE-NAME k1 (i1 .v) (ol ++ rest) (subst (λ (y : Vocabulary Octets). Optional V NAMESPACE-NAME y n hn kn on w₂) (sym (i1 .state)) un) d2 in
+      let i2 = optional-complete ver s NAMESPACE-NAME k1 (i1 .v) (ol ++ rest) (subst (λ (y : Vocabulary Octets). Optional ver NAMESPACE-NAME y n hn kn on w₂) (sym (i1 .state)) un) d2 in
       let k2 : ℕ = k1 + length on in
       let d3 : drop k2 s ≡ ol ++ rest = drop-past s k1 on (ol ++ rest) d2 in
-      let i3 = id-complete V s LOCAL-NAME k2 (i2 .v) rest (subst (λ (y : Vocabulary Octets). Identifying V LOCAL-NAME y l hl kl ol w₃) (sym (i2 .state)) ul) d3 in
+      let i3 = id-complete ver s LOCAL-NAME k2 (i2 .v) rest (subst (λ (y : Vocabulary Octets). Identifying ver LOCAL-NAME y l hl kl ol w₃) (sym (i2 .state)) ul) d3 in
       let la : length (op ++ (on ++ ol)) ≡ length op + (length on + length ol) = simp length-append in (
         hit-parts o (omega arith) (omega arith) (omega arith) (not-lone p n o paired is)
-            (hit-at s (NameQ (record { prefix = p; namespace = n; local = l }) (inParts hp hn hl) _) (k2 + length ol) (k + suc (length (op ++ (on ++ ol)))) (addingName w₃ (q .table) (record { prefix = kp; namespace = kn; local = kl })) (partsAt V q s o k v) (omega arith)
+            (hit-at s (NameQ (record { prefix = p; namespace = n; local = l }) (inParts hp hn hl) _) (k2 + length ol) (k + suc (length (op ++ (on ++ ol)))) (addingName w₃ (q .table) (record { prefix = kp; namespace = kn; local = kl })) (partsAt ver q s o k v) (omega arith)
             (parts-read q k v p n l hp hn hl kp kn kl o k1 k2 (k2 + length ol) w₁ w₂ w₃ _ _ _ is paired i1 i2 i3 new room)),
         omega arith,
         a .0,
@@ -282,8 +282,8 @@ module _ (V : Version) (s : Octets) where
       × (optionSpelled (b .prefix) (b .prefixHow) ++ optionSpelled (b .namespace) (b .namespaceHow) ≡ l)
 
   pub declared-complete : (k : ℕ) (v : Vocabulary Located) {p n : Option Octets} {hp hn : Option How} {os : Octets} {w : Vocabulary Octets} (rest : Octets)
-      (u : Declared V (plainTables s v) p n hp hn os w) → drop k s ≡ os ++ rest
-      → Hit s (DeclaredQ p n hp hn (inDeclared k u)) (k + length os) w (declaredAt V s k v) × (0xCC ≤ getD s k 0) × (getD s k 0 < 0xD0) × (k < length s) × (0 < length os)
+      (u : Declared ver (plainTables s v) p n hp hn os w) → drop k s ≡ os ++ rest
+      → Hit s (DeclaredQ p n hp hn (inDeclared k u)) (k + length os) w (declaredAt ver s k v) × (0xCC ≤ getD s k 0) × (getD s k 0 < 0xD0) × (k < length s) × (0 < length os)
   unfolding declaredAt
   declared-complete k v rest (declared {p = p} {n = n} {hp = hp} {hn = hn} {kp = kp} {kn = kn} {op = op} {on = on} {v₁ = w₁} {v₂ = w₂} up un) d =
       let a = drop-head s k (0xCC + 2 * has p + has n) ((op ++ on) ++ rest) d in
@@ -293,10 +293,10 @@ module _ (V : Version) (s : Octets) where
       let n1 = has-one n in
       let bb = bits-back p n o (omega arith) in
       let d1 : drop (suc k) s ≡ op ++ (on ++ rest) = a .2 ∙ append-assoc op on rest in
-      let i1 = optional-complete V s PREFIX (suc k) v (on ++ rest) up d1 in
+      let i1 = optional-complete ver s PREFIX (suc k) v (on ++ rest) up d1 in
       let k1 : ℕ = suc k + length op in
       let d2 : drop k1 s ≡ on ++ rest = drop-past s (suc k) op (on ++ rest) d1 in
-      let i2 = optional-complete V s NAMESPACE-NAME k1 (i1 .v) rest (subst (λ (y : Vocabulary Octets). Optional V NAMESPACE-NAME y n hn kn on w₂) (sym (i1 .state)) un) d2 in
+      let i2 = optional-complete ver s NAMESPACE-NAME k1 (i1 .v) rest (subst (λ (y : Vocabulary Octets). Optional ver NAMESPACE-NAME y n hn kn on w₂) (sym (i1 .state)) un) d2 in
       let la = length-append op on in (
         hit-at s (DeclaredQ p n hp hn _) (k1 + length on) _ _ _ (omega arith)
             (rw (lt-ltb k (length s) (a .0), le-ltb o 0xCC (omega arith), lt-ltb o 0xD0 (omega arith), bb .0, bb .1, i1 .goes, i2 .goes)

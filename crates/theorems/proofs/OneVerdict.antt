@@ -13,9 +13,9 @@ use Rattle.theorems.specs.Verdicts.{plains, itemsOf, WrittenIn, Right, F
 use Rattle.theorems.proofs.Splits.{splits}
 use Rattle.theorems.proofs.Begun.{begun-size}
 
-module _ (V : Version) (text : Octets) (room : ℕ) where
+module _ (ver : Version) (text : Octets) (room : ℕ) where
   -- ---- one fault
-  fault-one : {before : List Event} {e : Event} {m n : ℕ} → Fault V text room before e m → Fault V text room before e n → m ≡ n
+  fault-one : {before : List Event} {e : Event} {m n : ℕ} → Fault ver text room before e m → Fault ver text room before e n → m ≡ n
   fault-one (not-an-event a) (not-an-event b) = refl
   fault-one (not-an-event a) (not-text i b) = absurd (a i)
   fault-one (not-an-event a) (too-deep i t b) = absurd (a i)
@@ -42,22 +42,22 @@ module _ (V : Version) (text : Octets) (room : ℕ) where
   fault-one (no-room i t s f a) (too-many j u r b) = absurd (b f)
   fault-one (no-room i t s f a) (no-room j u r g b) = refl
 
-  not-right : {before : List Event} {e : Event} {n : ℕ} → Fault V text room before e n → Right V text room before e → ⊥
+  not-right : {before : List Event} {e : Event} {n : ℕ} → Fault ver text room before e n → Right ver text room before e → ⊥
   not-right (not-an-event a) r = a (r .is-event)
   not-right (not-text i a) r = a (r .is-text)
   not-right (too-deep i t a) r = a (r .is-shallow)
   not-right (too-many i t s a) r = a (r .has-entries)
   not-right (no-room i t s f a) r =
       let l : length (a .halves) ≡ length (r .has-room .halves) = begun-size (a .are) (r .has-room .are) .0 in
-      let k : min room (V .octets) < aligned (2 * length (header V) + length (r .has-room .halves)) / 2 = rw (← l) (a .over) in
+      let k : min room (ver .octets) < aligned (2 * length (header ver) + length (r .has-room .halves)) / 2 = rw (← l) (a .over) in
       let m = r .has-room .fit in
       omega arith
 
   -- ---- one refusal
-  pub refused-one : {es : List Event} {m n p q : ℕ} → Refused V text room es m p → Refused V text room es n q → (m ≡ n) × (p ≡ q)
+  pub refused-one : {es : List Event} {m n p q : ℕ} → Refused ver text room es m p → Refused ver text room es n q → (m ≡ n) × (p ≡ q)
   refused-one (at-event {before = b} {e = x} {n = i} after is all f) (at-event {before = c} {e = y} behind are right g) =
       splits b x after c y behind (sym is ∙ are)
-      (λ same e. (fault-one (subst (λ (z : Event). Fault V text room c z i) e (subst (λ (l : List Event). Fault V text room l x i) same f)) g, ap length same))
+      (λ same e. (fault-one (subst (λ (z : Event). Fault ver text room c z i) e (subst (λ (l : List Event). Fault ver text room l x i) same f)) g, ap length same))
       (λ mid k. absurd (not-right f (right b x mid k)))
       (λ mid k. absurd (not-right g (all c y mid k)))
   refused-one (at-event after is all f) (too-soon right nay) = absurd (not-right f (right _ _ after is))
@@ -70,7 +70,7 @@ module _ (V : Version) (text : Octets) (room : ℕ) where
   refused-one (no-room-for-end right d nay) (no-room-for-end right′ d′ nay′) = (refl, refl)
 
   -- a list that is written and fits, all its events right, is not refused
-  pub not-refused : {es : List Event} {n p : ℕ} → AllRight V text room es → WrittenIn V room (itemsOf V (plains text es)) → IsDocument (plains text es) → Refused V text room es n p → ⊥
+  pub not-refused : {es : List Event} {n p : ℕ} → AllRight ver text room es → WrittenIn ver room (itemsOf ver (plains text es)) → IsDocument (plains text es) → Refused ver text room es n p → ⊥
   not-refused right w d (at-event after is all f) = not-right f (right _ _ after is)
   not-refused right w d (too-soon all nay) = nay d
   not-refused right w d (no-room-for-end all d′ nay) = nay w

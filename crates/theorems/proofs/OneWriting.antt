@@ -88,30 +88,30 @@ halves-one [] (y ∷ b) e = cc
 halves-one (x ∷ a) [] e = cc
 halves-one (x ∷ a) (y ∷ b) e = ap₂ (λ (z : ℕ) (l : Octets). z ∷ l) (octet-is x y (cc) (cc)) (halves-one a b (cc))
 
-module _ {V : Version} where
+module _ {ver : Version} where
   -- strings: the octets, the number and the tables
   pub identifying-one : {t : StringTable} {v w w′ : Vocabulary Octets} {x : Octets} {h : How} {n n′ : ℕ} {o o′ : Octets}
-      → Identifying V t v x h n o w → Identifying V t v x h n′ o′ w′ → (o ≡ o′) × (n ≡ n′) × (w ≡ w′)
+      → Identifying ver t v x h n o w → Identifying ver t v x h n′ o′ w′ → (o ≡ o′) × (n ≡ n′) × (w ≡ w′)
   identifying-one (id-spelled sp new room) (id-spelled sp′ new′ room′) = (refl, refl, refl)
   identifying-one (id-numbered small en) (id-numbered small′ en′) = (refl, refl, refl)
 
   optional-one : {t : StringTable} {v w w′ : Vocabulary Octets} {x : Option Octets} {h : Option How} {n n′ : ℕ} {o o′ : Octets}
-      → Optional V t v x h n o w → Optional V t v x h n′ o′ w′ → (o ≡ o′) × (n ≡ n′) × (w ≡ w′)
+      → Optional ver t v x h n o w → Optional ver t v x h n′ o′ w′ → (o ≡ o′) × (n ≡ n′) × (w ≡ w′)
   optional-one absent absent = (refl, refl, refl)
   optional-one (present u) (present u′) = identifying-one u u′
 
   pub literal-one : {q : Layout} {t : StringTable} {v w w′ : Vocabulary Octets} {x : Octets} {h : How} {o o′ : Octets}
-      → Literal V q t v x h o w → Literal V q t v x h o′ w′ → (o ≡ o′) × (w ≡ w′)
+      → Literal ver q t v x h o w → Literal ver q t v x h o′ w′ → (o ≡ o′) × (w ≡ w′)
   literal-one (literal-spelled sp room) (literal-spelled sp′ room′) = (refl, refl)
   literal-one (literal-numbered small fits en) (literal-numbered small′ fits′ en′) = (refl, refl)
 
   pub literal-some : {q : Layout} {t : StringTable} {v w : Vocabulary Octets} {x : Octets} {h : How} {o : Octets} {X : Type 0}
-      → Literal V q t v x h o w → h ≡ numbered 0 → X
+      → Literal ver q t v x h o w → h ≡ numbered 0 → X
   literal-some (literal-spelled sp room) e = clash (cc)
   literal-some (literal-numbered {k = k} small fits en) e = absurd (let y : suc k ≡ 0 = cc in omega arith)
 
   pub value-one : {t : StringTable} {v w w′ : Vocabulary Octets} {x : Octets} {h : How} {o o′ : Octets}
-      → Value V t v x h o w → Value V t v x h o′ w′ → (o ≡ o′) × (w ≡ w′)
+      → Value ver t v x h o w → Value ver t v x h o′ w′ → (o ≡ o′) × (w ≡ w′)
   value-one value-empty value-empty = (refl, refl)
   value-one value-empty (value u) = literal-some u refl
   value-one (value u) value-empty = literal-some u refl
@@ -119,7 +119,7 @@ module _ {V : Version} where
 
   -- names
   pub named-one : {q : NameLayout} {lead : ℕ} {v w w′ : Vocabulary Octets} {x : Name Octets} {h : NameHow} {o o′ : Octets}
-      → Named V q lead v x h o w → Named V q lead v x h o′ w′ → (o ≡ o′) × (w ≡ w′)
+      → Named ver q lead v x h o w → Named ver q lead v x h o′ w′ → (o ≡ o′) × (w ≡ w′)
   named-one (by-number small fits en m) (by-number small′ fits′ en′ m′) = (refl, refl)
   named-one {q} {lead} {x = x} (in-parts lone up un ul new room) (in-parts lone′ up′ un′ ul′ new′ room′) =
       let a = optional-one up up′ in
@@ -130,14 +130,14 @@ module _ {V : Version} where
       )
 
   pub declared-one : {v w w′ : Vocabulary Octets} {p n : Option Octets} {hp hn : Option How} {o o′ : Octets}
-      → Declared V v p n hp hn o w → Declared V v p n hp hn o′ w′ → (o ≡ o′) × (w ≡ w′)
+      → Declared ver v p n hp hn o w → Declared ver v p n hp hn o′ w′ → (o ≡ o′) × (w ≡ w′)
   declared-one {p = p} {n = n} (declared up un) (declared up′ un′) =
       let a = optional-one up up′ in
       let b = optional-one un (rw (← (a .2)) at un′) in
       ((λ j. (0xCC + 2 * has p + has n) ∷ (a .0 j ++ b .0 j)), b .2)
 
   -- attributes are written in attribute lists, and nothing else is; End is no item's event
-  pub where-attributes : {v w : State Octets} {i : Item Octets} {o : Octets} → ItemWrittenAs V v i o w → isAttribute (i .event) ≡ inList (v .mode)
+  pub where-attributes : {v w : State Octets} {i : Item Octets} {o : Octets} → ItemWrittenAs ver v i o w → isAttribute (i .event) ≡ inList (v .mode)
   where-attributes (o-start a md may deep u) = cc
   where-attributes (o-first-namespace md may deep u) = cc
   where-attributes (o-namespace md u) = cc
@@ -147,20 +147,20 @@ module _ {V : Version} where
   where-attributes (o-comment md u) = cc
   where-attributes (o-instruction md u1 u2) = cc
 
-  pub no-end : {v w : State Octets} {o : Octets} {X : Type 0} → ItemWrittenAs V v (End by forEnd) o w → X
+  pub no-end : {v w : State Octets} {o : Octets} {X : Type 0} → ItemWrittenAs ver v (End by forEnd) o w → X
   no-end u = elim u [ ]
 
   next-is : {at : ℕ} {v z : State Octets} {items : List (Item Octets)} {hs : Halves}
-      → Written V at v items hs z → (v .mode ≡ listing true → ⊥) → attributeNext items ≡ inList (v .mode)
+      → Written ver at v items hs z → (v .mode ≡ listing true → ⊥) → attributeNext items ≡ inList (v .mode)
   next-is (document-end md lv rt) n = cc
   next-is (attributes-end md w) n = absurd (n md)
   next-is (element-end md lv w) n = cc
   next-is (item u w) n = where-attributes u
 
-  behind-start : {at : ℕ} {v z : State Octets} {items : List (Item Octets)} {hs : Halves} (a : Bool) → Written V at v items hs z → v .mode ≡ afterStart a → a ≡ attributeNext items
+  behind-start : {at : ℕ} {v z : State Octets} {items : List (Item Octets)} {hs : Halves} (a : Bool) → Written ver at v items hs z → v .mode ≡ afterStart a → a ≡ attributeNext items
   behind-start a w e = sym (next-is w (λ l. no-member a (sym e ∙ l)) ∙ ap inList e ∙ bit-said a)
 
-  behind-declarations : {at : ℕ} {v z : State Octets} {items : List (Item Octets)} {hs : Halves} (a : Bool) → Written V at v items hs z → v .mode ≡ declaring a → a ≡ attributeLater items
+  behind-declarations : {at : ℕ} {v z : State Octets} {items : List (Item Octets)} {hs : Halves} (a : Bool) → Written ver at v items hs z → v .mode ≡ declaring a → a ≡ attributeLater items
   unfolding attributeLater
   behind-declarations a (document-end md lv rt) e = cc
   behind-declarations a (attributes-end md w) e = cc
@@ -175,7 +175,7 @@ module _ {V : Version} where
   behind-declarations a (item (o-instruction md u1 u2) w) e = cc
 
   mode-is : {at : ℕ} {v w z : State Octets} {i : Item Octets} {o : Octets} {items : List (Item Octets)} {hs : Halves}
-      → ItemWrittenAs V v i o w → Written V at w items hs z → w .mode ≡ modeAfter (i .event) items
+      → ItemWrittenAs ver v i o w → Written ver at w items hs z → w .mode ≡ modeAfter (i .event) items
   mode-is (o-start a md may deep u) w = ap afterStart (behind-start a w refl)
   mode-is (o-first-namespace {a = a} md may deep u) w = ap declaring (behind-declarations a w refl)
   mode-is (o-namespace {a = a} md u) w = ap declaring (behind-declarations a w refl)
@@ -186,7 +186,7 @@ module _ {V : Version} where
   mode-is (o-instruction md u1 u2) w = md
 
   -- items
-  octets-one : {v w w′ : State Octets} {i : Item Octets} {o o′ : Octets} → ItemWrittenAs V v i o w → ItemWrittenAs V v i o′ w′ → w .mode ≡ w′ .mode → (o ≡ o′) × (w ≡ w′)
+  octets-one : {v w w′ : State Octets} {i : Item Octets} {o o′ : Octets} → ItemWrittenAs ver v i o w → ItemWrittenAs ver v i o′ w′ → w .mode ≡ w′ .mode → (o ≡ o′) × (w ≡ w′)
   octets-one {v} (o-start a md may deep u) (o-start b md′ may′ deep′ u′) e =
       let q : a ≡ b = sym (bit-said a) ∙ ap inList e ∙ bit-said b in
       let r = named-one u (rw (← q) at u′) in
@@ -217,12 +217,12 @@ module _ {V : Version} where
 
   -- a list that has ended does not go on
   no-list : {at : ℕ} {v w z : State Octets} {i : Item Octets} {o : Octets} {items : List (Item Octets)} {hs : Halves} {X : Type 0}
-      → v .mode ≡ listing true → ItemWrittenAs V v i o w
-      → Written V at (moved v (v .tables) content) (i ∷ items) hs z → X
+      → v .mode ≡ listing true → ItemWrittenAs ver v i o w
+      → Written ver at (moved v (v .tables) content) (i ∷ items) hs z → X
   no-list md u w = let a = where-attributes u in let b = next-is w (λ e. clash (cc)) in clash (cc)
 
   pub one-writing : {at : ℕ} {v z z′ : State Octets} {items : List (Item Octets)} {hs hs′ : Halves}
-      → Written V at v items hs z → Written V at v items hs′ z′ → (hs ≡ hs′) × (z ≡ z′)
+      → Written ver at v items hs z → Written ver at v items hs′ z′ → (hs ≡ hs′) × (z ≡ z′)
   one-writing (document-end md lv rt) (document-end md′ lv′ rt′) = (refl, refl)
   one-writing (document-end md lv rt) (attributes-end md′ w′) = (cc, cc)
   one-writing (attributes-end md w) (document-end md′ lv′ rt′) = (cc, cc)
@@ -240,8 +240,8 @@ module _ {V : Version} where
       ((λ j. pad at ++ (halves (q .0 j) ++ r .0 j)), r .1)
 
   pub one-document : {items : List (Item Octets)} {z z′ : State Octets} {s s′ : Octets}
-      → Document V items z s → Document V items z′ s′
+      → Document ver items z s → Document ver items z′ s′
       → (s ≡ s′) × (z ≡ z′)
   one-document {s = s} {s′ = s′} d d′ =
       let r = one-writing (d .rule) (d′ .rule) in
-      (halves-one s s′ (d .here ∙ ap (λ (l : Octets). halves (header V) ++ l) (r .0) ∙ sym (d′ .here)), r .1)
+      (halves-one s s′ (d .here ∙ ap (λ (l : Octets). halves (header ver) ++ l) (r .0) ∙ sym (d′ .here)), r .1)

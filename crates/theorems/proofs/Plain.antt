@@ -1,4 +1,4 @@
--- The strings of written events are as 01 allows; and, for any kind of strings, what holds of all that is spelled holds of every string of an event.
+-- The strings of written events are as the requirements allow; and, for any kind of strings, what holds of all that is spelled holds of every string of an event.
 use Prim.Native.Nat.{ℕ, _≤_}
 use mathlib.Core.Path.{_≡_, refl, sym, subst}
 use mathlib.Core.Bool.{Bool, true, false}
@@ -142,17 +142,17 @@ module _ {S : Type 0} (P : StringTable → S → Type 0) (d : S) where
     all-hold (an-item u r) g = let a = item-holds u g in (a .0, all-hold r (a .1))
 
     -- at the start the tables hold at most two strings, and no name
-    good-start : (V : Version) {p n : S} → P PREFIX p → P NAMESPACE-NAME n → Good (starting V p n)
+    good-start : (ver : Version) {p n : S} → P PREFIX p → P NAMESPACE-NAME n → Good (starting ver p n)
     unfolding strings names starting
-    good-start V {p} {n} a b = record { of-strings = two-strings; of-names = λ t. elim t [ ELEMENT-NAME ↦ tt | ATTRIBUTE-NAME ↦ tt ] }
+    good-start ver {p} {n} a b = record { of-strings = two-strings; of-names = λ t. elim t [ ELEMENT-NAME ↦ tt | ATTRIBUTE-NAME ↦ tt ] }
       where
         if-built-in : (t : StringTable) (x : S) → P t x → (b : Bool) → All (P t) (pick b (x ∷ []) [])
         if-built-in t x h true = (h, tt)
         if-built-in t x h false = tt
 
-        two-strings : (t : StringTable) → All (P t) (strings {N = Triple} (starting V p n) t)
-        two-strings PREFIX = if-built-in PREFIX p a (V .builtIn)
-        two-strings NAMESPACE-NAME = if-built-in NAMESPACE-NAME n b (V .builtIn)
+        two-strings : (t : StringTable) → All (P t) (strings {N = Triple} (starting ver p n) t)
+        two-strings PREFIX = if-built-in PREFIX p a (ver .builtIn)
+        two-strings NAMESPACE-NAME = if-built-in NAMESPACE-NAME n b (ver .builtIn)
         two-strings LOCAL-NAME = tt
         two-strings OTHER-NCNAME = tt
         two-strings OTHER-URI = tt
@@ -160,10 +160,10 @@ module _ {S : Type 0} (P : StringTable → S → Type 0) (d : S) where
         two-strings CONTENT-CHARACTER-CHUNK = tt
         two-strings OTHER-STRING = tt
 
-    pub holds : (V : Version) {p n : S} {items : List (Item S)} {z : Vocabulary S} → P PREFIX p → P NAMESPACE-NAME n → Done d Spelt (starting V p n) items z → All (λ i. Holds (i .event)) items
-    holds V a b r = all-hold r (good-start V a b)
+    pub holds : (ver : Version) {p n : S} {items : List (Item S)} {z : Vocabulary S} → P PREFIX p → P NAMESPACE-NAME n → Done d Spelt (starting ver p n) items z → All (λ i. Holds (i .event)) items
+    holds ver a b r = all-hold r (good-start ver a b)
 
--- ---- 01's strings
+-- ---- the requirements' strings
 abbrev OfTable : StringTable → Octets → Type 0
 OfTable t x = Said x
 
@@ -192,6 +192,6 @@ two-said : Said xmlPrefix × Said xmlNamespace
 unfolding xmlPrefix xmlNamespace rows between first next after isText
 two-said = ((omega arith, text-exact xmlPrefix .0 refl), (omega arith, text-exact xmlNamespace .0 refl))
 
-pub all-allowed : {V : Version} {items : List (Item Octets)} {z : State Octets} {s : Octets} → Document V items z s → All (λ i. Allowed (i .event)) items
-all-allowed {V} {items} w =
-    all-so (λ i. Allowed (i .event)) (λ i a. as-allowed (i .event) a) items (holds OfTable [] Said (λ t x a. a) V (two-said .0) (two-said .1) (document-done w))
+pub all-allowed : {ver : Version} {items : List (Item Octets)} {z : State Octets} {s : Octets} → Document ver items z s → All (λ i. Allowed (i .event)) items
+all-allowed {ver} {items} w =
+    all-so (λ i. Allowed (i .event)) (λ i a. as-allowed (i .event) a) items (holds OfTable [] Said (λ t x a. a) ver (two-said .0) (two-said .1) (document-done w))

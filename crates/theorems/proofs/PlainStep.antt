@@ -109,7 +109,7 @@ module _ (text : Octets) where
   announced-on e es t = announced-is e es ∙ later-declared (plainOf text e) (attributeNext es) (announced es) t
 
 -- ---- one event
-module _ (V : Version) (text : Octets) (a : Bool) (v : State Located) (e : E.Event Located) where
+module _ (ver : Version) (text : Octets) (a : Bool) (v : State Located) (e : E.Event Located) where
   abbrev pv : State Octets
   pv = plainState text v
 
@@ -117,7 +117,7 @@ module _ (V : Version) (text : Octets) (a : Bool) (v : State Located) (e : E.Eve
   pe = eventMap (octetsOf text) e
 
   abbrev w : WroteItem
-  w = writeItem V text a (settled v e) e
+  w = writeItem ver text a (settled v e) e
 
   settled-plain : plainState text (settled v e) ≡ settled pv pe
   unfolding settled
@@ -127,51 +127,51 @@ module _ (V : Version) (text : Octets) (a : Bool) (v : State Located) (e : E.Eve
       go true = refl
       go false = refl
 
-  same : SameItem text V a (settled v e) e
-  same = same-item text V a (settled v e) e
+  same : SameItem text ver a (settled v e) e
+  same = same-item text ver a (settled v e) e
 
-  pub next-plain : plainState text (w .state) ≡ nextBy V a pv pe
-  next-plain = same .state ∙ ap (λ (u : State Octets). knownBy V a u pe) settled-plain
+  pub next-plain : plainState text (w .state) ≡ nextBy ver a pv pe
+  next-plain = same .state ∙ ap (λ (u : State Octets). knownBy ver a u pe) settled-plain
 
-  pub choice-plain : w .choice ≡ chooseFor V (pv .tables) pe .how
-  choice-plain = same .choice ∙ ap (λ (u : Vocabulary Octets). chooseFor V u pe .how) (ap (λ (u : State Octets). u .tables) settled-plain ∙ words-settled pv pe)
+  pub choice-plain : w .choice ≡ chooseFor ver (pv .tables) pe .how
+  choice-plain = same .choice ∙ ap (λ (u : Vocabulary Octets). chooseFor ver u pe .how) (ap (λ (u : State Octets). u .tables) settled-plain ∙ words-settled pv pe)
 
-  pub halves-plain : (room at : ℕ) → halvesOf V text room at v e w ≡ halvesBy V at a pv pe
+  pub halves-plain : (room at : ℕ) → halvesOf ver text room at v e w ≡ halvesBy ver at a pv pe
   unfolding halvesOf halvesBy halvesAs owed
   halves-plain room at =
-      rw (attribute-map (octetsOf text) e, end-map (octetsOf text) e, same .octets ∙ ap (λ (u : State Octets). octetsBy V a u pe) settled-plain)
+      rw (attribute-map (octetsOf text) e, end-map (octetsOf text) e, same .octets ∙ ap (λ (u : State Octets). octetsBy ver a u pe) settled-plain)
 
 -- ---- the tables behind it
-known-words : (V : Version) (a : Bool) (v : State Octets) (e : E.Event Octets) → knownBy V a v e .tables ≡ chooseFor V (v .tables) e .tables
+known-words : (ver : Version) (a : Bool) (v : State Octets) (e : E.Event Octets) → knownBy ver a v e .tables ≡ chooseFor ver (v .tables) e .tables
 unfolding chooseFor
-known-words V a v (E.Namespace p n) = refl
-known-words V a v (E.Start x) = refl
-known-words V a v (E.Attribute x y) = refl
-known-words V a v (E.Text y) = refl
-known-words V a v (E.Comment y) = refl
-known-words V a v (E.Instruction x y) = refl
-known-words V a v E.End = refl
+known-words ver a v (E.Namespace p n) = refl
+known-words ver a v (E.Start x) = refl
+known-words ver a v (E.Attribute x y) = refl
+known-words ver a v (E.Text y) = refl
+known-words ver a v (E.Comment y) = refl
+known-words ver a v (E.Instruction x y) = refl
+known-words ver a v E.End = refl
 
-pub next-words : (V : Version) (a : Bool) (v : State Octets) (e : E.Event Octets) → nextBy V a v e .tables ≡ chooseFor V (v .tables) e .tables
-next-words V a v e = known-words V a (settled v e) e ∙ ap (λ (u : Vocabulary Octets). chooseFor V u e .tables) (words-settled v e)
+pub next-words : (ver : Version) (a : Bool) (v : State Octets) (e : E.Event Octets) → nextBy ver a v e .tables ≡ chooseFor ver (v .tables) e .tables
+next-words ver a v e = known-words ver a (settled v e) e ∙ ap (λ (u : Vocabulary Octets). chooseFor ver u e .tables) (words-settled v e)
 
-pub within-plain : (V : Version) (text : Octets) (v : Vocabulary Located) → within V (plainTables text v) ≡ within V v
+pub within-plain : (ver : Version) (text : Octets) (v : Vocabulary Located) → within ver (plainTables text v) ≡ within ver v
 unfolding within vocabularyMap
-within-plain V text v =
+within-plain ver text v =
     rw (length-map (v .prefixes) (octetsOf text), length-map (v .namespaces) (octetsOf text), length-map (v .locals) (octetsOf text), length-map (v .ncnames) (octetsOf text))
 
 -- what is within the limits, by the writer's test and by how it adds
-pub fits-of : (V : Version) (v : Vocabulary Octets) → within V v ≡ true → Rest V v → InLimits V v
+pub fits-of : (ver : Version) (v : Vocabulary Octets) → within ver v ≡ true → Rest ver v → InLimits ver v
 unfolding within strings names place
-fits-of V v e r =
-    let a = both-true (leb (length (v .prefixes)) (V .entries)) _ e in
-    let b = both-true (leb (length (v .namespaces)) (V .entries)) _ (a .1) in
-    let c = both-true (leb (length (v .locals)) (V .entries)) _ (b .1) in
-    let d = both-true (leb (length (v .ncnames)) (V .entries)) _ (c .1) in
-    let f = both-true (leb (length (v .elements)) (V .entries)) _ (d .1) in
+fits-of ver v e r =
+    let a = both-true (leb (length (v .prefixes)) (ver .entries)) _ e in
+    let b = both-true (leb (length (v .namespaces)) (ver .entries)) _ (a .1) in
+    let c = both-true (leb (length (v .locals)) (ver .entries)) _ (b .1) in
+    let d = both-true (leb (length (v .ncnames)) (ver .entries)) _ (c .1) in
+    let f = both-true (leb (length (v .elements)) (ver .entries)) _ (d .1) in
     record { few = go (leb-true _ _ (a .0)) (leb-true _ _ (b .0)) (leb-true _ _ (c .0)) (leb-true _ _ (d .0)); few-names = gone (leb-true _ _ (f .0)) (leb-true _ _ (f .1)) }
   where
-    go : length (v .prefixes) ≤ V .entries → length (v .namespaces) ≤ V .entries → length (v .locals) ≤ V .entries → length (v .ncnames) ≤ V .entries → (t : StringTable) → length (strings v t) ≤ V .entries
+    go : length (v .prefixes) ≤ ver .entries → length (v .namespaces) ≤ ver .entries → length (v .locals) ≤ ver .entries → length (v .ncnames) ≤ ver .entries → (t : StringTable) → length (strings v t) ≤ ver .entries
     go p n l o PREFIX = p
     go p n l o NAMESPACE-NAME = n
     go p n l o LOCAL-NAME = l
@@ -181,13 +181,13 @@ fits-of V v e r =
     go p n l o CONTENT-CHARACTER-CHUNK = r .few CONTENT-CHARACTER-CHUNK (omega arith)
     go p n l o OTHER-STRING = r .few OTHER-STRING (omega arith)
 
-    gone : length (v .elements) ≤ V .entries → length (v .attributes) ≤ V .entries → (t : NameTable) → length (names v t) ≤ V .entries
+    gone : length (v .elements) ≤ ver .entries → length (v .attributes) ≤ ver .entries → (t : NameTable) → length (names v t) ≤ ver .entries
     gone e a ELEMENT-NAME = e
     gone e a ATTRIBUTE-NAME = a
 
-pub of-fits : (V : Version) (v : Vocabulary Octets) → InLimits V v → within V v ≡ true
+pub of-fits : (ver : Version) (v : Vocabulary Octets) → InLimits ver v → within ver v ≡ true
 unfolding within strings names place
-of-fits V v f =
+of-fits ver v f =
     rw (
       le-leb _ _ (f .few PREFIX),
       le-leb _ _ (f .few NAMESPACE-NAME),

@@ -1,4 +1,4 @@
--- One event with a permitted choice is what the rules write, and its tables keep in order; 01's choices are permitted ones.
+-- One event with a permitted choice is what the rules write, and its tables keep in order; the required choices are permitted ones.
 use mathlib.Core.Path.{_≡_, refl, sym, ap, _∙_, subst}
 use mathlib.Core.Bool.{Bool, true, false}
 use mathlib.Core.Option.{Option}
@@ -25,27 +25,27 @@ use Rattle.theorems.proofs.Growing.{same-table, extended-few}
 use Rattle.theorems.proofs.Chosen.{Grows, same-size, grows-on, fits-before, idOctets, optionalOctets, literalOctets, valueOctets, nameOctets, id-case, id-grows, id-rule, optional-case, optional-grows, optional-rule, SpellingIfAny, SpellingIfSome, LiteralCase, lit-held, lit-new, literal-case, literal-permits, literal-grows, literal-rule, ValueCase, is-empty, is-literal, value-case, value-permits, value-grows, value-rule, Ranged, ranged-on, id-names, optional-names, literal-names, value-names, NameCase, name-held, name-new, name-case, name-permits, name-grows, name-ranged, NameSaid, name-rule}
 
 -- the tables in order: none over its limit, and each triple's numbers in range
-pub record Order (V : Version) (v : Vocabulary Octets) : Type 0 where
-  pub fit : InLimits V v
+pub record Order (ver : Version) (v : Vocabulary Octets) : Type 0 where
+  pub fit : InLimits ver v
   pub ranged : Ranged v
 
 -- ---- the tables that no identifying string is added to: they are added to only where there is room
-pub record Rest (V : Version) (v : Vocabulary Octets) : Type 0 where
-  pub few : (t : StringTable) → 4 ≤ place t → length (strings v t) ≤ V .entries
+pub record Rest (ver : Version) (v : Vocabulary Octets) : Type 0 where
+  pub few : (t : StringTable) → 4 ≤ place t → length (strings v t) ≤ ver .entries
 
 -- what stands in the other tables stays
-same-rest : {V : Version} {v w : Vocabulary Octets} → ((t : StringTable) → 4 ≤ place t → strings w t ≡ strings v t) → Rest V v → Rest V w
+same-rest : {ver : Version} {v w : Vocabulary Octets} → ((t : StringTable) → 4 ≤ place t → strings w t ≡ strings v t) → Rest ver v → Rest ver w
 same-rest e r = record { few = λ t h. let a = r .few t h in let b = ap length (e t h) in omega arith }
 
 other-table : (v : Vocabulary Octets) (t u : StringTable) (x : Octets) → place t < 4 → 4 ≤ place u → strings (adding v t x) u ≡ strings v u
 other-table v t u x a b = strings-adding v t x u ∙ ap (λ (c : Bool). extended c (strings v u) x) (ne-eqb (place t) (place u) (λ e. omega arith))
 
-adding-rest : {V : Version} (v : Vocabulary Octets) (t : StringTable) (x : Octets) → length (strings v t) < V .entries → Rest V v → Rest V (adding v t x)
-adding-rest {V} v t x room r =
+adding-rest : {ver : Version} (v : Vocabulary Octets) (t : StringTable) (x : Octets) → length (strings v t) < ver .entries → Rest ver v → Rest ver (adding v t x)
+adding-rest {ver} v t x room r =
     record {
       few = λ u h.
           rw (strings-adding v t x u)
-          (extended-few (eqb (place t) (place u)) (V .entries) (strings v u) x (r .few u h)
+          (extended-few (eqb (place t) (place u)) (ver .entries) (strings v u) x (r .few u h)
           (λ e. let z = same-table t u e in rw (← z) room));
     }
 
@@ -57,12 +57,12 @@ optional-rest : {t : StringTable} {v w : Vocabulary Octets} {x : Option Octets} 
 optional-rest u a b not-there = refl
 optional-rest u a b (there c) = id-rest u a b c
 
-literal-rest : {V : Version} {t : StringTable} {v : Vocabulary Octets} {x : Octets} {c : Chose How} → LiteralCase V t v x c → Rest V v → Rest V (c .tables)
+literal-rest : {ver : Version} {t : StringTable} {v : Vocabulary Octets} {x : Octets} {c : Chose How} → LiteralCase ver t v x c → Rest ver v → Rest ver (c .tables)
 literal-rest (lit-held en) r = r
 literal-rest {t = t} {v = v} {x = x} (lit-new {added = true} room) r = adding-rest v t x (room refl) r
 literal-rest (lit-new {added = false} room) r = r
 
-value-rest : {V : Version} {t : StringTable} {v : Vocabulary Octets} {x : Octets} {c : Chose How} → ValueCase V t v x c → Rest V v → Rest V (c .tables)
+value-rest : {ver : Version} {t : StringTable} {v : Vocabulary Octets} {x : Octets} {c : Chose How} → ValueCase ver t v x c → Rest ver v → Rest ver (c .tables)
 value-rest (is-empty e) r = r
 value-rest (is-literal h c) r = literal-rest c r
 
@@ -108,7 +108,7 @@ rest-for C v e o = go e (record { few = λ t h. o .fit .few t })
         (same-rest (λ u h. id-rest u target-low h (id-case OTHER-NCNAME v x)) r)
     go End r = r
 
--- ---- 01's choices are permitted ones
+-- ---- the required choices are permitted ones
 unfoldable pub permits-for : (C : Version) (v : Vocabulary Octets) (e : Event Octets) → Ranged v → Permits v e (chooseFor C v e .how) (chooseFor C v e .tables)
 unfolding chooseFor
 permits-for C v (Namespace p n) r = a-declaration (optional-case PREFIX v p) (optional-case NAMESPACE-NAME (chooseOptional PREFIX v p .tables) n)
@@ -143,15 +143,15 @@ ranged-for C v e r = permits-ranged (permits-for C v e r) r
 
 -- ---- one event
 -- where an event may stand, a says whether an attribute follows its element's Start
-pub data Where (V : Version) (a : Bool) (v : State Octets) : Event Octets → Type 0 where
-  first-namespace : {p n : Option Octets} → v .mode ≡ content → mayStart v ≡ true → v .level < V .depth → Where V a v (Namespace p n)
-  next-namespace : {p n : Option Octets} → v .mode ≡ declaring a → Where V a v (Namespace p n)
-  first-start : {x : Name Octets} → v .mode ≡ content → mayStart v ≡ true → v .level < V .depth → Where V a v (Start x)
-  named-start : {x : Name Octets} → v .mode ≡ declaring a → Where V a v (Start x)
-  in-list : {x : Name Octets} {y : Octets} {any : Bool} → v .mode ≡ listing any → Where V a v (Attribute x y)
-  in-element : {y : Octets} → v .mode ≡ content → 0 < v .level → Where V a v (Text y)
-  comment : {y : Octets} → v .mode ≡ content → Where V a v (Comment y)
-  instruction : {x y : Octets} → v .mode ≡ content → Where V a v (Instruction x y)
+pub data Where (ver : Version) (a : Bool) (v : State Octets) : Event Octets → Type 0 where
+  first-namespace : {p n : Option Octets} → v .mode ≡ content → mayStart v ≡ true → v .level < ver .depth → Where ver a v (Namespace p n)
+  next-namespace : {p n : Option Octets} → v .mode ≡ declaring a → Where ver a v (Namespace p n)
+  first-start : {x : Name Octets} → v .mode ≡ content → mayStart v ≡ true → v .level < ver .depth → Where ver a v (Start x)
+  named-start : {x : Name Octets} → v .mode ≡ declaring a → Where ver a v (Start x)
+  in-list : {x : Name Octets} {y : Octets} {any : Bool} → v .mode ≡ listing any → Where ver a v (Attribute x y)
+  in-element : {y : Octets} → v .mode ≡ content → 0 < v .level → Where ver a v (Text y)
+  comment : {y : Octets} → v .mode ≡ content → Where ver a v (Comment y)
+  instruction : {x y : Octets} → v .mode ≡ content → Where ver a v (Instruction x y)
 
 -- its strings can be said
 abbrev pub Said : Event Octets → Type 0
@@ -184,7 +184,7 @@ octetsAs a m (an-instruction {x = x} {y = y} {h = h} {g = g} u z) = 0xE1 ∷ (id
 octetsAs a m an-end = []
 
 module _ (C : Version) where
-  -- with 01's choice
+  -- with the required choice
   unfoldable pub octetsBy : Bool → State Octets → Event Octets → Octets
   octetsBy a v (Namespace p n) =
       let x : Chose (Option How) = chooseOptional PREFIX (v .tables) p in
@@ -216,40 +216,40 @@ octets-by C a v (Instruction x y) r = refl
 octets-by C a v End r = refl
 
 -- A permitted choice is what the rules write.
-module _ (V : Version) (small : V .entries ≤ top) where
-  element-rule : (lead : ℕ) {v w : Vocabulary Octets} {x : Name Octets} {h : NameHow} → NameSaid x → InLimits V w → PermitsName ELEMENT-NAME v x h w → Named V ofElement lead v x h (nameOctets ofElement lead x h) w
+module _ (ver : Version) (small : ver .entries ≤ top) where
+  element-rule : (lead : ℕ) {v w : Vocabulary Octets} {x : Name Octets} {h : NameHow} → NameSaid x → InLimits ver w → PermitsName ELEMENT-NAME v x h w → Named ver ofElement lead v x h (nameOctets ofElement lead x h) w
   unfolding ofElement sizes numbers
-  element-rule lead s f u = name-rule V small ofElement (omega arith) lead s f u
+  element-rule lead s f u = name-rule ver small ofElement (omega arith) lead s f u
 
-  attribute-rule : {v w : Vocabulary Octets} {x : Name Octets} {h : NameHow} → NameSaid x → InLimits V w → PermitsName ATTRIBUTE-NAME v x h w → Named V ofAttribute 0 v x h (nameOctets ofAttribute 0 x h) w
+  attribute-rule : {v w : Vocabulary Octets} {x : Name Octets} {h : NameHow} → NameSaid x → InLimits ver w → PermitsName ATTRIBUTE-NAME v x h w → Named ver ofAttribute 0 v x h (nameOctets ofAttribute 0 x h) w
   unfolding ofAttribute sizes c25
-  attribute-rule s f u = name-rule V small ofAttribute (omega arith) 0 s f u
+  attribute-rule s f u = name-rule ver small ofAttribute (omega arith) 0 s f u
 
-  chunk-rule : {v w : Vocabulary Octets} {y : Octets} {h : How} → Spelling y → InLimits V w → PermitsString CONTENT-CHARACTER-CHUNK v y h w → Literal V c15 CONTENT-CHARACTER-CHUNK v y h (literalOctets c15 y h) w
+  chunk-rule : {v w : Vocabulary Octets} {y : Octets} {h : How} → Spelling y → InLimits ver w → PermitsString CONTENT-CHARACTER-CHUNK v y h w → Literal ver c15 CONTENT-CHARACTER-CHUNK v y h (literalOctets c15 y h) w
   unfolding c15 sizes numbers
-  chunk-rule s f u = literal-rule V small (omega arith) s f u
+  chunk-rule s f u = literal-rule ver small (omega arith) s f u
 
   -- the strings of a declaration
-  declared-rule : {v v₁ w : Vocabulary Octets} {p n : Option Octets} {hp hn : Option How} {kp kn : ℕ} → SpellingIfAny p × SpellingIfAny n → InLimits V w
+  declared-rule : {v v₁ w : Vocabulary Octets} {p n : Option Octets} {hp hn : Option How} {kp kn : ℕ} → SpellingIfAny p × SpellingIfAny n → InLimits ver w
       → PermitsIfAny PREFIX v p hp kp v₁ → PermitsIfAny NAMESPACE-NAME v₁ n hn kn w
-      → Declared V v p n hp hn ((0xCC + 2 * has p + has n) ∷ (optionalOctets p hp ++ optionalOctets n hn)) w
-  declared-rule s f up un = declared (optional-rule V small (s .0) (fits-before (optional-grows un) f) up) (optional-rule V small (s .1) f un)
+      → Declared ver v p n hp hn ((0xCC + 2 * has p + has n) ∷ (optionalOctets p hp ++ optionalOctets n hn)) w
+  declared-rule s f up un = declared (optional-rule ver small (s .0) (fits-before (optional-grows un) f) up) (optional-rule ver small (s .1) f un)
 
-  before-at : (a : Bool) (m k : Mode) → m ≡ k → (v z : State Octets) (i : Item Octets) (os : Octets) → ItemWrittenAs V v i (beforeDeclaration k a ++ os) z → ItemWrittenAs V v i (beforeDeclaration m a ++ os) z
-  before-at a m k e v z i os u = subst (λ (y : Mode). ItemWrittenAs V v i (beforeDeclaration y a ++ os) z) (sym e) u
+  before-at : (a : Bool) (m k : Mode) → m ≡ k → (v z : State Octets) (i : Item Octets) (os : Octets) → ItemWrittenAs ver v i (beforeDeclaration k a ++ os) z → ItemWrittenAs ver v i (beforeDeclaration m a ++ os) z
+  before-at a m k e v z i os u = subst (λ (y : Mode). ItemWrittenAs ver v i (beforeDeclaration y a ++ os) z) (sym e) u
 
   name-at : (a : Bool) (m k : Mode) → m ≡ k → (v z : State Octets) (x : Name Octets) (h : NameHow)
-      → ItemWrittenAs V v (Start x by forStart h) (beforeName k ++ nameOctets ofElement (nameLead k a) x h) z → ItemWrittenAs V v (Start x by forStart h) (beforeName m ++ nameOctets ofElement (nameLead m a) x h) z
-  name-at a m k e v z x h u = subst (λ (y : Mode). ItemWrittenAs V v (Start x by forStart h) (beforeName y ++ nameOctets ofElement (nameLead y a) x h) z) (sym e) u
+      → ItemWrittenAs ver v (Start x by forStart h) (beforeName k ++ nameOctets ofElement (nameLead k a) x h) z → ItemWrittenAs ver v (Start x by forStart h) (beforeName m ++ nameOctets ofElement (nameLead m a) x h) z
+  name-at a m k e v z x h u = subst (λ (y : Mode). ItemWrittenAs ver v (Start x by forStart h) (beforeName y ++ nameOctets ofElement (nameLead y a) x h) z) (sym e) u
 
-  pub made : (a : Bool) (v : State Octets) {e : Event Octets} {c : Choice} {w : Vocabulary Octets} → Said e → Where V a v e → InLimits V w → (p : Permits (v .tables) e c w)
-      → ItemWrittenAs V v (e by c) (octetsAs a (v .mode) p) (behind a v w e)
+  pub made : (a : Bool) (v : State Octets) {e : Event Octets} {c : Choice} {w : Vocabulary Octets} → Said e → Where ver a v e → InLimits ver w → (p : Permits (v .tables) e c w)
+      → ItemWrittenAs ver v (e by c) (octetsAs a (v .mode) p) (behind a v w e)
   unfolding octetsAs mayStart
   made a v s (first-namespace md may deep) f (a-declaration up un) = before-at a (v .mode) content md _ _ _ _ (o-first-namespace {a = a} md may deep (declared-rule s f up un))
   made a v s (next-namespace md) f (a-declaration up un) = before-at a (v .mode) (declaring a) md _ _ _ _ (o-namespace {a = a} md (declared-rule s f up un))
   made a v s (first-start md may deep) f (a-start u) = name-at a (v .mode) content md _ _ _ _ (o-start a md may deep (element-rule (64 * bit a) s f u))
   made a v s (named-start md) f (a-start u) = name-at a (v .mode) (declaring a) md _ _ _ _ (o-named-start md (element-rule 0 s f u))
-  made a v s (in-list md) f (an-attribute u y) = o-attribute md (attribute-rule (s .0) (fits-before (value-grows y) f) u) (value-rule V small (s .1) f y)
+  made a v s (in-list md) f (an-attribute u y) = o-attribute md (attribute-rule (s .0) (fits-before (value-grows y) f) u) (value-rule ver small (s .1) f y)
   made a v s (in-element md lev) f (a-chunk y) = o-text md lev (chunk-rule s f y)
-  made a v s (comment md) f (a-comment y) = o-comment md (value-rule V small s f y)
-  made a v s (instruction md) f (an-instruction x y) = o-instruction md (id-rule V small (s .0) (fits-before (value-grows y) f) x) (value-rule V small (s .1) f y)
+  made a v s (comment md) f (a-comment y) = o-comment md (value-rule ver small s f y)
+  made a v s (instruction md) f (an-instruction x y) = o-instruction md (id-rule ver small (s .0) (fits-before (value-grows y) f) x) (value-rule ver small (s .1) f y)

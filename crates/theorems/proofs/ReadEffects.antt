@@ -70,12 +70,12 @@ module _ (s : Octets) {C : Type 0} (Q : C → Vocabulary Located → Type 0) whe
   unfolding spelling
   spelling-did k next n a f = test-le (Did Q) (refused 2 k) tt (next + n) (length s) _ λ h. test (Did Q) (refused 9 k) tt (isText (take n (drop next s))) _ λ t. f h
 
-module _ (V : Version) (s : Octets) where
+module _ (ver : Version) (s : Octets) where
   -- ---- strings
   abbrev IdDid : StringTable → Vocabulary Located → IdRead → Vocabulary Located → Type 0
   IdDid t v b w = IdDone empty (Lies s) t v (b .string) (b .how) (b .number) w
 
-  id-did : (t : StringTable) (k : ℕ) (v : Vocabulary Located) → Did (IdDid t v) (idAt V s t k v)
+  id-did : (t : StringTable) (k : ℕ) (v : Vocabulary Located) → Did (IdDid t v) (idAt ver s t k v)
   unfolding idAt
   id-did t k v =
       let P : Got IdRead → Type 0 = Did (IdDid t v) in
@@ -83,7 +83,7 @@ module _ (V : Version) (s : Octets) where
       (λ e. number-did s (IdDid t v) (lengths 2) noTop 2 k _
       λ n next. spelling-did s (IdDid t v) k next (suc n) _
       λ h. test-not P (refused 11 k) tt (holds (map (octetsOf s) (strings v t)) (octetsOf s (stretch next (suc n)))) _
-      λ t1. test P (refused 12 k) tt (ltb (length (strings v t)) (V .entries)) _
+      λ t1. test P (refused 12 k) tt (ltb (length (strings v t)) (ver .entries)) _
       λ t2. id-made (inside (omega arith) h))
       (λ e. number-did s (IdDid t v) c25 top 2 k _
       λ n next. test-le P (refused 10 k) tt (suc n) (length (strings v t)) _
@@ -92,23 +92,23 @@ module _ (V : Version) (s : Octets) where
   abbrev PartDid : Bool → StringTable → Vocabulary Located → OptionalRead → Vocabulary Located → Type 0
   PartDid there t v b w = PartDone empty (Lies s) t v (b .string) (b .how) (b .number) w × (has (b .string) ≡ bit there)
 
-  part-did : (there : Bool) (t : StringTable) (k : ℕ) (v : Vocabulary Located) → Did (PartDid there t v) (optionalAt V there s t k v)
+  part-did : (there : Bool) (t : StringTable) (k : ℕ) (v : Vocabulary Located) → Did (PartDid there t v) (optionalAt ver there s t k v)
   unfolding optionalAt
-  part-did true t k v = then-did (PartDid true t v) (IdDid t v) (idAt V s t k v) _ (id-did t k v) λ i next w r. (a-part r, refl)
+  part-did true t k v = then-did (PartDid true t v) (IdDid t v) (idAt ver s t k v) _ (id-did t k v) λ i next w r. (a-part r, refl)
   part-did false t k v = (no-part, refl)
 
   abbrev StringDid : StringTable → Vocabulary Located → StringRead → Vocabulary Located → Type 0
   StringDid t v b w = StringDone empty (Lies s) t v (b .string) (b .how) w
 
-  spelled-did : (q : Layout) (t : StringTable) (k : ℕ) (added : Bool) (v : Vocabulary Located) → Did (StringDid t v) (spelledAt V q s t k added v)
+  spelled-did : (q : Layout) (t : StringTable) (k : ℕ) (added : Bool) (v : Vocabulary Located) → Did (StringDid t v) (spelledAt ver q s t k added v)
   unfolding spelledAt
   spelled-did q t k added v =
       number-did s (StringDid t v) (lengths (q .lengthBit)) noTop (q .lengthBit) k _
       λ n next. spelling-did s (StringDid t v) k next (suc n) _
-      λ h. test (Did (StringDid t v)) (refused 12 k) tt (not added || ltb (length (strings v t)) (V .entries)) _
+      λ h. test (Did (StringDid t v)) (refused 12 k) tt (not added || ltb (length (strings v t)) (ver .entries)) _
       λ t1. string-made added (inside (omega arith) h)
 
-  string-did : (q : Layout) (t : StringTable) (k : ℕ) (v : Vocabulary Located) → Did (StringDid t v) (literalAt V q s t k v)
+  string-did : (q : Layout) (t : StringTable) (k : ℕ) (v : Vocabulary Located) → Did (StringDid t v) (literalAt ver q s t k v)
   unfolding literalAt
   string-did q t k v =
       let P : Got StringRead → Type 0 = Did (StringDid t v) in
@@ -127,46 +127,46 @@ module _ (V : Version) (s : Octets) where
   as-value t v (got b next w) r = a-value r
   as-value t v (refused n p) r = tt
 
-  value-did : (t : StringTable) (k : ℕ) (v : Vocabulary Located) → Did (ValueDid t v) (valueAt V s t k v)
+  value-did : (t : StringTable) (k : ℕ) (v : Vocabulary Located) → Did (ValueDid t v) (valueAt ver s t k v)
   unfolding valueAt
   value-did t k v =
-      either (Did (ValueDid t v)) (eqb (getD s k 0) 0xFF) _ _ (λ e. empty-value) (λ e. as-value t v (literalAt V c14 s t k v) (string-did c14 t k v))
+      either (Did (ValueDid t v)) (eqb (getD s k 0) 0xFF) _ _ (λ e. empty-value) (λ e. as-value t v (literalAt ver c14 s t k v) (string-did c14 t k v))
 
   -- ---- names
   abbrev NameDid : NameTable → Vocabulary Located → NameRead → Vocabulary Located → Type 0
   NameDid t v b w = NameDone empty (Lies s) t v (b .name) (b .how) w
 
-  parts-did : (q : NameLayout) (b k : ℕ) (v : Vocabulary Located) → Did (NameDid (q .table) v) (partsAt V q s b k v)
+  parts-did : (q : NameLayout) (b k : ℕ) (v : Vocabulary Located) → Did (NameDid (q .table) v) (partsAt ver q s b k v)
   unfolding partsAt
   parts-did q b k v =
       let R : NameRead → Vocabulary Located → Type 0 = NameDid (q .table) v in
       test-not (Did R) (refused 15 k) tt (lonePrefix b) _
-      λ e. then-did R (PartDid (prefixBit b) PREFIX v) (optionalAt V (prefixBit b) s PREFIX (suc k) v) _ (part-did (prefixBit b) PREFIX (suc k) v)
-      λ p k₁ v₁ r₁. then-did R (PartDid (namespaceBit b) NAMESPACE-NAME v₁) (optionalAt V (namespaceBit b) s NAMESPACE-NAME k₁ v₁) _ (part-did (namespaceBit b) NAMESPACE-NAME k₁ v₁)
-      λ n k₂ v₂ r₂. then-did R (IdDid LOCAL-NAME v₂) (idAt V s LOCAL-NAME k₂ v₂) _ (id-did LOCAL-NAME k₂ v₂)
+      λ e. then-did R (PartDid (prefixBit b) PREFIX v) (optionalAt ver (prefixBit b) s PREFIX (suc k) v) _ (part-did (prefixBit b) PREFIX (suc k) v)
+      λ p k₁ v₁ r₁. then-did R (PartDid (namespaceBit b) NAMESPACE-NAME v₁) (optionalAt ver (namespaceBit b) s NAMESPACE-NAME k₁ v₁) _ (part-did (namespaceBit b) NAMESPACE-NAME k₁ v₁)
+      λ n k₂ v₂ r₂. then-did R (IdDid LOCAL-NAME v₂) (idAt ver s LOCAL-NAME k₂ v₂) _ (id-did LOCAL-NAME k₂ v₂)
       λ l k₃ v₃ r₃. test-not (Did R) (refused 11 k) tt (holdsName (names v₃ (q .table)) (record { prefix = p .number; namespace = n .number; local = l .number })) _
-      λ t1. test (Did R) (refused 12 k) tt (ltb (length (names v₃ (q .table))) (V .entries)) _
+      λ t1. test (Did R) (refused 12 k) tt (ltb (length (names v₃ (q .table))) (ver .entries)) _
       λ t2.
       let paired = bits-paired b (eqb-false (b % 4) 2 e) in
       let hp = r₁ .1 in
       let hn = r₂ .1 in
       name-made (omega arith) (r₁ .0) (r₂ .0) r₃
 
-  numbered-did : (q : NameLayout) (k : ℕ) (v : Vocabulary Located) → Did (NameDid (q .table) v) (numberedAt V q s k v)
+  numbered-did : (q : NameLayout) (k : ℕ) (v : Vocabulary Located) → Did (NameDid (q .table) v) (numberedAt ver q s k v)
   unfolding numberedAt
   numbered-did q k v =
       number-did s (NameDid (q .table) v) (q .numberForms) top (nameBit (q .table)) k _
       λ n next. test-le (Did (NameDid (q .table) v)) (refused 10 k) tt (suc n) (length (names v (q .table))) _
       λ h. name-used (entry-of (names v (q .table)) noTriple n h)
 
-  name-did : (q : NameLayout) (b k : ℕ) (v : Vocabulary Located) → Did (NameDid (q .table) v) (nameAt V q s b k v)
+  name-did : (q : NameLayout) (b k : ℕ) (v : Vocabulary Located) → Did (NameDid (q .table) v) (nameAt ver q s b k v)
   unfolding nameAt
   name-did q b k v = either (Did (NameDid (q .table) v)) (ltb b (q .inPartsBits)) _ _ (λ e. numbered-did q k v) (λ e. parts-did q b k v)
 
   abbrev DeclaredDid : Vocabulary Located → DeclaredRead → Vocabulary Located → Type 0
   DeclaredDid v b w = ItemDone empty (Lies s) v (Namespace (b .prefix) (b .namespace) by forNamespace (b .prefixHow) (b .namespaceHow)) w
 
-  declared-did : (k : ℕ) (v : Vocabulary Located) → Did (DeclaredDid v) (declaredAt V s k v)
+  declared-did : (k : ℕ) (v : Vocabulary Located) → Did (DeclaredDid v) (declaredAt ver s k v)
   unfolding declaredAt
   declared-did k v =
       let R : DeclaredRead → Vocabulary Located → Type 0 = DeclaredDid v in
@@ -174,8 +174,8 @@ module _ (V : Version) (s : Octets) where
       test (Did R) (refused 2 k) tt (ltb k (length s)) _
       λ e. test-not (Did R) (refused 5 k) tt (ltb b 0xCC) _
       λ e. either (Did R) (ltb b 0xD0) _ _
-      (λ e. then-did R (PartDid (prefixBit b) PREFIX v) (optionalAt V (prefixBit b) s PREFIX (suc k) v) _ (part-did (prefixBit b) PREFIX (suc k) v)
-      λ p k₁ v₁ r₁. then-did R (PartDid (namespaceBit b) NAMESPACE-NAME v₁) (optionalAt V (namespaceBit b) s NAMESPACE-NAME k₁ v₁) _ (part-did (namespaceBit b) NAMESPACE-NAME k₁ v₁)
+      (λ e. then-did R (PartDid (prefixBit b) PREFIX v) (optionalAt ver (prefixBit b) s PREFIX (suc k) v) _ (part-did (prefixBit b) PREFIX (suc k) v)
+      λ p k₁ v₁ r₁. then-did R (PartDid (namespaceBit b) NAMESPACE-NAME v₁) (optionalAt ver (namespaceBit b) s NAMESPACE-NAME k₁ v₁) _ (part-did (namespaceBit b) NAMESPACE-NAME k₁ v₁)
       λ n k₂ v₂ r₂. done-namespace (r₁ .0) (r₂ .0))
       (λ e. test-not (Did R) (refused 5 k) tt (ltb b 0xF0) _ λ e. test-not (Did R) (refused 15 k) tt (eqb b 0xF0) _ λ e. tt)
 
@@ -191,28 +191,28 @@ module _ (V : Version) (s : Octets) where
   into-gave v R (got b next w) f r h = h b next w r
   into-gave v R (refused n p) f r h = tt
 
-  start-gave : (k : ℕ) (a : Bool) (v : State Located) (g : Got NameRead) → Did (NameDid (ofElement .table) (v .tables)) g → Gave (v .tables) (startOf V k a v g)
+  start-gave : (k : ℕ) (a : Bool) (v : State Located) (g : Got NameRead) → Did (NameDid (ofElement .table) (v .tables)) g → Gave (v .tables) (startOf ver k a v g)
   unfolding ofElement
   start-gave k a v g r = into-gave (v .tables) (NameDid (ofElement .table) (v .tables)) g _ r λ x next w u. done-start u
 
-  namespace-gave : (k : ℕ) (v : State Located) (a : Bool) → Gave (v .tables) (namespaceAt V s k v a)
+  namespace-gave : (k : ℕ) (v : State Located) (a : Bool) → Gave (v .tables) (namespaceAt ver s k v a)
   unfolding namespaceAt
-  namespace-gave k v a = into-gave (v .tables) (DeclaredDid (v .tables)) (declaredAt V s k (v .tables)) _ (declared-did k (v .tables)) λ d next w u. u
+  namespace-gave k v a = into-gave (v .tables) (DeclaredDid (v .tables)) (declaredAt ver s k (v .tables)) _ (declared-did k (v .tables)) λ d next w u. u
 
-  element-gave : (k b : ℕ) (a : Bool) (v : State Located) → Gave (v .tables) (elementAt V s k b a v)
+  element-gave : (k b : ℕ) (a : Bool) (v : State Located) → Gave (v .tables) (elementAt ver s k b a v)
   unfolding elementAt ofElement
   element-gave k b a v =
       let P : Step → Type 0 = Gave (v .tables) in
       test-not P (stop 6 k) tt (namePadding b) _
       λ e. test P (stop 15 k) tt (mayStart v) _
       λ e. either P (ltb b 0x38) _ _
-      (λ e. into-gave (v .tables) (NameDid (ofElement .table) (v .tables)) (numberedAt V ofElement s k (v .tables)) _ (numbered-did ofElement k (v .tables))
-      λ x next w u. test P (stop 13 k) tt (ltb (v .level) (V .depth)) _ λ e. done-start u)
+      (λ e. into-gave (v .tables) (NameDid (ofElement .table) (v .tables)) (numberedAt ver ofElement s k (v .tables)) _ (numbered-did ofElement k (v .tables))
+      λ x next w u. test P (stop 13 k) tt (ltb (v .level) (ver .depth)) _ λ e. done-start u)
       λ e. test-not P (stop 15 k) tt (leb 0x3C b && lonePrefix b) _
-      λ e. test P (stop 13 k) tt (ltb (v .level) (V .depth)) _
-      λ e. either P (eqb b 0x38) _ _ (λ e. namespace-gave (suc k) v a) (λ e. start-gave k a v (partsAt V ofElement s b k (v .tables)) (parts-did ofElement b k (v .tables)))
+      λ e. test P (stop 13 k) tt (ltb (v .level) (ver .depth)) _
+      λ e. either P (eqb b 0x38) _ _ (λ e. namespace-gave (suc k) v a) (λ e. start-gave k a v (partsAt ver ofElement s b k (v .tables)) (parts-did ofElement b k (v .tables)))
 
-  named-gave : (k : ℕ) (a : Bool) (v : State Located) → Gave (v .tables) (namedAt V s k a v)
+  named-gave : (k : ℕ) (a : Bool) (v : State Located) → Gave (v .tables) (namedAt ver s k a v)
   unfolding namedAt
   named-gave k a v =
       let P : Step → Type 0 = Gave (v .tables) in
@@ -220,20 +220,20 @@ module _ (V : Version) (s : Octets) where
       λ e. test-not P (stop 5 k) tt (eqb (getD s k 0 % 64 / 4) 14) _
       λ e. test P (stop 6 k) tt (ltb (getD s k 0) 0x40) _
       λ e. test-not P (stop 6 k) tt (namePadding (getD s k 0)) _
-      λ e. start-gave k a v (nameAt V ofElement s (getD s k 0) k (v .tables)) (name-did ofElement (getD s k 0) k (v .tables))
+      λ e. start-gave k a v (nameAt ver ofElement s (getD s k 0) k (v .tables)) (name-did ofElement (getD s k 0) k (v .tables))
 
-  attribute-gave : (k : ℕ) (v : State Located) → Gave (v .tables) (attributeAt V s k v)
+  attribute-gave : (k : ℕ) (v : State Located) → Gave (v .tables) (attributeAt ver s k v)
   unfolding attributeAt ofAttribute
   attribute-gave k v =
       let P : Step → Type 0 = Gave (v .tables) in
       test P (stop 2 k) tt (ltb k (length s)) _
       λ e. test P (stop 5 k) tt (ltb (getD s k 0) 0x80) _
       λ e. test P (stop 6 k) tt (ltb (getD s k 0) 0x7C) _
-      λ e. into-gave (v .tables) (NameDid (ofAttribute .table) (v .tables)) (nameAt V ofAttribute s (getD s k 0) k (v .tables)) _ (name-did ofAttribute (getD s k 0) k (v .tables))
-      λ x k₁ w₁ r₁. into-gave (v .tables) (ValueDid ATTRIBUTE-VALUE w₁) (valueAt V s ATTRIBUTE-VALUE k₁ w₁) _ (value-did ATTRIBUTE-VALUE k₁ w₁)
+      λ e. into-gave (v .tables) (NameDid (ofAttribute .table) (v .tables)) (nameAt ver ofAttribute s (getD s k 0) k (v .tables)) _ (name-did ofAttribute (getD s k 0) k (v .tables))
+      λ x k₁ w₁ r₁. into-gave (v .tables) (ValueDid ATTRIBUTE-VALUE w₁) (valueAt ver s ATTRIBUTE-VALUE k₁ w₁) _ (value-did ATTRIBUTE-VALUE k₁ w₁)
       λ y k₂ w₂ r₂. done-attribute r₁ r₂
 
-  child-gave : (k : ℕ) (v : State Located) → Gave (v .tables) (childAt V s k v)
+  child-gave : (k : ℕ) (v : State Located) → Gave (v .tables) (childAt ver s k v)
   unfolding childAt chunkAt commentAt instructionAt otherAt
   child-gave k v =
       let P : Step → Type 0 = Gave (v .tables) in
@@ -243,18 +243,18 @@ module _ (V : Version) (s : Octets) where
       λ e. either P (ltb o 0x80) _ _ (λ e. element-gave k (o - 0x40) true v)
       λ e. either P (ltb o 0xC0) _ _
       (λ e. test P (stop 5 k) tt (ltb 0 (v .level)) _
-      λ e. into-gave (v .tables) (StringDid CONTENT-CHARACTER-CHUNK (v .tables)) (literalAt V c15 s CONTENT-CHARACTER-CHUNK k (v .tables)) _ (string-did c15 CONTENT-CHARACTER-CHUNK k (v .tables))
+      λ e. into-gave (v .tables) (StringDid CONTENT-CHARACTER-CHUNK (v .tables)) (literalAt ver c15 s CONTENT-CHARACTER-CHUNK k (v .tables)) _ (string-did c15 CONTENT-CHARACTER-CHUNK k (v .tables))
       λ y next w u. done-text u)
       λ e. either P (eqb o 0xE1) _ _
-      (λ e. into-gave (v .tables) (IdDid OTHER-NCNAME (v .tables)) (idAt V s OTHER-NCNAME (suc k) (v .tables)) _ (id-did OTHER-NCNAME (suc k) (v .tables))
-      λ x k₁ w₁ r₁. into-gave (v .tables) (ValueDid OTHER-STRING w₁) (valueAt V s OTHER-STRING k₁ w₁) _ (value-did OTHER-STRING k₁ w₁)
+      (λ e. into-gave (v .tables) (IdDid OTHER-NCNAME (v .tables)) (idAt ver s OTHER-NCNAME (suc k) (v .tables)) _ (id-did OTHER-NCNAME (suc k) (v .tables))
+      λ x k₁ w₁ r₁. into-gave (v .tables) (ValueDid OTHER-STRING w₁) (valueAt ver s OTHER-STRING k₁ w₁) _ (value-did OTHER-STRING k₁ w₁)
       λ y k₂ w₂ r₂. done-instruction r₁ r₂)
       λ e. either P (eqb o 0xE2) _ _
-      (λ e. into-gave (v .tables) (ValueDid OTHER-STRING (v .tables)) (valueAt V s OTHER-STRING (suc k) (v .tables)) _ (value-did OTHER-STRING (suc k) (v .tables))
+      (λ e. into-gave (v .tables) (ValueDid OTHER-STRING (v .tables)) (valueAt ver s OTHER-STRING (suc k) (v .tables)) _ (value-did OTHER-STRING (suc k) (v .tables))
       λ y next w u. done-comment u)
       λ e. test P (stop 6 k) tt (ltb o 0xF0) _ λ e. test P (stop 5 k) tt (eqb (o / 4) (pick (ltb 0 (v .level)) 0x32 0x31)) _ λ e. tt
 
-  item-gave : (k : ℕ) (v : State Located) (m : Mode) → Gave (v .tables) (itemAt V s k v m)
+  item-gave : (k : ℕ) (v : State Located) (m : Mode) → Gave (v .tables) (itemAt ver s k v m)
   unfolding itemAt declaringAt
   item-gave k v content = child-gave k v
   item-gave k v (declaring a) = either (Gave (v .tables)) (eqb (getD s k 0) 0xF0) _ _ (λ e. named-gave (suc k) a v) (λ e. namespace-gave k v a)
@@ -272,7 +272,7 @@ module _ (V : Version) (s : Octets) where
       λ e. test P (stop 6 (m .at / 2)) tt (padsAt s (suc (m .at))) _
       λ e. test P (stop 15 (aligned (suc (m .at)) / 2)) tt (eqb (aligned (suc (m .at))) (2 * length s)) _ λ e. tt
 
-  step-gave : (m : Stand) → Gave (m .state .tables) (step V s m)
+  step-gave : (m : Stand) → Gave (m .state .tables) (step ver s m)
   unfolding step
   step-gave m =
       let P : Step → Type 0 = Gave (m .state .tables) in
@@ -296,22 +296,22 @@ module _ (V : Version) (s : Octets) where
   turn-gave go rec room m done g = no-item
   turn-gave go rec room m (stop n p) g = tt
 
-  run-gave : (fuel room : ℕ) (m : Stand) → GaveAll (m .state .tables) (run V s fuel room m)
+  run-gave : (fuel room : ℕ) (m : Stand) → GaveAll (m .state .tables) (run ver s fuel room m)
   unfolding run
   run-gave zero room m = tt
-  run-gave (suc fuel) room m = turn-gave (λ r n. run V s fuel r n) (λ r n. run-gave fuel r n) room m (step V s m) (step-gave m)
+  run-gave (suc fuel) room m = turn-gave (λ r n. run ver s fuel r n) (λ r n. run-gave fuel r n) room m (step ver s m) (step-gave m)
 
-module _ (V : Version) (s : Octets) (room : ℕ) where
-  from-gave : (o : Opening) → Opened V s o → GaveAll V s (start V) (resultFrom V s room o)
+module _ (ver : Version) (s : Octets) (room : ℕ) where
+  from-gave : (o : Opening) → Opened ver s o → GaveAll ver s (start ver) (resultFrom ver s room o)
   unfolding beginning
   from-gave (onward body tables) k =
-      let w : tables ≡ start V = opens-with (k .0) in
-      subst (λ (v : Vocabulary Located). GaveAll V s v (run V s (fuelOf s) room (origin body tables))) w (run-gave V s (fuelOf s) room (origin body tables))
+      let w : tables ≡ start ver = opens-with (k .0) in
+      subst (λ (v : Vocabulary Located). GaveAll ver s v (run ver s (fuelOf s) room (origin body tables))) w (run-gave ver s (fuelOf s) room (origin body tables))
     where
       opens-with : {b c : ℕ} {v w : Vocabulary Located} → onward b v ≡ onward c w → v ≡ w
       opens-with e = cc
   from-gave (halt n p) k = tt
 
-  pub reading-done : (is : List (Item Located)) (m : Stand) → reading V s room ≡ accepted is m → Done empty (Lies s) (start V) is (m .state .tables)
+  pub reading-done : (is : List (Item Located)) (m : Stand) → reading ver s room ≡ accepted is m → Done empty (Lies s) (start ver) is (m .state .tables)
   unfolding reading
-  reading-done is m e = subst (GaveAll V s (start V)) e (from-gave (opening V s) (opening-sound V s))
+  reading-done is m e = subst (GaveAll ver s (start ver)) e (from-gave (opening ver s) (opening-sound ver s))

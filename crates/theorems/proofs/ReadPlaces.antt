@@ -12,11 +12,11 @@ use Rattle.reader.specs.Reading.{accepted, reading}
 use Rattle.theorems.proofs.Earlier.{earlier, made}
 use Rattle.theorems.proofs.ReadEffects.{reading-done}
 
-pub earlier-places : (V : Version) (s : Octets) (room : ℕ) (is : List (Item Located)) (m : Stand) → reading V s room ≡ accepted is m → Known (starting V builtInPrefix builtInNamespace) (acts is)
+pub earlier-places : (ver : Version) (s : Octets) (room : ℕ) (is : List (Item Located)) (m : Stand) → reading ver s room ≡ accepted is m → Known (starting ver builtInPrefix builtInNamespace) (acts is)
 unfolding start
-earlier-places V s room is m e = earlier V builtInPrefix builtInNamespace (reading-done V s room is m e)
+earlier-places ver s room is m e = earlier ver builtInPrefix builtInNamespace (reading-done ver s room is m e)
 
 -- the tables at the end have the very places that the items spelled
-pub made-places : (V : Version) (s : Octets) (room : ℕ) (is : List (Item Located)) (m : Stand) → reading V s room ≡ accepted is m → Holds (m .state .tables) (after (starting V builtInPrefix builtInNamespace) (acts is))
+pub made-places : (ver : Version) (s : Octets) (room : ℕ) (is : List (Item Located)) (m : Stand) → reading ver s room ≡ accepted is m → Holds (m .state .tables) (after (starting ver builtInPrefix builtInNamespace) (acts is))
 unfolding start
-made-places V s room is m e = made V builtInPrefix builtInNamespace (reading-done V s room is m e)
+made-places ver s room is m e = made ver builtInPrefix builtInNamespace (reading-done ver s room is m e)

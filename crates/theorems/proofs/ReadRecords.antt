@@ -80,8 +80,8 @@ module _ (s : Octets) where
   as-record (Instruction x y) a = W.an-instruction (as-stretch (omega arith) (a .0)) (as-value (omega arith) (a .1))
   as-record End a = W.an-end
 
-  pub well-made : (V : Version) (room : ℕ) (is : List (Item Located)) (m : Stand) → reading V s room ≡ accepted is m → All (λ (i : Item Located). WellMade s (recordOf (i .event))) is
+  pub well-made : (ver : Version) (room : ℕ) (is : List (Item Located)) (m : Stand) → reading ver s room ≡ accepted is m → All (λ (i : Item Located). WellMade s (recordOf (i .event))) is
   unfolding start
-  well-made V room is m e =
+  well-made ver room is m e =
       all-so (λ (i : Item Located). WellMade s (recordOf (i .event))) (λ i a. as-record (i .event) a) is
-      (holds Stands empty (Lies s) (λ t x l. spelled-here l) V the-prefix the-namespace (reading-done V s room is m e))
+      (holds Stands empty (Lies s) (λ t x l. spelled-here l) ver the-prefix the-namespace (reading-done ver s room is m e))

@@ -1,4 +1,4 @@
--- Where the rules write 01's choices, their tables are the ones that 01's choices leave: a choice says what is added. No limit is asked for, so the limits of the choices, C, and of the rules, V, may be any.
+-- Where the rules write the required choices, their tables are the ones that the required choices leave: a choice says what is added. No limit is asked for, so the limits of the choices, C, and of the rules, ver, may be any.
 use Prim.Native.Nat.{ℕ}
 use mathlib.Core.Path.{_≡_, refl, ap, _∙_}
 use mathlib.Core.Option.{Option}
@@ -17,22 +17,22 @@ use Rattle.theorems.proofs.Chosen.{id-case, optional-case, LiteralCase,
 use Rattle.theorems.proofs.OneWriting.{literal-some}
 use Rattle.theorems.proofs.Produced.{ranged-for}
 
-module _ {V : Version} where
+module _ {ver : Version} where
   -- ---- strings
   id-words : {t : StringTable} {v w w′ : Vocabulary Octets} {x : Octets} {h h′ : How} {n n′ : ℕ} {o : Octets}
-      → Identifying V t v x h n o w → PermitsId t v x h′ n′ w′ → h ≡ h′ → (w ≡ w′) × (n ≡ n′)
+      → Identifying ver t v x h n o w → PermitsId t v x h′ n′ w′ → h ≡ h′ → (w ≡ w′) × (n ≡ n′)
   id-words (id-spelled sp first room) (id-new m) e = (refl, refl)
   id-words (id-spelled sp first room) (id-entry en) e = (cc, cc)
   id-words (id-numbered small en) (id-new m) e = (cc, cc)
   id-words (id-numbered small en) (id-entry en′) e = (refl, cc)
 
   optional-words : {t : StringTable} {v w w′ : Vocabulary Octets} {x : Option Octets} {h h′ : Option How} {n n′ : ℕ} {o : Octets}
-      → Optional V t v x h n o w → PermitsIfAny t v x h′ n′ w′ → h ≡ h′ → (w ≡ w′) × (n ≡ n′)
+      → Optional ver t v x h n o w → PermitsIfAny t v x h′ n′ w′ → h ≡ h′ → (w ≡ w′) × (n ≡ n′)
   optional-words absent not-there e = (refl, refl)
   optional-words (present u) (there c) e = id-words u c (cc)
 
   literal-words : {C : Version} {q : Layout} {t : StringTable} {v w : Vocabulary Octets} {x : Octets} {h : How} {o : Octets} {c : Chose How}
-      → Literal V q t v x h o w → LiteralCase C t v x c → h ≡ c .how → w ≡ c .tables
+      → Literal ver q t v x h o w → LiteralCase C t v x c → h ≡ c .how → w ≡ c .tables
   literal-words {t = t} {v = v} {x = x} (literal-spelled {added = a} sp room) (lit-new {added = b} r) e = let y : a ≡ b = cc in λ j. keeping (y j) v t x
   literal-words (literal-spelled sp room) (lit-held en) e = cc
   literal-words (literal-numbered small fits en) (lit-new r) e = cc
@@ -40,7 +40,7 @@ module _ {V : Version} where
 
   -- an empty value adds nothing, and is no literal's choice
   value-words : {C : Version} {t : StringTable} {v w : Vocabulary Octets} {x : Octets} {h : How} {o : Octets} {c : Chose How}
-      → Value V t v x h o w → ValueCase C t v x c → h ≡ c .how → w ≡ c .tables
+      → Value ver t v x h o w → ValueCase C t v x c → h ≡ c .how → w ≡ c .tables
   value-words value-empty (is-empty z) e = refl
   value-words value-empty (is-literal long c) e = absurd (omega arith)
   value-words (value u) (is-empty z) e = literal-some u e
@@ -48,7 +48,7 @@ module _ {V : Version} where
 
   -- ---- names: the numbers of the parts make the triple
   named-words : {q : NameLayout} {lead : ℕ} {v w : Vocabulary Octets} {x : Name Octets} {h : NameHow} {o : Octets} {c : Chose NameHow}
-      → Named V q lead v x h o w → NameCase (q .table) v x c → h ≡ c .how → w ≡ c .tables
+      → Named ver q lead v x h o w → NameCase (q .table) v x c → h ≡ c .how → w ≡ c .tables
   named-words {q} {v = v} {x = x} (in-parts lone up un ul first room) (name-new m) e =
       let p = chooseOptional PREFIX v (x .prefix) in
       let n = chooseOptional NAMESPACE-NAME (p .tables) (x .namespace) in
@@ -61,16 +61,16 @@ module _ {V : Version} where
   named-words (by-number small fits en m) (name-held en′ m′) e = refl
 
   element-words : {lead : ℕ} {v w : Vocabulary Octets} {x : Name Octets} {h : NameHow} {o : Octets}
-      → Named V ofElement lead v x h o w → Ranged v → h ≡ chooseName ELEMENT-NAME v x .how → w ≡ chooseName ELEMENT-NAME v x .tables
+      → Named ver ofElement lead v x h o w → Ranged v → h ≡ chooseName ELEMENT-NAME v x .how → w ≡ chooseName ELEMENT-NAME v x .tables
   unfolding ofElement
   element-words {v = v} {x = x} u r e = named-words u (name-case ELEMENT-NAME v x r) e
 
   attribute-words : {lead : ℕ} {v w : Vocabulary Octets} {x : Name Octets} {h : NameHow} {o : Octets}
-      → Named V ofAttribute lead v x h o w → Ranged v → h ≡ chooseName ATTRIBUTE-NAME v x .how → w ≡ chooseName ATTRIBUTE-NAME v x .tables
+      → Named ver ofAttribute lead v x h o w → Ranged v → h ≡ chooseName ATTRIBUTE-NAME v x .how → w ≡ chooseName ATTRIBUTE-NAME v x .tables
   unfolding ofAttribute
   attribute-words {v = v} {x = x} u r e = named-words u (name-case ATTRIBUTE-NAME v x r) e
 
-  declared-words : {v w : Vocabulary Octets} {p n : Option Octets} {hp hn : Option How} {o : Octets} → Declared V v p n hp hn o w
+  declared-words : {v w : Vocabulary Octets} {p n : Option Octets} {hp hn : Option How} {o : Octets} → Declared ver v p n hp hn o w
       → hp ≡ chooseOptional PREFIX v p .how → hn ≡ chooseOptional NAMESPACE-NAME (chooseOptional PREFIX v p .tables) n .how
       → w ≡ chooseOptional NAMESPACE-NAME (chooseOptional PREFIX v p .tables) n .tables
   declared-words {v = v} {p = p} {n = n} (declared up un) ep en =
@@ -79,7 +79,7 @@ module _ {V : Version} where
 
   -- ---- items
   module _ (C : Version) where
-    octets-words : {v w : State Octets} {i : Item Octets} {o : Octets} → ItemWrittenAs V v i o w → Ranged (v .tables)
+    octets-words : {v w : State Octets} {i : Item Octets} {o : Octets} → ItemWrittenAs ver v i o w → Ranged (v .tables)
         → i .choice ≡ chooseFor C (v .tables) (i .event) .how → w .tables ≡ chooseFor C (v .tables) (i .event) .tables
     unfolding chooseFor
     octets-words (o-start a md may deep u) r e = element-words u r (cc)
@@ -97,7 +97,7 @@ module _ {V : Version} where
 
     -- a list of them; the tables are said to be u, so that each step can name them by the choices
     from-items : {at : ℕ} {v w : State Octets} {u : Vocabulary Octets} {items : List (Item Octets)} {hs : Halves} (es : List (Event Octets))
-        → Begun V at v items hs w → v .tables ≡ u → Ranged u → items ≡ chosen C u es → w .tables ≡ tablesAfter C u es
+        → Begun ver at v items hs w → v .tables ≡ u → Ranged u → items ≡ chosen C u es → w .tables ≡ tablesAfter C u es
     unfolding chosen tablesAfter chooseFor
     from-items [] begun q r e = q
     from-items [] (after-attributes md b) q r e = cc
@@ -114,5 +114,5 @@ module _ {V : Version} where
         from-items es b (rw q at p) (ranged-for C u x r) (cc)
 
     pub begun-words : {at : ℕ} {v w : State Octets} {hs : Halves} (es : List (Event Octets))
-        → Begun V at v (chosen C (v .tables) es) hs w → Ranged (v .tables) → w .tables ≡ tablesAfter C (v .tables) es
+        → Begun ver at v (chosen C (v .tables) es) hs w → Ranged (v .tables) → w .tables ≡ tablesAfter C (v .tables) es
     begun-words es b r = from-items es b refl r refl

@@ -38,20 +38,20 @@ abbrev pub NotShort : Result → Type 0
 NotShort (accepted is m) = Unit {0}
 NotShort (refusal c p) = c ≡ 14 → ⊥
 
-module _ {V : Version} where
-  named-some : {q : NameLayout} (g : NameShape q) {lead : ℕ} {v w : Vocabulary Octets} {x : Name Octets} {h : NameHow} {o : Octets} → Named V q lead v x h o w → 0 < length o
+module _ {ver : Version} where
+  named-some : {q : NameLayout} (g : NameShape q) {lead : ℕ} {v w : Vocabulary Octets} {x : Name Octets} {h : NameHow} {o : Octets} → Named ver q lead v x h o w → 0 < length o
   named-some g (in-parts paired up un ul new room) = omega arith
   named-some {q} g {lead} (by-number {k = k} small fits en m) = some-first (q .numberForms) lead (suc k) (g .numbers-ok) (omega arith) fits
 
-  declared-some : {v w : Vocabulary Octets} {p n : Option Octets} {hp hn : Option How} {o : Octets} → Declared V v p n hp hn o w → 0 < length o
+  declared-some : {v w : Vocabulary Octets} {p n : Option Octets} {hp hn : Option How} {o : Octets} → Declared ver v p n hp hn o w → 0 < length o
   declared-some (declared up un) = omega arith
 
-  literal-some : {q : Layout} (g : Shape q) {t : StringTable} {v w : Vocabulary Octets} {x : Octets} {h : How} {o : Octets} → Literal V q t v x h o w → 0 < length o
+  literal-some : {q : Layout} (g : Shape q) {t : StringTable} {v w : Vocabulary Octets} {x : Octets} {h : How} {o : Octets} → Literal ver q t v x h o w → 0 < length o
   literal-some {q} g (literal-spelled {x = x} {added = a} sp room) =
       let p = sp .some in let l = length-append (spell (lengths (q .lengthBit)) (q .spelledBits + q .addBit * bit a) (length x)) x in omega arith
   literal-some {q} g (literal-numbered {k = k} small fits en) = some-first (q .numberForms) (q .numberedBits) (suc k) (g .numbers-ok) (omega arith) fits
 
-  octets-some : {v w : State Octets} {i : Item Octets} {o : Octets} → ItemWrittenAs V v i o w → (0 < length o) × (w .level ≤ suc (v .level))
+  octets-some : {v w : State Octets} {i : Item Octets} {o : Octets} → ItemWrittenAs ver v i o w → (0 < length o) × (w .level ≤ suc (v .level))
   octets-some (o-start a md may deep u) = (named-some element-shape u, omega arith)
   octets-some (o-first-namespace md may deep u) = (omega arith, omega arith)
   octets-some (o-namespace md u) = (declared-some u, omega arith)
@@ -67,10 +67,10 @@ pub record Inside (s : Octets) (m : Stand) : Type 0 where
   pub at : m .at ≤ 2 * length s
   pub ranged : Ranged (plainTables s (m .state .tables))
 
-module _ (V : Version) (s : Octets) (bytes : (i : ℕ) → getD s i 0 < 256) (short : length s ≤ longest) where
+module _ (ver : Version) (s : Octets) (bytes : (i : ℕ) → getD s i 0 < 256) (short : length s ≤ longest) where
   -- from where the reader stands, the items and the document's end are written as the halves left
   abbrev pub Rest : Stand → List (Item Octets) → State Octets → Type 0
-  Rest m items z = Written V (m .at) (plainState s (m .state)) items (drop (m .at) (halves s)) z
+  Rest m items z = Written ver (m .at) (plainState s (m .state)) items (drop (m .at) (halves s)) z
 
   -- what is left to read, where an element that is open counts half of an octet's half: 3 for each event that can still come
   abbrev pub left : Stand → ℕ
@@ -84,7 +84,7 @@ module _ (V : Version) (s : Octets) (bytes : (i : ℕ) → getD s i 0 < 256) (sh
   Fine m done = Rest m [] (plainState s (m .state))
   Fine m (stop c p) = Fault s c p
 
-  item-fine : (m : Stand) → Inside s m → padsAt s (m .at) ≡ true → (a : Step) → Took V s bytes short (aligned (m .at) / 2) (m .state) a → Fine m a
+  item-fine : (m : Stand) → Inside s m → padsAt s (m .at) ≡ true → (a : Step) → Took ver s bytes short (aligned (m .at) / 2) (m .state) a → Fine m a
   item-fine m ml t (more p i n) w =
       let k : ℕ = aligned (m .at) / 2 in
       let o = w .octets in
@@ -100,8 +100,8 @@ module _ (V : Version) (s : Octets) (bytes : (i : ℕ) → getD s i 0 < 256) (sh
       let ins = w .inside in
       let al = aligned-ge (m .at) in (
         λ items y u.
-            subst (λ (l : Octets). Written V (m .at) (plainState s (m .state)) (plain s i ∷ items) l y) (sym d)
-            (item (w .rule) (subst (λ (x : ℕ). Written V x (plainState s (n .state)) items (drop (n .at) (halves s)) y) z u)),
+            subst (λ (l : Octets). Written ver (m .at) (plainState s (m .state)) (plain s i ∷ items) l y) (sym d)
+            (item (w .rule) (subst (λ (x : ℕ). Written ver x (plainState s (n .state)) items (drop (n .at) (halves s)) y) z u)),
         record { at = omega arith; ranged = permits-ranged (octets-may (w .rule)) (ml .ranged) },
         omega arith,
         w .place,
@@ -123,7 +123,7 @@ module _ (V : Version) (s : Octets) (bytes : (i : ℕ) → getD s i 0 < 256) (sh
       λ t3. test (Fine m) (stop 15 (aligned (suc (m .at)) / 2)) (fault s 15 (aligned (suc (m .at)) / 2) refl k3) (eqb (aligned (suc (m .at))) (2 * length s)) _
       λ t4.
       let over : aligned (suc (m .at)) ≡ length (halves s) = eqb-true _ _ t4 ∙ sym (halves-length s) in
-      subst (λ (l : Octets). Written V (m .at) (plainState s (m .state)) [] l (plainState s (m .state)))
+      subst (λ (l : Octets). Written ver (m .at) (plainState s (m .state)) [] l (plainState s (m .state)))
       (sym (d ∙ ap (λ (l : Octets). 15 ∷ l) (pads-sound s (suc (m .at)) t3
       ∙ ap (λ (x : ℕ). pad (suc (m .at)) ++ drop x (halves s)) over
       ∙ ap (λ (l : Octets). pad (suc (m .at)) ++ l) (drop-length (halves s))
@@ -138,7 +138,7 @@ module _ (V : Version) (s : Octets) (bytes : (i : ℕ) → getD s i 0 < 256) (sh
       let d = ends-sound s (m .at) t in
       let ah = drop-head (halves s) (m .at) 15 (drop (suc (m .at)) (halves s)) d .0 in
       let hl = halves-length s in (
-        λ items y u. subst (λ (l : Octets). Written V (m .at) (plainState s (m .state)) items l y) (sym d) (attributes-end q u),
+        λ items y u. subst (λ (l : Octets). Written ver (m .at) (plainState s (m .state)) items l y) (sym d) (attributes-end q u),
         record { at = omega arith; ranged = ml .ranged },
         omega arith,
       )
@@ -148,14 +148,14 @@ module _ (V : Version) (s : Octets) (bytes : (i : ℕ) → getD s i 0 < 256) (sh
       let hl = halves-length s in
       either-lt (Fine m) 0 (m .state .level) _ _
       (λ t1. (
-        λ items y u. subst (λ (l : Octets). Written V (m .at) (plainState s (m .state)) ((End by forEnd) ∷ items) l y) (sym d) (element-end q t1 u),
+        λ items y u. subst (λ (l : Octets). Written ver (m .at) (plainState s (m .state)) ((End by forEnd) ∷ items) l y) (sym d) (element-end q t1 u),
         record { at = omega arith; ranged = ml .ranged },
         omega arith,
         omega arith,
       ))
       λ t1. document-end-fine m ml q (omega arith) t
 
-  pub step-fine : (m : Stand) → Inside s m → Fine m (step V s m)
+  pub step-fine : (m : Stand) → Inside s m → Fine m (step ver s m)
   unfolding step
   step-fine m ml =
       let md : Mode = m .state .mode in
@@ -163,7 +163,7 @@ module _ (V : Version) (s : Octets) (bytes : (i : ℕ) → getD s i 0 < 256) (sh
       either (Fine m) (byHalves md && endsAt s (m .at)) _ _
       (λ t. end-fine m md ml refl (both-true (byHalves md) (endsAt s (m .at)) t .1))
       (λ t. test (Fine m) (stop 6 (m .at / 2)) (fault s 6 (m .at / 2) refl (omega arith)) (padsAt s (m .at)) _
-      λ t1. item-fine m ml t1 (itemAt V s k (m .state) md) (item-sound V s bytes short k (m .state) md (ml .ranged) (aligned-in (m .at) (length s) (ml .at)) refl))
+      λ t1. item-fine m ml t1 (itemAt ver s k (m .state) md) (item-sound ver s bytes short k (m .state) md (ml .ranged) (aligned-in (m .at) (length s) (ml .at)) refl))
 
   abbrev pub Right : Stand → Result → Type 0
   Right m (accepted is n) = Rest m (map (plain s) is) (plainState s (n .state))
@@ -177,7 +177,7 @@ module _ (V : Version) (s : Octets) (bytes : (i : ℕ) → getD s i 0 < 256) (sh
   quiet-right m n g (accepted is l) r = g .0 (map (plain s) is) (plainState s (l .state)) r
   quiet-right m n g (refusal c p) r = r
 
-  -- an accepted run is written by the rules; a refusal is one of 01's
+  -- an accepted run is written by the rules; a refusal is one of the requirements'
   turn-right : (go : ℕ → Stand → Result) → ((r : ℕ) (n : Stand) → Inside s n → Right n (go r n)) → (room : ℕ) (m : Stand) (a : Step) → Fine m a → Right m (turn go room m a)
   turn-right go rec zero m (more p i n) g = (omega arith, omega arith, g .3)
   turn-right go rec (suc r) m (more p i n) g = plus-right m n p i g (go r n) (rec r n (g .1))
@@ -185,10 +185,10 @@ module _ (V : Version) (s : Octets) (bytes : (i : ℕ) → getD s i 0 < 256) (sh
   turn-right go rec room m done w = w
   turn-right go rec room m (stop c p) w = w .0
 
-  pub run-right : (fuel room : ℕ) (m : Stand) → Inside s m → Right m (run V s fuel room m)
+  pub run-right : (fuel room : ℕ) (m : Stand) → Inside s m → Right m (run ver s fuel room m)
   unfolding run
   run-right zero room m ml = fault s 2 (m .at / 2) refl (omega arith) .0
-  run-right (suc fuel) room m ml = turn-right (λ r n. run V s fuel r n) (λ r n h. run-right fuel r n h) room m (step V s m) (step-fine m ml)
+  run-right (suc fuel) room m ml = turn-right (λ r n. run ver s fuel r n) (λ r n h. run-right fuel r n h) room m (step ver s m) (step-fine m ml)
 
   -- each step takes a half at least, so that more fuel than halves left changes nothing
   turn-free : (go go′ : ℕ → Stand → Result) (k : ℕ) → ((r : ℕ) (n : Stand) → Inside s n → left n < 2 * k → go r n ≡ go′ r n)
@@ -199,12 +199,12 @@ module _ (V : Version) (s : Octets) (bytes : (i : ℕ) → getD s i 0 < 256) (sh
   turn-free go go′ k rec room m h done w = refl
   turn-free go go′ k rec room m h (stop c p) w = refl
 
-  pub fuel-free : (fuel extra room : ℕ) (m : Stand) → Inside s m → left m < 2 * fuel → run V s (extra + fuel) room m ≡ run V s fuel room m
+  pub fuel-free : (fuel extra room : ℕ) (m : Stand) → Inside s m → left m < 2 * fuel → run ver s (extra + fuel) room m ≡ run ver s fuel room m
   unfolding run
   fuel-free zero extra room m ml h = absurd (omega arith)
   fuel-free (suc fuel) extra room m ml h =
       let e : extra + suc fuel ≡ suc (extra + fuel) = omega arith in
-      rw e (turn-free (λ r n. run V s (extra + fuel) r n) (λ r n. run V s fuel r n) fuel (λ r n l k. fuel-free fuel extra r n l k) room m h (step V s m) (step-fine m ml))
+      rw e (turn-free (λ r n. run ver s (extra + fuel) r n) (λ r n. run ver s fuel r n) fuel (λ r n l k. fuel-free fuel extra r n l k) room m h (step ver s m) (step-fine m ml))
 
   -- the events are few
   marked-few : (go : Stand → List Mark) → ((n : Stand) → Inside s n → 3 * length (go n) ≤ left n) → (m : Stand) (a : Step) → Fine m a → 3 * length (marked go a) ≤ left m
@@ -213,10 +213,10 @@ module _ (V : Version) (s : Octets) (bytes : (i : ℕ) → getD s i 0 < 256) (sh
   marked-few go rec m done w = omega arith
   marked-few go rec m (stop c p) w = omega arith
 
-  pub trace-few : (fuel : ℕ) (m : Stand) → Inside s m → 3 * length (trace V s fuel m) ≤ left m
+  pub trace-few : (fuel : ℕ) (m : Stand) → Inside s m → 3 * length (trace ver s fuel m) ≤ left m
   unfolding trace
   trace-few zero m ml = omega arith
-  trace-few (suc fuel) m ml = marked-few (λ n. trace V s fuel n) (λ n h. trace-few fuel n h) m (step V s m) (step-fine m ml)
+  trace-few (suc fuel) m ml = marked-few (λ n. trace ver s fuel n) (λ n h. trace-few fuel n h) m (step ver s m) (step-fine m ml)
 
   -- with a record for every event, nothing is refused for want of room
   plus-not-short : (i : Item Located) (a : Result) → NotShort a → NotShort (plus i a)
@@ -231,11 +231,11 @@ module _ (V : Version) (s : Octets) (bytes : (i : ℕ) → getD s i 0 < 256) (sh
   turn-not-short go marks rec room m done g h = tt
   turn-not-short go marks rec room m (stop c p) g h = g .1
 
-  pub run-not-short : (fuel room : ℕ) (m : Stand) → Inside s m → length (trace V s fuel m) ≤ room → NotShort (run V s fuel room m)
+  pub run-not-short : (fuel room : ℕ) (m : Stand) → Inside s m → length (trace ver s fuel m) ≤ room → NotShort (run ver s fuel room m)
   unfolding run trace
   run-not-short zero room m ml h = λ e. omega arith
   run-not-short (suc fuel) room m ml h =
-      turn-not-short (λ r n. run V s fuel r n) (λ n. trace V s fuel n) (λ r n l k. run-not-short fuel r n l k) room m (step V s m) (step-fine m ml) h
+      turn-not-short (λ r n. run ver s fuel r n) (λ n. trace ver s fuel n) (λ r n l k. run-not-short fuel r n l k) room m (step ver s m) (step-fine m ml) h
 
 -- ---- room
 abbrev pub placesOf : List Mark → Octets
@@ -258,18 +258,18 @@ module _ (run₁ : ℕ → Stand → Result) (trace₁ : Stand → List Mark) wh
   turn-enough rec room m done h = refl
   turn-enough rec room m (stop c p) h = refl
 
-module _ (V : Version) (s : Octets) where
+module _ (ver : Version) (s : Octets) where
   -- the first event without a record is refused at its place
-  pub room-short : (fuel room : ℕ) (m : Stand) → room < length (trace V s fuel m) → run V s fuel room m ≡ refusal 14 (getD (placesOf (trace V s fuel m)) room 0)
+  pub room-short : (fuel room : ℕ) (m : Stand) → room < length (trace ver s fuel m) → run ver s fuel room m ≡ refusal 14 (getD (placesOf (trace ver s fuel m)) room 0)
   unfolding run trace
   room-short zero room m h = absurd (omega arith)
-  room-short (suc fuel) room m h = turn-short (λ r n. run V s fuel r n) (λ n. trace V s fuel n) (λ r n y. room-short fuel r n y) room m (step V s m) h
+  room-short (suc fuel) room m h = turn-short (λ r n. run ver s fuel r n) (λ n. trace ver s fuel n) (λ r n y. room-short fuel r n y) room m (step ver s m) h
 
   -- with a record for every event, more room changes nothing
-  pub room-enough : (fuel room : ℕ) (m : Stand) → length (trace V s fuel m) ≤ room → run V s fuel room m ≡ run V s fuel (length (trace V s fuel m)) m
+  pub room-enough : (fuel room : ℕ) (m : Stand) → length (trace ver s fuel m) ≤ room → run ver s fuel room m ≡ run ver s fuel (length (trace ver s fuel m)) m
   unfolding run trace
   room-enough zero room m h = refl
-  room-enough (suc fuel) room m h = turn-enough (λ r n. run V s fuel r n) (λ n. trace V s fuel n) (λ r n y. room-enough fuel r n y) room m (step V s m) h
+  room-enough (suc fuel) room m h = turn-enough (λ r n. run ver s fuel r n) (λ n. trace ver s fuel n) (λ r n y. room-enough fuel r n y) room m (step ver s m) h
 
 -- ---- what the rules write is read
 no-end : (n h : ℕ) (t u : Octets) → h < 15 → replicate n 0 ++ (h ∷ t) ≡ 15 ∷ u → ⊥
@@ -280,7 +280,7 @@ and-false : (a b : Bool) → (a ≡ true → b ≡ false) → (a && b) ≡ false
 and-false true b f = f refl
 and-false false b f = refl
 
-module _ (V : Version) (s : Octets) where
+module _ (ver : Version) (s : Octets) where
   -- an item's first half is no end, where an end could stand
   not-end : (at k : ℕ) → 2 * k ≡ aligned at → k < length s → getD s k 0 < 0xF0 → padsAt s at ≡ true → endsAt s at ≡ false
   unfolding halves pad
@@ -298,7 +298,7 @@ module _ (V : Version) (s : Octets) where
     place : ℕ
     found : Item Located
     n : Stand
-    goes : step V s m ≡ more place found n
+    goes : step ver s m ≡ more place found n
     what : plain s found ≡ i
     spells : itemSpelled found ≡ l
     stands : n .at ≡ at
@@ -306,7 +306,7 @@ module _ (V : Version) (s : Octets) where
 
   abbrev NextIf : Stand → Item Octets → Octets → State Octets → Octets → State Octets → Type 0
   NextIf m i o w hs v =
-      (u : ItemWrittenAs V v i o w) → drop (m .at) (halves s) ≡ pad (m .at) ++ (halves o ++ hs)
+      (u : ItemWrittenAs ver v i o w) → drop (m .at) (halves s) ≡ pad (m .at) ++ (halves o ++ hs)
       → Next m i (aligned (m .at) + 2 * length o) w (inItem (aligned (m .at) / 2) u) × (drop (aligned (m .at) + 2 * length o) (halves s) ≡ hs) × (0 < length o)
 
   item-next : (m : Stand) (i : Item Octets) (o : Octets) (w : State Octets) (hs : Halves) → NextIf m i o w hs (plainState s (m .state))
@@ -317,7 +317,7 @@ module _ (V : Version) (s : Octets) where
       let p = pads-complete s at (halves o ++ hs) d in
       let al = align-is at in
       let d1 : drop (2 * k) (halves s) ≡ halves o ++ hs = ap (λ (x : ℕ). drop x (halves s)) al ∙ p .1 in
-      let c = item-complete V s k (m .state) (drop (k + length o) s) u (halves-complete s k o hs d1) in
+      let c = item-complete ver s k (m .state) (drop (k + length o) s) u (halves-complete s k o hs d1) in
       let ends : (byHalves (m .state .mode) && endsAt s at) ≡ false = and-false (byHalves (m .state .mode)) _ λ y. not-end at k al (c .here) (c .first y) (p .0) in
       let l = halves-length o in
       let y : aligned at + 2 * length o ≡ 2 * k + length (halves o) = omega arith in
@@ -334,18 +334,18 @@ module _ (V : Version) (s : Octets) where
     past-end : drop (suc (m .at)) (halves s) ≡ hs
     past-end = drop-head (halves s) (m .at) 15 hs d .2
 
-    quiet-next : m .state .mode ≡ listing true → step V s m ≡ quiet (record { at = suc (m .at); state = moved (m .state) (m .state .tables) content })
+    quiet-next : m .state .mode ≡ listing true → step ver s m ≡ quiet (record { at = suc (m .at); state = moved (m .state) (m .state .tables) content })
     unfolding step endAt
     quiet-next md = rw (md, at-end)
 
     abbrev ended : Stand
     ended = record { at = suc (m .at); state = closed (m .state) }
 
-    end-next : m .state .mode ≡ content → 0 < m .state .level → step V s m ≡ more (m .at / 2) (End by forEnd) ended
+    end-next : m .state .mode ≡ content → 0 < m .state .level → step ver s m ≡ more (m .at / 2) (End by forEnd) ended
     unfolding step endAt
     end-next md l = rw (md, at-end, lt-ltb 0 (m .state .level) l)
 
-  done-next : (m : Stand) → m .state .mode ≡ content → m .state .level ≡ 0 → m .state .root ≡ true → drop (m .at) (halves s) ≡ 15 ∷ pad (suc (m .at)) → step V s m ≡ done
+  done-next : (m : Stand) → m .state .mode ≡ content → m .state .level ≡ 0 → m .state .root ≡ true → drop (m .at) (halves s) ≡ 15 ∷ pad (suc (m .at)) → step ver s m ≡ done
   unfolding step endAt documentEnd
   done-next m md l r d =
       let at : ℕ = m .at in
@@ -363,13 +363,13 @@ module _ (V : Version) (s : Octets) where
   pub record Reads (fuel room : ℕ) (m : Stand) (items : List (Item Octets)) (z : State Octets) (after : List (State Octets)) (l : List Located) : Type 0 where
     pub events : List (Item Located)
     pub last : Stand
-    pub runs : run V s fuel room m ≡ accepted events last
+    pub runs : run ver s fuel room m ≡ accepted events last
     pub are : map (plain s) events ≡ items
     pub end-is : plainState s (last .state) ≡ z
-    pub known : map (λ (k : Mark). plainState s (k .stand .state)) (trace V s fuel m) ≡ after
+    pub known : map (λ (k : Mark). plainState s (k .stand .state)) (trace ver s fuel m) ≡ after
     pub spells : allSpelled events ≡ l
 
-  go-on : (fuel room : ℕ) (m n : Stand) (p : ℕ) (f : Item Located) (i : Item Octets) (items : List (Item Octets)) (z w : State Octets) (after : List (State Octets)) (l r : List Located) → step V s m ≡ more p f n → plain s f ≡ i → itemSpelled f ≡ l → plainState s (n .state) ≡ w
+  go-on : (fuel room : ℕ) (m n : Stand) (p : ℕ) (f : Item Located) (i : Item Octets) (items : List (Item Octets)) (z w : State Octets) (after : List (State Octets)) (l r : List Located) → step ver s m ≡ more p f n → plain s f ≡ i → itemSpelled f ≡ l → plainState s (n .state) ≡ w
       → Reads fuel room n items z after r → Reads (suc fuel) (suc room) m (i ∷ items) z (w ∷ after) (l ++ r)
   unfolding run trace allSpelled
   go-on fuel room m n p f i items z w after l l′ e q sp st r =
@@ -383,12 +383,12 @@ module _ (V : Version) (s : Octets) where
         spells = ap₂ (λ (a b : List Located). a ++ b) sp (r .spells);
       }
 
-  go-over : (fuel room : ℕ) (m n : Stand) (items : List (Item Octets)) (z : State Octets) (after : List (State Octets)) (l : List Located) → step V s m ≡ quiet n → Reads fuel room n items z after l → Reads (suc fuel) room m items z after l
+  go-over : (fuel room : ℕ) (m n : Stand) (items : List (Item Octets)) (z : State Octets) (after : List (State Octets)) (l : List Located) → step ver s m ≡ quiet n → Reads fuel room n items z after l → Reads (suc fuel) room m items z after l
   unfolding run trace
   go-over fuel room m n items z after l e r = record { events = r .events; last = r .last; runs = rw e (r .runs); are = r .are; end-is = r .end-is; known = rw e (r .known); spells = r .spells }
 
-  pub run-complete : {at : ℕ} {v z : State Octets} {items : List (Item Octets)} {hs : Halves} (written : Written V at v items hs z) (m : Stand) (fuel room : ℕ) → m .at ≡ at → plainState s (m .state) ≡ v
-      → drop at (halves s) ≡ hs → length hs ≤ fuel → length items ≤ room → Reads fuel room m items z (knownAfter V written) (spelledIn written)
+  pub run-complete : {at : ℕ} {v z : State Octets} {items : List (Item Octets)} {hs : Halves} (written : Written ver at v items hs z) (m : Stand) (fuel room : ℕ) → m .at ≡ at → plainState s (m .state) ≡ v
+      → drop at (halves s) ≡ hs → length hs ≤ fuel → length items ≤ room → Reads fuel room m items z (knownAfter ver written) (spelledIn written)
   unfolding run trace eventMap knownAfter spelledIn allSpelled
   run-complete (document-end md lv rt) m zero room a k d f g = absurd (omega arith)
   run-complete (document-end md lv rt) m (suc fuel) room a k d f g =

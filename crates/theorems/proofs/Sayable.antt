@@ -1,4 +1,4 @@
--- The records that the writer takes are those that are well made; their strings, if they are text, can be spelled; and its test of an event is 01's five tests.
+-- The records that the writer takes are those that are well made; their strings, if they are text, can be spelled; and its test of an event is the requirements' five tests.
 use mathlib.Core.Path.{_≡_, refl, sym, ap₂, subst}
 use mathlib.Core.Logic.{_↔_}
 use mathlib.Core.Bool.{Bool, true, not, _&&_, _||_, or-true}
@@ -47,7 +47,7 @@ absent-is (Stretch p n) e = clash e
 absent-is XmlPrefix e = clash e
 absent-is XmlNamespace e = clash e
 
--- ---- the writer's test of a record, and what 01 says of it
+-- ---- the writer's test of a record, and what the requirements say of it
 module _ (s : Octets) where
   stretch-is : (x : EventString) → isStretch s x ≡ true → IsStretch s x
   stretch-is Absent e = clash e
@@ -373,7 +373,7 @@ module _ (text : Octets) where
     all-short (E.Instruction x y) = (short-one x, short-one y)
     all-short E.End = tt
 
-  -- a record that is well made, its strings text, is an event as 01 allows it
+  -- a record that is well made, its strings text, is an event as the requirements allow it
   stretch-said : {x : EventString} → IsStretch text x → IsText (f (locatedOf x)) → A.Said (f (locatedOf x))
   unfolding octetsOf
   stretch-said (inside {place = p} {size = n} h k) t =

@@ -30,17 +30,17 @@ Ahead content a = Unit {0}
 Ahead (declaring b) a = b ≡ a
 Ahead (listing any) a = Unit {0}
 
-module _ (V : Version) (a : Bool) (v : State Octets) where
-  shallow-is : (b : Bool) → b ≡ true → (b && leb (V .depth) (v .level)) ≡ false → v .level < V .depth
-  shallow-is b t e = leb-false (V .depth) (v .level) (sym (ap (λ (y : Bool). y && leb (V .depth) (v .level)) t) ∙ e)
+module _ (ver : Version) (a : Bool) (v : State Octets) where
+  shallow-is : (b : Bool) → b ≡ true → (b && leb (ver .depth) (v .level)) ≡ false → v .level < ver .depth
+  shallow-is b t e = leb-false (ver .depth) (v .level) (sym (ap (λ (y : Bool). y && leb (ver .depth) (v .level)) t) ∙ e)
 
   -- behind the end of an attribute list, if this event is no attribute
   abbrev Behind : Mode → E.Event Octets → State Octets
   Behind m e = pick (isListing m && not (isAttribute e)) (moved v (v .tables) content) v
 
   -- the first event of an element, or the next of its declarations
-  starts : (e : E.Event Octets) (m : Mode) → v .mode ≡ m → Ahead m a → (isDeclaring m || (amongChildren m && mayStart v)) ≡ true → (not (isDeclaring m) && leb (V .depth) (v .level)) ≡ false → isAttribute e ≡ false
-      → ((u : State Octets) → u .mode ≡ content → mayStart u ≡ true → u .level < V .depth → Where V a u e) → ((u : State Octets) → u .mode ≡ declaring a → Where V a u e) → Where V a (Behind m e) e
+  starts : (e : E.Event Octets) (m : Mode) → v .mode ≡ m → Ahead m a → (isDeclaring m || (amongChildren m && mayStart v)) ≡ true → (not (isDeclaring m) && leb (ver .depth) (v .level)) ≡ false → isAttribute e ≡ false
+      → ((u : State Octets) → u .mode ≡ content → mayStart u ≡ true → u .level < ver .depth → Where ver a u e) → ((u : State Octets) → u .mode ≡ declaring a → Where ver a u e) → Where ver a (Behind m e) e
   unfolding mayStart
   starts e content md ah go deep nay f g = f v md go (shallow-is true refl deep)
   starts e (declaring b) md ah go deep nay f g = g v (md ∙ ap (λ (y : Bool). declaring y) ah)
@@ -48,18 +48,18 @@ module _ (V : Version) (a : Bool) (v : State Octets) where
   starts e (listing false) md ah go deep nay f g = clash go
 
   -- a child that is no element
-  inside : (e : E.Event Octets) (m : Mode) → v .mode ≡ m → amongChildren m ≡ true → isAttribute e ≡ false → ((u : State Octets) → u .mode ≡ content → u .level ≡ v .level → Where V a u e) → Where V a (Behind m e) e
+  inside : (e : E.Event Octets) (m : Mode) → v .mode ≡ m → amongChildren m ≡ true → isAttribute e ≡ false → ((u : State Octets) → u .mode ≡ content → u .level ≡ v .level → Where ver a u e) → Where ver a (Behind m e) e
   inside e content md go nay f = f v md refl
   inside e (declaring b) md go nay f = clash go
   inside e (listing true) md go nay f = rw nay (f (moved v (v .tables) content) refl refl)
   inside e (listing false) md go nay f = clash go
 
-  in-a-list : (x : E.Name Octets) (y : Octets) (m : Mode) → v .mode ≡ m → isListing m ≡ true → Where V a (Behind m (E.Attribute x y)) (E.Attribute x y)
+  in-a-list : (x : E.Name Octets) (y : Octets) (m : Mode) → v .mode ≡ m → isListing m ≡ true → Where ver a (Behind m (E.Attribute x y)) (E.Attribute x y)
   in-a-list x y content md go = clash go
   in-a-list x y (declaring b) md go = clash go
   in-a-list x y (listing any) md go = in-list md
 
-  where-is : (e : E.Event Octets) (m : Mode) → v .mode ≡ m → Ahead m a → goesOn v e ≡ true → (opens (v .mode) e && leb (V .depth) (v .level)) ≡ false → isEnd e ≡ false → Where V a (Behind m e) e
+  where-is : (e : E.Event Octets) (m : Mode) → v .mode ≡ m → Ahead m a → goesOn v e ≡ true → (opens (v .mode) e && leb (ver .depth) (v .level)) ≡ false → isEnd e ≡ false → Where ver a (Behind m e) e
   unfolding goesOn mayStart
   where-is (E.Namespace p n) m md ah go deep nay = starts (E.Namespace p n) m md ah (rw md at go) (rw md at deep) refl (λ u k may d. first-namespace k may d) (λ u k. next-namespace k)
   where-is (E.Start x) m md ah go deep nay = starts (E.Start x) m md ah (rw md at go) (rw md at deep) refl (λ u k may d. first-start k may d) (λ u k. named-start k)
@@ -108,7 +108,7 @@ module _ (v : State Octets) where
   words-here true = refl
   words-here false = refl
 
--- ---- the halves of an event of these octets, with what is owed before it; and with 01's choice, and what is known behind it then
+-- ---- the halves of an event of these octets, with what is owed before it; and with the required choice, and what is known behind it then
 unfoldable pub halvesAs : ℕ → State Octets → E.Event Octets → Octets → Octets
 halvesAs at v e os = owed (v .mode) e ++ pick (isEnd e) (15 ∷ []) (pad (at + length (owed (v .mode) e)) ++ halves os)
 
@@ -123,15 +123,15 @@ pub words-settled : (v : State Octets) (e : E.Event Octets) → settled v e .tab
 unfolding settled
 words-settled v e = words-here v (isListing (v .mode) && not (isAttribute e))
 
-module _ (V : Version) (small : V .entries ≤ top) where
-  item-alone : (at : ℕ) {v w : State Octets} {i : E.Item Octets} {o : Octets} → ItemWrittenAs V v i o w → Begun V at v (i ∷ []) (pad at ++ halves o) w
-  item-alone at {v} {w} {i} {o} u = subst (λ (l : Octets). Begun V at v (i ∷ []) (pad at ++ l) w) (append-nil (halves o)) (after-item u begun)
+module _ (ver : Version) (small : ver .entries ≤ top) where
+  item-alone : (at : ℕ) {v w : State Octets} {i : E.Item Octets} {o : Octets} → ItemWrittenAs ver v i o w → Begun ver at v (i ∷ []) (pad at ++ halves o) w
+  item-alone at {v} {w} {i} {o} u = subst (λ (l : Octets). Begun ver at v (i ∷ []) (pad at ++ l) w) (append-nil (halves o)) (after-item u begun)
 
   -- behind what is owed
-  own : (at : ℕ) (a : Bool) (v : State Octets) (e : E.Event Octets) {c : Choice} {w : Vocabulary Octets} (t : Bool) → isEnd e ≡ t → Said e → (t ≡ false → Where V a v e)
-      → (t ≡ true → (v .mode ≡ content) × (0 < v .level)) → InLimits V w → (p : Permits (v .tables) e c w)
-      → Begun V at v ((e by c) ∷ []) (pick t (15 ∷ []) (pad at ++ halves (octetsAs a (v .mode) p))) (behind a v w e)
-  own at a v e false k s f g i p = item-alone at (made V small a v s (f refl) i p)
+  own : (at : ℕ) (a : Bool) (v : State Octets) (e : E.Event Octets) {c : Choice} {w : Vocabulary Octets} (t : Bool) → isEnd e ≡ t → Said e → (t ≡ false → Where ver a v e)
+      → (t ≡ true → (v .mode ≡ content) × (0 < v .level)) → InLimits ver w → (p : Permits (v .tables) e c w)
+      → Begun ver at v ((e by c) ∷ []) (pick t (15 ∷ []) (pad at ++ halves (octetsAs a (v .mode) p))) (behind a v w e)
+  own at a v e false k s f g i p = item-alone at (made ver small a v s (f refl) i p)
   own at a v E.End true k s f g i an-end = let y = g refl in after-end (y .0) (y .1) begun
   own at a v (E.Namespace p n) true k s f g i u = clash k
   own at a v (E.Start x) true k s f g i u = clash k
@@ -156,31 +156,31 @@ module _ (V : Version) (small : V .entries ≤ top) where
 
   -- the end of an attribute list that is owed, in front
   owed-front : (at : ℕ) (v w : State Octets) (t : Bool) (i : E.Item Octets) (hs : Halves) → (t ≡ true → v .mode ≡ listing true)
-      → Begun V (at + length {A = ℕ} (pick t (15 ∷ []) [])) (pick t (moved v (v .tables) content) v) (i ∷ []) hs w → Begun V at v (i ∷ []) (pick t (15 ∷ []) [] ++ hs) w
+      → Begun ver (at + length {A = ℕ} (pick t (15 ∷ []) [])) (pick t (moved v (v .tables) content) v) (i ∷ []) hs w → Begun ver at v (i ∷ []) (pick t (15 ∷ []) [] ++ hs) w
   owed-front at v w true i hs f u = let y : at + 1 ≡ suc at = omega arith in after-attributes (f refl) (rw y at u)
   owed-front at v w false i hs f u = let y : at + 0 ≡ at = omega arith in rw y at u
 
   pub front : (at : ℕ) (a : Bool) (v : State Octets) (e : E.Event Octets) {c : Choice} {w : Vocabulary Octets} → Ahead (v .mode) a → Said e → goesOn v e ≡ true
-      → (opens (v .mode) e && leb (V .depth) (v .level)) ≡ false → InLimits V w → (p : Permits (settled v e .tables) e c w)
-      → Begun V at v ((e by c) ∷ []) (halvesAs at v e (octetsAs a (settled v e .mode) p)) (behind a (settled v e) w e)
+      → (opens (v .mode) e && leb (ver .depth) (v .level)) ≡ false → InLimits ver w → (p : Permits (settled v e .tables) e c w)
+      → Begun ver at v ((e by c) ∷ []) (halvesAs at v e (octetsAs a (settled v e .mode) p)) (behind a (settled v e) w e)
   unfolding settled owed halvesAs
   front at a v e {w = w} ah s go deep i p =
       let t : Bool = isListing (v .mode) && not (isAttribute e) in
       let at′ : ℕ = at + length {A = ℕ} (pick t (15 ∷ []) []) in
-      let b = own at′ a (settled v e) e (isEnd e) refl s (λ y. where-is V a v e (v .mode) refl ah go deep y) (λ y. ends-where v e go y) i p in
+      let b = own at′ a (settled v e) e (isEnd e) refl s (λ y. where-is ver a v e (v .mode) refl ah go deep y) (λ y. ends-where v e go y) i p in
       owed-front at v (behind a (settled v e) w e) t _ _ (λ y. listed v e (v .mode) refl go y) b
 
-  -- with 01's choice
+  -- with the required choice
   pub front-by : (C : Version) (at : ℕ) (a : Bool) (v : State Octets) (e : E.Event Octets) → Ahead (v .mode) a → Ranged (v .tables) → Said e → goesOn v e ≡ true
-      → (opens (v .mode) e && leb (V .depth) (v .level)) ≡ false → InLimits V (chooseFor C (v .tables) e .tables)
-      → Begun V at v ((e by chooseFor C (v .tables) e .how) ∷ []) (halvesBy C at a v e) (nextBy C a v e)
+      → (opens (v .mode) e && leb (ver .depth) (v .level)) ≡ false → InLimits ver (chooseFor C (v .tables) e .tables)
+      → Begun ver at v ((e by chooseFor C (v .tables) e .how) ∷ []) (halvesBy C at a v e) (nextBy C a v e)
   unfolding halvesBy
   front-by C at a v e ah r s go deep i =
       let u : State Octets = settled v e in
       let same = words-settled v e in
       let r′ = subst (λ (z : Vocabulary Octets). Ranged z) (sym same) r in
-      let b = front at a v e ah s go deep (subst (λ (z : Vocabulary Octets). InLimits V (chooseFor C z e .tables)) (sym same) i) (permits-for C (u .tables) e r′) in
-      subst₂ (λ (z : Vocabulary Octets) (os : Octets). Begun V at v ((e by chooseFor C z e .how) ∷ []) (halvesAs at v e os) (nextBy C a v e)) same (octets-by C a u e r′) b
+      let b = front at a v e ah s go deep (subst (λ (z : Vocabulary Octets). InLimits ver (chooseFor C z e .tables)) (sym same) i) (permits-for C (u .tables) e r′) in
+      subst₂ (λ (z : Vocabulary Octets) (os : Octets). Begun ver at v ((e by chooseFor C z e .how) ∷ []) (halvesAs at v e os) (nextBy C a v e)) same (octets-by C a u e r′) b
 
 -- ---- the place behind an event is that of the structure, with the tables that the choice leaves
 picked : (t : Bool) (v : State Octets) → pick t (moved v (v .tables) content) v ≡ moved v (v .tables) (pick t (moved v (v .tables) content) v .mode)

@@ -124,11 +124,11 @@ shape15 =
     }
 
 -- ---- what is read is what the rules write
-module _ (V : Version) (s : Octets) (bytes : (i : ℕ) → getD s i 0 < 256) (short : length s ≤ longest) where
+module _ (ver : Version) (s : Octets) (bytes : (i : ℕ) → getD s i 0 < 256) (short : length s ≤ longest) where
   abbrev pub IdR : StringTable → Vocabulary Octets → IdRead → Octets → Vocabulary Octets → Type 0
-  IdR t v b o w = Identifying V t v (octetsOf s (b .string)) (b .how) (b .number) o w
+  IdR t v b o w = Identifying ver t v (octetsOf s (b .string)) (b .how) (b .number) o w
 
-  pub id-sound : (t : StringTable) (k : ℕ) (v : Vocabulary Located) → k ≤ length s → Ok s (IdR t) k v (idAt V s t k v)
+  pub id-sound : (t : StringTable) (k : ℕ) (v : Vocabulary Located) → k ≤ length s → Ok s (IdR t) k v (idAt ver s t k v)
   unfolding idAt
   id-sound t k v kl =
       let P : Got IdRead → Type 0 = Ok s (IdR t) k v in
@@ -139,7 +139,7 @@ module _ (V : Version) (s : Octets) (bytes : (i : ℕ) → getD s i 0 < 256) (sh
       (num-sound s bytes (lengths 2) (lengths-ordered 2 (omega arith) (omega arith)) noTop 2 0 k kl (omega arith)) _
       λ n next r. spelling-sound s short P (λ c p f. f) (lengths 2) 0 k n next kl r _
       λ sp d l ll. test-not P (refused 11 k) (fault s 11 k refl kl) (holds (map (octetsOf s) (strings v t)) (octetsOf s (stretch next n))) _
-      λ t1. test-lt P (refused 12 k) (fault s 12 k refl kl) (length (strings v t)) (V .entries) _
+      λ t1. test-lt P (refused 12 k) (fault s 12 k refl kl) (length (strings v t)) (ver .entries) _
       λ t2. record {
         octets = withLength (lengths 2) 0 (octetsOf s (stretch next n));
         rule = rw (adding-map (octetsOf s) v t (stretch next n), ← len) (id-spelled sp (rw (strings-map (octetsOf s) v t) t1) (omega arith));
@@ -155,7 +155,7 @@ module _ (V : Version) (s : Octets) (bytes : (i : ℕ) → getD s i 0 < 256) (sh
       let u = r .under in
       record {
         octets = spell c25 0x80 n;
-        rule = subst (λ (m : ℕ). Identifying V t (plainTables s v) (octetsOf s (getD (strings v t) (n - 1) empty)) (numbered m) m (spell c25 0x80 m) (plainTables s v)) (sym i)
+        rule = subst (λ (m : ℕ). Identifying ver t (plainTables s v) (octetsOf s (getD (strings v t) (n - 1) empty)) (numbered m) m (spell c25 0x80 m) (plainTables s v)) (sym i)
             (id-numbered (omega arith) (entry-sound s v t n (r .v) i t1));
         here = r .here;
         next-is = r .next-is;
@@ -164,24 +164,24 @@ module _ (V : Version) (s : Octets) (bytes : (i : ℕ) → getD s i 0 < 256) (sh
 
   -- `there` is the presence bit
   abbrev pub OptionalR : Bool → StringTable → Vocabulary Octets → OptionalRead → Octets → Vocabulary Octets → Type 0
-  OptionalR there t v b o w = Optional V t v (Option·map (octetsOf s) (b .string)) (b .how) (b .number) o w × (has (Option·map (octetsOf s) (b .string)) ≡ bit there)
+  OptionalR there t v b o w = Optional ver t v (Option·map (octetsOf s) (b .string)) (b .how) (b .number) o w × (has (Option·map (octetsOf s) (b .string)) ≡ bit there)
 
-  pub optional-sound : (there : Bool) (t : StringTable) (k : ℕ) (v : Vocabulary Located) → k ≤ length s → Ok s (OptionalR there t) k v (optionalAt V there s t k v)
+  pub optional-sound : (there : Bool) (t : StringTable) (k : ℕ) (v : Vocabulary Located) → k ≤ length s → Ok s (OptionalR there t) k v (optionalAt ver there s t k v)
   unfolding optionalAt
   optional-sound true t k v kl =
-      on-field s (Ok s (OptionalR true t) k v) (λ c p f. f) (IdR t) k v (idAt V s t k v) (id-sound t k v kl) _
+      on-field s (Ok s (OptionalR true t) k v) (λ c p f. f) (IdR t) k v (idAt ver s t k v) (id-sound t k v kl) _
       λ b next w r. record { octets = r .octets; rule = (present (r .rule), refl); here = r .here; next-is = r .next-is; inside = r .inside }
   optional-sound false t k v kl = record { octets = []; rule = (absent, refl); here = refl; next-is = omega arith; inside = kl }
 
   abbrev pub LiteralR : Layout → StringTable → Vocabulary Octets → StringRead → Octets → Vocabulary Octets → Type 0
-  LiteralR q t v b o w = Literal V q t v (octetsOf s (b .string)) (b .how) o w
+  LiteralR q t v b o w = Literal ver q t v (octetsOf s (b .string)) (b .how) o w
 
   or-true : (a b : Bool) → (not a || b) ≡ true → a ≡ true → b ≡ true
   or-true true b e f = e
   or-true false b e f = let z : false ≡ true = f in cc
 
   spelled-sound : (q : Layout) → Ordered (lengths (q .lengthBit)) → (t : StringTable) (k : ℕ) (added : Bool) (v : Vocabulary Located) → k ≤ length s
-      → getD s k 0 ≡ q .spelledBits + q .addBit * bit added + getD s k 0 % 2 ^ (9 - q .lengthBit) → Ok s (LiteralR q t) k v (spelledAt V q s t k added v)
+      → getD s k 0 ≡ q .spelledBits + q .addBit * bit added + getD s k 0 % 2 ^ (9 - q .lengthBit) → Ok s (LiteralR q t) k v (spelledAt ver q s t k added v)
   unfolding spelledAt
   spelled-sound q ok t k added v kl z =
       let P : Got StringRead → Type 0 = Ok s (LiteralR q t) k v in
@@ -190,18 +190,18 @@ module _ (V : Version) (s : Octets) (bytes : (i : ℕ) → getD s i 0 < 256) (sh
       on-number s P (λ c p f. f) (lengths (q .lengthBit)) noTop base k (fieldAt (lengths (q .lengthBit)) noTop (q .lengthBit) s k)
       (num-sound s bytes (lengths (q .lengthBit)) ok noTop (q .lengthBit) base k kl z) _
       λ n next r. spelling-sound s short P (λ c p f. f) (lengths (q .lengthBit)) base k n next kl r _
-      λ sp d l ll. test P (refused 12 k) (fault s 12 k refl kl) (not added || ltb (length (strings v t)) (V .entries)) _
+      λ sp d l ll. test P (refused 12 k) (fault s 12 k refl kl) (not added || ltb (length (strings v t)) (ver .entries)) _
       λ t1. record {
         octets = withLength (lengths (q .lengthBit)) base (octetsOf s (stretch next n));
         rule = rw (keeping-map (octetsOf s) added v t (stretch next n))
-            (literal-spelled sp (λ y. let c = ltb-true (length (strings v t)) (V .entries) (or-true added (ltb (length (strings v t)) (V .entries)) t1 y) in omega arith));
+            (literal-spelled sp (λ y. let c = ltb-true (length (strings v t)) (ver .entries) (or-true added (ltb (length (strings v t)) (ver .entries)) t1 y) in omega arith));
         here = d;
         next-is = l;
         inside = ll;
       }
 
   pub literal-sound : (q : Layout) → Shape q → (t : StringTable) (k : ℕ) (v : Vocabulary Located) → k ≤ length s → q .spelledBits ≤ getD s k 0 → getD s k 0 < q .numberedBits + 2 ^ (9 - numberBit q)
-      → Ok s (LiteralR q t) k v (literalAt V q s t k v)
+      → Ok s (LiteralR q t) k v (literalAt ver q s t k v)
   unfolding literalAt
   literal-sound q g t k v kl lo hi =
       let P : Got StringRead → Type 0 = Ok s (LiteralR q t) k v in
@@ -218,7 +218,7 @@ module _ (V : Version) (s : Octets) (bytes : (i : ℕ) → getD s i 0 < 256) (sh
       let u = r .under in
       record {
         octets = spell (q .numberForms) (q .numberedBits) n;
-        rule = subst (λ (m : ℕ). Literal V q t (plainTables s v) (octetsOf s (getD (strings v t) (n - 1) empty)) (numbered m) (spell (q .numberForms) (q .numberedBits) m) (plainTables s v)) (sym i)
+        rule = subst (λ (m : ℕ). Literal ver q t (plainTables s v) (octetsOf s (getD (strings v t) (n - 1) empty)) (numbered m) (spell (q .numberForms) (q .numberedBits) m) (plainTables s v)) (sym i)
             (literal-numbered (omega arith) (r .small) (entry-sound s v t n (r .v) i t1));
         here = r .here;
         next-is = r .next-is;
@@ -226,7 +226,7 @@ module _ (V : Version) (s : Octets) (bytes : (i : ℕ) → getD s i 0 < 256) (sh
       }
 
   abbrev pub ValueR : StringTable → Vocabulary Octets → StringRead → Octets → Vocabulary Octets → Type 0
-  ValueR t v b o w = Value V t v (octetsOf s (b .string)) (b .how) o w
+  ValueR t v b o w = Value ver t v (octetsOf s (b .string)) (b .how) o w
 
   as-value : (t : StringTable) (k : ℕ) (v : Vocabulary Located) (a : Got StringRead) → Ok s (LiteralR c14 t) k v a → Ok s (ValueR t) k v a
   as-value t k v (got b next w) r = record { octets = r .octets; rule = value (r .rule); here = r .here; next-is = r .next-is; inside = r .inside }
@@ -236,26 +236,26 @@ module _ (V : Version) (s : Octets) (bytes : (i : ℕ) → getD s i 0 < 256) (sh
   pub inside : (k x : ℕ) → getD s k 0 ≡ x → 0 < x → k < length s
   inside k x e h = case k (length s) (λ l. l) (λ l. absurd (let q = List·getD-eq-default s 0 l in omega arith))
 
-  pub value-sound : (t : StringTable) (k : ℕ) (v : Vocabulary Located) → k ≤ length s → Ok s (ValueR t) k v (valueAt V s t k v)
+  pub value-sound : (t : StringTable) (k : ℕ) (v : Vocabulary Located) → k ≤ length s → Ok s (ValueR t) k v (valueAt ver s t k v)
   unfolding valueAt octetsOf c14
   value-sound t k v kl =
       let small = bytes k in
       either-eq (Ok s (ValueR t) k v) (getD s k 0) 0xFF _ _
       (λ e. record { octets = 0xFF ∷ []; rule = value-empty; here = drop-cons s k 0 (inside k 0xFF e (omega arith)) ∙ ap (λ (x : ℕ). x ∷ drop (suc k) s) e; next-is = omega arith; inside = inside k 0xFF e (omega arith) })
-      (λ e. as-value t k v (literalAt V c14 s t k v) (literal-sound c14 shape14 t k v kl (omega arith) (omega arith)))
+      (λ e. as-value t k v (literalAt ver c14 s t k v) (literal-sound c14 shape14 t k v kl (omega arith) (omega arith)))
 
 -- ---- what the rules write is read
 abbrev pub there : {E : Type 0} → Option E → Bool
 there none = false
 there (some x) = true
 
-module _ (V : Version) (s : Octets) where
+module _ (ver : Version) (s : Octets) where
   -- p is where it is spelled
   abbrev pub IdQ : Octets → How → ℕ → List Located → IdRead → Type 0
   IdQ x h n p b = (octetsOf s (b .string) ≡ x) × (b .how ≡ h) × (b .number ≡ n) × (ifSpelled (b .string) (b .how) ≡ p)
 
   pub id-complete : (t : StringTable) (k : ℕ) (v : Vocabulary Located) {x : Octets} {h : How} {n : ℕ} {o : Octets} {w : Vocabulary Octets} (rest : Octets)
-      → Identifying V t (plainTables s v) x h n o w → drop k s ≡ o ++ rest → Hit s (IdQ x h n (inField k h x o)) (k + length o) w (idAt V s t k v)
+      → Identifying ver t (plainTables s v) x h n o w → drop k s ≡ o ++ rest → Hit s (IdQ x h n (inField k h x o)) (k + length o) w (idAt ver s t k v)
   unfolding idAt octetsOf roomsIn shareOf behindFirst sizes lengths c25
   id-complete t k v rest (id-spelled {x = x} sp new room) d =
       let e = spelt s (lengths 2) 2 0 0 k x rest (lengths-ordered 2 (omega arith) (omega arith)) (omega arith) (long-enough 2) refl sp d in
@@ -264,7 +264,7 @@ module _ (V : Version) (s : Octets) where
       let fresh : holds (map (octetsOf s) (strings v t)) x ≡ false = rw (strings-map (octetsOf s) v t) at new in
       let end = e .end-is in
       hit-at s (IdQ x (spelled true) (suc (length (strings (plainTables s v) t))) _) (e .next + length x) _ _ _ (e .end-is)
-      (rw (lt-ltb (getD s k 0) 0x80 (omega arith), e .num, spelling-is s (lengths 2) 2 0 k x e _ (sp .formed), e .text-is, fresh, lt-ltb (length (strings v t)) (V .entries) (omega arith))
+      (rw (lt-ltb (getD s k 0) 0x80 (omega arith), e .num, spelling-is s (lengths 2) 2 0 k x e _ (sp .formed), e .text-is, fresh, lt-ltb (length (strings v t)) (ver .entries) (omega arith))
       (record {
         b = record { string = stretch (e .next) (length x); how = spelled true; number = suc (length (strings v t)) };
         v = adding v t (stretch (e .next) (length x));
@@ -284,7 +284,7 @@ module _ (V : Version) (s : Octets) where
   OptionalQ x h n p b = (Option·map (octetsOf s) (b .string) ≡ x) × (b .how ≡ h) × (b .number ≡ n) × (optionSpelled (b .string) (b .how) ≡ p)
 
   pub optional-complete : (t : StringTable) (k : ℕ) (v : Vocabulary Located) {x : Option Octets} {h : Option How} {n : ℕ} {o : Octets} {w : Vocabulary Octets} (rest : Octets)
-      → Optional V t (plainTables s v) x h n o w → drop k s ≡ o ++ rest → Hit s (OptionalQ x h n (inOption k h x o)) (k + length o) w (optionalAt V (there x) s t k v)
+      → Optional ver t (plainTables s v) x h n o w → drop k s ≡ o ++ rest → Hit s (OptionalQ x h n (inOption k h x o)) (k + length o) w (optionalAt ver (there x) s t k v)
   unfolding optionalAt
   optional-complete t k v rest absent d =
       hit-at s (OptionalQ none none 0 []) k (k + 0) _ _ (omega arith) (record { b = record { string = none; how = none; number = 0 }; v = v; goes = refl; state = refl; what = (refl, refl, refl, refl) })
@@ -307,7 +307,7 @@ module _ (V : Version) (s : Octets) where
   or-room false a b f = refl
 
   pub record LiteralHit (q : Layout) (t : StringTable) (k : ℕ) (v : Vocabulary Located) (x : Octets) (h : How) (o : Octets) (w : Vocabulary Octets) : Type 0 where
-    pub hit : Hit s (StringQ x h (inField k h x o)) (k + length o) w (literalAt V q s t k v)
+    pub hit : Hit s (StringQ x h (inField k h x o)) (k + length o) w (literalAt ver q s t k v)
     pub low : q .spelledBits ≤ getD s k 0
     pub high : getD s k 0 < 0xF0
     pub last : getD s k 0 < q .numberedBits + rooms (q .numberForms)
@@ -315,9 +315,9 @@ module _ (V : Version) (s : Octets) where
     pub here : k < length s
 
   spelled-complete : (q : Layout) → Shape q → (t : StringTable) (k : ℕ) (v : Vocabulary Located) (added : Bool) (x rest : Octets) → Spelling x
-      → (added ≡ true → length (strings (plainTables s v) t) < V .entries)
+      → (added ≡ true → length (strings (plainTables s v) t) < ver .entries)
       → drop k s ≡ withLength (lengths (q .lengthBit)) (q .spelledBits + q .addBit * bit added) x ++ rest
-      → Hit s (StringQ x (spelled added) (inField k (spelled added) x (withLength (lengths (q .lengthBit)) (q .spelledBits + q .addBit * bit added) x))) (k + length (withLength (lengths (q .lengthBit)) (q .spelledBits + q .addBit * bit added) x)) (keeping added (plainTables s v) t x) (spelledAt V q s t k added v)
+      → Hit s (StringQ x (spelled added) (inField k (spelled added) x (withLength (lengths (q .lengthBit)) (q .spelledBits + q .addBit * bit added) x))) (k + length (withLength (lengths (q .lengthBit)) (q .spelledBits + q .addBit * bit added) x)) (keeping added (plainTables s v) t x) (spelledAt ver q s t k added v)
       × Spelt s (lengths (q .lengthBit)) (q .lengthBit) (q .spelledBits + q .addBit * bit added) k x
   unfolding spelledAt octetsOf
   spelled-complete q g t k v added x rest sp room d =
@@ -327,7 +327,7 @@ module _ (V : Version) (s : Octets) where
       let len = length-strings (octetsOf s) v t in
       let end = e .end-is in (
         hit-at s (StringQ x (spelled added) _) (e .next + length x) _ _ _ (e .end-is)
-            (rw (e .num, spelling-is s fs (q .lengthBit) base k x e _ (sp .formed), or-room added (length (strings v t)) (V .entries) (λ y. let r = room y in omega arith))
+            (rw (e .num, spelling-is s fs (q .lengthBit) base k x e _ (sp .formed), or-room added (length (strings v t)) (ver .entries) (λ y. let r = room y in omega arith))
             (record {
               b = record { string = stretch (e .next) (length x); how = spelled added };
               v = keeping added v t (stretch (e .next) (length x));
@@ -339,7 +339,7 @@ module _ (V : Version) (s : Octets) where
       )
 
   pub literal-complete : (q : Layout) → Shape q → (t : StringTable) (k : ℕ) (v : Vocabulary Located) {x : Octets} {h : How} {o : Octets} {w : Vocabulary Octets} (rest : Octets)
-      → Literal V q t (plainTables s v) x h o w → drop k s ≡ o ++ rest → LiteralHit q t k v x h o w
+      → Literal ver q t (plainTables s v) x h o w → drop k s ≡ o ++ rest → LiteralHit q t k v x h o w
   unfolding literalAt
   literal-complete q g t k v rest (literal-spelled {x = x} {added = false} sp room) d =
       let c = spelled-complete q g t k v false x rest sp room d in
@@ -389,7 +389,7 @@ module _ (V : Version) (s : Octets) where
       }
 
   pub value-complete : (t : StringTable) (k : ℕ) (v : Vocabulary Located) {x : Octets} {h : How} {o : Octets} {w : Vocabulary Octets} (rest : Octets)
-      → Value V t (plainTables s v) x h o w → drop k s ≡ o ++ rest → Hit s (StringQ x h (inField k h x o)) (k + length o) w (valueAt V s t k v)
+      → Value ver t (plainTables s v) x h o w → drop k s ≡ o ++ rest → Hit s (StringQ x h (inField k h x o)) (k + length o) w (valueAt ver s t k v)
   unfolding valueAt octetsOf
   value-complete t k v rest value-empty d =
       let a = drop-head s k 0xFF rest d in

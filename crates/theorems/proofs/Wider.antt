@@ -12,34 +12,34 @@ use Rattle.format.specs.Names.{NameLayout, Named, in-parts, by-number, Declared
 use Rattle.format.specs.Items.{State, ItemWrittenAs, o-start, o-first-namespace, o-namespace, o-named-start, o-attribute, o-text, o-comment, o-instruction}
 use Rattle.format.specs.Document.{Written, document-end, attributes-end, element-end, item, header, Document}
 
-module _ {V M : Version} (long : V .octets ≤ M .octets) (many : V .entries ≤ M .entries) (deep : V .depth ≤ M .depth) where
+module _ {ver M : Version} (long : ver .octets ≤ M .octets) (many : ver .entries ≤ M .entries) (deep : ver .depth ≤ M .depth) where
   identifying : {t : StringTable} {v w : Vocabulary Octets} {x : Octets} {h : How} {n : ℕ} {o : Octets}
-      → Identifying V t v x h n o w → Identifying M t v x h n o w
+      → Identifying ver t v x h n o w → Identifying M t v x h n o w
   identifying (id-spelled sp new room) = id-spelled sp new (omega arith)
   identifying (id-numbered small en) = id-numbered small en
 
   optional : {t : StringTable} {v w : Vocabulary Octets} {x : Option Octets} {h : Option How} {n : ℕ} {o : Octets}
-      → Optional V t v x h n o w → Optional M t v x h n o w
+      → Optional ver t v x h n o w → Optional M t v x h n o w
   optional absent = absent
   optional (present u) = present (identifying u)
 
-  literal : {q : Layout} {t : StringTable} {v w : Vocabulary Octets} {x : Octets} {h : How} {o : Octets} → Literal V q t v x h o w → Literal M q t v x h o w
+  literal : {q : Layout} {t : StringTable} {v w : Vocabulary Octets} {x : Octets} {h : How} {o : Octets} → Literal ver q t v x h o w → Literal M q t v x h o w
   literal (literal-spelled sp room) = literal-spelled sp (λ e. let r = room e in omega arith)
   literal (literal-numbered small fits en) = literal-numbered small fits en
 
-  value-in : {t : StringTable} {v w : Vocabulary Octets} {x : Octets} {h : How} {o : Octets} → Value V t v x h o w → Value M t v x h o w
+  value-in : {t : StringTable} {v w : Vocabulary Octets} {x : Octets} {h : How} {o : Octets} → Value ver t v x h o w → Value M t v x h o w
   value-in value-empty = value-empty
   value-in (value u) = value (literal u)
 
   named : {q : NameLayout} {lead : ℕ} {v w : Vocabulary Octets} {x : Name Octets} {h : NameHow} {o : Octets}
-      → Named V q lead v x h o w → Named M q lead v x h o w
+      → Named ver q lead v x h o w → Named M q lead v x h o w
   named (in-parts lone up un ul new room) = in-parts lone (optional up) (optional un) (identifying ul) new (omega arith)
   named (by-number small fits en m) = by-number small fits en m
 
-  declares : {v w : Vocabulary Octets} {p n : Option Octets} {hp hn : Option How} {o : Octets} → Declared V v p n hp hn o w → Declared M v p n hp hn o w
+  declares : {v w : Vocabulary Octets} {p n : Option Octets} {hp hn : Option How} {o : Octets} → Declared ver v p n hp hn o w → Declared M v p n hp hn o w
   declares (declared up un) = declared (optional up) (optional un)
 
-  octets : {v w : State Octets} {i : Item Octets} {o : Octets} → ItemWrittenAs V v i o w → ItemWrittenAs M v i o w
+  octets : {v w : State Octets} {i : Item Octets} {o : Octets} → ItemWrittenAs ver v i o w → ItemWrittenAs M v i o w
   octets (o-start a md may lv u) = o-start a md may (omega arith) (named u)
   octets (o-first-namespace md may lv u) = o-first-namespace md may (omega arith) (declares u)
   octets (o-namespace md u) = o-namespace md (declares u)
@@ -49,14 +49,14 @@ module _ {V M : Version} (long : V .octets ≤ M .octets) (many : V .entries ≤
   octets (o-comment md u) = o-comment md (value-in u)
   octets (o-instruction md u1 u2) = o-instruction md (identifying u1) (value-in u2)
 
-  pub written : {at : ℕ} {v z : State Octets} {items : List (Item Octets)} {hs : Halves} → Written V at v items hs z → Written M at v items hs z
+  pub written : {at : ℕ} {v z : State Octets} {items : List (Item Octets)} {hs : Halves} → Written ver at v items hs z → Written M at v items hs z
   written (document-end md lv rt) = document-end md lv rt
   written (attributes-end md w) = attributes-end md (written w)
   written (element-end md lv w) = element-end md lv (written w)
   written (item u w) = item (octets u) (written w)
 
 -- within the standard's own limits
-pub in-standard : {V : Version} {items : List (Item Octets)} {z : State Octets} {s : Octets} (depth octets : ℕ) → V .entries ≤ top → V .octets ≤ octets → V .depth ≤ depth
-    → Document V items z s → Document (standard V depth octets) items z s
+pub in-standard : {ver : Version} {items : List (Item Octets)} {z : State Octets} {s : Octets} (depth octets : ℕ) → ver .entries ≤ top → ver .octets ≤ octets → ver .depth ≤ depth
+    → Document ver items z s → Document (standard ver depth octets) items z s
 unfolding standard starting header
 in-standard depth octets few long deep d = record { body = d .body; here = d .here; rule = written long few deep (d .rule); short = let a = d .short in omega arith }

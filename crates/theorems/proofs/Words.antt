@@ -73,9 +73,9 @@ module _ {S T : Type 0} (f : S → T) where
   one-map true x = refl
   one-map false x = refl
 
-  pub starting-map : (V : Version) (p n : S) → vocabularyMap f (starting V p n) ≡ starting V (f p) (f n)
+  pub starting-map : (ver : Version) (p n : S) → vocabularyMap f (starting ver p n) ≡ starting ver (f p) (f n)
   unfolding vocabularyMap starting
-  starting-map V p n = rw (one-map (V .builtIn) p, one-map (V .builtIn) n)
+  starting-map ver p n = rw (one-map (ver .builtIn) p, one-map (ver .builtIn) n)
 
   -- an entry, a part of a name, a name
   entry-in : {l : List S} {k : ℕ} {x : S} → Entry l k x → Entry (map f l) k (f x)

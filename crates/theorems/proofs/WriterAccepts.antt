@@ -1,4 +1,4 @@
--- Where the rules write a list of well-made records with 01's choices, and it fits, each of its events is right; so the writer accepts it.
+-- Where the rules write a list of well-made records with the required choices, and it fits, each of its events is right; so the writer accepts it.
 use mathlib.Core.Path.{_≡_, refl, sym, ap, _∙_, subst}
 use mathlib.Core.Bool.{Bool, true, false, _||_, not}
 use mathlib.Core.List.{List, [], _∷_, _++_, append-assoc}
@@ -40,35 +40,35 @@ all-at P [] x l a = a .0
 all-at P (y ∷ b) x l a = all-at P b x l (a .1)
 
 -- a written list is a document
-pub written-document : (V : Version) (es : List (E.Event Octets)) (z : State Octets) (s : Octets) → Document V (itemsOf V es) z s → IsDocument es
-written-document V es z s w = subst IsDocument (chosen-events V (started V) es) (is-document w)
+pub written-document : (ver : Version) (es : List (E.Event Octets)) (z : State Octets) (s : Octets) → Document ver (itemsOf ver es) z s → IsDocument es
+written-document ver es z s w = subst IsDocument (chosen-events ver (started ver) es) (is-document w)
 
-module _ (V : Version) (ok : Bounded V) (text : Octets) (room : ℕ) (ps rest : List (E.Event Octets)) (pe : E.Event Octets) (z : State Octets) (s : Octets) (w : Document V (itemsOf V (ps ++ (pe ∷ rest))) z s) where
+module _ (ver : Version) (ok : Bounded ver) (text : Octets) (room : ℕ) (ps rest : List (E.Event Octets)) (pe : E.Event Octets) (z : State Octets) (s : Octets) (w : Document ver (itemsOf ver (ps ++ (pe ∷ rest))) z s) where
   abbrev choice : Item Octets
-  choice = pe by chooseFor V (tablesAfter V (started V) ps) pe .how
+  choice = pe by chooseFor ver (tablesAfter ver (started ver) ps) pe .how
 
   abbrev others : List (Item Octets)
-  others = chosen V (chooseFor V (tablesAfter V (started V) ps) pe .tables) rest
+  others = chosen ver (chooseFor ver (tablesAfter ver (started ver) ps) pe .tables) rest
 
-  at-event : itemsOf V (ps ++ (pe ∷ rest)) ≡ itemsOf V ps ++ (choice ∷ others)
+  at-event : itemsOf ver (ps ++ (pe ∷ rest)) ≡ itemsOf ver ps ++ (choice ∷ others)
   unfolding chosen
-  at-event = chosen-append V (started V) ps (pe ∷ rest)
+  at-event = chosen-append ver (started ver) ps (pe ∷ rest)
 
-  behind-event : itemsOf V (ps ++ (pe ∷ rest)) ≡ itemsOf V (ps ++ (pe ∷ [])) ++ chosen V (tablesAfter V (started V) (ps ++ (pe ∷ []))) rest
-  behind-event = ap (itemsOf V) (sym (append-assoc ps (pe ∷ []) rest)) ∙ chosen-append V (started V) (ps ++ (pe ∷ [])) rest
+  behind-event : itemsOf ver (ps ++ (pe ∷ rest)) ≡ itemsOf ver (ps ++ (pe ∷ [])) ++ chosen ver (tablesAfter ver (started ver) (ps ++ (pe ∷ []))) rest
+  behind-event = ap (itemsOf ver) (sym (append-assoc ps (pe ∷ []) rest)) ∙ chosen-append ver (started ver) (ps ++ (pe ∷ [])) rest
 
   is-allowed : Allowed pe
-  is-allowed = all-at (λ (i : Item Octets). Allowed (i .event)) (itemsOf V ps) choice others (rw at-event at (all-allowed w))
+  is-allowed = all-at (λ (i : Item Octets). Allowed (i .event)) (itemsOf ver ps) choice others (rw at-event at (all-allowed w))
 
-  before-it : Begun.Split V (2 * length (header V)) (beginning (started V)) (itemsOf V ps) (choice ∷ others) (w .body) z
-  before-it = Begun.begun-of-written (itemsOf V ps) (choice ∷ others) (rw at-event at (w .rule))
+  before-it : Begun.Split ver (2 * length (header ver)) (beginning (started ver)) (itemsOf ver ps) (choice ∷ others) (w .body) z
+  before-it = Begun.begun-of-written (itemsOf ver ps) (choice ∷ others) (rw at-event at (w .rule))
 
-  shallow : opensElement ps pe ≡ true → openAfter 0 ps < V .depth
+  shallow : opensElement ps pe ≡ true → openAfter 0 ps < ver .depth
   unfolding opensElement beginning
   shallow o =
       let b = before-it in
-      let lv = Begun.level-is (b .begun) ∙ ap (openAfter 0) (chosen-events V (started V) ps) in
-      let dc = Begun.declaring-is (b .begun) ∙ ap (declaresLast false) (chosen-events V (started V) ps) in
+      let lv = Begun.level-is (b .begun) ∙ ap (openAfter 0) (chosen-events ver (started ver) ps) in
+      let dc = Begun.declaring-is (b .begun) ∙ ap (declaresLast false) (chosen-events ver (started ver) ps) in
       let k = both-true (isDeclaration pe || isStart pe) _ o in
       let d = Begun.written-shallow (b .rest) (k .0) (dc ∙ flip (declaresLast false ps) (k .1)) in
       omega arith
@@ -77,63 +77,63 @@ module _ (V : Version) (ok : Bounded V) (text : Octets) (room : ℕ) (ps rest : 
       flip true y = clash y
       flip false y = refl
 
-  with-it : Begun.Split V (2 * length (header V)) (beginning (started V)) (itemsOf V (ps ++ (pe ∷ []))) (chosen V (tablesAfter V (started V) (ps ++ (pe ∷ []))) rest) (w .body) z
-  with-it = Begun.begun-of-written (itemsOf V (ps ++ (pe ∷ []))) _ (rw behind-event at (w .rule))
+  with-it : Begun.Split ver (2 * length (header ver)) (beginning (started ver)) (itemsOf ver (ps ++ (pe ∷ []))) (chosen ver (tablesAfter ver (started ver) (ps ++ (pe ∷ []))) rest) (w .body) z
+  with-it = Begun.begun-of-written (itemsOf ver (ps ++ (pe ∷ []))) _ (rw behind-event at (w .rule))
 
-  entries : InLimits V (tablesAfter V (started V) (ps ++ (pe ∷ [])))
+  entries : InLimits ver (tablesAfter ver (started ver) (ps ++ (pe ∷ [])))
   unfolding beginning
-  entries = subst (InLimits V) (begun-words V (ps ++ (pe ∷ [])) (with-it .begun) (ranged-started V)) (Begun.fits-on (with-it .begun) (started-order V ok .fit))
+  entries = subst (InLimits ver) (begun-words ver (ps ++ (pe ∷ [])) (with-it .begun) (ranged-started ver)) (Begun.fits-on (with-it .begun) (started-order ver ok .fit))
 
-  fits : length s ≤ room → aligned (2 * length (header V) + length (with-it .front-halves)) / 2 ≤ min room (V .octets)
+  fits : length s ≤ room → aligned (2 * length (header ver) + length (with-it .front-halves)) / 2 ≤ min room (ver .octets)
   fits h =
       let l1 = ap length (w .here) in
       let l2 = halves-length s in
-      let l3 = length-append (halves (header V)) (w .body) in
-      let l4 = halves-length (header V) in
+      let l3 = length-append (halves (header ver)) (w .body) in
+      let l4 = halves-length (header ver) in
       let l5 = ap length (with-it .are) in
       let l6 = length-append (with-it .front-halves) (with-it .rest-halves) in
       let k = w .short in
-      let m = aligned-in (2 * length (header V) + length (with-it .front-halves)) (length s) (omega arith) in
+      let m = aligned-in (2 * length (header ver) + length (with-it .front-halves)) (length s) (omega arith) in
       omega arith
 
-module _ (V : Version) (ok : Bounded V) (text : Octets) (room : ℕ) (es : List Event) (made : All (WellMade text) es) (z : State Octets) (s : Octets) (w : Document V (itemsOf V (plains text es)) z s) (fit : length s ≤ room) where
-  pub all-right : AllRight V text room es
+module _ (ver : Version) (ok : Bounded ver) (text : Octets) (room : ℕ) (es : List Event) (made : All (WellMade text) es) (z : State Octets) (s : Octets) (w : Document ver (itemsOf ver (plains text es)) z s) (fit : length s ≤ room) where
+  pub all-right : AllRight ver text room es
   all-right before e after is =
       let ps = plains text before in
       let pe = plainOf text e in
       let rest = plains text after in
       let split : plains text es ≡ ps ++ (pe ∷ rest) = ap (plains text) is ∙ map-append (plainOf text) before (e ∷ after) in
-      let v : Document V (itemsOf V (ps ++ (pe ∷ rest))) z s = subst (λ (l : List (E.Event Octets)). Document V (itemsOf V l) z s) split w in
+      let v : Document ver (itemsOf ver (ps ++ (pe ∷ rest))) z s = subst (λ (l : List (E.Event Octets)). Document ver (itemsOf ver l) z s) split w in
       record {
-        is-event = (all-at (WellMade text) before e after (rw is at made), record { rest = rest; whole = rw append-assoc (written-document V (ps ++ (pe ∷ rest)) z s v) });
-        is-text = in-order IsText pe (allowed-text pe (is-allowed V ok text room ps rest pe z s v));
-        is-shallow = shallow V ok text room ps rest pe z s v;
-        has-entries = entries V ok text room ps rest pe z s v;
-        has-room = record { halves = _; last = _; are = with-it V ok text room ps rest pe z s v .begun; fit = fits V ok text room ps rest pe z s v fit };
+        is-event = (all-at (WellMade text) before e after (rw is at made), record { rest = rest; whole = rw append-assoc (written-document ver (ps ++ (pe ∷ rest)) z s v) });
+        is-text = in-order IsText pe (allowed-text pe (is-allowed ver ok text room ps rest pe z s v));
+        is-shallow = shallow ver ok text room ps rest pe z s v;
+        has-entries = entries ver ok text room ps rest pe z s v;
+        has-room = record { halves = _; last = _; are = with-it ver ok text room ps rest pe z s v .begun; fit = fits ver ok text room ps rest pe z s v fit };
       }
 
-  not-refused-here : {n p : ℕ} → Refused V text room es n p → ⊥
-  not-refused-here r = not-refused V text room all-right (record { octets = s; last = z; writes = w; fit = fit }) (written-document V (plains text es) z s w) r
+  not-refused-here : {n p : ℕ} → Refused ver text room es n p → ⊥
+  not-refused-here r = not-refused ver text room all-right (record { octets = s; last = z; writes = w; fit = fit }) (written-document ver (plains text es) z s w) r
 
   -- The writer writes it, as the rules do.
-  writes-from : (short : length text ≤ V .octets) (r : Result) → writing V text room es ≡ r → Wrote V es text room s z
+  writes-from : (short : length text ≤ ver .octets) (r : Result) → writing ver text room es ≡ r → Wrote ver es text room s z
   writes-from short (written items hs y) q =
-      let m = meant V ok text short room es items hs y q in
+      let m = meant ver ok text short room es items hs y q in
       let o = one-document (rw (m .chosen-by) at (m .writes)) w in
       record { items = items; halves = hs; last = y; is = q; octets = o .0; known = o .1 }
-  writes-from short (refusal n p) q = absurd (not-refused-here (refused-by V ok text short room es n p q))
+  writes-from short (refusal n p) q = absurd (not-refused-here (refused-by ver ok text short room es n p q))
 
-  pub writes-it : length text ≤ V .octets → Wrote V es text room s z
-  writes-it short = writes-from short (writing V text room es) refl
+  pub writes-it : length text ≤ ver .octets → Wrote ver es text room s z
+  writes-it short = writes-from short (writing ver text room es) refl
 
--- A list that 01 refuses is refused so.
-module _ (V : Version) (ok : Bounded V) (text : Octets) (short : length text ≤ V .octets) (room : ℕ) (es : List Event) (n p : ℕ) (r : Refused V text room es n p) where
-  refuses-from : (a : Result) → writing V text room es ≡ a → writing V text room es ≡ refusal n p
+-- A list that the requirements refuse is refused so.
+module _ (ver : Version) (ok : Bounded ver) (text : Octets) (short : length text ≤ ver .octets) (room : ℕ) (es : List Event) (n p : ℕ) (r : Refused ver text room es n p) where
+  refuses-from : (a : Result) → writing ver text room es ≡ a → writing ver text room es ≡ refusal n p
   refuses-from (written items hs y) q =
-      let m = meant V ok text short room es items hs y q in
+      let m = meant ver ok text short room es items hs y q in
       let v = rw (m .chosen-by) at (m .writes) in
-      absurd (not-refused V text room (m .all-right) (record { octets = _; last = _; writes = v; fit = m .fits }) (written-document V (plains text es) _ _ v) r)
-  refuses-from (refusal k i) q = let o = refused-one V text room r (refused-by V ok text short room es k i q) in q ∙ sym (λ j. refusal (o .0 j) (o .1 j))
+      absurd (not-refused ver text room (m .all-right) (record { octets = _; last = _; writes = v; fit = m .fits }) (written-document ver (plains text es) _ _ v) r)
+  refuses-from (refusal k i) q = let o = refused-one ver text room r (refused-by ver ok text short room es k i q) in q ∙ sym (λ j. refusal (o .0 j) (o .1 j))
 
-  pub refuses-it : writing V text room es ≡ refusal n p
-  refuses-it = refuses-from (writing V text room es) refl
+  pub refuses-it : writing ver text room es ≡ refusal n p
+  refuses-it = refuses-from (writing ver text room es) refl

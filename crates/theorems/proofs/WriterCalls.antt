@@ -34,68 +34,68 @@ use Rattle.writer.specs.Words.{answerWord, leaving, nothing, inWords, writeWord
 use Rattle.theorems.proofs.Fits.{accepted-sized}
 
 -- A call with this output room left these octets, 0 behind them, and these tables; the rules write the octets from the items, whose records are those given.
-pub record Wrote (V : Version) (text : Octets) (es : List Event) (room : ℕ) (o : Outcome) : Type 0 where
+pub record Wrote (ver : Version) (text : Octets) (es : List Event) (room : ℕ) (o : Outcome) : Type 0 where
   pub items : List (Item Located)
   pub last : State Located
   pub octets : Octets
   pub is : o ≡ accepting octets (last .tables) room
   pub given : map (λ (i : Item Located). recordOf (i .event)) items ≡ es
-  pub writes : Document V (map (plain text) items) (plainState text last) octets
+  pub writes : Document ver (map (plain text) items) (plainState text last) octets
   pub fits : length octets ≤ room
 
-module _ (V : Version) (ok : Bounded V) (text : Octets) (room : ℕ) (es : List Event) where
-  from-result : length text ≤ V .octets → (r : Result) → writing V text room es ≡ r → (n : ℕ) (c : Counts) → outcome V r room .answer ≡ Accepted n c → Wrote V text es room (outcome V r room)
+module _ (ver : Version) (ok : Bounded ver) (text : Octets) (room : ℕ) (es : List Event) where
+  from-result : length text ≤ ver .octets → (r : Result) → writing ver text room es ≡ r → (n : ℕ) (c : Counts) → outcome ver r room .answer ≡ Accepted n c → Wrote ver text es room (outcome ver r room)
   from-result short (written items hs z) e n c q =
-      let w = written-by-the-rules V ok text room es items hs z short e in
-      record { items = items; last = z; octets = header V ++ joined hs; is = refl; given = the-events-given V text room es items hs z e; writes = w .0; fits = w .1 }
+      let w = written-by-the-rules ver ok text room es items hs z short e in
+      record { items = items; last = z; octets = header ver ++ joined hs; is = refl; given = the-events-given ver text room es items hs z e; writes = w .0; fits = w .1 }
   from-result short (refusal k p) e n c q = absurd (let z : _≡_ {A = ℕ} 0 1 = cc in omega arith)
 
-  by-room : (table n : ℕ) (c : Counts) (b d : Bool) → leb (length text) (V .octets) ≡ b
-      → pick b (pick d (outcome V (writing V text room es) room) (refusing 14 0 room table)) (refusing 1 0 room table) .answer ≡ Accepted n c
-      → Wrote V text es room (pick b (pick d (outcome V (writing V text room es) room) (refusing 14 0 room table)) (refusing 1 0 room table))
-  by-room table n c true true short e = from-result (leb-true _ _ short) (writing V text room es) refl n c e
+  by-room : (table n : ℕ) (c : Counts) (b d : Bool) → leb (length text) (ver .octets) ≡ b
+      → pick b (pick d (outcome ver (writing ver text room es) room) (refusing 14 0 room table)) (refusing 1 0 room table) .answer ≡ Accepted n c
+      → Wrote ver text es room (pick b (pick d (outcome ver (writing ver text room es) room) (refusing 14 0 room table)) (refusing 1 0 room table))
+  by-room table n c true true short e = from-result (leb-true _ _ short) (writing ver text room es) refl n c e
   by-room table n c true false short e = absurd (let z : _≡_ {A = ℕ} 0 1 = cc in omega arith)
   by-room table n c false d short e = absurd (let z : _≡_ {A = ℕ} 0 1 = cc in omega arith)
 
   -- 17. WRITE ACCEPTS only what the rules write, from the records given.
-  pub write-accepts : (table n : ℕ) (c : Counts) → writeOf V es text room table .answer ≡ Accepted n c → Wrote V text es room (writeOf V es text room table)
+  pub write-accepts : (table n : ℕ) (c : Counts) → writeOf ver es text room table .answer ≡ Accepted n c → Wrote ver text es room (writeOf ver es text room table)
   unfolding writeOf
-  write-accepts table n c e = by-room table n c (leb (length text) (V .octets)) (eqb table tableWords) refl e
+  write-accepts table n c e = by-room table n c (leb (length text) (ver .octets)) (eqb table tableWords) refl e
 
 -- What reading octets leaves: the records of events whose plain forms are these items', blank records behind them, and tables that are these, as octets.
-pub record ReadBack (V : Version) (s : Octets) (records : ℕ) (items : List (Item Octets)) (z : State Octets) : Type 0 where
+pub record ReadBack (ver : Version) (s : Octets) (records : ℕ) (items : List (Item Octets)) (z : State Octets) : Type 0 where
   pub events : List (Item Located)
   pub last : State Located
-  pub is : readOf V s records tableWords ≡ reading (map (λ (i : Item Located). recordOf (i .event)) events) (last .tables) records
+  pub is : readOf ver s records tableWords ≡ reading (map (λ (i : Item Located). recordOf (i .event)) events) (last .tables) records
   pub same : map (plain s) events ≡ items
   pub tables : plainState s last ≡ z
 
 -- 18. READ BACK: what a call wrote is read, with a record for each event, and gives the same events and tables.
-pub read-back : (V : Version) (text : Octets) (room : ℕ) (es : List Event) (o : Outcome) (w : Wrote V text es room o) (records : ℕ) → length es ≤ records
-    → ReadBack V (w .octets) records (map (plain text) (w .items)) (plainState text (w .last))
+pub read-back : (ver : Version) (text : Octets) (room : ℕ) (es : List Event) (o : Outcome) (w : Wrote ver text es room o) (records : ℕ) → length es ≤ records
+    → ReadBack ver (w .octets) records (map (plain text) (w .items)) (plainState text (w .last))
 unfolding readOf
-read-back V text room es o w records h =
+read-back ver text room es o w records h =
     let l = length-map (w .items) (λ (i : Item Located). recordOf (i .event)) in
     let k = length-map (w .items) (plain text) in
     let g = ap length (w .given) in
-    let a = Whole.accepts V (w .octets) (map (plain text) (w .items)) (plainState text (w .last)) (w .writes) records (omega arith) in
-    let y = accepted-sized V (w .octets) records (a .events) (a .last) (a .reads) in
+    let a = Whole.accepts ver (w .octets) (map (plain text) (w .items)) (plainState text (w .last)) (w .writes) records (omega arith) in
+    let y = accepted-sized ver (w .octets) records (a .events) (a .last) (a .reads) in
     record { events = a .events; last = a .last .state; is = rw (y, a .reads); same = a .are; tables = a .end-is }
 
--- 19. REFUSED: a refusal is one of 01's numbers for a writer, at an event of the list or its end.
+-- 19. REFUSED: a refusal is one of the requirements' numbers for a writer, at an event of the list or its end.
 abbrev pub Numbered : ℕ → Type 0
 Numbered n = (9 ≤ n) × (n ≤ 16) × (n ≡ 10 → ⊥) × (n ≡ 11 → ⊥) × (n ≡ 15 → ⊥)
 
-module _ (V : Version) (text : Octets) (room : ℕ) where
+module _ (ver : Version) (text : Octets) (room : ℕ) where
   abbrev Faulty : (low high : ℕ) → Result → Type 0
   Faulty low high (written items hs z) = Unit {0}
   Faulty low high (refusal n p) = Numbered n × (low ≤ p) × (p ≤ high)
 
-  verdicts : (at : ℕ) (v : State Located) (e : Event) (w : WroteItem) (hs : Halves) → (judge V text room at v e w hs ≡ 0 → ⊥) → Numbered (judge V text room at v e w hs)
+  verdicts : (at : ℕ) (v : State Located) (e : Event) (w : WroteItem) (hs : Halves) → (judge ver text room at v e w hs ≡ 0 → ⊥) → Numbered (judge ver text room at v e w hs)
   unfolding judge
   verdicts at v e w hs =
-      cases (wellMade text (e .kind) e && goesOn v (eventOf (e .kind) e)) (allText text (eventOf (e .kind) e)) (opens (v .mode) (eventOf (e .kind) e) && leb (V .depth) (v .level))
-      (within V (w .state .tables)) (fits V text room (at + length hs))
+      cases (wellMade text (e .kind) e && goesOn v (eventOf (e .kind) e)) (allText text (eventOf (e .kind) e)) (opens (v .mode) (eventOf (e .kind) e) && leb (ver .depth) (v .level))
+      (within ver (w .state .tables)) (fits ver text room (at + length hs))
     where
       cases : (a b c d f : Bool) → (_≡_ {A = ℕ} (pick a (pick b (pick c 13 (pick d (pick f 0 14) 12)) 9) 16) 0 → ⊥) → Numbered (pick a (pick b (pick c 13 (pick d (pick f 0 14) 12)) 9) 16)
       cases false b c d f h = omega arith
@@ -105,9 +105,9 @@ module _ (V : Version) (text : Octets) (room : ℕ) where
       cases true true false true false h = omega arith
       cases true true false true true h = absurd (h refl)
 
-  finish-faulty : (at : ℕ) (v : State Located) (i : ℕ) → Faulty i i (finish V text room at v i)
+  finish-faulty : (at : ℕ) (v : State Located) (i : ℕ) → Faulty i i (finish ver text room at v i)
   unfolding finish
-  finish-faulty at v i = cases (isContent (v .mode) && (eqb (v .level) 0 && v .root)) (fits V text room (suc at))
+  finish-faulty at v i = cases (isContent (v .mode) && (eqb (v .level) 0 && v .root)) (fits ver text room (suc at))
     where
       cases : (a b : Bool) → Faulty i i (pick a (pick b (written [] (15 ∷ pad (suc at)) v) (refusal 14 i)) (refusal 16 i))
       cases true true = tt
@@ -123,67 +123,67 @@ module _ (V : Version) (text : Octets) (room : ℕ) where
   turned i m j hs r zero f h = later i m j hs r h
   turned i m j hs r (suc k) f h = (f (omega arith), omega arith, omega arith)
 
-  run-faulty : (es : List Event) (at : ℕ) (v : State Located) (i : ℕ) → Faulty i (i + length es) (run V text room at v i es)
+  run-faulty : (es : List Event) (at : ℕ) (v : State Located) (i : ℕ) → Faulty i (i + length es) (run ver text room at v i es)
   unfolding run
   run-faulty [] at v i = let z : i + 0 ≡ i = omega arith in rw z (finish-faulty at v i)
   run-faulty (e ∷ es) at v i =
       let ev = eventOf (e .kind) e in
-      let w = writeItem V text (announced (e ∷ es)) (settled v ev) ev in
-      let hs = halvesOf V text room at v ev w in
-      turned i (length es) (ev by w .choice) hs (run V text room (at + length hs) (w .state) (suc i) es) (judge V text room at v e w hs) (verdicts at v e w hs) (run-faulty es (at + length hs) (w .state) (suc i))
+      let w = writeItem ver text (announced (e ∷ es)) (settled v ev) ev in
+      let hs = halvesOf ver text room at v ev w in
+      turned i (length es) (ev by w .choice) hs (run ver text room (at + length hs) (w .state) (suc i) es) (judge ver text room at v e w hs) (verdicts at v e w hs) (run-faulty es (at + length hs) (w .state) (suc i))
 
-pub write-refused : (V : Version) (text : Octets) (room : ℕ) (es : List Event) (n p : ℕ) → writing V text room es ≡ refusal n p → Numbered n × (p ≤ length es)
+pub write-refused : (ver : Version) (text : Octets) (room : ℕ) (es : List Event) (n p : ℕ) → writing ver text room es ≡ refusal n p → Numbered n × (p ≤ length es)
 unfolding writing
-write-refused V text room es n p e =
-    let f = run-faulty V text room es (2 * length (header V)) (beginning (start V)) 0 in
-    let g : Faulty V text room 0 (0 + length es) (refusal n p) = subst (Faulty V text room 0 (0 + length es)) e f in
+write-refused ver text room es n p e =
+    let f = run-faulty ver text room es (2 * length (header ver)) (beginning (start ver)) 0 in
+    let g : Faulty ver text room 0 (0 + length es) (refusal n p) = subst (Faulty ver text room 0 (0 + length es)) e f in
     let h = g .2 in
     (g .0, omega arith)
 
 -- 20. WRITE FROM WORDS: what is accepted is left as the words of what `write` leaves, from the records of the words (17).
-refused-small : (V : Version) (records : Words) (text : Octets) (r t : ℕ) (b d : Bool) (k p : ℕ)
-    → pick b (pick d (outcome V (writing V text r (recordsOf records)) r) (refusing 14 0 r t)) (refusing 1 0 r t) .answer ≡ Refused k p → (1 ≤ k) × (k ≤ 16)
-refused-small V records text r t true true k p e = from (writing V text r (recordsOf records)) refl e
+refused-small : (ver : Version) (records : Words) (text : Octets) (r t : ℕ) (b d : Bool) (k p : ℕ)
+    → pick b (pick d (outcome ver (writing ver text r (recordsOf records)) r) (refusing 14 0 r t)) (refusing 1 0 r t) .answer ≡ Refused k p → (1 ≤ k) × (k ≤ 16)
+refused-small ver records text r t true true k p e = from (writing ver text r (recordsOf records)) refl e
   where
-    from : (a : Result) → writing V text r (recordsOf records) ≡ a → outcome V a r .answer ≡ Refused k p → (1 ≤ k) × (k ≤ 16)
+    from : (a : Result) → writing ver text r (recordsOf records) ≡ a → outcome ver a r .answer ≡ Refused k p → (1 ≤ k) × (k ≤ 16)
     from (written items hs z) q e = absurd (let y : _≡_ {A = ℕ} 0 1 = cc in omega arith)
     from (refusal n place) q e =
-        let f = write-refused V text r (recordsOf records) n place q .0 in
+        let f = write-refused ver text r (recordsOf records) n place q .0 in
         let ek : n ≡ k = cc in
         let low = f .0 in
         let high = f .1 in
         (omega arith, omega arith)
-refused-small V records text r t true false k p e = let ek : 14 ≡ k = cc in (omega arith, omega arith)
-refused-small V records text r t false d k p e = let ek : 1 ≡ k = cc in (omega arith, omega arith)
+refused-small ver records text r t true false k p e = let ek : 14 ≡ k = cc in (omega arith, omega arith)
+refused-small ver records text r t false d k p e = let ek : 1 ≡ k = cc in (omega arith, omega arith)
 
-module _ (V : Version) (ok : Bounded V) (records : Words) (text : Octets) (r t : ℕ) where
+module _ (ver : Version) (ok : Bounded ver) (records : Words) (text : Octets) (r t : ℕ) where
   abbrev left : Outcome
-  left = writeOf V (recordsOf records) text r t
+  left = writeOf ver (recordsOf records) text r t
 
-  by-answer : (n : ℕ) (a : Answer) → left .answer ≡ a → answerWord a ≡ n * 2 ^ 32 → Wrote V text (recordsOf records) r left
+  by-answer : (n : ℕ) (a : Answer) → left .answer ≡ a → answerWord a ≡ n * 2 ^ 32 → Wrote ver text (recordsOf records) r left
   unfolding writeOf
-  by-answer n (Accepted m c) e q = write-accepts V ok text r (recordsOf records) t m c e
-  by-answer n (Refused k p) e q = let f = refused-small V records text r t (leb (length text) (V .octets)) (eqb t tableWords) k p e in absurd (let low = f .0 in let high = f .1 in omega arith)
+  by-answer n (Accepted m c) e q = write-accepts ver ok text r (recordsOf records) t m c e
+  by-answer n (Refused k p) e q = let f = refused-small ver records text r t (leb (length text) (ver .octets)) (eqb t tableWords) k p e in absurd (let low = f .0 in let high = f .1 in omega arith)
 
   by-words : (c n : ℕ) (b d : Bool) → pick b (pick d (inWords left) (nothing 14 r t c)) (nothing 1 r t c) .answer ≡ n * 2 ^ 32
-      → Wrote V text (recordsOf records) r left × (pick b (pick d (inWords left) (nothing 14 r t c)) (nothing 1 r t c) ≡ inWords left)
+      → Wrote ver text (recordsOf records) r left × (pick b (pick d (inWords left) (nothing 14 r t c)) (nothing 1 r t c) ≡ inWords left)
   unfolding inWords
   by-words c n true true e = (by-answer n (left .answer) refl e, refl)
   by-words c n true false e = absurd (omega arith)
   by-words c n false d e = absurd (omega arith)
 
-  pub words-written : (c n : ℕ) → writeWords V records text r t c .answer ≡ n * 2 ^ 32 → Wrote V text (recordsOf records) r left × (writeWords V records text r t c ≡ inWords left)
+  pub words-written : (c n : ℕ) → writeWords ver records text r t c .answer ≡ n * 2 ^ 32 → Wrote ver text (recordsOf records) r left × (writeWords ver records text r t c ≡ inWords left)
   unfolding writeWords
-  words-written c n e = by-words c n (leb (length text) (V .octets)) (eqb c 10) e
+  words-written c n e = by-words c n (leb (length text) (ver .octets)) (eqb c 10) e
 
 -- 21. DEMAND 1: what a call answers and leaves depends on the records and the text, and on how much room is lent, but not on what stood in it.
-module _ (V : Version) (es : List Event) (text o p : Octets) (t u : Words) (a b : Answer) (o′ p′ : Octets) (t′ u′ : Words) where
-  pub write-whatever-stood : length o ≡ length p → length t ≡ length u → Leaves a o′ t′ (writeOf V es text (length o) (length t)) → Leaves b p′ u′ (writeOf V es text (length p) (length u))
+module _ (ver : Version) (es : List Event) (text o p : Octets) (t u : Words) (a b : Answer) (o′ p′ : Octets) (t′ u′ : Words) where
+  pub write-whatever-stood : length o ≡ length p → length t ≡ length u → Leaves a o′ t′ (writeOf ver es text (length o) (length t)) → Leaves b p′ u′ (writeOf ver es text (length p) (length u))
       → (a ≡ b) × (o′ ≡ p′) × (t′ ≡ u′)
   write-whatever-stood l m x y = let y′ = rw (← l, ← m) at y in (x .0 ∙ sym (y′ .0), x .2 ∙ sym (y′ .2), x .3 ∙ sym (y′ .3))
 
 --     The same of writing from words.
-pub written-whatever-stood : (V : Version) (records : Words) (text o p : Octets) (t u c d : Words) (a b : ℕ) (o′ p′ : Octets) (t′ u′ c′ d′ : Words) → length o ≡ length p → length t ≡ length u → length c ≡ length d
-    → leaving a o′ t′ c′ ≡ writeWords V records text (length o) (length t) (length c) → leaving b p′ u′ d′ ≡ writeWords V records text (length p) (length u) (length d)
+pub written-whatever-stood : (ver : Version) (records : Words) (text o p : Octets) (t u c d : Words) (a b : ℕ) (o′ p′ : Octets) (t′ u′ c′ d′ : Words) → length o ≡ length p → length t ≡ length u → length c ≡ length d
+    → leaving a o′ t′ c′ ≡ writeWords ver records text (length o) (length t) (length c) → leaving b p′ u′ d′ ≡ writeWords ver records text (length p) (length u) (length d)
     → leaving a o′ t′ c′ ≡ leaving b p′ u′ d′
-written-whatever-stood V records text o p t u c d a b o′ p′ t′ u′ c′ d′ l m n x y = x ∙ rw (l, m, n) (sym y)
+written-whatever-stood ver records text o p t u c d a b o′ p′ t′ u′ c′ d′ l m n x y = x ∙ rw (l, m, n) (sym y)

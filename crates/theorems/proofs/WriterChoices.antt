@@ -1,4 +1,4 @@
--- What the writer's definition makes of an event is, in octets, what 01's choices make of the plain event.
+-- What the writer's definition makes of an event is, in octets, what the required choices make of the plain event.
 use mathlib.Core.Path.{_≡_, refl, sym, ap, _∙_, subst}
 use mathlib.Core.Bool.{Bool, true, false}
 use mathlib.Core.Option.{Option, none, some, Option·map}
@@ -101,34 +101,34 @@ module _ (text : Octets) where
       (same-id LOCAL-NAME (n .tables) (x .local)) in
       same-name-from q lead v x _ _ _ _ _ _ sp sn sl
 
-  module _ (V : Version) where
+  module _ (ver : Version) where
     same-literal : (q : Layout) (t : StringTable) (v : Vocabulary Located) (x : Located)
-        → Same (literalOctets q (octetsOf text x)) (writeLiteral V q text t v x) (chooseLiteral V t (plainTables text v) (octetsOf text x))
+        → Same (literalOctets q (octetsOf text x)) (writeLiteral ver q text t v x) (chooseLiteral ver t (plainTables text v) (octetsOf text x))
     unfolding writeLiteral chooseLiteral worthAdding
     same-literal q t v x =
-        let b = worthAdding V (strings v t) (octetsOf text x) in
+        let b = worthAdding ver (strings v t) (octetsOf text x) in
         rw (strings-map (octetsOf text) v t, length-map (strings v t) (octetsOf text))
         (same-pick (eqb (numberIn (map (octetsOf text) (strings v t)) (octetsOf text x)) 0)
         (record { octets-are = refl; how = refl; number = refl; tables = keeping-map (octetsOf text) b v t x })
         (record { octets-are = refl; how = refl; number = refl; tables = refl }))
 
     same-value : (t : StringTable) (v : Vocabulary Located) (x : Located)
-        → Same (valueOctets (octetsOf text x)) (writeValue V text t v x) (chooseValue V t (plainTables text v) (octetsOf text x))
+        → Same (valueOctets (octetsOf text x)) (writeValue ver text t v x) (chooseValue ver t (plainTables text v) (octetsOf text x))
     unfolding writeValue chooseValue
     same-value t v x =
         let s = same-literal c14 t v x in
         same-pick (eqb (length (octetsOf text x)) 0) (record { octets-are = refl; how = refl; number = refl; tables = refl })
-        (record { octets-are = s .octets-are ∙ sym (literal-value (literal-case V t (plainTables text v) (octetsOf text x))); how = s .how; number = s .number; tables = s .tables })
+        (record { octets-are = s .octets-are ∙ sym (literal-value (literal-case ver t (plainTables text v) (octetsOf text x))); how = s .how; number = s .number; tables = s .tables })
 
     pub record SameItem (a : Bool) (v : State Located) (e : E.Event Located) : Type 0 where
-      pub octets : writeItem V text a v e .octets ≡ octetsBy V a (plainState text v) (eventMap (octetsOf text) e)
-      pub choice : writeItem V text a v e .choice ≡ chooseFor V (plainTables text (v .tables)) (eventMap (octetsOf text) e) .how
-      pub state : plainState text (writeItem V text a v e .state) ≡ knownBy V a (plainState text v) (eventMap (octetsOf text) e)
+      pub octets : writeItem ver text a v e .octets ≡ octetsBy ver a (plainState text v) (eventMap (octetsOf text) e)
+      pub choice : writeItem ver text a v e .choice ≡ chooseFor ver (plainTables text (v .tables)) (eventMap (octetsOf text) e) .how
+      pub state : plainState text (writeItem ver text a v e .state) ≡ knownBy ver a (plainState text v) (eventMap (octetsOf text) e)
 
     -- the second string of an event, with the tables behind the first
     value-then : (t : StringTable) (v : Vocabulary Located) (w : Vocabulary Octets) (x : Located) → plainTables text v ≡ w
-        → Same (valueOctets (octetsOf text x)) (writeValue V text t v x) (chooseValue V t w (octetsOf text x))
-    value-then t v w x e = subst (λ (u : Vocabulary Octets). Same (valueOctets (octetsOf text x)) (writeValue V text t v x) (chooseValue V t u (octetsOf text x))) e (same-value t v x)
+        → Same (valueOctets (octetsOf text x)) (writeValue ver text t v x) (chooseValue ver t w (octetsOf text x))
+    value-then t v w x e = subst (λ (u : Vocabulary Octets). Same (valueOctets (octetsOf text x)) (writeValue ver text t v x) (chooseValue ver t u (octetsOf text x))) e (same-value t v x)
 
     optional-then : (t : StringTable) (v : Vocabulary Located) (w : Vocabulary Octets) (x : Option Located) → plainTables text v ≡ w
         → Same (optionalOctets (Option·map (octetsOf text) x)) (writeOptional text t v x) (chooseOptional t w (Option·map (octetsOf text) x))

@@ -1,5 +1,5 @@
 -- A whole document that the writer wrote: it is what the rules write, within the limits and the room, and what was known after each event is what the rules know; a
--- list that it refuses is refused by 01.
+-- list that it refuses is refused by the requirements.
 use mathlib.Core.Path.{_≡_, refl, sym, ap, _∙_, subst}
 use mathlib.Core.Bool.{_&&_}
 use mathlib.Core.List.{List, [], _∷_, _++_, map}
@@ -31,7 +31,7 @@ use Rattle.theorems.proofs.Entries.{ranged-started, few-after}
 use Rattle.theorems.proofs.WriterRun.{Stands, Judged, run-judged}
 
 -- ---- after each item something is known
-as-many : {V : Version} {at : ℕ} {v z : State Octets} {items : List (Item Octets)} {hs : Halves} (w : Written V at v items hs z) → length (knownAfter V w) ≡ length items
+as-many : {ver : Version} {at : ℕ} {v z : State Octets} {items : List (Item Octets)} {hs : Halves} (w : Written ver at v items hs z) → length (knownAfter ver w) ≡ length items
 unfolding knownAfter
 as-many (document-end md lv rt) = refl
 as-many (attributes-end md w) = as-many w
@@ -39,22 +39,22 @@ as-many (element-end md lv w) = ap suc (as-many w)
 as-many (item u w) = ap suc (as-many w)
 
 -- ---- the room
-module _ (V : Version) (text : Octets) (room : ℕ) where
+module _ (ver : Version) (text : Octets) (room : ℕ) where
   abbrev InRoom : ℕ → Result → Type 0
-  InRoom at (written items hs z) = at + length hs ≤ 2 * min room (V .octets)
+  InRoom at (written items hs z) = at + length hs ≤ 2 * min room (ver .octets)
   InRoom at (refusal n p) = Unit {0}
 
   plus-room : (at : ℕ) (j : Item Located) (hs : Halves) (r : Result) → InRoom (at + length hs) r → InRoom at (plus j hs r)
   plus-room at j hs (written items rest z) h = let l = length-append hs rest in omega arith
   plus-room at j hs (refusal n p) h = tt
 
-  finish-room : (at : ℕ) (v : State Located) (i : ℕ) → InRoom at (finish V text room at v i)
+  finish-room : (at : ℕ) (v : State Located) (i : ℕ) → InRoom at (finish ver text room at v i)
   unfolding finish fits
   finish-room at v i =
       test (InRoom at) (refusal 16 i) tt (isContent (v .mode) && (eqb (v .level) 0 && v .root)) _
-      λ t. test (InRoom at) (refusal 14 i) tt (leb (aligned (suc at) / 2) (min room (V .octets))) (written [] (15 ∷ pad (suc at)) v)
+      λ t. test (InRoom at) (refusal 14 i) tt (leb (aligned (suc at) / 2) (min room (ver .octets))) (written [] (15 ∷ pad (suc at)) v)
       λ f.
-      let a = leb-true (aligned (suc at) / 2) (min room (V .octets)) f in
+      let a = leb-true (aligned (suc at) / 2) (min room (ver .octets)) f in
       let b = pad-length (suc at) in
       let c = align-is (suc at) in
       omega arith
@@ -64,81 +64,81 @@ module _ (V : Version) (text : Octets) (room : ℕ) where
   turn-room at rest rec i zero y hs w = plus-room at y hs (rest (at + length hs) w) (rec (at + length hs) w)
   turn-room at rest rec i (suc n) y hs w = tt
 
-  run-room : (es : List Event) (at : ℕ) (v : State Located) (i : ℕ) → InRoom at (run V text room at v i es)
+  run-room : (es : List Event) (at : ℕ) (v : State Located) (i : ℕ) → InRoom at (run ver text room at v i es)
   unfolding run
   run-room [] at v i = finish-room at v i
   run-room (e ∷ es) at v i =
       let ev = eventOf (e .kind) e in
-      let w = writeItem V text (announced (e ∷ es)) (settled v ev) ev in
-      let hs = halvesOf V text room at v ev w in
-      turn-room at (λ k w. run V text room k w (suc i) es) (λ k w. run-room es k w (suc i)) i (judge V text room at v e w hs) (ev by w .choice) hs (w .state)
+      let w = writeItem ver text (announced (e ∷ es)) (settled v ev) ev in
+      let hs = halvesOf ver text room at v ev w in
+      turn-room at (λ k w. run ver text room k w (suc i) es) (λ k w. run-room es k w (suc i)) i (judge ver text room at v e w hs) (ev by w .choice) hs (w .state)
 
 -- ---- from the start
-pub started-order : (V : Version) → Bounded V → Order V (started V)
-started-order V ok = record { fit = few-after V no-item (ok .some-entries); ranged = ranged-started V }
+pub started-order : (ver : Version) → Bounded ver → Order ver (started ver)
+started-order ver ok = record { fit = few-after ver no-item (ok .some-entries); ranged = ranged-started ver }
 
-module _ (V : Version) (ok : Bounded V) (text : Octets) (short : length text ≤ V .octets) (room : ℕ) where
-  first-stands : (es : List Event) → Stands V ok text [] (2 * length (header V)) (beginning (start V)) es
+module _ (ver : Version) (ok : Bounded ver) (text : Octets) (short : length text ≤ ver .octets) (room : ℕ) where
+  first-stands : (es : List Event) → Stands ver ok text [] (2 * length (header ver)) (beginning (start ver)) es
   unfolding beginning chosen tablesAfter
   first-stands es =
-      let s = plain-start V text in
+      let s = plain-start ver text in
       let w = ap (λ (u : State Octets). u .tables) s in
       record {
         halves = [];
         begun = rw s begun;
         at-is = omega arith;
         tables = w;
-        order = rw w (started-order V ok);
+        order = rw w (started-order ver ok);
         ahead = tt;
-        sane = sane-first (started V);
-        forth = λ tail f d. all-left (started V) tail .0 d;
-        back = λ tail r. all-left (started V) tail .1 r;
+        sane = sane-first (started ver);
+        forth = λ tail f d. all-left (started ver) tail .0 d;
+        back = λ tail r. all-left (started ver) tail .1 r;
       }
 
   -- what a result means, where ks are known after the events: the octets are the rules', they fit the output, and the rules know as much after each item; each
-  -- event is right, and the items are 01's; or the list is refused
+  -- event is right, and the items are the requirements'; or the list is refused
   pub record Means (es : List Event) (ks : List (State Located)) (items : List (Item Located)) (hs : Halves) (z : State Located) : Type 0 where
-    pub writes : Document V (map (plain text) items) (plainState text z) (header V ++ joined hs)
-    pub fits : length (header V ++ joined hs) ≤ room
-    pub known : knownAfter V (writes .rule) ≡ map (plainState text) ks
-    pub chosen-by : map (plain text) items ≡ itemsOf V (plains text es)
-    pub all-right : AllRight V text room es
+    pub writes : Document ver (map (plain text) items) (plainState text z) (header ver ++ joined hs)
+    pub fits : length (header ver ++ joined hs) ≤ room
+    pub known : knownAfter ver (writes .rule) ≡ map (plainState text) ks
+    pub chosen-by : map (plain text) items ≡ itemsOf ver (plains text es)
+    pub all-right : AllRight ver text room es
 
   abbrev Meaning : List Event → List (State Located) → Result → Type 0
   Meaning es ks (written items hs z) = Means es ks items hs z
-  Meaning es ks (refusal n p) = Refused V text room es n p
+  Meaning es ks (refusal n p) = Refused ver text room es n p
 
-  from-run : (es : List Event) (ks : List (State Located)) (r : Result) → Judged V ok text short room [] (2 * length (header V)) (beginning (start V)) es ks r → InRoom V text room (2 * length (header V)) r → Meaning es ks r
+  from-run : (es : List Event) (ks : List (State Located)) (r : Result) → Judged ver ok text short room [] (2 * length (header ver)) (beginning (start ver)) es ks r → InRoom ver text room (2 * length (header ver)) r → Meaning es ks r
   unfolding beginning
   from-run es ks (written items hs z) u h =
-      let w = rw (plain-start V text) at (u .0) in
+      let w = rw (plain-start ver text) at (u .0) in
       let j = joins (w .0) in
       let l = halves-length (joined hs) in
       let k = ap length j in
-      let la = length-append (header V) (joined hs) in
+      let la = length-append (header ver) (joined hs) in
       record {
         writes = document-of (w .0) (omega arith);
         fits = omega arith;
         known = w .1;
-        chosen-by = u .1 ∙ ap (λ (v : State Octets). chosen V (v .tables) (plains text es)) (plain-start V text);
+        chosen-by = u .1 ∙ ap (λ (v : State Octets). chosen ver (v .tables) (plains text es)) (plain-start ver text);
         all-right = u .2;
       }
   from-run es ks (refusal n p) u h = u
 
-  means : (es : List Event) → Meaning es (knownWriting V text room es) (writing V text room es)
+  means : (es : List Event) → Meaning es (knownWriting ver text room es) (writing ver text room es)
   unfolding writing knownWriting
   means es =
-      from-run es (knownWriting V text room es) (writing V text room es)
-      (run-judged V ok text short room es [] (2 * length (header V)) (beginning (start V)) 0 refl (first-stands es) (λ b e after q. absurd (let l = ap length q in let k = length-append b (e ∷ after) in omega arith)))
-      (run-room V text room es (2 * length (header V)) (beginning (start V)) 0)
+      from-run es (knownWriting ver text room es) (writing ver text room es)
+      (run-judged ver ok text short room es [] (2 * length (header ver)) (beginning (start ver)) 0 refl (first-stands es) (λ b e after q. absurd (let l = ap length q in let k = length-append b (e ∷ after) in omega arith)))
+      (run-room ver text room es (2 * length (header ver)) (beginning (start ver)) 0)
 
-  pub meant : (es : List Event) (items : List (Item Located)) (hs : Halves) (z : State Located) → writing V text room es ≡ written items hs z → Means es (knownWriting V text room es) items hs z
-  meant es items hs z e = subst (Meaning es (knownWriting V text room es)) e (means es)
+  pub meant : (es : List Event) (items : List (Item Located)) (hs : Halves) (z : State Located) → writing ver text room es ≡ written items hs z → Means es (knownWriting ver text room es) items hs z
+  meant es items hs z e = subst (Meaning es (knownWriting ver text room es)) e (means es)
 
-  pub refused-by : (es : List Event) (n p : ℕ) → writing V text room es ≡ refusal n p → Refused V text room es n p
-  refused-by es n p e = subst (Meaning es (knownWriting V text room es)) e (means es)
+  pub refused-by : (es : List Event) (n p : ℕ) → writing ver text room es ≡ refusal n p → Refused ver text room es n p
+  refused-by es n p e = subst (Meaning es (knownWriting ver text room es)) e (means es)
 
-  pub each-known : (es : List Event) (items : List (Item Located)) (hs : Halves) (z : State Located) → writing V text room es ≡ written items hs z → length (knownWriting V text room es) ≡ length items
+  pub each-known : (es : List Event) (items : List (Item Located)) (hs : Halves) (z : State Located) → writing ver text room es ≡ written items hs z → length (knownWriting ver text room es) ≡ length items
   each-known es items hs z e =
       let m = meant es items hs z e in
-      sym (length-map (knownWriting V text room es) (plainState text)) ∙ sym (ap length (m .known)) ∙ as-many (m .writes .rule) ∙ length-map items (plain text)
+      sym (length-map (knownWriting ver text room es) (plainState text)) ∙ sym (ap length (m .known)) ∙ as-many (m .writes .rule) ∙ length-map items (plain text)

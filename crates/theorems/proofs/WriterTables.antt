@@ -67,19 +67,19 @@ module _ (text : Octets) where
       (adds-both (part-adds NAMESPACE-NAME (p .tables) (x .namespace)) (adds-both (id-adds LOCAL-NAME (n .tables) (x .local)) (adds-name (l .tables) (q .table) _ x))))
       (λ e. adds-name-number (q .table) _ x)
 
-  module _ (V : Version) where
-    literal-adds : (q : Layout) (t : StringTable) (v : Vocabulary Located) (x : Located) → WroteString t v x (writeLiteral V q text t v x)
+  module _ (ver : Version) where
+    literal-adds : (q : Layout) (t : StringTable) (v : Vocabulary Located) (x : Located) → WroteString t v x (writeLiteral ver q text t v x)
     unfolding writeLiteral
     literal-adds q t v x =
         let k = numberIn (map (octetsOf text) (strings v t)) (octetsOf text x) in
-        either (WroteString t v x) (eqb k 0) _ _ (λ e. spelled-adds t v x (worthAdding V (strings v t) (octetsOf text x))) (λ e. number-adds t v x k)
+        either (WroteString t v x) (eqb k 0) _ _ (λ e. spelled-adds t v x (worthAdding ver (strings v t) (octetsOf text x))) (λ e. number-adds t v x k)
 
-    value-adds : (t : StringTable) (v : Vocabulary Located) (x : Located) → WroteString t v x (writeValue V text t v x)
+    value-adds : (t : StringTable) (v : Vocabulary Located) (x : Located) → WroteString t v x (writeValue ver text t v x)
     unfolding writeValue
     value-adds t v x = either (WroteString t v x) (eqb (length (octetsOf text x)) 0) _ _ (λ e. adds-none) (λ e. literal-adds c14 t v x)
 
     -- ---- one event
-    item-adds : (a : Bool) (v : State Located) (e : E.Event Located) → Adds (v .tables) (ofItem (e by writeItem V text a v e .choice)) (writeItem V text a v e .state .tables)
+    item-adds : (a : Bool) (v : State Located) (e : E.Event Located) → Adds (v .tables) (ofItem (e by writeItem ver text a v e .choice)) (writeItem ver text a v e .state .tables)
     unfolding writeItem ofElement ofAttribute
     item-adds a v (E.Namespace p n) = adds-both (part-adds PREFIX (v .tables) p) (adds-both (part-adds NAMESPACE-NAME (writeOptional text PREFIX (v .tables) p .tables) n) adds-none)
     item-adds a v (E.Start x) = adds-both (name-adds ofElement (nameLead (v .mode) a) (v .tables) x) adds-none
@@ -91,10 +91,10 @@ module _ (text : Octets) where
 
     -- the end of an attribute list adds nothing
     settled-adds : (a : Bool) (v : State Located) (e : E.Event Located)
-        → Adds (v .tables) (ofItem (e by writeItem V text a (settled v e) e .choice)) (writeItem V text a (settled v e) e .state .tables)
+        → Adds (v .tables) (ofItem (e by writeItem ver text a (settled v e) e .choice)) (writeItem ver text a (settled v e) e .state .tables)
     unfolding settled
     settled-adds a v e =
-        either (λ (u : State Located). Adds (v .tables) (ofItem (e by writeItem V text a u e .choice)) (writeItem V text a u e .state .tables))
+        either (λ (u : State Located). Adds (v .tables) (ofItem (e by writeItem ver text a u e .choice)) (writeItem ver text a u e .state .tables))
         (isListing (v .mode) && not (isAttribute e)) _ _ (λ q. item-adds a _ e) (λ q. item-adds a v e)
 
     -- ---- a run
@@ -111,22 +111,22 @@ module _ (text : Octets) where
     turn-adds v i r h (suc n) = tt
 
     module _ (room : ℕ) where
-      run-adds : (es : List Event) (at : ℕ) (v : State Located) (i : ℕ) → AddsAll (v .tables) (run V text room at v i es)
+      run-adds : (es : List Event) (at : ℕ) (v : State Located) (i : ℕ) → AddsAll (v .tables) (run ver text room at v i es)
       unfolding run finish
       run-adds [] at v i =
           test (AddsAll (v .tables)) (refusal 16 i) tt (isContent (v .mode) && (eqb (v .level) 0 && v .root)) _
-          λ t. test (AddsAll (v .tables)) (refusal 14 i) tt (fits V text room (suc at)) _ λ f. adds-none
+          λ t. test (AddsAll (v .tables)) (refusal 14 i) tt (fits ver text room (suc at)) _ λ f. adds-none
       run-adds (e ∷ es) at v i =
           let ev = eventOf (e .kind) e in
           let a = announced (e ∷ es) in
-          let w = writeItem V text a (settled v ev) ev in
-          let hs = halvesOf V text room at v ev w in
-          turn-adds (v .tables) i _ (plus-adds (ev by w .choice) hs (settled-adds a v ev) (run V text room (at + length hs) (w .state) (suc i) es) (run-adds es (at + length hs) (w .state) (suc i)))
-          (judge V text room at v e w hs)
+          let w = writeItem ver text a (settled v ev) ev in
+          let hs = halvesOf ver text room at v ev w in
+          turn-adds (v .tables) i _ (plus-adds (ev by w .choice) hs (settled-adds a v ev) (run ver text room (at + length hs) (w .state) (suc i) es) (run-adds es (at + length hs) (w .state) (suc i)))
+          (judge ver text room at v e w hs)
 
 -- ---- a document
-pub strings-written : (V : Version) (text : Octets) (room : ℕ) (es : List Event) (items : List (Item Located)) (hs : Halves) (z : State Located) → writing V text room es ≡ written items hs z
-    → (t : StringTable) → strings (z .tables) t ≡ strings (after (starting V builtInPrefix builtInNamespace) (acts items)) t
+pub strings-written : (ver : Version) (text : Octets) (room : ℕ) (es : List Event) (items : List (Item Located)) (hs : Halves) (z : State Located) → writing ver text room es ≡ written items hs z
+    → (t : StringTable) → strings (z .tables) t ≡ strings (after (starting ver builtInPrefix builtInNamespace) (acts items)) t
 unfolding writing beginning start
-strings-written V text room es items hs z e =
-    adds-start V builtInPrefix builtInNamespace (subst (AddsAll text V (start V)) e (run-adds text V room es (2 * length (header V)) (beginning (start V)) 0))
+strings-written ver text room es items hs z e =
+    adds-start ver builtInPrefix builtInNamespace (subst (AddsAll text ver (start ver)) e (run-adds text ver room es (2 * length (header ver)) (beginning (start ver)) 0))

@@ -1,4 +1,4 @@
--- The bench (01, "Documents on the bench"): each case marked M and the readings that look right and are not, in one list, proved at once by computing the definitions.
+-- The bench (the requirements, "Documents on the bench"): each case marked M and the readings that look right and are not, in one list, proved at once by computing the definitions.
 use Prim.Native.Nat.{ℕ}
 use mathlib.Core.Path.{_≡_, refl}
 use mathlib.Core.Option.{none, some}

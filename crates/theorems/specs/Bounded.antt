@@ -4,12 +4,12 @@ use native.Mathlib.Omega.{arith}
 use Rattle.format.specs.Numbers.{top, longest}
 use Rattle.format.specs.Tables.{Version, link}
 
-pub record Bounded (V : Version) : Type 0 where
+pub record Bounded (ver : Version) : Type 0 where
   -- a table can hold its built-in entry, and no entry is beyond the highest number
-  pub some-entries : 1 ≤ V .entries
-  pub few-entries : V .entries ≤ top
+  pub some-entries : 1 ≤ ver .entries
+  pub few-entries : ver .entries ≤ top
   -- no string of a document or of a text area is too long to be spelled
-  pub few-octets : V .octets ≤ longest
+  pub few-octets : ver .octets ≤ longest
 
 pub link-bounded : Bounded link
 unfolding link

@@ -1,5 +1,5 @@
 -- THE THREE DEMANDS, as statements of what a call answers and leaves. The contracts equate that with `readOf`, `readWords`, `checkOf`, `writeOf` and `writeWords`; that
--- the demands hold of these is proofs/DemandOne, DemandTwo, DemandThree and, for words and the check, DemandWords; for every version V that is `Bounded`.
+-- the demands hold of these is proofs/DemandOne, DemandTwo, DemandThree and, for words and the check, DemandWords; for every version ver that is `Bounded`.
 use Prim.Native.Nat.{ℕ, _+_, _-_, _*_, _/_, _%_, _^_, _≤_, _<_}
 use mathlib.Core.Path.{_≡_}
 use mathlib.Core.Logic.{_↔_}
@@ -27,8 +27,8 @@ use Rattle.writer.specs.Words as WriteWords
 use Rattle.theorems.specs.Places.{allSpelled, spelledIn}
 use Rattle.theorems.specs.Verdicts.{plains, itemsOf, Refused}
 
--- ---- DEMAND 1: every input is answered; a refusal has one of 01's numbers and a place, and blanks everything that was lent.
--- A number that 01 gives a reader; and one that it gives a writer.
+-- ---- DEMAND 1: every input is answered; a refusal has one of the requirements' numbers and a place, and blanks everything that was lent.
+-- A number that the requirements give a reader; and one that they give a writer.
 abbrev pub ReaderNumber : ℕ → Type 0
 ReaderNumber n = (1 ≤ n) × (n ≤ 15)
 
@@ -62,9 +62,9 @@ pub data WriteWordsAnswer (es : List Event) (r t c : ℕ) (w : WriteWords.WordsL
 
 -- ---- DEMAND 3: octets are accepted exactly when the rules write them, from one pair of events and choices, and its events are handed out.
 -- For these items, which the rules write by the derivation w, the call left their records, blank ones behind them, and their tables; its answer has the counts. Each
--- record is as 01's "Events" has it; each spelled string has the place at which the rules write it, and each number names an entry made earlier or built in, at its
+-- record is as the requirements' "Events" has it; each spelled string has the place at which the rules write it, and each number names an entry made earlier or built in, at its
 -- very place. The tables hold what is built in and what the events made, each entry at its very place.
-pub record HandsOut (V : Version) (s : Octets) (room : ℕ) (items : List (Item Octets)) (z : State Octets) (w : Document V items z s) (o : Read.Outcome) : Type 0 where
+pub record HandsOut (ver : Version) (s : Octets) (room : ℕ) (items : List (Item Octets)) (z : State Octets) (w : Document ver items z s) (o : Read.Outcome) : Type 0 where
   pub events : List (Item Located)
   pub tables : Vocabulary Located
   pub answer : o .told ≡ toldAccepted (length items) (entriesOf (z .tables))
@@ -74,38 +74,38 @@ pub record HandsOut (V : Version) (s : Octets) (room : ℕ) (items : List (Item 
   pub tables-are : plainTables s tables ≡ z .tables
   pub well-made : All (λ (i : Item Located). WellMade s (recordOf (i .event))) events
   pub spelled : allSpelled events ≡ spelledIn (w .rule)
-  pub earlier : Known (starting V builtInPrefix builtInNamespace) (acts events)
-  pub tables-made : Holds tables (after (starting V builtInPrefix builtInNamespace) (acts events))
+  pub earlier : Known (starting ver builtInPrefix builtInNamespace) (acts events)
+  pub tables-made : Holds tables (after (starting ver builtInPrefix builtInNamespace) (acts events))
 
-pub record Demand3 (V : Version) (s : Octets) (room table : ℕ) (o : Read.Outcome) : Type 0 where
+pub record Demand3 (ver : Version) (s : Octets) (room table : ℕ) (o : Read.Outcome) : Type 0 where
   -- what the rules write is accepted, if there is a record for each event and the right table room, and this is handed out
-  pub accepts : (items : List (Item Octets)) (z : State Octets) (w : Document V items z s) → length items ≤ room → table ≡ tableWords → HandsOut V s room items z w o
+  pub accepts : (items : List (Item Octets)) (z : State Octets) (w : Document ver items z s) → length items ≤ room → table ≡ tableWords → HandsOut ver s room items z w o
   -- and nothing else is accepted
-  pub only : o .told .number ≡ 0 → (items : List (Item Octets)) × (z : State Octets) × Document V items z s × (length items ≤ room) × (table ≡ tableWords)
+  pub only : o .told .number ≡ 0 → (items : List (Item Octets)) × (z : State Octets) × Document ver items z s × (length items ≤ room) × (table ≡ tableWords)
   -- there is one such pair
-  pub one-pair : (items others : List (Item Octets)) (y z : State Octets) → Document V items y s → Document V others z s → (items ≡ others) × (y ≡ z)
+  pub one-pair : (items others : List (Item Octets)) (y z : State Octets) → Document ver items y s → Document ver others z s → (items ≡ others) × (y ≡ z)
 
--- ---- DEMAND 2: the writer accepts whatever 01 gives it no number to refuse, and writes it as the rules do, with 01's choices; reading it gives back what was given.
--- 01 gives no number to refuse these records over this text area, with this room; s is the document that the rules write from them, and z what they know at its end.
-pub record Acceptable (V : Version) (es : List Event) (text : Octets) (room table : ℕ) (s : Octets) (z : State Octets) : Type 0 where
-  pub text-size : length text ≤ V .octets
+-- ---- DEMAND 2: the writer accepts whatever the requirements give it no number to refuse, and writes it as the rules do, with the required choices; reading it gives back what was given.
+-- The requirements give no number to refuse these records over this text area, with this room; s is the document that the rules write from them, and z what they know at its end.
+pub record Acceptable (ver : Version) (es : List Event) (text : Octets) (room table : ℕ) (s : Octets) (z : State Octets) : Type 0 where
+  pub text-size : length text ≤ ver .octets
   pub table-room : table ≡ tableWords
   pub well-made : All (WellMade text) es
-  pub writes : Document V (itemsOf V (plains text es)) z s
+  pub writes : Document ver (itemsOf ver (plains text es)) z s
   pub fits : length s ≤ room
 
 -- The writer's definition writes them as these octets, and knows this at the end.
-pub record Wrote (V : Version) (es : List Event) (text : Octets) (room : ℕ) (s : Octets) (z : State Octets) : Type 0 where
+pub record Wrote (ver : Version) (es : List Event) (text : Octets) (room : ℕ) (s : Octets) (z : State Octets) : Type 0 where
   pub items : List (Item Located)
   pub halves : Halves
   pub last : State Located
-  pub is : Write.writing V text room es ≡ Write.written items halves last
-  pub octets : header V ++ Write.joined halves ≡ s
+  pub is : Write.writing ver text room es ≡ Write.written items halves last
+  pub octets : header ver ++ Write.joined halves ≡ s
   pub known : plainState text last ≡ z
 
--- The call left these octets, 0 behind them, and tables that are these as octets; its answer has their counts. The items are the records given, with 01's choices;
+-- The call left these octets, 0 behind them, and tables that are these as octets; its answer has their counts. The items are the records given, with the required choices;
 -- the tables of strings hold what is built in and what these items made, each entry at the very place that its record gave. (A name is numbers, so it has no place.)
-pub record LeavesWritten (V : Version) (es : List Event) (text : Octets) (room : ℕ) (s : Octets) (z : State Octets) (o : Write.Outcome) : Type 0 where
+pub record LeavesWritten (ver : Version) (es : List Event) (text : Octets) (room : ℕ) (s : Octets) (z : State Octets) (o : Write.Outcome) : Type 0 where
   pub items : List (Item Located)
   pub tables : Vocabulary Located
   pub answer : o .told ≡ toldAccepted (length s) (entriesOf (z .tables))
@@ -113,25 +113,25 @@ pub record LeavesWritten (V : Version) (es : List Event) (text : Octets) (room :
   pub table-words : o .tables ≡ wordsOf entryWords tables
   pub tables-are : plainTables text tables ≡ z .tables
   pub given : map (λ (i : Item Located). recordOf (i .event)) items ≡ es
-  pub chosen : map (plain text) items ≡ itemsOf V (plains text es)
-  pub strings-made : (t : StringTable) → strings tables t ≡ strings (after (starting V builtInPrefix builtInNamespace) (acts items)) t
+  pub chosen : map (plain text) items ≡ itemsOf ver (plains text es)
+  pub strings-made : (t : StringTable) → strings tables t ≡ strings (after (starting ver builtInPrefix builtInNamespace) (acts items)) t
 
--- 01 refuses them so.
-pub data RefusedBy (V : Version) (es : List Event) (text : Octets) (room table : ℕ) : (number place : ℕ) → Type 0 where
-  text-too-long : V .octets < length text → RefusedBy V es text room table SIZE 0
-  wrong-table-room : length text ≤ V .octets → (table ≡ tableWords → ⊥) → RefusedBy V es text room table ROOM 0
-  at-events : {n p : ℕ} → length text ≤ V .octets → table ≡ tableWords → Refused V text room es n p → RefusedBy V es text room table n p
+-- The requirements refuse them so.
+pub data RefusedBy (ver : Version) (es : List Event) (text : Octets) (room table : ℕ) : (number place : ℕ) → Type 0 where
+  text-too-long : ver .octets < length text → RefusedBy ver es text room table SIZE 0
+  wrong-table-room : length text ≤ ver .octets → (table ≡ tableWords → ⊥) → RefusedBy ver es text room table ROOM 0
+  at-events : {n p : ℕ} → length text ≤ ver .octets → table ≡ tableWords → Refused ver text room es n p → RefusedBy ver es text room table n p
 
-pub record Demand2 (V : Version) (es : List Event) (text : Octets) (room table : ℕ) (o : Write.Outcome) : Type 0 where
-  -- what 01 gives no number to refuse is accepted, as the rules write it
-  pub accepts : (s : Octets) (z : State Octets) → Acceptable V es text room table s z → LeavesWritten V es text room s z o
+pub record Demand2 (ver : Version) (es : List Event) (text : Octets) (room table : ℕ) (o : Write.Outcome) : Type 0 where
+  -- what the requirements give no number to refuse is accepted, as the rules write it
+  pub accepts : (s : Octets) (z : State Octets) → Acceptable ver es text room table s z → LeavesWritten ver es text room s z o
   -- and nothing else is
-  pub only : o .told .number ≡ 0 → (s : Octets) × (z : State Octets) × Acceptable V es text room table s z
+  pub only : o .told .number ≡ 0 → (s : Octets) × (z : State Octets) × Acceptable ver es text room table s z
   -- reading it, with a record for each event, hands out the events that were given, and the same tables
-  pub back : (s : Octets) (z : State Octets) (a : Acceptable V es text room table s z) (records : ℕ) → length es ≤ records
-      → HandsOut V s records (itemsOf V (plains text es)) z (a .writes) (Read.readOf V s records tableWords)
-  -- each refusal, its number and its place, is 01's
-  pub refuses : (n p : ℕ) → (o .told ≡ toldRefused n p) ↔ RefusedBy V es text room table n p
+  pub back : (s : Octets) (z : State Octets) (a : Acceptable ver es text room table s z) (records : ℕ) → length es ≤ records
+      → HandsOut ver s records (itemsOf ver (plains text es)) z (a .writes) (Read.readOf ver s records tableWords)
+  -- each refusal, its number and its place, is the requirements'
+  pub refuses : (n p : ℕ) → (o .told ≡ toldRefused n p) ↔ RefusedBy ver es text room table n p
 
 -- In words: what the row call would leave, and r % 13 words of 0 behind its records.
 pub record InReadWords (r : ℕ) (o : Read.Outcome) (w : ReadWords.WordsLeft) : Type 0 where
@@ -147,20 +147,20 @@ pub record InWriteWords (o : Write.Outcome) (w : WriteWords.WordsLeft) : Type 0 
   pub counts : w .counts ≡ o .told .counts
 
 -- What the word calls owe: the same, in words, with 10 words for the counts.
-pub record Demand3Words (V : Version) (s : Octets) (r t c : ℕ) (w : ReadWords.WordsLeft) : Type 0 where
+pub record Demand3Words (ver : Version) (s : Octets) (r t c : ℕ) (w : ReadWords.WordsLeft) : Type 0 where
   -- what the rules write is accepted, if there are 13 words for each event and the right room for tables and counts, and this is handed out
-  pub accepts : (items : List (Item Octets)) (z : State Octets) (u : Document V items z s) → length items ≤ r / 13 → t ≡ tableWords → c ≡ 10
-      → (o : Read.Outcome) × HandsOut V s (r / 13) items z u o × InReadWords r o w
+  pub accepts : (items : List (Item Octets)) (z : State Octets) (u : Document ver items z s) → length items ≤ r / 13 → t ≡ tableWords → c ≡ 10
+      → (o : Read.Outcome) × HandsOut ver s (r / 13) items z u o × InReadWords r o w
   -- and nothing else is accepted
-  pub only : w .answer % 2 ^ 32 ≡ 0 → (items : List (Item Octets)) × (z : State Octets) × Document V items z s × (length items ≤ r / 13) × (t ≡ tableWords) × (c ≡ 10)
+  pub only : w .answer % 2 ^ 32 ≡ 0 → (items : List (Item Octets)) × (z : State Octets) × Document ver items z s × (length items ≤ r / 13) × (t ≡ tableWords) × (c ≡ 10)
 
--- 01 refuses so the records of words: SIZE, then the room of the counts, then as it refuses the records.
-pub data WordsRefusedBy (V : Version) (es : List Event) (text : Octets) (r t c : ℕ) : (number place : ℕ) → Type 0 where
-  text-too-long : V .octets < length text → WordsRefusedBy V es text r t c SIZE 0
-  wrong-count-room : length text ≤ V .octets → (c ≡ 10 → ⊥) → WordsRefusedBy V es text r t c ROOM 0
-  as-records : {n p : ℕ} → c ≡ 10 → RefusedBy V es text r t n p → WordsRefusedBy V es text r t c n p
+-- The requirements refuse so the records of words: SIZE, then the room of the counts, then as they refuse the records.
+pub data WordsRefusedBy (ver : Version) (es : List Event) (text : Octets) (r t c : ℕ) : (number place : ℕ) → Type 0 where
+  text-too-long : ver .octets < length text → WordsRefusedBy ver es text r t c SIZE 0
+  wrong-count-room : length text ≤ ver .octets → (c ≡ 10 → ⊥) → WordsRefusedBy ver es text r t c ROOM 0
+  as-records : {n p : ℕ} → c ≡ 10 → RefusedBy ver es text r t n p → WordsRefusedBy ver es text r t c n p
 
-pub record Demand2Words (V : Version) (es : List Event) (text : Octets) (r t c : ℕ) (w : WriteWords.WordsLeft) : Type 0 where
-  pub accepts : (s : Octets) (z : State Octets) → Acceptable V es text r t s z → c ≡ 10 → (o : Write.Outcome) × LeavesWritten V es text r s z o × InWriteWords o w
-  pub only : w .answer % 2 ^ 32 ≡ 0 → (c ≡ 10) × ((s : Octets) × (z : State Octets) × Acceptable V es text r t s z)
-  pub refuses : (n p : ℕ) → 1 ≤ n → n < 32 → (w .answer ≡ p * 32 + n) ↔ WordsRefusedBy V es text r t c n p
+pub record Demand2Words (ver : Version) (es : List Event) (text : Octets) (r t c : ℕ) (w : WriteWords.WordsLeft) : Type 0 where
+  pub accepts : (s : Octets) (z : State Octets) → Acceptable ver es text r t s z → c ≡ 10 → (o : Write.Outcome) × LeavesWritten ver es text r s z o × InWriteWords o w
+  pub only : w .answer % 2 ^ 32 ≡ 0 → (c ≡ 10) × ((s : Octets) × (z : State Octets) × Acceptable ver es text r t s z)
+  pub refuses : (n p : ℕ) → 1 ≤ n → n < 32 → (w .answer ≡ p * 32 + n) ↔ WordsRefusedBy ver es text r t c n p

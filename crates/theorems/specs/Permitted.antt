@@ -1,5 +1,5 @@
 -- Which choices a producer may make for an event, by the tables as they grow. Nothing here says how a choice is written, and no limit is asked for: that the rules write every
--- permitted choice, and no other, is proofs/Every and proofs/Permitted. Where X.891 leaves more open, 01 is kept: an identifying string that its table holds is not spelled again (REPEAT; 7.13.7
+-- permitted choice, and no other, is proofs/Every and proofs/Permitted. Where X.891 leaves more open, the requirements are kept: an identifying string that its table holds is not spelled again (REPEAT; 7.13.7
 -- lets it be), nor a name whose triple is held.
 use Prim.Native.Nat.{ℕ, suc, _<_}
 use mathlib.Core.Path.{_≡_}

@@ -49,17 +49,17 @@ inOption k none x o = []
 inOption k (some h) none o = []
 inOption k (some h) (some x) o = inField k h x o
 
-module _ {V : Version} where
+module _ {ver : Version} where
   -- the fields of a name, a declaration and an item that stand at octet k
-  abbrev pub inName : (k : ℕ) {q : NameLayout} {lead : ℕ} {v w : Vocabulary Octets} {x : Name Octets} {h : NameHow} {o : Octets} → Named V q lead v x h o w → List Located
+  abbrev pub inName : (k : ℕ) {q : NameLayout} {lead : ℕ} {v w : Vocabulary Octets} {x : Name Octets} {h : NameHow} {o : Octets} → Named ver q lead v x h o w → List Located
   inName k (in-parts {p = p} {n = n} {l = l} {hp = hp} {hn = hn} {hl = hl} {op = op} {on = on} {ol = ol} paired up un ul new room) =
       inOption (suc k) hp p op ++ (inOption (suc k + length op) hn n on ++ inField (suc k + length op + length on) hl l ol)
   inName k (by-number small fits en m) = []
 
-  abbrev pub inDeclared : (k : ℕ) {v w : Vocabulary Octets} {p n : Option Octets} {hp hn : Option How} {o : Octets} → Declared V v p n hp hn o w → List Located
+  abbrev pub inDeclared : (k : ℕ) {v w : Vocabulary Octets} {p n : Option Octets} {hp hn : Option How} {o : Octets} → Declared ver v p n hp hn o w → List Located
   inDeclared k (declared {p = p} {n = n} {hp = hp} {hn = hn} {op = op} {on = on} up un) = inOption (suc k) hp p op ++ inOption (suc k + length op) hn n on
 
-  abbrev pub inItem : (k : ℕ) {v w : State Octets} {i : Item Octets} {o : Octets} → ItemWrittenAs V v i o w → List Located
+  abbrev pub inItem : (k : ℕ) {v w : State Octets} {i : Item Octets} {o : Octets} → ItemWrittenAs ver v i o w → List Located
   inItem k (o-start a md may deep u) = inName k u
   inItem k (o-first-namespace md may deep u) = inDeclared (suc k) u
   inItem k (o-namespace md u) = inDeclared k u
@@ -70,7 +70,7 @@ module _ {V : Version} where
   inItem k (o-instruction {x = x} {y = y} {h = h} {g = g} {o₁ = o₁} {o₂ = o₂} md u₁ u₂) = inField (suc k) h x o₁ ++ inField (suc k + length o₁) g y o₂
 
   -- and of a document; an item starts with the next whole octet
-  unfoldable pub spelledIn : {at : ℕ} {v z : State Octets} {items : List (Item Octets)} {hs : Halves} → Written V at v items hs z → List Located
+  unfoldable pub spelledIn : {at : ℕ} {v z : State Octets} {items : List (Item Octets)} {hs : Halves} → Written ver at v items hs z → List Located
   spelledIn (document-end md lv rt) = []
   spelledIn (attributes-end md rest) = spelledIn rest
   spelledIn (element-end md lv rest) = spelledIn rest

@@ -1,4 +1,4 @@
--- What 01 says of each event that is given to the writer, in the words of the rules: which events are right, and the refusal that the first wrong one gives.
+-- What the requirements say of each event that is given to the writer, in the words of the rules: which events are right, and the refusal that the first wrong one gives.
 use Prim.Native.Nat.{ℕ, _+_, _*_, _/_, _≤_, _<_, min}
 use mathlib.Core.Path.{_≡_}
 use mathlib.Core.Bool.{true}
@@ -26,55 +26,55 @@ plainOf text e = eventMap (octetsOf text) (eventOf (e .kind) e)
 abbrev pub plains : Octets → List Event → List (E.Event Octets)
 plains text es = map (plainOf text) es
 
--- A plain list with 01's choices.
+-- A plain list with the required choices.
 abbrev pub itemsOf : Version → List (E.Event Octets) → List (Item Octets)
-itemsOf V es = chosen V (started V) es
+itemsOf ver es = chosen ver (started ver) es
 
 -- The rules write these items as one document, however deep it is and however long, and these are the tables then.
-pub record WrittenAs (V : Version) (items : List (Item Octets)) (tables : Vocabulary Octets) : Type 0 where
+pub record WrittenAs (ver : Version) (items : List (Item Octets)) (tables : Vocabulary Octets) : Type 0 where
   pub octets : Octets
   pub last : State Octets
-  pub writes : (depth size : ℕ) → deepest 0 (map (λ (i : Item Octets). i .event) items) ≤ depth → length octets ≤ size → Document (standard V depth size) items last octets
+  pub writes : (depth size : ℕ) → deepest 0 (map (λ (i : Item Octets). i .event) items) ≤ depth → length octets ≤ size → Document (standard ver depth size) items last octets
   pub known : last .tables ≡ tables
 
--- The rules write these events, with 01's choices, as one document, however deep it is and however long: within every limit on open elements and octets that
+-- The rules write these events, with the required choices, as one document, however deep it is and however long: within every limit on open elements and octets that
 -- it keeps. The limit on the entries of a table is the standard's own.
-pub record WrittenWidely (V : Version) (es : List (E.Event Octets)) : Type 0 where
+pub record WrittenWidely (ver : Version) (es : List (E.Event Octets)) : Type 0 where
   pub octets : Octets
   pub last : State Octets
-  pub writes : (depth size : ℕ) → deepest 0 es ≤ depth → length octets ≤ size → Document (standard V depth size) (itemsOf V es) last octets
-  pub tables : last .tables ≡ tablesAfter V (started V) es
+  pub writes : (depth size : ℕ) → deepest 0 es ≤ depth → length octets ≤ size → Document (standard ver depth size) (itemsOf ver es) last octets
+  pub tables : last .tables ≡ tablesAfter ver (started ver) es
 
 -- What is written of these events is a document of the version, or it is over one of its three limits: nothing else keeps it out.
-pub data OrPasses (V : Version) (es : List (E.Event Octets)) (last : State Octets) (octets : Octets) : Type 0 where
-  within-limits : Document V (itemsOf V es) last octets → OrPasses V es last octets
-  over-depth : V .depth < deepest 0 es → OrPasses V es last octets
-  over-entries : (InLimits V (tablesAfter V (started V) es) → ⊥) → OrPasses V es last octets
-  over-octets : V .octets < length octets → OrPasses V es last octets
+pub data OrPasses (ver : Version) (es : List (E.Event Octets)) (last : State Octets) (octets : Octets) : Type 0 where
+  within-limits : Document ver (itemsOf ver es) last octets → OrPasses ver es last octets
+  over-depth : ver .depth < deepest 0 es → OrPasses ver es last octets
+  over-entries : (InLimits ver (tablesAfter ver (started ver) es) → ⊥) → OrPasses ver es last octets
+  over-octets : ver .octets < length octets → OrPasses ver es last octets
 
 -- The header and these items, filled up to octets, fit the output lent and the limit of a document.
-pub record FitsIn (V : Version) (room : ℕ) (items : List (Item Octets)) : Type 0 where
+pub record FitsIn (ver : Version) (room : ℕ) (items : List (Item Octets)) : Type 0 where
   pub halves : Halves
   pub last : State Octets
-  pub are : Begun V (2 * length (header V)) (beginning (started V)) items halves last
-  pub fit : aligned (2 * length (header V) + length halves) / 2 ≤ min room (V .octets)
+  pub are : Begun ver (2 * length (header ver)) (beginning (started ver)) items halves last
+  pub fit : aligned (2 * length (header ver) + length halves) / 2 ≤ min room (ver .octets)
 
 -- The rules write these items behind the header, but what they write does not fit.
-pub record Overflows (V : Version) (room : ℕ) (items : List (Item Octets)) : Type 0 where
+pub record Overflows (ver : Version) (room : ℕ) (items : List (Item Octets)) : Type 0 where
   pub halves : Halves
   pub last : State Octets
-  pub are : Begun V (2 * length (header V)) (beginning (started V)) items halves last
-  pub over : min room (V .octets) < aligned (2 * length (header V) + length halves) / 2
+  pub are : Begun ver (2 * length (header ver)) (beginning (started ver)) items halves last
+  pub over : min room (ver .octets) < aligned (2 * length (header ver) + length halves) / 2
 
 -- The rules write the document of these items, and it fits the output lent.
-pub record WrittenIn (V : Version) (room : ℕ) (items : List (Item Octets)) : Type 0 where
+pub record WrittenIn (ver : Version) (room : ℕ) (items : List (Item Octets)) : Type 0 where
   pub octets : Octets
   pub last : State Octets
-  pub writes : Document V items last octets
+  pub writes : Document ver items last octets
   pub fit : length octets ≤ room
 
-module _ (V : Version) (text : Octets) (room : ℕ) where
-  -- The event e behind the events `before` and all these: 01's tests, in its order. A test that fails gives the number beside it.
+module _ (ver : Version) (text : Octets) (room : ℕ) where
+  -- The event e behind the events `before` and all these: the requirements' tests, in their order. A test that fails gives the number beside it.
   module _ (before : List Event) (e : Event) where
     abbrev pub upTo : List (E.Event Octets)
     upTo = plains text before ++ (plainOf text e ∷ [])
@@ -89,15 +89,15 @@ module _ (V : Version) (text : Octets) (room : ℕ) where
 
     -- DEPTH: it opens no element where as many are open as may be
     abbrev pub IsShallow : Type 0
-    IsShallow = opensElement (plains text before) (plainOf text e) ≡ true → openAfter 0 (plains text before) < V .depth
+    IsShallow = opensElement (plains text before) (plainOf text e) ≡ true → openAfter 0 (plains text before) < ver .depth
 
     -- FULL: no table has an entry too many
     abbrev pub HasEntries : Type 0
-    HasEntries = InLimits V (tablesAfter V (started V) upTo)
+    HasEntries = InLimits ver (tablesAfter ver (started ver) upTo)
 
     -- ROOM: what is written so far fits
     abbrev pub HasRoom : Type 0
-    HasRoom = FitsIn V room (itemsOf V upTo)
+    HasRoom = FitsIn ver room (itemsOf ver upTo)
 
     pub record Right : Type 0 where
       pub is-event : IsEvent
@@ -112,7 +112,7 @@ module _ (V : Version) (text : Octets) (room : ℕ) where
       not-text : IsEvent → (AreText → ⊥) → Fault TEXT
       too-deep : IsEvent → AreText → (IsShallow → ⊥) → Fault DEPTH
       too-many : IsEvent → AreText → IsShallow → (HasEntries → ⊥) → Fault FULL
-      no-room : IsEvent → AreText → IsShallow → HasEntries → Overflows V room (itemsOf V upTo) → Fault ROOM
+      no-room : IsEvent → AreText → IsShallow → HasEntries → Overflows ver room (itemsOf ver upTo) → Fault ROOM
 
   -- Each event of the list is right behind those before it.
   abbrev pub AllRight : List Event → Type 0
@@ -123,4 +123,4 @@ module _ (V : Version) (text : Octets) (room : ℕ) where
   pub data Refused (es : List Event) : (number place : ℕ) → Type 0 where
     at-event : {before : List Event} {e : Event} {n : ℕ} (after : List Event) → es ≡ before ++ (e ∷ after) → AllRight before → Fault before e n → Refused es n (length before)
     too-soon : AllRight es → (IsDocument (plains text es) → ⊥) → Refused es EVENT (length es)
-    no-room-for-end : AllRight es → IsDocument (plains text es) → (WrittenIn V room (itemsOf V (plains text es)) → ⊥) → Refused es ROOM (length es)
+    no-room-for-end : AllRight es → IsDocument (plains text es) → (WrittenIn ver room (itemsOf ver (plains text es)) → ⊥) → Refused es ROOM (length es)

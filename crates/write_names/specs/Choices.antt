@@ -1,4 +1,4 @@
--- The choices that 01 fixes for the writer: the lowest number where the table holds the string, else spelled; and the octets by them.
+-- The choices that the requirements fix for the writer: the lowest number where the table holds the string, else spelled; and the octets by them.
 use Prim.Native.Nat.{ℕ, suc, _+_, _-_, _*_}
 use mathlib.Core.Bool.{Bool, true, _&&_}
 use mathlib.Core.Option.{Option, none, some}
@@ -52,10 +52,10 @@ writeName q lead text v x =
     })
     (record { octets = spell (q .numberForms) lead k; how = byNumber k; number = k; tables = v })
 
-module _ (V : Version) where
+module _ (ver : Version) where
   -- A string of 1 to 5 octets is added where its table has room.
   unfoldable pub worthAdding : {S : Type 0} → List S → Octets → Bool
-  worthAdding table x = leb (length x) 5 && ltb (length table) (V .entries)
+  worthAdding table x = leb (length x) 5 && ltb (length table) (ver .entries)
 
   -- C.14, C.15: numbered if its table holds it, else spelled.
   unfoldable pub writeLiteral : Layout → Octets → StringTable → Vocabulary Located → Located → Wrote How
@@ -74,6 +74,6 @@ module _ (V : Version) where
 
 -- No table has an entry too many (12).
 unfoldable pub within : {S : Type 0} → Version → Vocabulary S → Bool
-within V v =
-    leb (length (v .prefixes)) (V .entries) && (leb (length (v .namespaces)) (V .entries) && (leb (length (v .locals)) (V .entries)
-    && (leb (length (v .ncnames)) (V .entries) && (leb (length (v .elements)) (V .entries) && leb (length (v .attributes)) (V .entries)))))
+within ver v =
+    leb (length (v .prefixes)) (ver .entries) && (leb (length (v .namespaces)) (ver .entries) && (leb (length (v .locals)) (ver .entries)
+    && (leb (length (v .ncnames)) (ver .entries) && (leb (length (v .elements)) (ver .entries) && leb (length (v .attributes)) (ver .entries)))))

@@ -1,4 +1,4 @@
--- The choices that 01 fixes ("The writer's choices"), for plain events and the tables as they grow. There are no octets here: those come from the rules of writing.
+-- The choices that the requirements fix ("The writer's choices"), for plain events and the tables as they grow. There are no octets here: those come from the rules of writing.
 use Prim.Native.Nat.{ℕ, suc}
 use mathlib.Core.Bool.{Bool, true}
 use mathlib.Core.Option.{Option, none, some}
@@ -47,12 +47,12 @@ chooseName t v x =
     (record { how = inParts (p .how) (n .how) (l .how); number = suc (length (names (l .tables) t)); tables = addingName (l .tables) t triple })
     (record { how = byNumber k; number = k; tables = v })
 
-module _ (V : Version) where
+module _ (ver : Version) where
   -- A chunk, value, comment or content: the lowest number where its table holds it; else spelled, and added if it is short and its table has room.
   unfoldable pub chooseLiteral : StringTable → Vocabulary Octets → Octets → Chose How
   chooseLiteral t v x =
       let k : ℕ = numberIn (strings v t) x in
-      let added : Bool = worthAdding V (strings v t) x in
+      let added : Bool = worthAdding ver (strings v t) x in
       pick (eqb k 0)
       (record { how = spelled added; number = 0; tables = keeping added v t x })
       (record { how = numbered k; number = k; tables = v })
@@ -85,7 +85,7 @@ module _ (V : Version) where
       record { how = forInstruction (a .how) (b .how); number = 0; tables = b .tables }
   chooseFor v End = record { how = forEnd; number = 0; tables = v }
 
-  -- The events with 01's choices, and the tables behind them.
+  -- The events with the required choices, and the tables behind them.
   unfoldable pub chosen : Vocabulary Octets → List (Event Octets) → List (Item Octets)
   chosen v [] = []
   chosen v (e ∷ es) = (e by chooseFor v e .how) ∷ chosen (chooseFor v e .tables) es

@@ -1,4 +1,4 @@
-// Strings and names as octets, by the choices that 01 fixes: by number where the table holds them, else spelled.
+// Strings and names as octets, by the choices that the requirements fix: by number where the table holds them, else spelled.
 // May depend on format, fields, tables and events.
 mod naming;
 

@@ -1,4 +1,4 @@
--- Which event records the writer takes: strings as 01 allows them, in a text area, and events with which a document goes on. Anything else is EVENT (16).
+-- Which event records the writer takes: strings as the requirements allow them, in a text area, and events with which a document goes on. Anything else is EVENT (16).
 use Prim.Native.Nat.{_+_}
 use mathlib.Core.Bool.{Bool, true, false, not, _&&_, _||_}
 use mathlib.Core.Option.{Option, none, some}

@@ -1,4 +1,4 @@
--- One event as octets, by 01's choices, and what is known then. `a` says whether the element's Start is followed by an attribute.
+-- One event as octets, by the required choices, and what is known then. `a` says whether the element's Start is followed by an attribute.
 use Prim.Native.Nat.{ℕ, _+_, _*_}
 use mathlib.Core.Bool.{Bool, true}
 use mathlib.Core.Option.{Option}
@@ -36,7 +36,7 @@ nameLead content a = 64 * bit a
 nameLead (declaring b) a = 0
 nameLead (listing any) a = 0
 
-module _ (V : Version) (text : Octets) where
+module _ (ver : Version) (text : Octets) where
   -- The end of an attribute list is behind us: the mode is content or declaring or, for an attribute, listing. An End has no octets of its own.
   unfoldable pub writeItem : Bool → State Located → E.Event Located → WroteItem
   writeItem a v (E.Namespace p n) =
@@ -52,16 +52,16 @@ module _ (V : Version) (text : Octets) where
       record { octets = beforeName (v .mode) ++ w .octets; choice = forStart (w .how); state = opened v (w .tables) a }
   writeItem a v (E.Attribute x y) =
       let w : Wrote NameHow = writeName ofAttribute 0 text (v .tables) x in
-      let z : Wrote How = writeValue V text ATTRIBUTE-VALUE (w .tables) y in
+      let z : Wrote How = writeValue ver text ATTRIBUTE-VALUE (w .tables) y in
       record { octets = w .octets ++ z .octets; choice = forAttribute (w .how) (z .how); state = moved v (z .tables) (listing true) }
   writeItem a v (E.Text y) =
-      let w : Wrote How = writeLiteral V c15 text CONTENT-CHARACTER-CHUNK (v .tables) y in
+      let w : Wrote How = writeLiteral ver c15 text CONTENT-CHARACTER-CHUNK (v .tables) y in
       record { octets = w .octets; choice = forText (w .how); state = knowing v (w .tables) }
   writeItem a v (E.Comment y) =
-      let w : Wrote How = writeValue V text OTHER-STRING (v .tables) y in
+      let w : Wrote How = writeValue ver text OTHER-STRING (v .tables) y in
       record { octets = 0xE2 ∷ w .octets; choice = forComment (w .how); state = knowing v (w .tables) }
   writeItem a v (E.Instruction x y) =
       let w : Wrote How = writeId text OTHER-NCNAME (v .tables) x in
-      let z : Wrote How = writeValue V text OTHER-STRING (w .tables) y in
+      let z : Wrote How = writeValue ver text OTHER-STRING (w .tables) y in
       record { octets = 0xE1 ∷ (w .octets ++ z .octets); choice = forInstruction (w .how) (z .how); state = knowing v (z .tables) }
   writeItem a v E.End = record { octets = []; choice = forEnd; state = closed v }

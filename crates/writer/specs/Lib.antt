@@ -1,4 +1,4 @@
--- The writer's definition: read Events, the crate choices, Items, Writing, then Words. Output, Code, Ahead, Steps, ItemStages and RunStages say how the code's
+-- The writer's definition: read Events, the crate write_names, Items, Writing, then Words. The others are contracts of the code: they say how the code's
 -- output, state, looks ahead, steps and runs stand for it.
 pub mod Events
 pub mod Items

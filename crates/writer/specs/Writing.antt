@@ -79,10 +79,10 @@ owed m e = pick (isListing m && not (isAttribute e)) (15 ∷ []) []
 unfoldable pub settled : {S : Type 0} → State S → E.Event S → State S
 settled v e = pick (isListing (v .mode) && not (isAttribute e)) (moved v (v .tables) content) v
 
-module _ (V : Version) (text : Octets) (room : ℕ) where
+module _ (ver : Version) (text : Octets) (room : ℕ) where
   -- So many halves, in whole octets, fit the output lent and the limit of a document.
   unfoldable pub fits : ℕ → Bool
-  fits at = leb (aligned at / 2) (min room (V .octets))
+  fits at = leb (aligned at / 2) (min room (ver .octets))
 
   -- An event's halves from the half `at`: the end owed; then 1111 for an End, or the octets from the next whole octet.
   unfoldable pub halvesOf : ℕ → State Located → E.Event Located → WroteItem → Halves
@@ -93,8 +93,8 @@ module _ (V : Version) (text : Octets) (room : ℕ) where
   judge at v e w hs =
       pick (wellMade text (e .kind) e && goesOn v (eventOf (e .kind) e))
       (pick (allText text (eventOf (e .kind) e))
-      (pick (opens (v .mode) (eventOf (e .kind) e) && leb (V .depth) (v .level)) DEPTH
-      (pick (within V (w .state .tables)) (pick (fits (at + length hs)) 0 ROOM) FULL))
+      (pick (opens (v .mode) (eventOf (e .kind) e) && leb (ver .depth) (v .level)) DEPTH
+      (pick (within ver (w .state .tables)) (pick (fits (at + length hs)) 0 ROOM) FULL))
       TEXT)
       EVENT
 
@@ -109,7 +109,7 @@ module _ (V : Version) (text : Octets) (room : ℕ) where
   unfoldable pub run : ℕ → State Located → ℕ → List Event → Result
   run at v i [] = finish at v i
   run at v i (e ∷ es) =
-      let w : WroteItem = writeItem V text (announced (e ∷ es)) (settled v (eventOf (e .kind) e)) (eventOf (e .kind) e) in
+      let w : WroteItem = writeItem ver text (announced (e ∷ es)) (settled v (eventOf (e .kind) e)) (eventOf (e .kind) e) in
       let hs : Halves = halvesOf at v (eventOf (e .kind) e) w in
       elim (judge at v e w hs) [
         | zero ↦ plus (eventOf (e .kind) e by w .choice) hs (run (at + length hs) (w .state) (suc i) es)
@@ -120,7 +120,7 @@ module _ (V : Version) (text : Octets) (room : ℕ) where
   unfoldable pub trace : ℕ → State Located → List Event → List (State Located)
   trace at v [] = []
   trace at v (e ∷ es) =
-      let w : WroteItem = writeItem V text (announced (e ∷ es)) (settled v (eventOf (e .kind) e)) (eventOf (e .kind) e) in
+      let w : WroteItem = writeItem ver text (announced (e ∷ es)) (settled v (eventOf (e .kind) e)) (eventOf (e .kind) e) in
       let hs : Halves = halvesOf at v (eventOf (e .kind) e) w in
       elim (judge at v e w hs) [
         | zero ↦ w .state ∷ trace (at + length hs) (w .state) es
@@ -133,12 +133,12 @@ joined [] = []
 joined (h ∷ []) = (16 * h) ∷ []
 joined (h ∷ l ∷ hs) = (16 * h + l) ∷ joined hs
 
--- What 01's table says of each answer.
+-- What the requirements' table says of each answer.
 abbrev pub told : A.Answer → Told
 told (Accepted n c) = toldAccepted n (listed c)
 told (Refused k p) = toldRefused k p
 
--- What a call answers and leaves: the answer, as an enum and in 01's numbers, every octet of the output, every table word.
+-- What a call answers and leaves: the answer, as an enum and in the requirements' numbers, every octet of the output, every table word.
 pub record Outcome : Type 0 where
   pub answer : A.Answer
   pub told : Told
@@ -162,23 +162,23 @@ accepting s v room =
       tables = wordsOf entryWords v;
     }
 
-module _ (V : Version) where
+module _ (ver : Version) where
   abbrev pub outcome : Result → ℕ → Outcome
-  outcome (written is hs z) room = accepting (header V ++ joined hs) (z .tables) room
+  outcome (written is hs z) room = accepting (header ver ++ joined hs) (z .tables) room
   outcome (refusal n p) room = refusing n p room tableWords
 
   -- From these events over this text area, with so much output lent: the header is event 0's.
   unfoldable pub writing : Octets → ℕ → List Event → Result
-  writing text room es = run V text room (2 * length (header V)) (beginning (start V)) 0 es
+  writing text room es = run ver text room (2 * length (header ver)) (beginning (start ver)) 0 es
 
   -- And what is known after each of them.
   unfoldable pub knownWriting : Octets → ℕ → List Event → List (State Located)
-  knownWriting text room es = trace V text room (2 * length (header V)) (beginning (start V)) es
+  knownWriting text room es = trace ver text room (2 * length (header ver)) (beginning (start ver)) es
 
   -- Writing, with `room` octets of output and `table` table words lent: SIZE (1), since a text area is no longer than a document; then the table room (14), both at
   -- place 0; then the events.
   unfoldable pub writeOf : List Event → Octets → (room table : ℕ) → Outcome
   writeOf es text room table =
-      pick (leb (length text) (V .octets))
+      pick (leb (length text) (ver .octets))
       (pick (eqb table tableWords) (outcome (writing text room es) room) (refusing ROOM 0 room table))
       (refusing SIZE 0 room table)
