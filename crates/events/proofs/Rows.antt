@@ -18,7 +18,7 @@ use denote.Memory.{mem, shares, cellAt, pointee}
 use denote.Slice.{sliceTy}
 use denote.Index.{row, place, place-is, others, elem-out}
 use denote.Struct.Laws as LL
-use Rattle.walk.specs.Row.{over-element}
+use Rattle.walk.proofs.Row.{over-element}
 use Rattle.events.specs.declared.Event.{Event}
 use Rattle.events.specs.Records.{blank}
 use Rattle.events.proofs.Event as E

@@ -144,7 +144,7 @@ module _ (ver : Version) (s : Octets) (e f : List Event) (t u : Words) (a b : An
   whatever-stood l m x y = let y′ = rw (← l, ← m) at y in (x .0 ∙ sym (y′ .0), x .2 ∙ sym (y′ .2), x .3 ∙ sym (y′ .3))
 
 --     And a second call on what the first left, whose lengths are what they were, answers and leaves the same.
-pub read-twice : (ver : Version) (s : Octets) (e e′ e″ : List Event) (t t′ t″ : Octets) (a b : Answer) → length e′ ≡ length e → length t′ ≡ length t
+pub read-twice : (ver : Version) (s : Octets) (e e′ e″ : List Event) (t t′ t″ : Words) (a b : Answer) → length e′ ≡ length e → length t′ ≡ length t
     → Leaves a e′ t′ (readOf ver s (length e) (length t)) → Leaves b e″ t″ (readOf ver s (length e′) (length t′)) → (b ≡ a) × (e″ ≡ e′) × (t″ ≡ t′)
 read-twice ver s e e′ e″ t t′ t″ a b l m x y = whatever-stood ver s e′ e t′ t b a e″ e′ t″ t′ l m y x
 

@@ -1,5 +1,5 @@
--- DEMAND 1, a theorem for each public operation: whatever stood in the lent room, the answer and what is left in the room are the definition's; a refusal has one of the requirements'
--- numbers and a place, and blanks everything.
+-- What demand 1 says of each call: it answers; a refusal has one of the requirements' numbers and a place, and blanks everything. (That what stood in the room never matters is Calls'
+-- and WriterCalls'.)
 use Prim.Native.Nat.{ℕ, _/_, _%_, _≤_, _*_}
 use mathlib.Core.Path.{_≡_, refl, ap, _∙_}
 use mathlib.Core.List.{List, _∷_}
@@ -14,11 +14,9 @@ use Rattle.tables.specs.Counts.{tableWords}
 use Rattle.tables.specs.Told.{Told, wholeWord}
 use Rattle.events.specs.declared.Event.{Event}
 use Rattle.events.specs.FromWords.{recordsOf}
-use Rattle.reader.specs.declared.Answer as ReadAnswer
 use Rattle.reader.specs.Reading as Read
 use Rattle.reader.specs.Words as ReadWords
 use Rattle.events.proofs.BlankWords.{blank-all}
-use Rattle.writer.specs.declared.Answer as WriteAnswer
 use Rattle.writer.specs.Writing as Write
 use Rattle.writer.specs.Words as WriteWords
 use Rattle.theorems.specs.Bounded.{Bounded}
@@ -28,8 +26,6 @@ use Rattle.theorems.proofs.Lists.{either, either-eq}
 use Rattle.theorems.proofs.Document as Whole
 use Rattle.theorems.proofs.WriterDocument.{refused-by}
 use Rattle.theorems.proofs.Demands.{check-never-14}
-use Rattle.theorems.proofs.Calls.{whatever-stood, words-whatever-stood}
-use Rattle.theorems.proofs.WriterCalls.{write-whatever-stood, written-whatever-stood}
 use Rattle.theorems.proofs.InWords.{read-worded, read-zeros, write-worded, write-zeros}
 
 -- ---- the check and the reader
@@ -38,9 +34,9 @@ module _ (ver : Version) (ok : Bounded ver) (s : Octets) (bytes : AreOctets s) w
   check-result (Read.accepted is m) w h = CheckAnswers.passes
   check-result (Read.refusal n p) w h = CheckAnswers.fails (w .0, w .1) (λ e. h (omega arith)) (w .2)
 
-  pub demand-1-check : CheckAnswers s (Read.checkOf ver s)
+  pub check-answers : CheckAnswers s (Read.checkOf ver s)
   unfolding Read.checkOf
-  demand-1-check = check-result (Read.reading ver s (2 * ver .octets)) (Whole.means ver ok s bytes (2 * ver .octets)) (check-never-14 ver ok s bytes)
+  check-answers = check-result (Read.reading ver s (2 * ver .octets)) (Whole.means ver ok s bytes (2 * ver .octets)) (check-never-14 ver ok s bytes)
 
   module _ (room : ℕ) where
     read-result : (a : Read.Result) → Whole.Means ver ok s bytes a → ReadAnswers s room tableWords (Read.outcome a room)
@@ -55,12 +51,6 @@ module _ (ver : Version) (ok : Bounded ver) (s : Octets) (bytes : AreOctets s) w
         (λ e. rw e (read-result (Read.reading ver s room) (Whole.means ver ok s bytes room)))
         (λ n. ReadAnswers.refuses {n = 14} {p = 0} (omega arith, omega arith) (omega arith) refl refl refl))
         (λ y. ReadAnswers.refuses {n = 1} {p = 0} (omega arith, omega arith) (omega arith) refl refl refl)
-
-  module _ (e f : List Event) (t u : Words) (a b : ReadAnswer.Answer) (e′ f′ : List Event) (t′ u′ : Words) where
-    pub demand-1-read : length e ≡ length f → length t ≡ length u
-        → Read.Leaves a e′ t′ (Read.readOf ver s (length e) (length t)) → Read.Leaves b f′ u′ (Read.readOf ver s (length f) (length u))
-        → ((a ≡ b) × (e′ ≡ f′) × (t′ ≡ u′)) × ReadAnswers s (length e) (length t) (Read.readOf ver s (length e) (length t))
-    demand-1-read l m x y = (whatever-stood ver s e f t u a b e′ f′ t′ u′ l m x y, read-answers (length e) (length t))
 
   -- in words
   module _ (r t : ℕ) where
@@ -79,12 +69,6 @@ module _ (ver : Version) (ok : Bounded ver) (s : Octets) (bytes : AreOctets s) w
               (ReadWordsAnswer.refuses {n = 1} {p = 0} (omega arith, omega arith) (omega arith) refl refl refl refl)
               (ReadWordsAnswer.refuses {n = 14} {p = 0} (omega arith, omega arith) (omega arith) refl refl refl refl)
         ]
-
-  module _ (r q t u c d : Words) (a b : ℕ) (r′ q′ t′ u′ c′ d′ : Words) where
-    pub demand-1-read-words : length r ≡ length q → length t ≡ length u → length c ≡ length d
-        → ReadWords.leaving a r′ t′ c′ ≡ ReadWords.readWords ver s (length r) (length t) (length c) → ReadWords.leaving b q′ u′ d′ ≡ ReadWords.readWords ver s (length q) (length u) (length d)
-        → (ReadWords.leaving a r′ t′ c′ ≡ ReadWords.leaving b q′ u′ d′) × ReadWordsAnswer s (length r) (length t) (length c) (ReadWords.readWords ver s (length r) (length t) (length c))
-    demand-1-read-words l m n x y = (words-whatever-stood ver s r q t u c d a b r′ q′ t′ u′ c′ d′ l m n x y, read-words-answer (length r) (length t) (length c))
 
 -- ---- the writer
 module _ (ver : Version) (ok : Bounded ver) (es : List Event) (text : Octets) where
@@ -114,12 +98,6 @@ module _ (ver : Version) (ok : Bounded ver) (es : List Event) (text : Octets) wh
         (λ n. WriteAnswers.refuses {p = 0} WriterNumber.room (omega arith) refl refl refl))
         (λ y. WriteAnswers.refuses {p = 0} WriterNumber.size (omega arith) refl refl refl)
 
-  module _ (o p : Octets) (t u : Words) (a b : WriteAnswer.Answer) (o′ p′ : Octets) (t′ u′ : Words) where
-    pub demand-1-write : length o ≡ length p → length t ≡ length u
-        → Write.Leaves a o′ t′ (Write.writeOf ver es text (length o) (length t)) → Write.Leaves b p′ u′ (Write.writeOf ver es text (length p) (length u))
-        → ((a ≡ b) × (o′ ≡ p′) × (t′ ≡ u′)) × WriteAnswers es (length o) (length t) (Write.writeOf ver es text (length o) (length t))
-    demand-1-write l m x y = (write-whatever-stood ver es text o p t u a b o′ p′ t′ u′ l m x y, write-answers (length o) (length t))
-
 -- in words
 module _ (ver : Version) (ok : Bounded ver) (records : Words) (text : Octets) where
   module _ (r t : ℕ) where
@@ -138,10 +116,3 @@ module _ (ver : Version) (ok : Bounded ver) (records : Words) (text : Octets) wh
               (λ l. WriteWordsAnswer.refuses {p = 0} WriterNumber.size (omega arith) refl refl refl refl)
               (λ l. WriteWordsAnswer.refuses {p = 0} WriterNumber.room (omega arith) refl refl refl refl)
         ]
-
-  module _ (o p : Octets) (t u c d : Words) (a b : ℕ) (o′ p′ : Octets) (t′ u′ c′ d′ : Words) where
-    pub demand-1-write-words : length o ≡ length p → length t ≡ length u → length c ≡ length d
-        → WriteWords.leaving a o′ t′ c′ ≡ WriteWords.writeWords ver records text (length o) (length t) (length c) → WriteWords.leaving b p′ u′ d′ ≡ WriteWords.writeWords ver records text (length p) (length u) (length d)
-        → (WriteWords.leaving a o′ t′ c′ ≡ WriteWords.leaving b p′ u′ d′)
-        × WriteWordsAnswer (recordsOf records) (length o) (length t) (length c) (WriteWords.writeWords ver records text (length o) (length t) (length c))
-    demand-1-write-words l m n x y = (written-whatever-stood ver records text o p t u c d a b o′ p′ t′ u′ c′ d′ l m n x y, write-words-answer (length o) (length t) (length c))

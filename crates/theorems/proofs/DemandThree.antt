@@ -19,7 +19,7 @@ use Rattle.tables.specs.Told.{toldAccepted, entriesOf}
 use Rattle.events.specs.Records.{blank, recordOf}
 use Rattle.reader.specs.Reading.{Result, accepted, refusal, sized, reading, refusing, outcome, readOf, Accepts}
 use Rattle.theorems.specs.Bounded.{Bounded}
-use Rattle.theorems.specs.Demands.{HandsOut, Demand3}
+use Rattle.theorems.specs.Demands.{HandsOut, ReadsExactly}
 use Rattle.theorems.proofs.Words.{entries-map}
 use Rattle.theorems.proofs.Document as Whole
 use Rattle.theorems.proofs.Fits.{accepted-fits, accepted-sized}
@@ -62,6 +62,6 @@ module _ (ver : Version) (ok : Bounded ver) (s : Octets) (bytes : AreOctets s) (
   only true false q e = absurd (omega arith)
   only false d q e = absurd (omega arith)
 
-  pub demand-3 : Demand3 ver s room table (readOf ver s room table)
+  pub read-exactly : ReadsExactly ver s room table (readOf ver s room table)
   unfolding readOf
-  demand-3 = record { accepts = accepts ver s room table; only = only (sized ver s) (eqb table tableWords) refl; one-pair = λ items others y z w u. one-pair ver ok s bytes items others y z w u }
+  read-exactly = record { accepts = accepts ver s room table; only = only (sized ver s) (eqb table tableWords) refl; one-pair = λ items others y z w u. one-pair ver ok s bytes items others y z w u }

@@ -24,7 +24,7 @@ use Rattle.events.specs.WellMade.{WellMade}
 use Rattle.writer.specs.Writing.{Result, written, refusal, joined, writing, Outcome, refusing, outcome, writeOf}
 use Rattle.theorems.specs.Bounded.{Bounded}
 use Rattle.theorems.specs.Verdicts.{plainOf, plains, itemsOf, Fault, not-an-event, not-text, too-deep, too-many, no-room, Refused, at-event, too-soon, no-room-for-end}
-use Rattle.theorems.specs.Demands.{Acceptable, Wrote, LeavesWritten, RefusedBy, text-too-long, wrong-table-room, at-events, Demand2}
+use Rattle.theorems.specs.Demands.{Acceptable, Wrote, LeavesWritten, RefusedBy, text-too-long, wrong-table-room, at-events, WritesExactly}
 use Rattle.tables.proofs.Found.{clash}
 use Rattle.theorems.proofs.Words.{entries-map}
 use Rattle.theorems.proofs.Demands.{the-events-given}
@@ -131,9 +131,9 @@ module _ (ver : Version) (ok : Bounded ver) (es : List Event) (text : Octets) (r
     told-refused (at-events {n = n} {p = p} h right r) = rw (le-leb (length text) (ver .octets) h, eq-eqb table tableWords right, refuses-it ver ok text h room es n p r)
 
   -- OF THE CALL.
-  pub demand-2 : (table : ℕ) → Demand2 ver es text room table (writeOf ver es text room table)
+  pub write-exactly : (table : ℕ) → WritesExactly ver es text room table (writeOf ver es text room table)
   unfolding writeOf
-  demand-2 table =
+  write-exactly table =
       record {
         accepts = accepts table;
         only = only table (leb (length text) (ver .octets)) (eqb table tableWords) refl refl;

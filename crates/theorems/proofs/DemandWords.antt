@@ -24,17 +24,17 @@ use Rattle.reader.specs.Words as ReadWords
 use Rattle.writer.specs.Writing as Write
 use Rattle.writer.specs.Words as WriteWords
 use Rattle.theorems.specs.Bounded.{Bounded}
-use Rattle.theorems.specs.Demands.{WriterNumber, ReadAnswers, WriteAnswers, Demand2, WordsRefusedBy, Demand2Words, Demand3Words}
+use Rattle.theorems.specs.Demands.{WriterNumber, ReadAnswers, WriteAnswers, WritesExactly, WordsRefusedBy, WritesExactlyInWords, ReadsExactlyInWords}
 use Rattle.theorems.proofs.Calls.{check-accepts, written-is-checked}
 use Rattle.theorems.proofs.InWords.{rows-read, read-worded, read-zeros, rows-written, write-worded, write-zeros}
 use Rattle.theorems.proofs.DemandOne.{read-answers, write-answers}
-use Rattle.theorems.proofs.DemandThree.{demand-3}
-use Rattle.theorems.proofs.DemandTwo.{demand-2}
+use Rattle.theorems.proofs.DemandThree.{read-exactly}
+use Rattle.theorems.proofs.DemandTwo.{write-exactly}
 
 -- ---- reading
 module _ (ver : Version) (ok : Bounded ver) (s : Octets) (bytes : AreOctets s) where
-  pub demand-3-check : (Read.checkOf ver s ≡ 0) ↔ ((items : List (Item Octets)) × (z : State Octets) × Document ver items z s)
-  demand-3-check = (λ e. let w = check-accepts ver ok s bytes e in (w .items, w .last, w .writes), λ w. written-is-checked ver ok s bytes (w .0) (w .1) (w .2))
+  pub check-exactly : (Read.checkOf ver s ≡ 0) ↔ ((items : List (Item Octets)) × (z : State Octets) × Document ver items z s)
+  check-exactly = (λ e. let w = check-accepts ver ok s bytes e in (w .items, w .last, w .writes), λ w. written-is-checked ver ok s bytes (w .0) (w .1) (w .2))
 
   -- The check answers as the reader with an event record for each half of the longest document: 32,768 on the link.
   pub check-is-reading : Read.checkOf ver s ≡ lowWord (Read.readOf ver s (2 * ver .octets) tableWords .told)
@@ -64,13 +64,13 @@ module _ (ver : Version) (ok : Bounded ver) (s : Octets) (bytes : AreOctets s) w
 
     read-words-only : (c : ℕ) → ReadWords.readWords ver s r t c .answer % 2 ^ 32 ≡ 0
         → (items : List (Item Octets)) × (z : State Octets) × Document ver items z s × (length items ≤ r / 13) × (t ≡ tableWords) × (c ≡ 10)
-    read-words-only c e = let a = read-words-accepted c e in let b = demand-3 ver ok s bytes (r / 13) t .only (a .1) in (b .0, b .1, b .2, b .3, b .4, a .0)
+    read-words-only c e = let a = read-words-accepted c e in let b = read-exactly ver ok s bytes (r / 13) t .only (a .1) in (b .0, b .1, b .2, b .3, b .4, a .0)
 
     -- DEMAND 3 of `lomphachit_read`
-    pub demand-3-words : (c : ℕ) → Demand3Words ver s r t c (ReadWords.readWords ver s r t c)
-    demand-3-words c =
+    pub read-words-exactly : (c : ℕ) → ReadsExactlyInWords ver s r t c (ReadWords.readWords ver s r t c)
+    read-words-exactly c =
         record {
-          accepts = λ items z w l m h. (rows-read ver s r t, demand-3 ver ok s bytes (r / 13) t .accepts items z w l m, read-worded ver s r t c h);
+          accepts = λ items z w l m h. (rows-read ver s r t, read-exactly ver ok s bytes (r / 13) t .accepts items z w l m, read-worded ver s r t c h);
           only = read-words-only c;
         }
 
@@ -112,8 +112,8 @@ module _ (ver : Version) (ok : Bounded ver) (records : Words) (text : Octets) (r
           | no h ↦ absurd (write-zeros ver records text r t c h (λ w. w .answer % 2 ^ 32 ≡ 0 → ⊥) (λ l z. omega arith) (λ l z. omega arith) e)
         ]
 
-    abbrev d : Demand2 ver es text r t (rows-written ver records text r t)
-    d = demand-2 ver ok es text r t
+    abbrev d : WritesExactly ver es text r t (rows-written ver records text r t)
+    d = write-exactly ver ok es text r t
 
     refused-so : (n p : ℕ) → 1 ≤ n → n < 32 → left .answer ≡ p * 32 + n → WordsRefusedBy ver es text r t c n p
     refused-so n p low high e =
@@ -135,8 +135,8 @@ module _ (ver : Version) (ok : Bounded ver) (records : Words) (text : Octets) (r
     refuses-so {n} {p} (WordsRefusedBy.as-records h f) = let w = write-worded ver records text r t c h in let e = w .answer ∙ ap wholeWord (d .refuses n p .1 f) in omega arith
 
     -- DEMAND 2 of `lomphachit_write`
-    pub demand-2-words : Demand2Words ver es text r t c left
-    demand-2-words =
+    pub write-words-exactly : WritesExactlyInWords ver es text r t c left
+    write-words-exactly =
         record {
           accepts = λ s z a h. (rows-written ver records text r t, d .accepts s z a, write-worded ver records text r t c h);
           only = λ e. let a = write-words-accepted e in (a .0, d .only (a .1));

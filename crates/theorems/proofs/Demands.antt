@@ -11,7 +11,7 @@ use Rattle.format.specs.Numbers.{top, longest}
 use Rattle.format.specs.Characters.{IsText}
 use Rattle.format.specs.Events as E
 use Rattle.format.specs.Events.{Item, IsDocument, stringsOf}
-use Rattle.format.specs.Tables.{Vocabulary, starting, xmlPrefix, xmlNamespace, Version, standard}
+use Rattle.format.specs.Tables.{Vocabulary, starting, xmlPrefix, xmlNamespace, Version, link, standard}
 use Rattle.format.specs.Items.{State}
 use Rattle.format.specs.Document.{beginning, knownAfter, Document, header, started}
 use Rattle.format.specs.Uses.{acts, after, Known, Holds}
@@ -27,8 +27,10 @@ use Rattle.writer.specs.Writing.{written, joined, writing, knownWriting}
 use Rattle.theorems.specs.Bounded.{Bounded}
 use Rattle.theorems.specs.Places.{allSpelled, spelledIn}
 use Rattle.theorems.specs.Verdicts.{WrittenAs, WrittenWidely, OrPasses}
+use Rattle.theorems.specs.Demands.{Wrote}
 use Rattle.theorems.specs.Permitted.{PermitsAll}
 use Rattle.theorems.proofs.Document as Whole
+use Rattle.theorems.proofs.Document.{link-bounded}
 use Rattle.theorems.proofs.Fits.{accepted-fits}
 use Rattle.theorems.proofs.OneWriting as One
 use Rattle.theorems.proofs.Effects.{document-done}
@@ -132,6 +134,10 @@ module _ (ver : Version) (ok : Bounded ver) (s : Octets) (bytes : AreOctets s) w
   pub steps-enough : (more room body : ℕ) (tables : Vocabulary Located) → opening ver s ≡ onward body tables → run ver s (more + fuelOf s) room (origin body tables) ≡ run ver s (fuelOf s) room (origin body tables)
   steps-enough more room body tables e = Whole.more-fuel ver ok s bytes more room body tables e
 
+pub link-events-few : (s : Octets) → AreOctets s → length (marks link s) ≤ 21838
+unfolding link header
+link-events-few s bytes = events-few link link-bounded s bytes
+
 -- 7. The limits of a version lie within the standard's: what the rules write within the first, they write within the second (2^20 entries; lengths to 2^32 are in the
 --    rules; no limit on octets and open elements). It says nothing of documents that X.891 allows and the rules do not write: those of the parts that the version does not
 --    carry, and those in which an identifying string or a name is spelled again that its table holds (the requirements' REPEAT is stricter than 7.13.7).
@@ -181,38 +187,41 @@ pub permitted : (ver : Version) (items : List (Item Octets)) (z : State Octets) 
 unfolding beginning
 permitted ver items z s d = Permitted.permitted (d .rule)
 
--- DEMAND 2, of the definitions: what the writer makes of records over a text area (no longer than a document).
--- 11. WRITTEN BY THE RULES: its octets are those that the rules write from the plain events and the required choices, its tables are the rules', and they fit the output.
-pub written-by-the-rules : (ver : Version) (ok : Bounded ver) (text : Octets) (room : ℕ) (es : List Event) (items : List (Item Located)) (hs : Halves) (z : State Located) → length text ≤ ver .octets → writing ver text room es ≡ written items hs z
-    → Document ver (map (plain text) items) (plainState text z) (header ver ++ joined hs) × (length (header ver ++ joined hs) ≤ room)
-written-by-the-rules ver ok text room es items hs z short e = let m = Made.meant ver ok text short room es items hs z e in (m .writes, m .fits)
+-- DEMAND 2, of the definitions: the writer makes these items, halves and this last state of records over a text area (no longer than a document).
+module _ (ver : Version) (text : Octets) (room : ℕ) (es : List Event) (items : List (Item Located)) (hs : Halves) (z : State Located) (e : writing ver text room es ≡ written items hs z) where
+  abbrev pub document : Octets
+  document = header ver ++ joined hs
 
--- 12. ROUND TRIP: reading what the writer wrote, with a record for each event, gives back the same events, and the reader's tables are the writer's.
-pub round-trip : (ver : Version) (ok : Bounded ver) (text : Octets) (room : ℕ) (es : List Event) (items : List (Item Located)) (hs : Halves) (z : State Located) → length text ≤ ver .octets → writing ver text room es ≡ written items hs z
-    → (records : ℕ) → length items ≤ records → Accepts ver (header ver ++ joined hs) records (map (plain text) items) (plainState text z)
-round-trip ver ok text room es items hs z short e records h =
-    let l = length-map items (plain text) in
-    Whole.accepts ver (header ver ++ joined hs) (map (plain text) items) (plainState text z) (written-by-the-rules ver ok text room es items hs z short e .0) records (omega arith)
+  -- 11. GIVEN: the events that were written are, as records, the very list that was given.
+  pub the-events-given : map (λ (i : Item Located). recordOf (i .event)) items ≡ es
+  the-events-given = Given.given-back ver text room es items hs z e
 
---     GIVEN: the events that were written are, as records, the very list that was given.
-pub the-events-given : (ver : Version) (text : Octets) (room : ℕ) (es : List Event) (items : List (Item Located)) (hs : Halves) (z : State Located) → writing ver text room es ≡ written items hs z
-    → map (λ (i : Item Located). recordOf (i .event)) items ≡ es
-the-events-given ver text room es items hs z e = Given.given-back ver text room es items hs z e
+  module _ (ok : Bounded ver) (short : length text ≤ ver .octets) where
+    -- 12. WRITTEN BY THE RULES: its octets are those that the rules write from the plain events and the required choices, its tables are the rules', and they fit the output.
+    pub written-by-the-rules : Document ver (map (plain text) items) (plainState text z) document × (length document ≤ room)
+    written-by-the-rules = let m = Made.meant ver ok text short room es items hs z e in (m .writes, m .fits)
 
---     TABLES: after each event the reader's tables are the writer's, as octets.
-pub same-tables : (ver : Version) (ok : Bounded ver) (text : Octets) (room : ℕ) (es : List Event) (items : List (Item Located)) (hs : Halves) (z : State Located) → length text ≤ ver .octets → writing ver text room es ≡ written items hs z
-    → map (λ (k : Mark). plainState (header ver ++ joined hs) (k .stand .state)) (marks ver (header ver ++ joined hs)) ≡ map (plainState text) (knownWriting ver text room es)
-same-tables ver ok text room es items hs z short e =
-    let m = Made.meant ver ok text short room es items hs z e in
-    tables ver (map (plain text) items) (plainState text z) (header ver ++ joined hs) (m .writes) ∙ m .known
+    --     ROUND TRIP: reading what the writer wrote, with a record for each event, gives back the same events, and the reader's tables are the writer's.
+    pub round-trip : (records : ℕ) → length items ≤ records → Accepts ver document records (map (plain text) items) (plainState text z)
+    round-trip records h =
+        let l = length-map items (plain text) in
+        Whole.accepts ver document (map (plain text) items) (plainState text z) (written-by-the-rules .0) records (omega arith)
 
---     And so they are what the rules know then.
-pub writer-tables : (ver : Version) (ok : Bounded ver) (text : Octets) (room : ℕ) (es : List Event) (items : List (Item Located)) (hs : Halves) (z : State Located) → length text ≤ ver .octets → writing ver text room es ≡ written items hs z
-    → (w : Document ver (map (plain text) items) (plainState text z) (header ver ++ joined hs)) → map (plainState text) (knownWriting ver text room es) ≡ knownAfter ver (w .rule)
-writer-tables ver ok text room es items hs z short e w = sym (same-tables ver ok text room es items hs z short e) ∙ tables ver (map (plain text) items) (plainState text z) (header ver ++ joined hs) w
+    --     TABLES: after each event the reader's tables are the writer's, as octets.
+    pub same-tables : map (λ (k : Mark). plainState document (k .stand .state)) (marks ver document) ≡ map (plainState text) (knownWriting ver text room es)
+    same-tables = let m = Made.meant ver ok text short room es items hs z e in tables ver (map (plain text) items) (plainState text z) document (m .writes) ∙ m .known
 
---     There are tables for each event.
-pub tables-for-each : (ver : Version) (ok : Bounded ver) (text : Octets) (room : ℕ) (es : List Event) (items : List (Item Located)) (hs : Halves) (z : State Located) → length text ≤ ver .octets → writing ver text room es ≡ written items hs z
-    → length (knownWriting ver text room es) ≡ length es
-tables-for-each ver ok text room es items hs z short e =
-    Made.each-known ver ok text short room es items hs z e ∙ sym (length-map items (λ (i : Item Located). recordOf (i .event))) ∙ ap length (the-events-given ver text room es items hs z e)
+    --     And so they are what the rules know then.
+    pub writer-tables : (w : Document ver (map (plain text) items) (plainState text z) document) → map (plainState text) (knownWriting ver text room es) ≡ knownAfter ver (w .rule)
+    writer-tables w = sym same-tables ∙ tables ver (map (plain text) items) (plainState text z) document w
+
+    --     There are tables for each event.
+    pub tables-for-each : length (knownWriting ver text room es) ≡ length es
+    tables-for-each = Made.each-known ver ok text short room es items hs z e ∙ sym (length-map items (λ (i : Item Located). recordOf (i .event))) ∙ ap length the-events-given
+
+--     The tables, of what was written as the octets s.
+pub wrote-same-tables : (ver : Version) (ok : Bounded ver) {es : List Event} {text : Octets} {room : ℕ} {s : Octets} {z : State Octets} → length text ≤ ver .octets → Wrote ver es text room s z
+    → map (λ (k : Mark). plainState s (k .stand .state)) (marks ver s) ≡ map (plainState text) (knownWriting ver text room es)
+wrote-same-tables ver ok {es} {text} {room} short w =
+    subst (λ (s : Octets). map (λ (k : Mark). plainState s (k .stand .state)) (marks ver s) ≡ map (plainState text) (knownWriting ver text room es)) (w .octets)
+    (same-tables ver text room es (w .items) (w .halves) (w .last) (w .is) ok short)

@@ -8,7 +8,7 @@ use lib.ListN.{length, getD, drop, length-drop}
 use Rattle.format.specs.Octets.{Octets, AreOctets}
 use Rattle.format.specs.Numbers.{longest}
 use Rattle.format.specs.Events.{Item}
-use Rattle.format.specs.Tables.{Vocabulary, Version}
+use Rattle.format.specs.Tables.{Vocabulary, Version, link}
 use Rattle.format.specs.Items.{content, State}
 use Rattle.format.specs.Document.{halves, Written, knownAfter, beginning, header, started, Document}
 use Rattle.tables.specs.Located.{Located, builtInPrefix, builtInNamespace, octetsOf, plain, plainState, start}
@@ -21,6 +21,10 @@ use Rattle.theorems.proofs.Words.{starting-map}
 use Rattle.theorems.proofs.Entries.{ranged-started}
 use Rattle.theorems.proofs.Run.{Inside, Right, run-right, fuel-free, NotShort, run-not-short, trace-few, placesOf, room-short, room-enough, Reads, run-complete}
 use Rattle.theorems.proofs.Opening.{Opened, opening-sound, opening-complete}
+
+pub link-bounded : Bounded link
+unfolding link
+link-bounded = record { some-entries = omega arith; few-entries = omega arith; few-octets = omega arith }
 
 pub plain-start : (ver : Version) (s : Octets) → plainState s (beginning (start ver)) ≡ beginning (started ver)
 unfolding beginning start octetsOf

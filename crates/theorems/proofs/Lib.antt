@@ -49,4 +49,5 @@ pub mod DemandOne
 pub mod DemandThree
 pub mod DemandTwo
 pub mod DemandWords
-pub mod OnTheLink
+pub mod Theorems
+pub mod Bench

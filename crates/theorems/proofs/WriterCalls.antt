@@ -46,7 +46,7 @@ pub record Wrote (ver : Version) (text : Octets) (es : List Event) (room : ℕ) 
 module _ (ver : Version) (ok : Bounded ver) (text : Octets) (room : ℕ) (es : List Event) where
   from-result : length text ≤ ver .octets → (r : Result) → writing ver text room es ≡ r → (n : ℕ) (c : Counts) → outcome ver r room .answer ≡ Accepted n c → Wrote ver text es room (outcome ver r room)
   from-result short (written items hs z) e n c q =
-      let w = written-by-the-rules ver ok text room es items hs z short e in
+      let w = written-by-the-rules ver text room es items hs z e ok short in
       record { items = items; last = z; octets = header ver ++ joined hs; is = refl; given = the-events-given ver text room es items hs z e; writes = w .0; fits = w .1 }
   from-result short (refusal k p) e n c q = absurd (let z : _≡_ {A = ℕ} 0 1 = cc in omega arith)
 

@@ -1,6 +1,5 @@
--- The bench (the requirements, "Documents on the bench"): each case marked M and the readings that look right and are not, in one list, proved at once by computing the definitions.
+-- The bench (the requirements, "Documents on the bench"): each case marked M and the readings that look right and are not, in one list. That each is found as it is wanted is proofs/Bench.
 use Prim.Native.Nat.{ℕ}
-use mathlib.Core.Path.{_≡_, refl}
 use mathlib.Core.Option.{none, some}
 use mathlib.Core.List.{List, [], _∷_, _++_, map}
 use Rattle.format.specs.Octets.{Octets}
@@ -9,27 +8,7 @@ use Rattle.format.specs.Tables.{Triple, Vocabulary, xmlPrefix, xmlNamespace, li
 use Rattle.format.specs.Document.{header}
 use Rattle.tables.specs.Located.{Located, octetsOf, plainTables}
 use Rattle.events.specs.Records.{recordOf}
-use Rattle.format.specs.Numbers as FNumbers
-use Rattle.format.specs.Events as FEvents
-use Rattle.format.specs.Tables as FTables
-use Rattle.format.specs.Strings as FStrings
-use Rattle.format.specs.Names as FNames
-use Rattle.format.specs.Items as FItems
-use Rattle.format.specs.Document as FDocument
-use Rattle.fields.specs.Fields as DFields
-use Rattle.fields.specs.Utf8 as DUtf8
-use Rattle.tables.specs.Counts as TCounts
-use Rattle.tables.specs.Located as TLocated
-use Rattle.tables.specs.Search as TSearch
-use Rattle.events.specs.Records as ERecords
-use Rattle.read_names.specs.Strings as RStrings
-use Rattle.read_names.specs.Names as RNames
-use Rattle.read_items.specs.Items as RItems
-use Rattle.read_items.specs.Steps as RSteps
 use Rattle.reader.specs.Reading as RReading
-use Rattle.writer.specs.Events as WEvents
-use Rattle.write_names.specs.Choices as WChoices
-use Rattle.writer.specs.Items as WItems
 use Rattle.writer.specs.Writing as WWriting
 
 -- A document, the events and the tables that it stands for; or octets, the refusal's number and its place.
@@ -114,8 +93,3 @@ cases =
     ∷ refused (behindHeader (0x3C ∷ 0x00 ∷ 0x61 ∷ 0xF0 ∷ 0xF0 ∷ [])) 6 9
     ∷ refused (behindHeader (0x3C ∷ 0x00 ∷ 0x61 ∷ 0xFF ∷ 0x00 ∷ [])) 15 9
     ∷ []
-
--- Every case is found as it is wanted.
-pub proved : map finds cases ≡ map wants cases
-unfolding FNumbers.lengths FNumbers.numbers FNumbers.c25 FNumbers.octets FNumbers.fromBits FNumbers.behindFirst FNumbers.spell FEvents.eventMap FTables.strings FTables.names FTables.adding FTables.addingName FTables.vocabularyMap FTables.starting FTables.xmlPrefix FTables.xmlNamespace FTables.same FTables.holds FTables.sameTriple FTables.holdsName FTables.link FStrings.c14 FStrings.c15 FNames.ofElement FNames.ofAttribute FItems.mayStart FDocument.halves FDocument.pad FDocument.aligned FDocument.beginning FDocument.header DFields.valueFrom DFields.behind DFields.shareOf DFields.readIn DFields.fieldAt DUtf8.rows DUtf8.astray DUtf8.between DUtf8.first DUtf8.next DUtf8.after DUtf8.isText TCounts.countsOf TSearch.lowest TSearch.numberIn TSearch.numberOfTriple TLocated.octetsOf TLocated.start ERecords.recordOf RStrings.spelling RStrings.idAt RStrings.optionalAt RStrings.spelledAt RStrings.literalAt RStrings.valueAt RNames.nameOf RNames.partsAt RNames.numberedAt RNames.nameAt RNames.declaredAt RItems.namePadding RItems.namespaceAt RItems.elementAt RItems.namedAt RItems.attributeAt RItems.chunkAt RItems.commentAt RItems.instructionAt RItems.otherAt RItems.childAt RItems.declaringAt RItems.itemAt RSteps.halfAt RSteps.endsAt RSteps.padsAt RSteps.documentEnd RSteps.endAt RSteps.step RReading.run RReading.sized RReading.opening RReading.reading WEvents.isName WEvents.noName WEvents.wellMade WEvents.eventOf WEvents.goesOn WEvents.nameText WEvents.allText WChoices.writeId WChoices.writeOptional WChoices.writeName WChoices.worthAdding WChoices.writeLiteral WChoices.writeValue WItems.writeItem WChoices.within WWriting.announced WWriting.owed WWriting.settled WWriting.fits WWriting.halvesOf WWriting.judge WWriting.finish WWriting.run WWriting.joined WWriting.writing
-proved = refl

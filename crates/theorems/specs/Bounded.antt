@@ -1,8 +1,7 @@
--- What a version must keep to for the theorems to hold of it. The link does.
+-- What a version must keep to for the theorems to hold of it. That the link does is proofs/Document.
 use Prim.Native.Nat.{ℕ, _≤_}
-use native.Mathlib.Omega.{arith}
 use Rattle.format.specs.Numbers.{top, longest}
-use Rattle.format.specs.Tables.{Version, link}
+use Rattle.format.specs.Tables.{Version}
 
 pub record Bounded (ver : Version) : Type 0 where
   -- a table can hold its built-in entry, and no entry is beyond the highest number
@@ -10,7 +9,3 @@ pub record Bounded (ver : Version) : Type 0 where
   pub few-entries : ver .entries ≤ top
   -- no string of a document or of a text area is too long to be spelled
   pub few-octets : ver .octets ≤ longest
-
-pub link-bounded : Bounded link
-unfolding link
-link-bounded = record { some-entries = omega arith; few-entries = omega arith; few-octets = omega arith }

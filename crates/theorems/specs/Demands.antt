@@ -1,11 +1,11 @@
--- THE THREE DEMANDS, as statements of what a call answers and leaves. The contracts equate that with `readOf`, `readWords`, `checkOf`, `writeOf` and `writeWords`; that
--- the demands hold of these is proofs/DemandOne, DemandTwo, DemandThree and, for words and the check, DemandWords; for every version ver that is `Bounded`.
+-- THE THREE DEMANDS, as statements of what the calls answer and leave: `Demand1`, `Demand2`, `Demand3` at the end of this file, and before them what each call owes. The
+-- contracts equate what a call answers and leaves with `checkOf`, `readOf`, `readWords`, `writeOf` and `writeWords`. That the demands hold of these is proofs/Theorems.
 use Prim.Native.Nat.{ℕ, _+_, _-_, _*_, _/_, _%_, _^_, _≤_, _<_}
 use mathlib.Core.Path.{_≡_}
 use mathlib.Core.Logic.{_↔_}
 use mathlib.Core.List.{List, _++_, map}
 use lib.ListN.{length, replicate}
-use Rattle.format.specs.Octets.{Octets, Halves}
+use Rattle.format.specs.Octets.{Octets, Halves, Words, AreOctets}
 use Rattle.format.specs.Refusals.{SIZE, TEXT, FULL, DEPTH, ROOM, EVENT}
 use Rattle.format.specs.Events.{Item}
 use Rattle.format.specs.Tables.{StringTable, Vocabulary, strings, starting, Version}
@@ -20,14 +20,17 @@ use Rattle.events.specs.declared.Event.{Event}
 use Rattle.events.specs.Records.{blank, recordOf}
 use Rattle.events.specs.WellMade.{WellMade}
 use Rattle.events.specs.Words.{rowWords}
+use Rattle.events.specs.FromWords.{recordsOf}
+use Rattle.reader.specs.declared.Answer as ReadAnswer
 use Rattle.reader.specs.Reading as Read
 use Rattle.reader.specs.Words as ReadWords
+use Rattle.writer.specs.declared.Answer as WriteAnswer
 use Rattle.writer.specs.Writing as Write
 use Rattle.writer.specs.Words as WriteWords
 use Rattle.theorems.specs.Places.{allSpelled, spelledIn}
 use Rattle.theorems.specs.Verdicts.{plains, itemsOf, Refused}
 
--- ---- DEMAND 1: every input is answered; a refusal has one of the requirements' numbers and a place, and blanks everything that was lent.
+-- ---- what each call owes by demand 1
 -- A number that the requirements give a reader; and one that they give a writer.
 abbrev pub ReaderNumber : ℕ → Type 0
 ReaderNumber n = (1 ≤ n) × (n ≤ 15)
@@ -60,7 +63,7 @@ pub data WriteWordsAnswer (es : List Event) (r t c : ℕ) (w : WriteWords.WordsL
   accepts : w .answer % 2 ^ 32 ≡ 0 → WriteWordsAnswer es r t c w
   refuses : {n p : ℕ} → WriterNumber n → p ≤ length es → w .answer ≡ p * 32 + n → w .out ≡ replicate r 0 → w .tables ≡ replicate t 0 → w .counts ≡ replicate c 0 → WriteWordsAnswer es r t c w
 
--- ---- DEMAND 3: octets are accepted exactly when the rules write them, from one pair of events and choices, and its events are handed out.
+-- ---- what a call that reads owes by demand 3
 -- For these items, which the rules write by the derivation w, the call left their records, blank ones behind them, and their tables; its answer has the counts. Each
 -- record is as the requirements' "Events" has it; each spelled string has the place at which the rules write it, and each number names an entry made earlier or built in, at its
 -- very place. The tables hold what is built in and what the events made, each entry at its very place.
@@ -77,7 +80,7 @@ pub record HandsOut (ver : Version) (s : Octets) (room : ℕ) (items : List (Ite
   pub earlier : Known (starting ver builtInPrefix builtInNamespace) (acts events)
   pub tables-made : Holds tables (after (starting ver builtInPrefix builtInNamespace) (acts events))
 
-pub record Demand3 (ver : Version) (s : Octets) (room table : ℕ) (o : Read.Outcome) : Type 0 where
+pub record ReadsExactly (ver : Version) (s : Octets) (room table : ℕ) (o : Read.Outcome) : Type 0 where
   -- what the rules write is accepted, if there is a record for each event and the right table room, and this is handed out
   pub accepts : (items : List (Item Octets)) (z : State Octets) (w : Document ver items z s) → length items ≤ room → table ≡ tableWords → HandsOut ver s room items z w o
   -- and nothing else is accepted
@@ -85,7 +88,7 @@ pub record Demand3 (ver : Version) (s : Octets) (room table : ℕ) (o : Read.Out
   -- there is one such pair
   pub one-pair : (items others : List (Item Octets)) (y z : State Octets) → Document ver items y s → Document ver others z s → (items ≡ others) × (y ≡ z)
 
--- ---- DEMAND 2: the writer accepts whatever the requirements give it no number to refuse, and writes it as the rules do, with the required choices; reading it gives back what was given.
+-- ---- what a call that writes owes by demand 2
 -- The requirements give no number to refuse these records over this text area, with this room; s is the document that the rules write from them, and z what they know at its end.
 pub record Acceptable (ver : Version) (es : List Event) (text : Octets) (room table : ℕ) (s : Octets) (z : State Octets) : Type 0 where
   pub text-size : length text ≤ ver .octets
@@ -122,7 +125,7 @@ pub data RefusedBy (ver : Version) (es : List Event) (text : Octets) (room table
   wrong-table-room : length text ≤ ver .octets → (table ≡ tableWords → ⊥) → RefusedBy ver es text room table ROOM 0
   at-events : {n p : ℕ} → length text ≤ ver .octets → table ≡ tableWords → Refused ver text room es n p → RefusedBy ver es text room table n p
 
-pub record Demand2 (ver : Version) (es : List Event) (text : Octets) (room table : ℕ) (o : Write.Outcome) : Type 0 where
+pub record WritesExactly (ver : Version) (es : List Event) (text : Octets) (room table : ℕ) (o : Write.Outcome) : Type 0 where
   -- what the requirements give no number to refuse is accepted, as the rules write it
   pub accepts : (s : Octets) (z : State Octets) → Acceptable ver es text room table s z → LeavesWritten ver es text room s z o
   -- and nothing else is
@@ -147,7 +150,7 @@ pub record InWriteWords (o : Write.Outcome) (w : WriteWords.WordsLeft) : Type 0 
   pub counts : w .counts ≡ o .told .counts
 
 -- What the word calls owe: the same, in words, with 10 words for the counts.
-pub record Demand3Words (ver : Version) (s : Octets) (r t c : ℕ) (w : ReadWords.WordsLeft) : Type 0 where
+pub record ReadsExactlyInWords (ver : Version) (s : Octets) (r t c : ℕ) (w : ReadWords.WordsLeft) : Type 0 where
   -- what the rules write is accepted, if there are 13 words for each event and the right room for tables and counts, and this is handed out
   pub accepts : (items : List (Item Octets)) (z : State Octets) (u : Document ver items z s) → length items ≤ r / 13 → t ≡ tableWords → c ≡ 10
       → (o : Read.Outcome) × HandsOut ver s (r / 13) items z u o × InReadWords r o w
@@ -160,7 +163,42 @@ pub data WordsRefusedBy (ver : Version) (es : List Event) (text : Octets) (r t c
   wrong-count-room : length text ≤ ver .octets → (c ≡ 10 → ⊥) → WordsRefusedBy ver es text r t c ROOM 0
   as-records : {n p : ℕ} → c ≡ 10 → RefusedBy ver es text r t n p → WordsRefusedBy ver es text r t c n p
 
-pub record Demand2Words (ver : Version) (es : List Event) (text : Octets) (r t c : ℕ) (w : WriteWords.WordsLeft) : Type 0 where
+pub record WritesExactlyInWords (ver : Version) (es : List Event) (text : Octets) (r t c : ℕ) (w : WriteWords.WordsLeft) : Type 0 where
   pub accepts : (s : Octets) (z : State Octets) → Acceptable ver es text r t s z → c ≡ 10 → (o : Write.Outcome) × LeavesWritten ver es text r s z o × InWriteWords o w
   pub only : w .answer % 2 ^ 32 ≡ 0 → (c ≡ 10) × ((s : Octets) × (z : State Octets) × Acceptable ver es text r t s z)
   pub refuses : (n p : ℕ) → 1 ≤ n → n < 32 → (w .answer ≡ p * 32 + n) ↔ WordsRefusedBy ver es text r t c n p
+
+-- ---- THE DEMANDS, of all calls of a version.
+-- 1. Every input is answered. A refusal has one of the requirements' numbers and a place, and blanks everything that was lent. What stood in the lent room never matters: two
+-- calls on the same input, with as much room, answer and leave the same.
+pub record Demand1 (ver : Version) : Type 0 where
+  pub check : (s : Octets) → AreOctets s → CheckAnswers s (Read.checkOf ver s)
+  pub read : (s : Octets) → AreOctets s → (room table : ℕ) → ReadAnswers s room table (Read.readOf ver s room table)
+  pub read-words : (s : Octets) → AreOctets s → (r t c : ℕ) → ReadWordsAnswer s r t c (ReadWords.readWords ver s r t c)
+  pub write : (es : List Event) (text : Octets) (room table : ℕ) → WriteAnswers es room table (Write.writeOf ver es text room table)
+  pub write-words : (records : Words) (text : Octets) (r t c : ℕ) → WriteWordsAnswer (recordsOf records) r t c (WriteWords.writeWords ver records text r t c)
+  pub read-again : (s : Octets) (e f : List Event) (t u : Words) (a b : ReadAnswer.Answer) (e′ f′ : List Event) (t′ u′ : Words) → length e ≡ length f → length t ≡ length u
+      → Read.Leaves a e′ t′ (Read.readOf ver s (length e) (length t)) → Read.Leaves b f′ u′ (Read.readOf ver s (length f) (length u)) → (a ≡ b) × (e′ ≡ f′) × (t′ ≡ u′)
+  pub read-words-again : (s : Octets) (r q t u c d : Words) (a b : ℕ) (r′ q′ t′ u′ c′ d′ : Words) → length r ≡ length q → length t ≡ length u → length c ≡ length d
+      → ReadWords.leaving a r′ t′ c′ ≡ ReadWords.readWords ver s (length r) (length t) (length c) → ReadWords.leaving b q′ u′ d′ ≡ ReadWords.readWords ver s (length q) (length u) (length d)
+      → ReadWords.leaving a r′ t′ c′ ≡ ReadWords.leaving b q′ u′ d′
+  pub write-again : (es : List Event) (text o p : Octets) (t u : Words) (a b : WriteAnswer.Answer) (o′ p′ : Octets) (t′ u′ : Words) → length o ≡ length p → length t ≡ length u
+      → Write.Leaves a o′ t′ (Write.writeOf ver es text (length o) (length t)) → Write.Leaves b p′ u′ (Write.writeOf ver es text (length p) (length u)) → (a ≡ b) × (o′ ≡ p′) × (t′ ≡ u′)
+  pub write-words-again : (records : Words) (text o p : Octets) (t u c d : Words) (a b : ℕ) (o′ p′ : Octets) (t′ u′ c′ d′ : Words) → length o ≡ length p → length t ≡ length u → length c ≡ length d
+      → WriteWords.leaving a o′ t′ c′ ≡ WriteWords.writeWords ver records text (length o) (length t) (length c)
+      → WriteWords.leaving b p′ u′ d′ ≡ WriteWords.writeWords ver records text (length p) (length u) (length d)
+      → WriteWords.leaving a o′ t′ c′ ≡ WriteWords.leaving b p′ u′ d′
+
+-- 2. The writer accepts whatever the requirements give it no number to refuse, as the rules write it with the required choices; reading that gives back the events and, after
+-- each of them, the same tables.
+pub record Demand2 (ver : Version) : Type 0 where
+  pub write : (es : List Event) (text : Octets) (room table : ℕ) → WritesExactly ver es text room table (Write.writeOf ver es text room table)
+  pub write-words : (records : Words) (text : Octets) (r t c : ℕ) → WritesExactlyInWords ver (recordsOf records) text r t c (WriteWords.writeWords ver records text r t c)
+  pub same-tables : {es : List Event} {text : Octets} {room : ℕ} {s : Octets} {z : State Octets} → length text ≤ ver .octets → Wrote ver es text room s z
+      → map (λ (k : Read.Mark). plainState s (k .stand .state)) (Read.marks ver s) ≡ map (plainState text) (Write.knownWriting ver text room es)
+
+-- 3. Octets are accepted exactly when the rules write them from some events and choices; there is one such pair, and its events are handed out.
+pub record Demand3 (ver : Version) : Type 0 where
+  pub read : (s : Octets) → AreOctets s → (room table : ℕ) → ReadsExactly ver s room table (Read.readOf ver s room table)
+  pub read-words : (s : Octets) → AreOctets s → (r t c : ℕ) → ReadsExactlyInWords ver s r t c (ReadWords.readWords ver s r t c)
+  pub check : (s : Octets) → AreOctets s → (Read.checkOf ver s ≡ 0) ↔ ((items : List (Item Octets)) × (z : State Octets) × Document ver items z s)

@@ -44,9 +44,9 @@ use denote.Triple.Clauses.{ensured, lasts}
 use denote.Triple.Table.{cited}
 use denote.Triple.Walked.{says, Stays, stay-slice, stay-dropped, walkOf, goes-slice, goes-dropped, ends-at}
 use denote.Exit.{yes}
-use Rattle.walk.specs.Close.{by-walk}
-use Rattle.walk.specs.Row.{Slice, Opened, opens-row, closes-row, offset-fits}
-use Rattle.walk.specs.Walk.{whiles, full, free}
+use Rattle.walk.proofs.Close.{by-walk}
+use Rattle.walk.proofs.Row.{Slice, Opened, opens-row, closes-row, offset-fits}
+use Rattle.walk.proofs.Walk.{whiles, full, free}
 use Rattle.events.specs.declared.Event.{Event}
 use Rattle.events.specs.Records.{blank}
 use Rattle.events.proofs.Rows.{rowTy, val, Told, typed, begins-at, record-out, record-over}

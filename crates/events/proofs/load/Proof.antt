@@ -32,8 +32,8 @@ use denote.Struct.Laws as LL
 use denote.Triple.Entry.{onEntry}
 use denote.Triple.Walked.{says, needs, Stays, stay-dropped, walkOf, goes-dropped, ends-at}
 use denote.Exit.{yes}
-use Rattle.walk.specs.Close.{by-walk}
-use Rattle.walk.specs.Row.{offset-fits}
+use Rattle.walk.proofs.Close.{by-walk}
+use Rattle.walk.proofs.Row.{offset-fits}
 use Rattle.events.specs.declared.Event.{Event}
 use Rattle.events.specs.Records.{blank}
 use Rattle.events.proofs.Rows.{val, Told, typed, begins-at, record-out}

@@ -51,11 +51,11 @@ use denote.Triple.Clauses.{ensured, lasts}
 use denote.Triple.Table.{cited}
 use denote.Triple.Walked.{says, needs, Stays, stay-slice, stay-dropped, walkOf, goes-slice, goes-dropped, ends-at}
 use denote.Exit.{yes}
-use Rattle.walk.specs.Again.{Holds, Lends, Keeps, lends-call, back-call}
-use Rattle.walk.specs.Close.{by-walk}
-use Rattle.walk.specs.Local.{lends-local, local-back}
-use Rattle.walk.specs.Row.{Slice, Opened, opens-row, closes-row, offset-fits}
-use Rattle.walk.specs.Walk.{skipping, armOf, armsOf, full, free}
+use Rattle.walk.proofs.Again.{Holds, Lends, Keeps, lends-call, back-call}
+use Rattle.walk.proofs.Close.{by-walk}
+use Rattle.walk.proofs.Local.{lends-local, local-back}
+use Rattle.walk.proofs.Row.{Slice, Opened, opens-row, closes-row, offset-fits}
+use Rattle.walk.proofs.Walk.{skipping, armOf, armsOf, full, free}
 use Rattle.format.specs.Tables.{link}
 use Rattle.tables.specs.declared.Counts.{Counts}
 use Rattle.tables.specs.Located.{start}

@@ -41,9 +41,9 @@ use denote.Triple.Clauses.{ensured, lasts}
 use denote.Triple.Table.{cited}
 use denote.Triple.Walked.{says, Stays, stay-slice, stay-dropped, walkOf, goes-slice, goes-dropped, ends-at}
 use denote.Exit.{yes}
-use Rattle.walk.specs.Again.{Lends, Keeps, lends-call, back-call}
-use Rattle.walk.specs.Close.{by-walk}
-use Rattle.walk.specs.Walk.{heading, skipping, armOf, armsOf, full, free}
+use Rattle.walk.proofs.Again.{Lends, Keeps, lends-call, back-call}
+use Rattle.walk.proofs.Close.{by-walk}
+use Rattle.walk.proofs.Walk.{heading, skipping, armOf, armsOf, full, free}
 use Rattle.format.specs.Tables.{link}
 use Rattle.tables.specs.Located.{start}
 use Rattle.tables.specs.Counts.{tableWords}

@@ -40,8 +40,8 @@ use denote.Triple.Clauses.{ensured, lasts}
 use denote.Triple.Table.{cited}
 use denote.Triple.Walked.{says, needs, Stays, stay-ref, stay-slice, stay-dropped, walkOf, goes-slice, goes-ref, goes-dropped, ends-at}
 use denote.Exit.{yes}
-use Rattle.walk.specs.Again.{Holds, Lends, Keeps, lends-call, back-call}
-use Rattle.walk.specs.Close.{by-walk}
+use Rattle.walk.proofs.Again.{Holds, Lends, Keeps, lends-call, back-call}
+use Rattle.walk.proofs.Close.{by-walk}
 use Rattle.tables.specs.declared.Counts.{Counts}
 use Rattle.tables.proofs.Counts as T
 use Rattle.tables.proofs.Counts.Laws as T′

@@ -37,8 +37,8 @@ use denote.Triple.Call.{calls-at}
 use denote.Triple.Clauses.{ensured, lasts}
 use denote.Triple.Table.{cited}
 use denote.Triple.Walked.{says, Stays, stay-slice, walkOf, goes-slice, ends-at}
-use Rattle.walk.specs.Again.{Holds, Lends, Keeps, lends-call, back-call}
-use Rattle.walk.specs.Close.{by-walk}
+use Rattle.walk.proofs.Again.{Holds, Lends, Keeps, lends-call, back-call}
+use Rattle.walk.proofs.Close.{by-walk}
 use Rattle.tables.proofs.clear as clear
 use Rattle.tables.proofs.clear.Symbol as clear-def
 use Rattle.tables.proofs.clear.Symbol.{name as #tables·clear}

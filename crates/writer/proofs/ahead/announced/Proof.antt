@@ -49,8 +49,8 @@ use denote.Triple.Clauses.{ensured, lasts}
 use denote.Triple.Table.{cited}
 use denote.Triple.Walked.{says, Stays, stay-dropped, walkOf, goes-dropped, ends-at}
 use denote.Exit.{yes}
-use Rattle.walk.specs.Close.{by-walk}
-use Rattle.walk.specs.Walk.{whiles, skipping, full, free}
+use Rattle.walk.proofs.Close.{by-walk}
+use Rattle.walk.proofs.Walk.{whiles, skipping, full, free}
 use Rattle.events.specs.declared.Event.{Event}
 use Rattle.events.specs.Records.{blank}
 use Rattle.events.proofs.Rows.{val, Told}

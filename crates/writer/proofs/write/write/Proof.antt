@@ -50,9 +50,9 @@ use denote.Triple.Clauses.{ensured, lasts}
 use denote.Triple.Table.{cited}
 use denote.Triple.Walked.{says, Stays, stay-slice, stay-dropped, walkOf, goes-slice, goes-dropped, ends-at}
 use denote.Exit.{yes}
-use Rattle.walk.specs.Again.{Lends, Keeps, lends-call, back-call}
-use Rattle.walk.specs.Close.{by-walk}
-use Rattle.walk.specs.Walk.{whiles, skipping, full, free}
+use Rattle.walk.proofs.Again.{Lends, Keeps, lends-call, back-call}
+use Rattle.walk.proofs.Close.{by-walk}
+use Rattle.walk.proofs.Walk.{whiles, skipping, full, free}
 use Rattle.format.specs.Tables.{link}
 use Rattle.events.specs.declared.Event.{Event}
 use Rattle.events.specs.Records.{blank}

@@ -1,0 +1,44 @@
+-- THE THEOREMS: the three demands hold of every bounded version, and so of the link, which is the version that the contracts of the code name. Their statements are
+-- specs/Demands.
+use Rattle.format.specs.Tables.{Version, link}
+use Rattle.theorems.specs.Bounded.{Bounded}
+use Rattle.theorems.specs.Demands.{Demand1, Demand2, Demand3}
+use Rattle.theorems.proofs.Document.{link-bounded}
+use Rattle.theorems.proofs.Demands.{wrote-same-tables}
+use Rattle.theorems.proofs.Calls.{whatever-stood, words-whatever-stood}
+use Rattle.theorems.proofs.WriterCalls.{write-whatever-stood, written-whatever-stood}
+use Rattle.theorems.proofs.DemandOne.{check-answers, read-answers, read-words-answer, write-answers, write-words-answer}
+use Rattle.theorems.proofs.DemandTwo.{write-exactly}
+use Rattle.theorems.proofs.DemandThree.{read-exactly}
+use Rattle.theorems.proofs.DemandWords.{read-words-exactly, write-words-exactly, check-exactly}
+
+module _ (ver : Version) (ok : Bounded ver) where
+  pub demand-1 : Demand1 ver
+  demand-1 =
+      record {
+        check = check-answers ver ok;
+        read = read-answers ver ok;
+        read-words = read-words-answer ver ok;
+        write = write-answers ver ok;
+        write-words = write-words-answer ver ok;
+        read-again = whatever-stood ver;
+        read-words-again = words-whatever-stood ver;
+        write-again = write-whatever-stood ver;
+        write-words-again = written-whatever-stood ver;
+      }
+
+  pub demand-2 : Demand2 ver
+  demand-2 = record { write = write-exactly ver ok; write-words = write-words-exactly ver ok; same-tables = wrote-same-tables ver ok }
+
+  pub demand-3 : Demand3 ver
+  demand-3 = record { read = read-exactly ver ok; read-words = read-words-exactly ver ok; check = check-exactly ver ok }
+
+-- Of the link.
+pub link-demand-1 : Demand1 link
+link-demand-1 = demand-1 link link-bounded
+
+pub link-demand-2 : Demand2 link
+link-demand-2 = demand-2 link link-bounded
+
+pub link-demand-3 : Demand3 link
+link-demand-3 = demand-3 link link-bounded
