@@ -29,8 +29,8 @@
 
    A length counts items of its pointer: octets_len, text_len and out_len count octets;
    records_len, tables_len and counts_len count words of 32 bits. Places count octets from 0.
-   The names SIZE, TRUNCATED and so on are those of the requirements; docs/DECISIONS.md says what
-   each covers. */
+   The names SIZE, TRUNCATED and so on are those of the requirements; docs/REQUIREMENTS.md says
+   what each covers. */
 #ifndef LOMPHACHIT_H
 #define LOMPHACHIT_H
 
@@ -181,8 +181,8 @@ uint64_t lomphachit_read(const uint8_t *octets, size_t octets_len,
    list stops too soon or the last end has no room.
 
    Promised:
-   - Where it accepts, X.891's rules write these octets from these events, and lomphachit_read gives
-     back the same events and tables.
+   - It accepts every list that none of the refusals below is due for. X.891's rules write these
+     octets from these events, and lomphachit_read gives back the same events and tables.
    - Every octet and word lent is determined. On acceptance: the document, the tables' rows (places
      in the text area) and their counts, and 0 beyond the part used. On a refusal: 0 in all out_len
      octets and all tables_len and counts_len words.

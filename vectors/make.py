@@ -1,7 +1,7 @@
 #!/usr/bin/env python3
 """Makes events.tsv and boundary.tsv beside this script; see README.md.
 
-The first part is an oracle: a reader by document 01 that shares no code with
+The first part is an oracle: a reader by the requirements that shares no code with
 the project.  It is held against every vector beside it that says how a
 document is read; nothing is made where it disagrees.
 

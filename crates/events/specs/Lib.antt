@@ -1,3 +1,4 @@
+-- Event records. Read Records, then WellMade, Words and FromWords.
 pub mod FromWords
 pub mod Records
 pub mod WellMade

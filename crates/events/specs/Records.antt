@@ -43,7 +43,7 @@ abbrev pub optionalEventString : Option Located → EventString
 optionalEventString none = Absent
 optionalEventString (some x) = eventString x
 
--- Which string a record's text says; what one that is absent gives does not matter, but where it may be absent.
+-- The located string of a record's string. `locatedOf` is used only where the string cannot be absent, so its answer for Absent does not matter.
 abbrev pub locatedOf : EventString → Located
 locatedOf Absent = empty
 locatedOf Empty = empty

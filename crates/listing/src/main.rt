@@ -2,6 +2,7 @@
 // A program: it prints what the reader found, and decides nothing.
 use libc::STDIN_FILENO;
 use libc::STDOUT_FILENO;
+use tables::Counts;
 ghost use Prim.Native.Nat.{_≤_};
 
 // Words of an event record.
@@ -184,7 +185,7 @@ fn main() {
     // One octet more than a document may have, so that a longer one is seen to be longer; 512 event records.
     let mut s = [0u8; 16385];
     let mut records = [0u32; 6656];
-    let mut tables = [0u32; 7680];
+    let mut tables = [0u32; Counts::WORDS];
     let mut counts = [0u32; 10];
     let mut out = io::buffer();
     let n = io::read_full(STDIN_FILENO, &mut s);

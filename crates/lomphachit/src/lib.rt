@@ -1,5 +1,5 @@
 // The C boundary: any octets, and words that the caller lends. A slice is a pointer and a length.
-// May depend on all below it.
+// May depend on all crates but listing, writing and theorems.
 ghost use mathlib.Core.Path.{_≡_};
 ghost use lib.ListN.{length};
 ghost use Rattle.format.specs.Tables.{link};
@@ -16,8 +16,8 @@ pub extern "C" fn lomphachit_check(octets: &[u8]) -> u32
     reader::check(octets)
 }
 
-// The events, tables and counts of a document into lent words; the answer has the event count above its low 32 bits, and in them what the check says of so
-// much room.
+// The events, tables and counts of a document into lent words; the answer has the event count above its low 32 bits, and in them 0,
+// or the place times 32 plus the refusal's number.
 // Wrong would be: on a refusal, a word that is left of an event before the fault; on acceptance, a word behind the last event that stood there before the call.
 #[no_mangle]
 pub extern "C" fn lomphachit_read(

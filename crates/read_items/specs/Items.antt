@@ -20,7 +20,7 @@ pub record Stand : Type 0 where
   pub at : ℕ
   pub state : State Located
 
--- A step's answer: an event, its choices and its place (the requirements, "ROOM for an event"); an end that is no event; the document's end; a refusal.
+-- A step's answer: an event, its choices and its place (the requirements, "Room for an event"); an end that is no event; the document's end; a refusal.
 pub data Step : Type 0 where
   more : (place : ℕ) → Item Located → Stand → Step
   quiet : Stand → Step

@@ -202,7 +202,7 @@ fn number(a: Answer) -> u32
 pub fn check(octets: &[u8]) -> u32
     ensures { λ r. ⌜ r ≡ checkOf link (now (octets .entry)) ⌝ }
 {
-    let mut t = [0u32; 7680];
+    let mut t = [0u32; Counts::WORDS];
     let mut none = [0u32; 0];
     number(reading(octets, &mut t, &mut none, CHECKED))
 }

@@ -8,7 +8,7 @@ ghost use lib.ListN.{length, getD, replicate};
 ghost use Rattle.format.specs.Tables.{link, same, sameTriple};
 ghost use Rattle.tables.specs.Located.{stretch, octetsOf, start};
 ghost use Rattle.tables.specs.Weights.{weight, Small};
-ghost use Rattle.tables.specs.Counts.{countsOf};
+ghost use Rattle.tables.specs.Counts.{countsOf, tableWords};
 ghost use Rattle.tables.specs.Rows.{tableOf, builtIn, stringAt, tripleAt, entries};
 ghost use Rattle.tables.specs.Search.{numberIn, numberOfTriple};
 ghost use Rattle.tables.specs.Kept.{listed, countOf, oneMore, rowAt, stored, Ends, Inside};
@@ -130,7 +130,7 @@ fn at(table: usize, i: u32) -> usize
 
 // Entry i of a table, from 0.
 pub fn entry(t: &[u32], table: usize, i: u32) -> Row
-    requires { ⌜ (length (now t) ≡ 7680) × (table < 10) × (i < 256) ⌝ }
+    requires { ⌜ (length (now t) ≡ tableWords) × (table < 10) × (i < 256) ⌝ }
     ensures { λ r. ⌜ r ≡ rowAt (now (t .entry)) (768 * table + 3 * i) ⌝ }
 {
     let j = at(table, i);
@@ -143,7 +143,7 @@ pub fn entry(t: &[u32], table: usize, i: u32) -> Row
 
 // One entry more behind a table's n.
 pub fn add(t: &mut [u32], table: usize, n: u32, a: u32, b: u32, c: u32)
-    requires { ⌜ (length (now t) ≡ 7680) × (table < 10) × (n < 256) ⌝ }
+    requires { ⌜ (length (now t) ≡ tableWords) × (table < 10) × (n < 256) ⌝ }
     ensures { λ _. ⌜ now (t .exit) ≡ stored (now (t .entry)) table n a b c ⌝ }
 {
     let j = at(table, n);
@@ -248,7 +248,7 @@ fn is_built_in(s: &[u8], table: usize, place: usize, len: usize) -> bool
 
 // Whether entry i of a table, from 0, is the string of s at place. The length of a built-in entry is 0.
 fn is_string(s: &[u8], t: &[u32], table: usize, i: u32, place: usize, len: usize) -> bool
-    requires { ⌜ (length (now t) ≡ 7680) × (table < 8) × (i < 256) × (place + len ≤ length (now s)) × Ends (now s) (stringAt (tableOf table) (now t) (768 * table + 3 * i)) ⌝ }
+    requires { ⌜ (length (now t) ≡ tableWords) × (table < 8) × (i < 256) × (place + len ≤ length (now s)) × Ends (now s) (stringAt (tableOf table) (now t) (768 * table + 3 * i)) ⌝ }
     ensures { λ r. ⌜ r ≡ same (octetsOf (now (s .entry)) (stringAt (tableOf table) (now (t .entry)) (768 * table + 3 * i))) (octetsOf (now (s .entry)) (stretch place len)) ⌝ }
 {
     let e = entry(t, table, i);
@@ -260,7 +260,7 @@ fn is_string(s: &[u8], t: &[u32], table: usize, i: u32, place: usize, len: usize
 
 // The lowest number of a table's first n entries that is the string of s at place, whatever an entry may be; 0 if none is.
 fn find_any(s: &[u8], t: &[u32], table: usize, n: u32, place: usize, len: usize) -> u32
-    requires { ⌜ (length (now t) ≡ 7680) × (table < 8) × (n ≤ 256) × (place + len ≤ length (now s)) × Inside (now s) (entries (stringAt (tableOf table) (now t)) (768 * table) n) ⌝ }
+    requires { ⌜ (length (now t) ≡ tableWords) × (table < 8) × (n ≤ 256) × (place + len ≤ length (now s)) × Inside (now s) (entries (stringAt (tableOf table) (now t)) (768 * table) n) ⌝ }
     ensures { λ r. ⌜ r ≡ numberIn (map (octetsOf (now (s .entry))) (entries (stringAt (tableOf table) (now (t .entry))) (768 * table) n)) (octetsOf (now (s .entry)) (stretch place len)) ⌝ }
 {
     let mut i = 0;
@@ -275,7 +275,7 @@ fn find_any(s: &[u8], t: &[u32], table: usize, n: u32, place: usize, len: usize)
 
 // Whether the row at word j has the octets of s at place, of which `last` is the last. A built-in entry has no length, so it is none of these.
 fn is_spelled(s: &[u8], t: &[u32], j: usize, place: usize, len: usize, last: u8) -> bool
-    requires { ⌜ (length (now t) ≡ 7680) × (j + 3 ≤ 7680) × (1 ≤ len) × (place + len ≤ length (now s)) × (last ≡ getD (now s) (place + (len - 1)) 0) × ((getD (now t) (j + 1) 0 ≡ 0 → ⊥) → getD (now t) j 0 + getD (now t) (j + 1) 0 ≤ length (now s)) ⌝ }
+    requires { ⌜ (length (now t) ≡ tableWords) × (j + 3 ≤ tableWords) × (1 ≤ len) × (place + len ≤ length (now s)) × (last ≡ getD (now s) (place + (len - 1)) 0) × ((getD (now t) (j + 1) 0 ≡ 0 → ⊥) → getD (now t) j 0 + getD (now t) (j + 1) 0 ≤ length (now s)) ⌝ }
     ensures { λ r. ⌜ r ≡ same (octetsOf (now (s .entry)) (stretch (getD (now (t .entry)) j 0) (getD (now (t .entry)) (j + 1) 0))) (octetsOf (now (s .entry)) (stretch place len)) ⌝ }
 {
     if wide(t[j + 1]) != len {
@@ -291,7 +291,7 @@ fn is_spelled(s: &[u8], t: &[u32], j: usize, place: usize, len: usize, last: u8)
 // The same as `find_any`, for a string that has octets and is not built in. Full tables are searched here, so the loop is kept short: most rows differ in
 // their length or in the last octet.
 fn find_spelled(s: &[u8], t: &[u32], table: usize, n: u32, place: usize, len: usize) -> u32
-    requires { ⌜ (length (now t) ≡ 7680) × (table < 8) × (n ≤ 256) × (1 ≤ len) × (place + len ≤ length (now s)) × Inside (now s) (entries (stringAt (tableOf table) (now t)) (768 * table) n) × (same (octetsOf (now s) (builtIn (tableOf table))) (octetsOf (now s) (stretch place len)) ≡ false) ⌝ }
+    requires { ⌜ (length (now t) ≡ tableWords) × (table < 8) × (n ≤ 256) × (1 ≤ len) × (place + len ≤ length (now s)) × Inside (now s) (entries (stringAt (tableOf table) (now t)) (768 * table) n) × (same (octetsOf (now s) (builtIn (tableOf table))) (octetsOf (now s) (stretch place len)) ≡ false) ⌝ }
     ensures { λ r. ⌜ r ≡ numberIn (map (octetsOf (now (s .entry))) (entries (stringAt (tableOf table) (now (t .entry))) (768 * table) n)) (octetsOf (now (s .entry)) (stretch place len)) ⌝ }
 {
     let last = s[place + (len - 1)];
@@ -309,7 +309,7 @@ fn find_spelled(s: &[u8], t: &[u32], table: usize, n: u32, place: usize, len: us
 
 // The lowest number of a table's first n entries that is the string of s at place; 0 if none is.
 pub fn find(s: &[u8], t: &[u32], table: usize, n: u32, place: usize, len: usize) -> u32
-    requires { ⌜ (length (now t) ≡ 7680) × (table < 8) × (n ≤ 256) × (place + len ≤ length (now s)) × Inside (now s) (entries (stringAt (tableOf table) (now t)) (768 * table) n) ⌝ }
+    requires { ⌜ (length (now t) ≡ tableWords) × (table < 8) × (n ≤ 256) × (place + len ≤ length (now s)) × Inside (now s) (entries (stringAt (tableOf table) (now t)) (768 * table) n) ⌝ }
     ensures { λ r. ⌜ r ≡ numberIn (map (octetsOf (now (s .entry))) (entries (stringAt (tableOf table) (now (t .entry))) (768 * table) n)) (octetsOf (now (s .entry)) (stretch place len)) ⌝ }
 {
     if len == 0 {
@@ -323,7 +323,7 @@ pub fn find(s: &[u8], t: &[u32], table: usize, n: u32, place: usize, len: usize)
 
 // Whether the row at word j is the name with these numbers. Most names of a document have the same prefix and namespace.
 fn is_name(t: &[u32], j: usize, prefix: u32, namespace: u32, local: u32) -> bool
-    requires { ⌜ (length (now t) ≡ 7680) × (j + 3 ≤ 7680) ⌝ }
+    requires { ⌜ (length (now t) ≡ tableWords) × (j + 3 ≤ tableWords) ⌝ }
     ensures { λ r. ⌜ r ≡ sameTriple (tripleAt (now (t .entry)) j) (record { prefix = prefix; namespace = namespace; local = local }) ⌝ }
 {
     if t[j + 2] != local {
@@ -337,7 +337,7 @@ fn is_name(t: &[u32], j: usize, prefix: u32, namespace: u32, local: u32) -> bool
 
 // The lowest number of a table's first n entries that is the name with these numbers; 0 if none is.
 pub fn find_name(t: &[u32], table: usize, n: u32, prefix: u32, namespace: u32, local: u32) -> u32
-    requires { ⌜ (length (now t) ≡ 7680) × (table < 10) × (n ≤ 256) ⌝ }
+    requires { ⌜ (length (now t) ≡ tableWords) × (table < 10) × (n ≤ 256) ⌝ }
     ensures { λ r. ⌜ r ≡ numberOfTriple (entries (tripleAt (now (t .entry))) (768 * table) n) (record { prefix = prefix; namespace = namespace; local = local }) ⌝ }
 {
     let mut j = 768 * table;

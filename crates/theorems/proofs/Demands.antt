@@ -1,4 +1,4 @@
--- THE THEOREMS OF THE DEFINITIONS, for every list s of octets; DemandOne, DemandTwo and DemandThree beside this file are the three demands of the calls. The rules of writing (crate format) know no reader; the reading definition (crates names, steps,
+-- THE THEOREMS OF THE DEFINITIONS, for every list s of octets; the three demands of the calls are Theorems, beside this file. The rules of writing (crate format) know no reader; the reading definition (crates read_names, read_items,
 -- reader) is what the code is held to. Here the two meet. Each proof is a line or two; the files beside this one have what it rests on.
 use Prim.Native.Nat.{ℕ, _+_, _-_, _*_, _/_, _%_, _≤_, _<_}
 use mathlib.Core.Path.{_≡_, sym, ap, _∙_, subst, subst₂}

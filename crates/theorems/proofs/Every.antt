@@ -87,7 +87,7 @@ sayable [] a b = tt
 sayable (e ∷ es) a b = (said e (a .0) (by-kind Short e (b .0)), sayable es (a .1) (b .1))
 
 module _ (ver : Version) (items : List (Item Octets)) {w : Vocabulary Octets} (doc : IsDocument (events items)) (allowed : All Allowed (events items)) (short : All (λ e. All Short (stringsOf e)) (events items)) (may : PermitsAll (started ver) items w) where
-  -- within the limits of M
+  -- within the limits of another version
   from-start : (M : Version) → M .entries ≤ top → deepest 0 (events items) ≤ M .depth → InLimits M w → CanWrite M (2 * length (header ver)) (beginning (started ver)) items w
   unfolding beginning
   from-start M small shallow i =

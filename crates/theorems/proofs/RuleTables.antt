@@ -1,4 +1,4 @@
--- Where the rules write the required choices, their tables are the ones that the required choices leave: a choice says what is added. No limit is asked for, so the limits of the choices, C, and of the rules, ver, may be any.
+-- Where the rules write the required choices, their tables are the ones that the required choices leave: a choice says what is added. No limit is asked for, so the version of the choices and that of the rules may be any two.
 use Prim.Native.Nat.{ℕ}
 use mathlib.Core.Path.{_≡_, refl, ap, _∙_}
 use mathlib.Core.Option.{Option}

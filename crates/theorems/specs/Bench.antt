@@ -1,4 +1,4 @@
--- The bench (the requirements, "Documents on the bench"): each case marked M and the readings that look right and are not, in one list. That each is found as it is wanted is proofs/Bench.
+-- The bench (the requirements, "Documents on the bench"): the cases of its first two tables, and two chunks that are not joined, in one list. That each is found as it is wanted is proofs/Bench.
 use Prim.Native.Nat.{ℕ}
 use mathlib.Core.Option.{none, some}
 use mathlib.Core.List.{List, [], _∷_, _++_, map}
@@ -38,7 +38,7 @@ abbrev pub wants : Case → Found
 wants (document s es v) = found es v s v
 wants (refused s n p) = number n p
 
--- Words of the cases.
+-- Strings of the cases.
 abbrev a : Octets
 a = 0x61 ∷ []
 

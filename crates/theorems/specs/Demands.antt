@@ -119,7 +119,7 @@ pub record LeavesWritten (ver : Version) (es : List Event) (text : Octets) (room
   pub chosen : map (plain text) items ≡ itemsOf ver (plains text es)
   pub strings-made : (t : StringTable) → strings tables t ≡ strings (after (starting ver builtInPrefix builtInNamespace) (acts items)) t
 
--- The requirements refuse them so.
+-- The requirements refuse these records with this number at this place.
 pub data RefusedBy (ver : Version) (es : List Event) (text : Octets) (room table : ℕ) : (number place : ℕ) → Type 0 where
   text-too-long : ver .octets < length text → RefusedBy ver es text room table SIZE 0
   wrong-table-room : length text ≤ ver .octets → (table ≡ tableWords → ⊥) → RefusedBy ver es text room table ROOM 0
@@ -136,7 +136,7 @@ pub record WritesExactly (ver : Version) (es : List Event) (text : Octets) (room
   -- each refusal, its number and its place, is the requirements'
   pub refuses : (n p : ℕ) → (o .told ≡ toldRefused n p) ↔ RefusedBy ver es text room table n p
 
--- In words: what the row call would leave, and r % 13 words of 0 behind its records.
+-- What lomphachit_read leaves in 32-bit words: the outcome o of reading into a row of records, and 0 in the r % 13 words behind the last whole record.
 pub record InReadWords (r : ℕ) (o : Read.Outcome) (w : ReadWords.WordsLeft) : Type 0 where
   pub answer : w .answer ≡ wholeWord (o .told)
   pub records : w .records ≡ rowWords (o .row) ++ replicate (r % 13) 0
@@ -149,7 +149,7 @@ pub record InWriteWords (o : Write.Outcome) (w : WriteWords.WordsLeft) : Type 0 
   pub tables : w .tables ≡ o .tables
   pub counts : w .counts ≡ o .told .counts
 
--- What the word calls owe: the same, in words, with 10 words for the counts.
+-- What lomphachit_read and lomphachit_write owe: the same in 32-bit words. r, t and c are the words lent for records (writer: the octets of output), tables and counts.
 pub record ReadsExactlyInWords (ver : Version) (s : Octets) (r t c : ℕ) (w : ReadWords.WordsLeft) : Type 0 where
   -- what the rules write is accepted, if there are 13 words for each event and the right room for tables and counts, and this is handed out
   pub accepts : (items : List (Item Octets)) (z : State Octets) (u : Document ver items z s) → length items ≤ r / 13 → t ≡ tableWords → c ≡ 10
@@ -157,7 +157,7 @@ pub record ReadsExactlyInWords (ver : Version) (s : Octets) (r t c : ℕ) (w : R
   -- and nothing else is accepted
   pub only : w .answer % 2 ^ 32 ≡ 0 → (items : List (Item Octets)) × (z : State Octets) × Document ver items z s × (length items ≤ r / 13) × (t ≡ tableWords) × (c ≡ 10)
 
--- The requirements refuse so the records of words: SIZE, then the room of the counts, then as they refuse the records.
+-- The requirements refuse records given as words with this number at this place: SIZE first, then the room of the counts, then as RefusedBy.
 pub data WordsRefusedBy (ver : Version) (es : List Event) (text : Octets) (r t c : ℕ) : (number place : ℕ) → Type 0 where
   text-too-long : ver .octets < length text → WordsRefusedBy ver es text r t c SIZE 0
   wrong-count-room : length text ≤ ver .octets → (c ≡ 10 → ⊥) → WordsRefusedBy ver es text r t c ROOM 0

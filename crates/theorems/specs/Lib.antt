@@ -1,3 +1,4 @@
+-- The statements of the theorems. Read Demands, with Verdicts, Places and Permitted for the terms that it uses; Bounded says of which versions they hold, Bench has cases.
 pub mod Bounded
 pub mod Bench
 pub mod Verdicts

@@ -2,6 +2,7 @@
 // refusal, or which line is not so. A program: it puts lines into records and strings into a text area, and decides nothing about documents.
 use libc::STDIN_FILENO;
 use libc::STDOUT_FILENO;
+use tables::Counts;
 ghost use Prim.Native.Nat.{_≤_};
 
 // Words of an event record.
@@ -497,7 +498,7 @@ fn put_answer(out: &[u8], answer: u64) {
 
 fn put_document(line: Line, text: &[u8], records: &[u32]) {
     let mut out = [0u8; 16384];
-    let mut tables = [0u32; 7680];
+    let mut tables = [0u32; Counts::WORDS];
     let mut counts = [0u32; 10];
     let r = least(line.from, records.len());
     let t = least(least(line.fill, LENT), text.len());
