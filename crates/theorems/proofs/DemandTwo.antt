@@ -3,7 +3,7 @@ use Prim.Native.Nat.{ℕ, _+_, _-_, _≤_, _<_}
 use mathlib.Core.Path.{_≡_, refl, sym, ap, _∙_, subst}
 use mathlib.Core.Logic.{_↔_}
 use mathlib.Core.Bool.{Bool, true, false}
-use mathlib.Core.List.{List, [], _∷_, _++_}
+use mathlib.Core.List.{List, [], _∷_, _++_, map}
 use native.Mathlib.Omega.{arith}
 use borrow.Author.Tests.{leb-true, leb-false, le-leb, lt-leb, eqb-true, eq-eqb, ne-eqb}
 use lib.Dec.{eqb, leb}
@@ -21,13 +21,14 @@ use Rattle.tables.specs.Counts.{tableWords}
 use Rattle.tables.specs.Told.{Told, toldAccepted, toldRefused, entriesOf}
 use Rattle.events.specs.declared.Event.{Event}
 use Rattle.events.specs.WellMade.{WellMade}
-use Rattle.writer.specs.Writing.{Result, written, refusal, joined, writing, Outcome, refusing, outcome, writeOf}
+use Rattle.reader.specs.Reading.{Mark, marks}
+use Rattle.writer.specs.Writing.{Result, written, refusal, joined, writing, Outcome, refusing, outcome, writeOf, knownWriting}
 use Rattle.theorems.specs.Bounded.{Bounded}
 use Rattle.theorems.specs.Verdicts.{plainOf, plains, itemsOf, Fault, not-an-event, not-text, too-deep, too-many, no-room, Refused, at-event, too-soon, no-room-for-end}
 use Rattle.theorems.specs.Demands.{Acceptable, Wrote, LeavesWritten, RefusedBy, text-too-long, wrong-table-room, at-events, WritesExactly}
 use Rattle.tables.proofs.Found.{clash}
 use Rattle.theorems.proofs.Words.{entries-map}
-use Rattle.theorems.proofs.Demands.{the-events-given}
+use Rattle.theorems.proofs.Demands.{the-events-given, wrote-same-tables}
 use Rattle.theorems.proofs.DemandThree as Three
 use Rattle.theorems.proofs.Entries.{chosen-events}
 use Rattle.theorems.proofs.WriterDocument.{meant, refused-by}
@@ -129,6 +130,12 @@ module _ (ver : Version) (ok : Bounded ver) (es : List Event) (text : Octets) (r
     told-refused (text-too-long h) = rw (lt-leb (length text) (ver .octets) h)
     told-refused (wrong-table-room h no-words) = rw (le-leb (length text) (ver .octets) h, ne-eqb table tableWords no-words)
     told-refused (at-events {n = n} {p = p} h right r) = rw (le-leb (length text) (ver .octets) h, eq-eqb table tableWords right, refuses-it ver ok text h room es n p r)
+
+  --     And the reader's tables after each event are the writer's.
+  pub tables-same : (table : ℕ) (s : Octets) (z : State Octets) → Acceptable ver es text room table s z
+      → (map (λ (k : Mark). plainState s (k .stand .state)) (marks ver s) ≡ map (plainState text) (knownWriting ver text room es)) × (length (knownWriting ver text room es) ≡ length es)
+  tables-same table s z a =
+      wrote-same-tables ver ok es text room s z (a .text-size) (writes-it ver ok text room es (a .well-made) z s (a .writes) (a .fits) (a .text-size))
 
   -- OF THE CALL.
   pub write-exactly : (table : ℕ) → WritesExactly ver es text room table (writeOf ver es text room table)

@@ -10,8 +10,8 @@ use Rattle.format.specs.Octets.{Octets, Halves, AreOctets}
 use Rattle.format.specs.Numbers.{top, longest}
 use Rattle.format.specs.Characters.{IsText}
 use Rattle.format.specs.Events as E
-use Rattle.format.specs.Events.{Item, IsDocument, stringsOf}
-use Rattle.format.specs.Tables.{Vocabulary, starting, xmlPrefix, xmlNamespace, Version, link, standard}
+use Rattle.format.specs.Events.{Item, IsDocument, stringsOf, deepest}
+use Rattle.format.specs.Tables.{Vocabulary, starting, xmlPrefix, xmlNamespace, Version, link, standard, InLimits}
 use Rattle.format.specs.Items.{State}
 use Rattle.format.specs.Document.{beginning, knownAfter, Document, header, started}
 use Rattle.format.specs.Uses.{acts, after, Known, Holds}
@@ -26,7 +26,7 @@ use Rattle.events.specs.WellMade.{WellMade}
 use Rattle.writer.specs.Writing.{written, joined, writing, knownWriting}
 use Rattle.theorems.specs.Bounded.{Bounded}
 use Rattle.theorems.specs.Places.{allSpelled, spelledIn}
-use Rattle.theorems.specs.Verdicts.{WrittenAs, WrittenWidely, OrPasses}
+use Rattle.theorems.specs.Verdicts.{WrittenAs, WrittenUnlessLong, WrittenWidely, OrPasses}
 use Rattle.theorems.specs.Demands.{Wrote}
 use Rattle.theorems.specs.Permitted.{PermitsAll}
 use Rattle.theorems.proofs.Document as Whole
@@ -182,6 +182,11 @@ module _ (ver : Version) (items : List (Item Octets)) (w : Vocabulary Octets) wh
       → PermitsAll (started ver) items w → WrittenAs ver items w
   every-choice doc may short few permits = Every.every-choice ver items doc may short permits few
 
+  --     Within the version's own limits too, unless there are too many octets: so they are not narrowed on the link alone.
+  pub every-choice-within : Bounded ver → IsDocument es → All Allowed es → All (λ (e : E.Event Octets). All (λ (x : Octets). length x ≤ longest) (stringsOf e)) es → PermitsAll (started ver) items w
+      → deepest 0 es ≤ ver .depth → InLimits ver w → WrittenUnlessLong ver items w
+  every-choice-within ok doc may short permits shallow i = Every.every-choice-within ver items doc may short permits (ok .few-entries) shallow i
+
 --     And no other choices: what the rules write is permitted, and leaves those tables.
 pub permitted : (ver : Version) (items : List (Item Octets)) (z : State Octets) (s : Octets) → Document ver items z s → PermitsAll (started ver) items (z .tables)
 unfolding beginning
@@ -220,8 +225,10 @@ module _ (ver : Version) (text : Octets) (room : ℕ) (es : List Event) (items :
     tables-for-each = Made.each-known ver ok text short room es items hs z e ∙ sym (length-map items (λ (i : Item Located). recordOf (i .event))) ∙ ap length the-events-given
 
 --     The tables, of what was written as the octets s.
-pub wrote-same-tables : (ver : Version) (ok : Bounded ver) {es : List Event} {text : Octets} {room : ℕ} {s : Octets} {z : State Octets} → length text ≤ ver .octets → Wrote ver es text room s z
-    → map (λ (k : Mark). plainState s (k .stand .state)) (marks ver s) ≡ map (plainState text) (knownWriting ver text room es)
-wrote-same-tables ver ok {es} {text} {room} short w =
-    subst (λ (s : Octets). map (λ (k : Mark). plainState s (k .stand .state)) (marks ver s) ≡ map (plainState text) (knownWriting ver text room es)) (w .octets)
-    (same-tables ver text room es (w .items) (w .halves) (w .last) (w .is) ok short)
+pub wrote-same-tables : (ver : Version) (ok : Bounded ver) (es : List Event) (text : Octets) (room : ℕ) (s : Octets) (z : State Octets) → length text ≤ ver .octets → Wrote ver es text room s z
+    → (map (λ (k : Mark). plainState s (k .stand .state)) (marks ver s) ≡ map (plainState text) (knownWriting ver text room es)) × (length (knownWriting ver text room es) ≡ length es)
+wrote-same-tables ver ok es text room s z short w = (
+  subst (λ (o : Octets). map (λ (k : Mark). plainState o (k .stand .state)) (marks ver o) ≡ map (plainState text) (knownWriting ver text room es)) (w .octets)
+      (same-tables ver text room es (w .items) (w .halves) (w .last) (w .is) ok short),
+  tables-for-each ver text room es (w .items) (w .halves) (w .last) (w .is) ok short,
+)

@@ -18,7 +18,7 @@ use Rattle.format.specs.Allowed.{All, Allowed}
 use Rattle.write_names.specs.Chosen.{chosen, tablesAfter}
 use Rattle.writer.specs.Writing.{opens, joined}
 use Rattle.fields.proofs.Laws.{case}
-use Rattle.theorems.specs.Verdicts.{WrittenAs, WrittenWidely, OrPasses, within-limits, over-depth, over-entries, over-octets}
+use Rattle.theorems.specs.Verdicts.{WrittenAs, WrittenWidely, OrPasses, within-limits, over-depth, over-entries, over-octets, WrittenUnlessLong}
 use Rattle.theorems.specs.Permitted.{Permits, PermitsAll, no-item, an-item}
 use Rattle.theorems.proofs.OneWriting.{later, one-writing, later-start, later-declared}
 use Rattle.theorems.proofs.Wider.{written}
@@ -104,6 +104,12 @@ module _ (ver : Version) (items : List (Item Octets)) {w : Vocabulary Octets} (d
         writes = λ depth size deep long. document-of (written (omega arith) (omega arith) deep (c .rule)) long;
         known = c .known;
       }
+
+  -- Within the version's own limits too.
+  pub every-choice-within : ver .entries ≤ top → deepest 0 (events items) ≤ ver .depth → InLimits ver w → WrittenUnlessLong ver items w
+  every-choice-within small shallow i =
+      let c = from-start ver small shallow i in
+      record { octets = header ver ++ joined (c .halves); last = c .last; writes = λ long. document-of (c .rule) long; known = c .known }
 
 -- So every document is, with the required choices.
 module _ (ver : Version) (es : List (Event Octets)) (doc : IsDocument es) (allowed : All Allowed es) (short : All (λ e. All Short (stringsOf e)) es) where

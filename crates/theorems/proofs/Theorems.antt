@@ -1,14 +1,14 @@
--- THE THEOREMS: the three demands hold of every bounded version, and so of the link, which is the version that the contracts of the code name. Their statements are
--- specs/Demands.
+-- THE THEOREMS: the three demands hold of every bounded version, and so of the link, which is the version that the contracts of the code name; and its rules are exact. Their
+-- statements are specs/Demands.
 use Rattle.format.specs.Tables.{Version, link}
 use Rattle.theorems.specs.Bounded.{Bounded}
-use Rattle.theorems.specs.Demands.{Demand1, Demand2, Demand3}
+use Rattle.theorems.specs.Demands.{Demand1, Demand2, Demand3, RulesExact}
 use Rattle.theorems.proofs.Document.{link-bounded}
-use Rattle.theorems.proofs.Demands.{wrote-same-tables}
+use Rattle.theorems.proofs.Demands.{a-document, allowed, permitted, one-document, every-choice-within}
 use Rattle.theorems.proofs.Calls.{whatever-stood, words-whatever-stood}
 use Rattle.theorems.proofs.WriterCalls.{write-whatever-stood, written-whatever-stood}
 use Rattle.theorems.proofs.DemandOne.{check-answers, read-answers, read-words-answer, write-answers, write-words-answer}
-use Rattle.theorems.proofs.DemandTwo.{write-exactly}
+use Rattle.theorems.proofs.DemandTwo.{write-exactly, tables-same}
 use Rattle.theorems.proofs.DemandThree.{read-exactly}
 use Rattle.theorems.proofs.DemandWords.{read-words-exactly, write-words-exactly, check-exactly}
 
@@ -28,10 +28,20 @@ module _ (ver : Version) (ok : Bounded ver) where
       }
 
   pub demand-2 : Demand2 ver
-  demand-2 = record { write = write-exactly ver ok; write-words = write-words-exactly ver ok; same-tables = wrote-same-tables ver ok }
+  demand-2 = record { write = write-exactly ver ok; write-words = write-words-exactly ver ok; same-tables = tables-same ver ok }
 
   pub demand-3 : Demand3 ver
   demand-3 = record { read = read-exactly ver ok; read-words = read-words-exactly ver ok; check = check-exactly ver ok }
+
+  pub rules-exact : RulesExact ver
+  rules-exact =
+      record {
+        a-document = a-document ver;
+        allowed = allowed ver;
+        permitted = permitted ver;
+        one-document = one-document ver;
+        every-choice = λ items w doc may short permits shallow i. every-choice-within ver items w ok doc may short permits shallow i;
+      }
 
 -- Of the link.
 pub link-demand-1 : Demand1 link
@@ -42,3 +52,6 @@ link-demand-2 = demand-2 link link-bounded
 
 pub link-demand-3 : Demand3 link
 link-demand-3 = demand-3 link link-bounded
+
+pub link-rules-exact : RulesExact link
+link-rules-exact = rules-exact link link-bounded

@@ -7,12 +7,14 @@ use mathlib.Core.List.{List, _++_, map}
 use lib.ListN.{length, replicate}
 use Rattle.format.specs.Octets.{Octets, Halves, Words, AreOctets}
 use Rattle.format.specs.Refusals.{SIZE, TEXT, FULL, DEPTH, ROOM, EVENT}
-use Rattle.format.specs.Events.{Item}
-use Rattle.format.specs.Tables.{StringTable, Vocabulary, strings, starting, Version}
+use Rattle.format.specs.Numbers.{longest}
+use Rattle.format.specs.Events as E
+use Rattle.format.specs.Events.{Item, IsDocument, stringsOf, deepest}
+use Rattle.format.specs.Tables.{StringTable, Vocabulary, strings, starting, Version, InLimits}
 use Rattle.format.specs.Items.{State}
-use Rattle.format.specs.Document.{Document, header}
+use Rattle.format.specs.Document.{Document, header, started}
 use Rattle.format.specs.Uses.{acts, after, Known, Holds}
-use Rattle.format.specs.Allowed.{All}
+use Rattle.format.specs.Allowed.{All, Allowed}
 use Rattle.tables.specs.Located.{Located, builtInPrefix, builtInNamespace, plain, plainTables, plainState}
 use Rattle.tables.specs.Counts.{tableWords, entryWords, wordsOf}
 use Rattle.tables.specs.Told.{toldAccepted, toldRefused, entriesOf, wholeWord}
@@ -28,7 +30,8 @@ use Rattle.writer.specs.declared.Answer as WriteAnswer
 use Rattle.writer.specs.Writing as Write
 use Rattle.writer.specs.Words as WriteWords
 use Rattle.theorems.specs.Places.{allSpelled, spelledIn}
-use Rattle.theorems.specs.Verdicts.{plains, itemsOf, Refused}
+use Rattle.theorems.specs.Permitted.{PermitsAll}
+use Rattle.theorems.specs.Verdicts.{plains, itemsOf, WrittenUnlessLong, Refused}
 
 -- ---- what each call owes by demand 1
 -- A number that the requirements give a reader; and one that they give a writer.
@@ -194,8 +197,20 @@ pub record Demand1 (ver : Version) : Type 0 where
 pub record Demand2 (ver : Version) : Type 0 where
   pub write : (es : List Event) (text : Octets) (room table : ℕ) → WritesExactly ver es text room table (Write.writeOf ver es text room table)
   pub write-words : (records : Words) (text : Octets) (r t c : ℕ) → WritesExactlyInWords ver (recordsOf records) text r t c (WriteWords.writeWords ver records text r t c)
-  pub same-tables : {es : List Event} {text : Octets} {room : ℕ} {s : Octets} {z : State Octets} → length text ≤ ver .octets → Wrote ver es text room s z
-      → map (λ (k : Read.Mark). plainState s (k .stand .state)) (Read.marks ver s) ≡ map (plainState text) (Write.knownWriting ver text room es)
+  pub same-tables : (es : List Event) (text : Octets) (room table : ℕ) (s : Octets) (z : State Octets) → Acceptable ver es text room table s z
+      → (map (λ (k : Read.Mark). plainState s (k .stand .state)) (Read.marks ver s) ≡ map (plainState text) (Write.knownWriting ver text room es))
+      × (length (Write.knownWriting ver text room es) ≡ length es)
+
+-- The rules themselves, on which 2 and 3 rest, are neither too wide nor too narrow. What they write is a document of allowed events with permitted choices, and they write
+-- every such list within the version's limits, with every permitted choice, as one run of octets.
+pub record RulesExact (ver : Version) : Type 0 where
+  pub a-document : (items : List (Item Octets)) (z : State Octets) (s : Octets) → Document ver items z s → IsDocument (map (λ (i : Item Octets). i .event) items)
+  pub allowed : (items : List (Item Octets)) (z : State Octets) (s : Octets) → Document ver items z s → All (λ (i : Item Octets). Allowed (i .event)) items
+  pub permitted : (items : List (Item Octets)) (z : State Octets) (s : Octets) → Document ver items z s → PermitsAll (started ver) items (z .tables)
+  pub one-document : (items : List (Item Octets)) (y z : State Octets) (s t : Octets) → Document ver items y s → Document ver items z t → (s ≡ t) × (y ≡ z)
+  pub every-choice : (items : List (Item Octets)) (w : Vocabulary Octets) → IsDocument (map (λ (i : Item Octets). i .event) items) → All Allowed (map (λ (i : Item Octets). i .event) items)
+      → All (λ (e : E.Event Octets). All (λ (x : Octets). length x ≤ longest) (stringsOf e)) (map (λ (i : Item Octets). i .event) items) → PermitsAll (started ver) items w
+      → deepest 0 (map (λ (i : Item Octets). i .event) items) ≤ ver .depth → InLimits ver w → WrittenUnlessLong ver items w
 
 -- 3. Octets are accepted exactly when the rules write them from some events and choices; there is one such pair, and its events are handed out.
 pub record Demand3 (ver : Version) : Type 0 where

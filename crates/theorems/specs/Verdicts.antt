@@ -37,6 +37,13 @@ pub record WrittenAs (ver : Version) (items : List (Item Octets)) (tables : Voca
   pub writes : (depth size : ℕ) → deepest 0 (map (λ (i : Item Octets). i .event) items) ≤ depth → length octets ≤ size → Document (standard ver depth size) items last octets
   pub known : last .tables ≡ tables
 
+-- The rules of a version write these items, and these are the tables then; it is a document of the version unless there are too many octets.
+pub record WrittenUnlessLong (ver : Version) (items : List (Item Octets)) (tables : Vocabulary Octets) : Type 0 where
+  pub octets : Octets
+  pub last : State Octets
+  pub writes : length octets ≤ ver .octets → Document ver items last octets
+  pub known : last .tables ≡ tables
+
 -- The rules write these events, with the required choices, as one document, however deep it is and however long: within every limit on open elements and octets that
 -- it keeps. The limit on the entries of a table is the standard's own.
 pub record WrittenWidely (ver : Version) (es : List (E.Event Octets)) : Type 0 where
