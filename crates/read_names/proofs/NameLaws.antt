@@ -10,7 +10,7 @@ use native.Mathlib.Numerals.{add-one}
 use native.Mathlib.Decide.{decLt}
 use borrow.Author.Tests.{lt-ltb, le-ltb, le-leb, lt-leb, eq-eqb, ne-eqb, leb-true}
 use lib.Dec.{eqb, ltb, leb}
-use lib.ListN.{length, getD, take, drop, length-append}
+use lib.ListN.{length, getD, length-append}
 use Rattle.format.specs.Numbers.{pick, Form, numbers, c25, lengths, top}
 use Rattle.fields.specs.Utf8.{isText}
 use Rattle.format.specs.Tables.{StringTable, PREFIX, NAMESPACE-NAME, LOCAL-NAME}
@@ -246,7 +246,7 @@ module _ (s : List ℕ) (t : StringTable) (k : ℕ) (v : Vocabulary Located) whe
       tests P (ltb (getD s k 0) 0x80) _ _
       (λ o. numbered P (fieldAt (lengths 2) noTop 2 s k) _
       (λ n c e. tests P (leb (c .at + n) (length s)) _ _
-      (λ a. tests P (isText (take n (drop (c .at) s))) _ _
+      (λ a. tests P (isText (octetsOf s (stretch (c .at) n))) _ _
       (λ b. tests P (holds (map (octetsOf s) (strings v t)) (octetsOf s (stretch (c .at) n))) _ _ (λ h. tt)
       (λ h. tests P (ltb (length (strings v t)) (link .entries)) _ _ (λ r. let g = new-placed (stretch (c .at) n) in (omega arith, g .0, g .1)) (λ r. tt)))
       (λ b. tt))

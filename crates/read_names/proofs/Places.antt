@@ -7,7 +7,7 @@ use Prim.Native.Nat.{ℕ, suc, _+_, _-_, _^_, _≤_, _<_}
 use native.Mathlib.Omega.{arith}
 use borrow.Author.Tests.{ltb-true, leb-true, eqb-true}
 use lib.Dec.{eqb, ltb, leb}
-use lib.ListN.{length, getD, take, drop}
+use lib.ListN.{length, getD}
 use Rattle.format.specs.Numbers.{Form, lengths, c25, top}
 use Rattle.fields.specs.Utf8.{isText}
 use Rattle.format.specs.Tables.{StringTable, PREFIX, NAMESPACE-NAME, LOCAL-NAME, Vocabulary, strings, holds, names, holdsName, Version}
@@ -48,7 +48,7 @@ module _ (s : List ℕ) where
   spelling-within : {C : Type 0} (k next n : ℕ) (a : Got C) → k ≤ length s → (next + n ≤ length s → Within a) → Within (spelling s k next n a)
   unfolding spelling
   spelling-within k next n a h f =
-      tests Within (leb (next + n) (length s)) _ _ (λ e. tests Within (isText (take n (drop next s))) _ _ (λ _. f (leb-true _ _ e)) (λ _. omega arith)) (λ _. omega arith)
+      tests Within (leb (next + n) (length s)) _ _ (λ e. tests Within (isText (octetsOf s (stretch next n))) _ _ (λ _. f (leb-true _ _ e)) (λ _. omega arith)) (λ _. omega arith)
 
   module _ (ver : Version) where
     pub id-within : (t : StringTable) (k : ℕ) (v : Vocabulary Located) → k ≤ length s → Within (idAt ver s t k v)

@@ -28,6 +28,7 @@ use Rattle.tables.specs.Located.{Located, empty, stretch, octetsOf}
 use Rattle.tables.specs.Search.{numberIn}
 use Rattle.tables.specs.Rows.{tableOf, builtIn, stringAt, entries, vocabulary}
 use Rattle.tables.specs.Kept.{listed, countOf, oneMore, stored, rowAt}
+use Rattle.tables.proofs.Search.{octets-stretch}
 use Rattle.tables.proofs.Adding.{names-adding}
 use Rattle.tables.proofs.Laws.{strings-are, length-strings, string-nth, counted-more, string-added, clean-string, holds-number, inside-string}
 use Rattle.events.specs.declared.EventString.{EventString}
@@ -58,8 +59,8 @@ module _ (s : List ℕ) (k : ℕ) (m f : Number) (is : m ≡ f) where
     stretch-past h = rw (← is, e, lt-leb _ _ h)
 
     module _ (b : Bool) (to : ℕ) (h : c .at + n ≤ length s) (is-to : to ≡ c .at + n) (q : b ≡ isText (take (to - c .at) (drop (c .at) s))) where
-      tested : b ≡ isText (take n (drop (c .at) s))
-      tested = let z : to - c .at ≡ n = omega arith in rw z at q
+      tested : b ≡ isText (octetsOf s (stretch (c .at) n))
+      tested = let z : to - c .at ≡ n = omega arith in rw (octets-stretch s (c .at) n, ← z) q
 
       pub stretch-bad : b ≡ false → NoNum 9 k ≡ stretchOf s k f
       unfolding stretchOf
@@ -192,7 +193,7 @@ unnumbered-answers s (Refused n q) w a p = (ap unnumberedSeen (p .0), p .1)
 judged : {C : Type 0} (s : List ℕ) (k : ℕ) (a : ℕ → ℕ → S.Got C) (f : Number) → number f (λ n next. spelling s k next n (a n next)) ≡ number (stretchOf s k f) a
 unfolding spelling stretchOf
 judged s k a (NoNum n p) = refl
-judged s k a (Num n c) = by (leb (c .at + n) (length s)) (isText (take n (drop (c .at) s)))
+judged s k a (Num n c) = by (leb (c .at + n) (length s)) (isText (octetsOf s (stretch (c .at) n)))
   where
     by : (t u : Bool) → pick t (pick u (a n (c .at)) (refused 9 k)) (refused 2 k) ≡ number (pick t (pick u (Num n c) (NoNum 9 k)) (NoNum 2 k)) a
     by true true = refl
@@ -211,7 +212,7 @@ module _ (s : List ℕ) (k bit : ℕ) where
   lies (Num n c) e =
       let g = field-got noTop s k (lengths bit) bit (sym e) in
       tests (Lies s) (leb (c .at + n) (length s)) _ _
-      (λ t. tests (Lies s) (isText (take n (drop (c .at) s))) _ _ (λ u. (g .0, leb-true _ _ t)) (λ u. tt))
+      (λ t. tests (Lies s) (isText (octetsOf s (stretch (c .at) n))) _ _ (λ u. (g .0, leb-true _ _ t)) (λ u. tt))
       (λ t. tt)
 
   pub stretch-lies : (n : ℕ) (c : Cursor) → Num n c ≡ stretchOf s k (fieldAt (lengths bit) noTop bit s k) → (1 ≤ n) × (c .at + n ≤ length s)

@@ -1,7 +1,7 @@
 -- Contracts of the code, not definitions to be believed. What each function that reads a part of a string answers.
 use Prim.Native.Nat.{ℕ, _+_, _-_, _*_, _≤_}
 use mathlib.Core.List.{[]}
-use lib.ListN.{length, take, drop}
+use lib.ListN.{length}
 use lib.Dec.{ltb, leb}
 use Rattle.format.specs.Octets.{Octets, Words}
 use Rattle.format.specs.Numbers.{pick}
@@ -12,6 +12,7 @@ use Rattle.fields.specs.declared.Number.{Number}
 use Rattle.fields.specs.declared.Number.the-variants.{Got as Num, Refused as NoNum}
 use Rattle.tables.specs.declared.Counts.{Counts}
 use Rattle.tables.specs.Counts.{perTable}
+use Rattle.tables.specs.Located.{stretch, octetsOf}
 use Rattle.tables.specs.Rows.{tableOf, stringAt}
 use Rattle.tables.specs.Kept.{countOf, oneMore, stored}
 use Rattle.events.specs.declared.EventString.the-variants.{Stretch}
@@ -27,7 +28,7 @@ refusalOf (NoNum n p) = Refused n p
 
 -- A string's length that was read at k, where its octets are there (2) and are text (9).
 unfoldable pub stretchOf : Octets → ℕ → Number → Number
-stretchOf s k (Num n c) = pick (leb (c .at + n) (length s)) (pick (isText (take n (drop (c .at) s))) (Num n c) (NoNum TEXT k)) (NoNum TRUNCATED k)
+stretchOf s k (Num n c) = pick (leb (c .at + n) (length s)) (pick (isText (octetsOf s (stretch (c .at) n))) (Num n c) (NoNum TEXT k)) (NoNum TRUNCATED k)
 stretchOf s k (NoNum n p) = NoNum n p
 
 -- Numbers start from 1.

@@ -3,7 +3,7 @@ use Prim.Native.Nat.{ℕ, suc, _+_, _-_, _^_}
 use mathlib.Core.Bool.{Bool, true, false, not, _||_}
 use mathlib.Core.Option.{Option, none, some}
 use mathlib.Core.List.{map}
-use lib.ListN.{length, getD, take, drop}
+use lib.ListN.{length, getD}
 use lib.Dec.{eqb, ltb, leb}
 use Rattle.format.specs.Octets.{Octets}
 use Rattle.format.specs.Numbers.{pick, lengths, c25, top}
@@ -33,7 +33,7 @@ number (NoNum n p) f = refused n p
 
 -- n octets from `next` on: they pass the end (2), are no text (9).
 unfoldable pub spelling : {C : Type 0} → Octets → ℕ → ℕ → ℕ → Got C → Got C
-spelling s k next n a = pick (leb (next + n) (length s)) (pick (isText (take n (drop next s))) a (refused TEXT k)) (refused TRUNCATED k)
+spelling s k next n a = pick (leb (next + n) (length s)) (pick (isText (octetsOf s (stretch next n))) a (refused TEXT k)) (refused TRUNCATED k)
 
 -- An identifying string: what it is, how it was written, and its number in the table.
 pub record IdRead : Type 0 where

@@ -4,7 +4,7 @@ use mathlib.Core.List.{List, _++_, append-assoc}
 use Prim.Native.Nat.{ℕ, _+_, _-_, _*_, _^_, _≤_, _<_}
 use native.Mathlib.Omega.{arith}
 use borrow.Author.Tests.{le-leb}
-use lib.ListN.{length, getD, take, drop, length-append}
+use lib.ListN.{length, getD, drop, length-append}
 use Rattle.format.specs.Octets.{Octets, Words}
 use Rattle.format.specs.Numbers.{Form, spell, sizes, longest}
 use Rattle.format.specs.Characters.{IsText}
@@ -17,9 +17,10 @@ use Rattle.fields.specs.Utf8.{isText}
 use Rattle.fields.proofs.Characters.{text-exact}
 use Rattle.fields.proofs.Forms.{rooms, Ordered}
 use Rattle.tables.specs.Located.{Located, stretch, octetsOf, plainTables}
+use Rattle.tables.proofs.Search.{length-octets}
 use Rattle.read_names.specs.Strings.{Got, got, refused, then, number, spelling}
 use Rattle.read_items.specs.Items.{Step, stop, into}
-use Rattle.theorems.proofs.Lists.{Fault, fault, test, test-le, stretch-sound, stretch-length, stretch-complete, drop-past}
+use Rattle.theorems.proofs.Lists.{Fault, fault, test, test-le, stretch-sound, stretch-complete, drop-past}
 use Rattle.theorems.proofs.Numbers.{NumRead, NumOk, num-complete, num-first}
 
 -- ---- sound
@@ -58,13 +59,13 @@ module _ (s : Octets) where
       → (Spelling (octetsOf s (stretch next n)) → drop k s ≡ withLength fs base (octetsOf s (stretch next n)) ++ drop (next + n) s
       → next + n ≡ k + length (withLength fs base (octetsOf s (stretch next n))) → next + n ≤ length s → P a)
       → P (spelling s k next n a)
-  unfolding spelling octetsOf
+  unfolding spelling
   spelling-sound short P nay fs base k n next kl r a f =
       test-le P (refused 2 k) (nay 2 k (fault s 2 k refl kl)) (next + n) (length s) _
-      λ t1. test P (refused 9 k) (nay 9 k (fault s 9 k refl kl)) (isText (take n (drop next s))) _
+      λ t1. test P (refused 9 k) (nay 9 k (fault s 9 k refl kl)) (isText (octetsOf s (stretch next n))) _
       λ t2.
-      let x : Octets = take n (drop next s) in
-      let l = stretch-length s next n t1 in
+      let x : Octets = octetsOf s (stretch next n) in
+      let l = length-octets s next n t1 in
       let i = r .is in
       let sm = r .small in
       let z : n ≡ length x = omega arith in
@@ -93,7 +94,7 @@ module _ (s : Octets) where
   pub record Spelt (fs : List Form) (bit base k : ℕ) (x : Octets) : Type 0 where
     pub next : ℕ
     pub num : fieldAt fs noTop bit s k ≡ Num (length x) (record { at = next })
-    pub text-is : take (length x) (drop next s) ≡ x
+    pub text-is : octetsOf s (stretch next (length x)) ≡ x
     pub room : next + length x ≤ length s
     pub end-is : next + length x ≡ k + length (withLength fs base x)
     pub low : base ≤ getD s k 0

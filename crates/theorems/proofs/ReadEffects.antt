@@ -7,7 +7,7 @@ use mathlib.Core.List.{List, map}
 use native.Mathlib.Omega.{arith}
 use borrow.Author.Tests.{eqb-false}
 use lib.Dec.{eqb, ltb, leb}
-use lib.ListN.{length, getD, take, drop}
+use lib.ListN.{length, getD}
 use Rattle.format.specs.Octets.{Octets}
 use Rattle.theorems.proofs.Opening.{Opened, opening-sound}
 use Rattle.format.specs.Numbers.{pick, Form, lengths, c25, top}
@@ -68,7 +68,7 @@ module _ (s : Octets) {C : Type 0} (Q : C → Vocabulary Located → Type 0) whe
 
   spelling-did : (k next n : ℕ) (a : Got C) → (next + n ≤ length s → Did Q a) → Did Q (spelling s k next n a)
   unfolding spelling
-  spelling-did k next n a f = test-le (Did Q) (refused 2 k) tt (next + n) (length s) _ λ h. test (Did Q) (refused 9 k) tt (isText (take n (drop next s))) _ λ t. f h
+  spelling-did k next n a f = test-le (Did Q) (refused 2 k) tt (next + n) (length s) _ λ h. test (Did Q) (refused 9 k) tt (isText (octetsOf s (stretch next n))) _ λ t. f h
 
 module _ (ver : Version) (s : Octets) where
   -- ---- strings

@@ -8,8 +8,7 @@ use Prim.Native.Nat.{_+_, _-_, _≤_}
 use native.Mathlib.Omega.{arith}
 use borrow.Author.Tests.{ltb-true, leb-true, lt-ltb, le-leb}
 use lib.Dec.{ltb, leb}
-use lib.ListN.{length, drop, length-take, length-drop}
-use lib.Seq.{length-take-le}
+use lib.ListN.{length}
 use Rattle.format.specs.Octets.{Octets}
 use Rattle.format.specs.Numbers.{longest}
 use Rattle.format.specs.Characters.{IsText}
@@ -30,6 +29,7 @@ use Rattle.events.specs.declared.Event.{Event}
 use Rattle.events.specs.Records.{eventString, optionalEventString as stringIfAny, recordOf, namespaceRecord, startRecord, attributeRecord, chunkRecord, commentRecord, instructionRecord}
 use Rattle.events.specs.WellMade.{IsStretch, inside, IsPrefix, no-prefix, xml-prefix, a-prefix, IsNamespace, no-namespace, xml-namespace, a-namespace, IsValue, no-octets, some-octets, IsName, WellMade, a-declaration, a-start, an-attribute, a-chunk, a-comment, an-instruction, an-end}
 use Rattle.tables.specs.Located.{Located, empty, stretch, builtInPrefix, builtInNamespace, octetsOf}
+use Rattle.tables.proofs.Search.{short-octets, length-octets}
 use Rattle.writer.specs.Events.{isAbsent, isStretch, isPrefix, isNamespace, isValue, isName, noName, wellMade, locatedOf, optionalOf, eventOf, optionalText, nameText, allText}
 use Rattle.writer.specs.Writing.{fits}
 use Rattle.tables.proofs.Found.{clash, both-true}
@@ -355,7 +355,7 @@ module _ (text : Octets) where
     short-one : (x : Located) → Short (f x)
     unfolding octetsOf xmlPrefix xmlNamespace
     short-one empty = omega arith
-    short-one (stretch p n) = let a = length-take n (drop p text) in let b = length-drop p text in omega arith
+    short-one (stretch p n) = let a = short-octets text p n in omega arith
     short-one builtInPrefix = omega arith
     short-one builtInNamespace = omega arith
 
@@ -375,11 +375,7 @@ module _ (text : Octets) where
 
   -- a record that is well made, its strings text, is an event as the requirements allow it
   stretch-said : {x : EventString} → IsStretch text x → IsText (f (locatedOf x)) → A.Said (f (locatedOf x))
-  unfolding octetsOf
-  stretch-said (inside {place = p} {size = n} h k) t =
-      let d = length-drop p text in
-      let l = length-take-le n (drop p text) (omega arith) in
-      (omega arith, t)
+  stretch-said (inside {place = p} {size = n} h k) t = let l = length-octets text p n k in (omega arith, t)
 
   prefix-said : {x : EventString} → IsPrefix text x → IfAny IsText (Option·map f (optionalOf x)) → SaidIfAny (Option·map f (optionalOf x))
   unfolding octetsOf xmlPrefix

@@ -256,7 +256,7 @@ module _ (ver : Version) (s : Octets) where
 
   pub id-complete : (t : StringTable) (k : ℕ) (v : Vocabulary Located) {x : Octets} {h : How} {n : ℕ} {o : Octets} {w : Vocabulary Octets} (rest : Octets)
       → Identifying ver t (plainTables s v) x h n o w → drop k s ≡ o ++ rest → Hit s (IdQ x h n (inField k h x o)) (k + length o) w (idAt ver s t k v)
-  unfolding idAt octetsOf roomsIn shareOf behindFirst sizes lengths c25
+  unfolding idAt roomsIn shareOf behindFirst sizes lengths c25
   id-complete t k v rest (id-spelled {x = x} sp new room) d =
       let e = spelt s (lengths 2) 2 0 0 k x rest (lengths-ordered 2 (omega arith) (omega arith)) (omega arith) (long-enough 2) refl sp d in
       let hi = e .high in
@@ -319,7 +319,7 @@ module _ (ver : Version) (s : Octets) where
       → drop k s ≡ withLength (lengths (q .lengthBit)) (q .spelledBits + q .addBit * bit added) x ++ rest
       → Hit s (StringQ x (spelled added) (inField k (spelled added) x (withLength (lengths (q .lengthBit)) (q .spelledBits + q .addBit * bit added) x))) (k + length (withLength (lengths (q .lengthBit)) (q .spelledBits + q .addBit * bit added) x)) (keeping added (plainTables s v) t x) (spelledAt ver q s t k added v)
       × Spelt s (lengths (q .lengthBit)) (q .lengthBit) (q .spelledBits + q .addBit * bit added) k x
-  unfolding spelledAt octetsOf
+  unfolding spelledAt
   spelled-complete q g t k v added x rest sp room d =
       let fs = lengths (q .lengthBit) in
       let base : ℕ = q .spelledBits + q .addBit * bit added in

@@ -15,10 +15,11 @@ use Rattle.format.specs.Strings.{withLength, Layout, c14, c15}
 use Rattle.format.specs.Names.{has, ofElement, ofAttribute}
 use Rattle.fields.specs.PutContracts.{Puts}
 use Rattle.fields.proofs.Laws.{case}
-use Rattle.fields.proofs.Puts.{puts-nothing, puts-one, puts-append, part-length}
+use Rattle.fields.proofs.Puts.{puts-nothing, puts-one, puts-append}
 use Rattle.tables.specs.declared.Counts.{Counts}
 use Rattle.tables.specs.Located.{Located, stretch, builtInPrefix, builtInNamespace, octetsOf}
 use Rattle.tables.specs.Search.{lowest, numberIn}
+use Rattle.tables.proofs.Search.{octets-stretch, length-octets}
 use Rattle.tables.specs.Rows.{tableOf, stringAt, entries, vocabulary}
 use Rattle.tables.specs.Kept.{countOf, oneMore, stored, Inside, layoutOf}
 use Rattle.tables.proofs.Laws.{strings-are, length-strings, number-within, inside-table}
@@ -150,12 +151,12 @@ held-is text t v XmlNamespace h = refl
 pub puts-spelled : (n lead : ℕ) (text : List ℕ) (place size : ℕ) {at r q : ℕ} {out out₁ out₂ : List ℕ} → place + size ≤ length text → length text ≤ 16384
     → Puts out at r out₁ (spell (lengths n) lead size) × (r ≤ at + 5) → Puts out₁ r q out₂ (take size (drop place text))
     → Puts out at q out₂ (withLength (lengths n) lead (octetsOf text (stretch place size))) × (q ≤ at + 16389)
-unfolding octetsOf
 puts-spelled n lead text place size h short a b =
-    let l = part-length text place size h in
-    let k = b .behind in
+    let l = length-octets text place size h in
+    let c = rw (← octets-stretch text place size) at b in
+    let k = c .behind in
     let m = a .1 in
-    (rw l (puts-append (a .0) b), omega arith)
+    (rw l (puts-append (a .0) c), omega arith)
 
 -- ---- an entry more
 pub added-is : (h : Here) (t n p m : ℕ) (d : Counts) (w v : List ℕ) → d ≡ oneMore (h .counts) t → n ≡ countOf (h .counts) t → v ≡ stored w t n p m 0
@@ -260,8 +261,7 @@ module _ (text w : List ℕ) (c : Counts) (t : ℕ) (order : InOrder text c w) (
   located = spells-stretch text x spells .0 ∙ rw (ep, en)
 
   sized : length (octetsOf text (stretch p n)) ≡ n
-  unfolding octetsOf
-  sized = let f = spells-stretch text x spells in let l = f .2 in part-length text p n (omega arith)
+  sized = let f = spells-stretch text x spells in let l = f .2 in length-octets text p n (omega arith)
 
   worth-long : 5 < n → worthAdding link (strings (vocabulary c w) (tableOf t)) (octetsOf text (stretch p n)) ≡ false
   unfolding worthAdding
@@ -315,11 +315,11 @@ module _ (text w : List ℕ) (c : Counts) (t : ℕ) (order : InOrder text c w) (
 
   module _ (fills : Fills text x) where
     value-is : (stringSize x ≡ 0 → ⊥) → writeValue link text (tableOf t) (vocabulary c w) (locatedOf x) ≡ writeLiteral link c14 text (tableOf t) (vocabulary c w) (locatedOf x)
-    unfolding writeValue octetsOf
+    unfolding writeValue
     value-is n =
         let f = spells-stretch text x (fills-spells text x fills n) in
         let l = f .1 in
-        rw (f .0, part-length text (stringPlace x) (stringSize x) (f .2), ne-eqb (stringSize x) 0 n)
+        rw (f .0, length-octets text (stringPlace x) (stringSize x) (f .2), ne-eqb (stringSize x) 0 n)
 
     pub value-numbered : (stringSize x ≡ 0 → ⊥) → (k ≡ 0 → ⊥) → {out out′ : List ℕ} {at r : ℕ} → Puts out at r out′ (spell c25 0x80 k) × (r ≤ at + 3)
         → Stands text out at 16389 (record { at = r; counts = c }) out′ w (writeValue link text (tableOf t) (vocabulary c w) (locatedOf x) .octets)

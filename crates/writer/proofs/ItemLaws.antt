@@ -21,10 +21,11 @@ use Rattle.format.specs.Document.{aligned}
 use Rattle.fields.specs.PutContracts.{Puts}
 use Rattle.fields.proofs.Forms.{Ordered}
 use Rattle.fields.proofs.Numbers.{numbers-ordered, c25-ordered}
-use Rattle.fields.proofs.Puts.{puts-one, puts-append, part-length}
+use Rattle.fields.proofs.Puts.{puts-one, puts-append}
 use Rattle.fields.proofs.RoundTrip.{some-first}
 use Rattle.tables.specs.Located.{Located, octetsOf}
 use Rattle.tables.specs.Search.{numberIn, numberOfTriple}
+use Rattle.tables.proofs.Search.{length-octets}
 use Rattle.tables.specs.Rows.{tableOf, vocabulary}
 use Rattle.tables.specs.Kept.{nameTableOf, layoutOf}
 use Rattle.tables.proofs.Laws.{length-strings, length-names, number-within, name-number-within}
@@ -158,8 +159,7 @@ unfolding sizes numbers
 sizes-4 = omega arith
 
 spelled-some : (text : List ℕ) (x : EventString) → Spells text x → 1 ≤ length (octetsOf text (locatedOf x))
-unfolding octetsOf
-spelled-some text x s = let f = spells-stretch text x s in let n = f .1 in rw (f .0, part-length text (stringPlace x) (stringSize x) (f .2)) (omega arith)
+spelled-some text x s = let f = spells-stretch text x s in let n = f .1 in rw (f .0, length-octets text (stringPlace x) (stringSize x) (f .2)) (omega arith)
 
 module _ (text : List ℕ) (v : Vocabulary Located) (x : Located) (some : 1 ≤ length (octetsOf text x)) (few : length (strings v CONTENT-CHARACTER-CHUNK) ≤ 256) where
   chunk-by : (b : Bool) → eqb (numberIn (map (octetsOf text) (strings v CONTENT-CHARACTER-CHUNK)) (octetsOf text x)) 0 ≡ b

@@ -12,6 +12,7 @@ use lib.ListN.{take, drop}
 use Rattle.fields.specs.Utf8.{isText, after, next, first, rows, between}
 use Rattle.format.specs.Tables.{xmlPrefix, xmlNamespace}
 use Rattle.tables.specs.Located.{stretch, octetsOf}
+use Rattle.tables.proofs.Search.{octets-stretch}
 use Rattle.events.specs.declared.EventString.{EventString}
 use Rattle.events.specs.declared.EventString.the-variants.{Absent, Empty, Stretch, XmlPrefix, XmlNamespace}
 use Rattle.events.specs.declared.Kind.the-variants.{Namespace}
@@ -51,8 +52,7 @@ module _ (text : List ℕ) where
   namespace-text = refl
 
   pub stretch-text : (p n : ℕ) → isText (take ((p + n) - p) (drop p text)) ≡ isText (octetsOf text (stretch p n))
-  unfolding octetsOf
-  stretch-text p n = let q : p + n - p ≡ n = omega arith in rw q
+  stretch-text p n = let q : p + n - p ≡ n = omega arith in rw (q, octets-stretch text p n)
 
   -- a string that is not there is text as the empty one is
   optional-text : (x : EventString) → optionalText text (optionalOf x) ≡ isText (octetsOf text (locatedOf x))
