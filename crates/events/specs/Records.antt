@@ -1,4 +1,5 @@
 -- Event records: the blank one, the record of each kind, and which record stands for an event.
+use Prim.Native.Nat.{ℕ}
 use mathlib.Core.Option.{Option, none, some}
 use Rattle.format.specs.Events as E
 use Rattle.tables.specs.Located.{Located, empty, stretch, builtInPrefix, builtInNamespace}
@@ -66,3 +67,7 @@ recordOf (E.Text y) = chunkRecord (eventString y)
 recordOf (E.Comment y) = commentRecord (eventString y)
 recordOf (E.Instruction x y) = instructionRecord (eventString x) (eventString y)
 recordOf E.End = endRecord
+
+-- The record of an event that was read at this place. A record has no place yet; once it has one, it gets it here.
+abbrev pub recordAt : (place : ℕ) → E.Event Located → Event
+recordAt place e = recordOf e

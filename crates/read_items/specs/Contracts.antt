@@ -7,7 +7,7 @@ use Rattle.format.specs.Items as F
 use Rattle.tables.specs.Counts.{tableWords}
 use Rattle.tables.specs.Rows.{vocabulary}
 use Rattle.events.specs.declared.Event.{Event}
-use Rattle.events.specs.Records.{recordOf}
+use Rattle.events.specs.Records.{recordAt}
 use Rattle.read_items.specs.declared.Mode.{Mode}
 use Rattle.read_items.specs.declared.Mode.the-variants.{Content, Declaring, Listing}
 use Rattle.read_items.specs.declared.State.{State}
@@ -38,7 +38,7 @@ seenStep Done w = done
 seenStep (Stop n p) w = stop n p
 
 abbrev pub stepSeen : I.Step → SeenStep
-stepSeen (I.more p i n) = more p (recordOf (i .event)) n
+stepSeen (I.more p i n) = more p (recordAt p (i .event)) n
 stepSeen (I.quiet n) = quiet n
 stepSeen I.done = done
 stepSeen (I.stop n p) = stop n p

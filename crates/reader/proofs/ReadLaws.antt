@@ -10,17 +10,16 @@ use borrow.Author.Tests.{eq-eqb, ne-eqb, eqb-true}
 use lib.Dec.{eqb}
 use lib.ListN.{length, set, replicate, length-append}
 use lib.Seq.{set-at}
-use Rattle.format.specs.Events.{Item}
 use Rattle.format.specs.Numbers.{pick}
 use Rattle.format.specs.Tables.{link}
 use Rattle.tables.specs.declared.Counts.{Counts}
-use Rattle.tables.specs.Located.{Located, start}
+use Rattle.tables.specs.Located.{start}
 use Rattle.tables.specs.Counts.{tableWords, countsOf}
 use Rattle.tables.specs.Rows.{vocabulary}
 use Rattle.tables.specs.Kept.{Clean}
 use Rattle.tables.proofs.Laws.{entries-are, counts-are}
 use Rattle.events.specs.declared.Event.{Event}
-use Rattle.events.specs.Records.{blank, recordOf}
+use Rattle.events.specs.Records.{blank}
 use Rattle.reader.specs.declared.Answer.the-variants.{Accepted}
 use Rattle.read_items.specs.declared.State.{State}
 use Rattle.read_items.specs.declared.Step.{Step}
@@ -31,7 +30,7 @@ use Rattle.reader.specs.declared.read.Next.the-variants.{Found, Finished
 use Rattle.read_items.specs.Items as I
 use Rattle.read_items.specs.Items.{Stand}
 use Rattle.read_items.specs.Steps.{step}
-use Rattle.reader.specs.Reading.{Opening, onward, halt, sized, opening, Result, accepted, refusal, plus, turn, run, origin, fuelOf, told, Outcome, refusing, accepting, outcome, resultFrom, reading, readOf}
+use Rattle.reader.specs.Reading.{Opening, onward, halt, sized, opening, EventRead, recordRead, Result, accepted, refusal, plus, turn, run, origin, fuelOf, told, Outcome, refusing, accepting, outcome, resultFrom, reading, readOf}
 use Rattle.read_items.specs.Contracts.{standOf, seenStep, stepSeen, Good, StepGood}
 use Rattle.reader.specs.ReadContracts.{stateOf, placeOf, first, standAt, Reached, found, ended, fault, reach, nextOf, seenNext, Reaches, finished, Small, settled, admission}
 use Rattle.read_names.proofs.StringLaws.{tests}
@@ -81,7 +80,7 @@ module _ (s : List ℕ) (p : Place) (c : Counts) (v : List ℕ) (from : State) (
 
 -- ---- a run, by the events that steps come to: what it leaves in `room` records, with the events acc before it
 abbrev laid : ℕ → List Event → Result → Outcome
-laid room acc (accepted is m) = accepting (acc ++ map (λ (i : Item Located). recordOf (i .event)) is) (m .state .tables) room
+laid room acc (accepted es m) = accepting (acc ++ map recordRead es) (m .state .tables) room
 laid room acc (refusal k p) = refusing k p room tableWords
 
 -- behind n events in a row of `room` records: no event follows, or it has no record
@@ -97,10 +96,9 @@ module _ (s : List ℕ) (room body : ℕ) where
   laidBy acc left (ended v) = accepting acc v room
   laidBy acc left (fault k p) = refusing k p room tableWords
 
-  laid-plus : (acc : List Event) (i : Item Located) (x : Result) → laid room acc (plus i x) ≡ laid room (acc ++ (recordOf (i .event) ∷ [])) x
-  laid-plus acc i (accepted is m) =
-      ap (λ (es : List Event). accepting es (m .state .tables) room) (sym (append-assoc acc (recordOf (i .event) ∷ []) (map (λ (j : Item Located). recordOf (j .event)) is)))
-  laid-plus acc i (refusal k p) = refl
+  laid-plus : (acc : List Event) (e : EventRead) (x : Result) → laid room acc (plus e x) ≡ laid room (acc ++ (recordRead e ∷ [])) x
+  laid-plus acc e (accepted es m) = ap (λ (l : List Event). accepting l (m .state .tables) room) (sym (append-assoc acc (recordRead e ∷ []) (map recordRead es)))
+  laid-plus acc e (refusal k p) = refl
 
   laid-run : (acc : List Event) (fuel left : ℕ) (m : Stand) → laid room acc (run link s fuel left m) ≡ laidBy acc left (nextOf s fuel m)
   unfolding run nextOf
@@ -110,13 +108,13 @@ module _ (s : List ℕ) (room body : ℕ) where
       turned : (left : ℕ) (x : I.Step) → ((n : Stand) → laid room acc (run link s fuel left n) ≡ laidBy acc left (nextOf s fuel n))
           → laid room acc (turn (λ (k : ℕ) (n : Stand). run link s fuel k n) left m x) ≡ laidBy acc left (reach (λ (n : Stand). nextOf s fuel n) fuel m (stepSeen x))
       turned zero (I.more p i n) more = refl
-      turned (suc k) (I.more p i n) more = laid-plus acc i (run link s fuel k n)
+      turned (suc k) (I.more p i n) more = laid-plus acc _ (run link s fuel k n)
       turned left (I.quiet n) more = more n
       turned left I.done more = ap (λ (es : List Event). accepting es (m .state .tables) room) (append-nil acc)
       turned left (I.stop k p) more = refl
 
   laid-none : (x : Result) → laid room [] x ≡ outcome x room
-  laid-none (accepted is m) = refl
+  laid-none (accepted es m) = refl
   laid-none (refusal k p) = refl
 
   abbrev target : Outcome

@@ -10,15 +10,13 @@ use borrow.Author.Tests.{lt-ltb, le-ltb, le-leb, lt-leb, eq-eqb, ne-eqb, leb-tru
 use lib.Dec.{eqb, ltb, leb, lit<}
 use lib.ListN.{length, getD, take, drop, set, replicate, getD-replicate, length-replicate}
 use lib.Seq.{drop-cons, sets}
-use Rattle.format.specs.Events.{Item}
 use Rattle.format.specs.Tables.{NameTable, ELEMENT-NAME, ATTRIBUTE-NAME, names, starting, same, link}
 use Rattle.format.specs.Document.{beginning}
-use Rattle.tables.specs.Located.{Located, start}
+use Rattle.tables.specs.Located.{start}
 use Rattle.tables.specs.Counts.{tableWords, countsOf}
 use Rattle.tables.specs.Rows.{vocabulary}
 use Rattle.tables.proofs.Laws.{vocabulary-start, counted-start, clean-start, inside-start}
 use Rattle.events.specs.declared.Event.{Event}
-use Rattle.events.specs.Records.{recordOf}
 use Rattle.events.specs.Words.{kindNumber, stringWords, recordWords}
 use Rattle.tables.proofs.Found.{both-true}
 use Rattle.reader.specs.declared.Answer.{Answer}
@@ -29,10 +27,10 @@ use Rattle.read_items.specs.declared.Step.the-variants.{More, Quiet, Done, Stop
 use Rattle.read_items.specs.Items as I
 use Rattle.read_items.specs.Items.{Stand}
 use Rattle.read_items.specs.Steps.{step}
-use Rattle.reader.specs.Reading.{Opening, onward, halt, sized, opening, Result, accepted, refusal, plus, turn, run, origin, fuelOf, reading, numberOf, checkOf}
+use Rattle.reader.specs.Reading.{Opening, onward, halt, sized, opening, EventRead, recordRead, Result, accepted, refusal, plus, turn, run, origin, fuelOf, reading, numberOf, checkOf}
 use Rattle.read_names.specs.Contracts.{Ranged}
 use Rattle.read_items.specs.Contracts.{standOf, SeenStep, more, quiet, done, stop, seenStep, stepSeen, Good, StepGood}
-use Rattle.reader.specs.RunContracts.{fresh, Ending, ended, faulty, endingOf, seenEnding, itemWords, kept, keptFrom, Small, answerNumber, Ran}
+use Rattle.reader.specs.RunContracts.{fresh, Ending, ended, faulty, endingOf, seenEnding, eventWords, kept, keptFrom, Small, answerNumber, Ran}
 use Rattle.read_names.proofs.StringLaws.{tests}
 use Rattle.read_items.proofs.Places.{Placed, step-placed}
 
@@ -159,32 +157,32 @@ module _ (go : ℕ → Stand → Result) (m : Stand) (n : ℕ) where
   keptBy w room done = w
   keptBy w room (stop j p) = []
 
-  plus-ends : (i : Item Located) (x : Result) → endingOf n (plus i x) ≡ endingOf (n + 1) x
-  plus-ends i (accepted is k) = ap (λ (j : ℕ). ended j (k .state .tables)) (omega arith)
-  plus-ends i (refusal j p) = refl
+  plus-ends : (e : EventRead) (x : Result) → endingOf n (plus e x) ≡ endingOf (n + 1) x
+  plus-ends e (accepted es k) = ap (λ (j : ℕ). ended j (k .state .tables)) (omega arith)
+  plus-ends e (refusal j p) = refl
 
   sets-append : (w : List ℕ) (at : ℕ) (a b : List ℕ) → sets w at (a ++ b) ≡ sets (sets w at a) (at + length a) b
   sets-append w at [] b = let z : at + 0 ≡ at = omega arith in rw z
   sets-append w at (x ∷ a) b = let z : at + suc (length a) ≡ suc at + length a = omega arith in rw (z, sets-append _ (suc at) a b)
 
-  plus-kept : (w : List ℕ) (i : Item Located) (x : Result) → keptFrom w n (plus i x) ≡ keptFrom (sets w (13 * n) (recordWords (recordOf (i .event)))) (n + 1) x
-  unfolding itemWords
-  plus-kept w i (accepted is k) =
+  plus-kept : (w : List ℕ) (e : EventRead) (x : Result) → keptFrom w n (plus e x) ≡ keptFrom (sets w (13 * n) (recordWords (recordRead e))) (n + 1) x
+  unfolding eventWords
+  plus-kept w e (accepted es k) =
       let z : 13 * (n + 1) ≡ 13 * n + 13 = omega arith in
-      rw z (sets-append w (13 * n) (recordWords (recordOf (i .event))) (itemWords is))
-  plus-kept w i (refusal j p) = refl
+      rw z (sets-append w (13 * n) (recordWords (recordRead e)) (eventWords es))
+  plus-kept w e (refusal j p) = refl
 
   turn-ends : (room : ℕ) (x : I.Step) → endingOf n (turn go room m x) ≡ endsBy room (stepSeen x)
   turn-ends zero (I.more p i k) = refl
-  turn-ends (suc room) (I.more p i k) = plus-ends i (go room k)
+  turn-ends (suc room) (I.more p i k) = plus-ends _ (go room k)
   turn-ends room (I.quiet k) = refl
   turn-ends room I.done = let z : n + 0 ≡ n = omega arith in rw z
   turn-ends room (I.stop j p) = refl
 
   turn-kept : (w : List ℕ) (room : ℕ) (x : I.Step) → keptFrom w n (turn go room m x) ≡ keptBy w room (stepSeen x)
-  unfolding itemWords
+  unfolding eventWords
   turn-kept w zero (I.more p i k) = refl
-  turn-kept w (suc room) (I.more p i k) = plus-kept w i (go room k)
+  turn-kept w (suc room) (I.more p i k) = plus-kept w _ (go room k)
   turn-kept w room (I.quiet k) = refl
   turn-kept w room I.done = refl
   turn-kept w room (I.stop j p) = refl
@@ -358,7 +356,7 @@ number-seen (Accepted n c) t = refl
 number-seen (Refused k p) t = refl
 
 number-ending : (n : ℕ) (x : Result) → endingNumber (endingOf n x) ≡ numberOf x
-number-ending n (accepted is m) = refl
+number-ending n (accepted es m) = refl
 number-ending n (refusal k p) = refl
 
 pub check-is : (s : List ℕ) {v : List ℕ} {r : Answer} {t w : List ℕ} → Ran 32768 v r t w (reading link s 32768) → answerNumber r ≡ checkOf link s

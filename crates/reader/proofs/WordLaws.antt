@@ -9,23 +9,21 @@ use native.Mathlib.Decide.{ℕ-discrete}
 use borrow.Author.Tests.{eq-eqb, ne-eqb}
 use lib.ListN.{length, drop, replicate, length-append, length-map, length-replicate, replicate-append-replicate}
 use lib.Seq.{drop-at, sets-eq}
-use Rattle.format.specs.Events.{Item}
 use Rattle.format.specs.Tables.{link}
 use Rattle.tables.specs.declared.Counts.{Counts}
-use Rattle.tables.specs.Located.{Located}
 use Rattle.tables.specs.Counts.{tableWords, countsOf, entryWords, wordsOf}
 use Rattle.tables.specs.Rows.{vocabulary}
 use Rattle.tables.specs.Kept.{listed, Clean}
 use Rattle.tables.proofs.Laws.{counts-are}
 use Rattle.events.specs.declared.Event.{Event}
-use Rattle.events.specs.Records.{blank, recordOf}
+use Rattle.events.specs.Records.{blank}
 use Rattle.events.specs.Words.{recordWords, rowWords}
 use Rattle.events.proofs.BlankWords.{blank-words, blank-all}
 use Rattle.reader.specs.declared.Answer.{Answer}
 use Rattle.reader.specs.declared.Answer.the-variants.{Accepted, Refused}
-use Rattle.reader.specs.Reading.{Result, accepted, refusal, sized, reading, outcome, readOf}
+use Rattle.reader.specs.Reading.{EventRead, recordRead, Result, accepted, refusal, sized, reading, outcome, readOf}
 use Rattle.reader.specs.Words.{leaving, nothing, inWords, readWords}
-use Rattle.reader.specs.RunContracts.{ended, faulty, endingOf, itemWords, keptFrom, answerNumber, Ran}
+use Rattle.reader.specs.RunContracts.{ended, faulty, endingOf, eventWords, keptFrom, answerNumber, Ran}
 
 -- ---- what a run's end comes to in words
 drop-zeros : (r k : ℕ) → k ≤ r → drop k (replicate {A = ℕ} r 0) ≡ replicate (r - k) 0
@@ -34,29 +32,29 @@ drop-zeros r k h =
     let z : replicate {A = ℕ} r 0 ≡ replicate k 0 ++ replicate (r - k) 0 = ap (λ (n : ℕ). replicate n 0) y ∙ sym (replicate-append-replicate {A = ℕ} k (r - k) 0) in
     ap (drop k) z ∙ drop-at (replicate k 0) (replicate (r - k) 0) k (length-replicate {A = ℕ} k 0)
 
-item-length : (is : List (Item Located)) → length (itemWords is) ≡ 13 * length is
-unfolding itemWords
-item-length [] = refl
-item-length (i ∷ is) = let e = item-length is in length-append (recordWords (recordOf (i .event))) (itemWords is) ∙ omega arith
+event-length : (es : List EventRead) → length (eventWords es) ≡ 13 * length es
+unfolding eventWords
+event-length [] = refl
+event-length (e ∷ es) = let l = event-length es in length-append (recordWords (recordRead e)) (eventWords es) ∙ omega arith
 
-row-words : (is : List (Item Located)) (es : List Event) → rowWords (map (λ (i : Item Located). recordOf (i .event)) is ++ es) ≡ itemWords is ++ rowWords es
-unfolding rowWords itemWords
-row-words [] es = refl
-row-words (i ∷ is) es = rw (row-words is es, append-assoc)
+row-words : (es : List EventRead) (behind : List Event) → rowWords (map recordRead es ++ behind) ≡ eventWords es ++ rowWords behind
+unfolding rowWords eventWords
+row-words [] behind = refl
+row-words (e ∷ es) behind = rw (row-words es behind, append-assoc)
 
 -- the events, blank records behind them, and what is no record
-filled : (is : List (Item Located)) (r : ℕ) → length is ≤ r / 13
-    → rowWords (map (λ (i : Item Located). recordOf (i .event)) is ++ replicate (r / 13 - length (map (λ (i : Item Located). recordOf (i .event)) is)) blank) ++ replicate (r % 13) 0
-    ≡ itemWords is ++ replicate (r - 13 * length is) 0
-filled is r h =
-    let n = length-map is (λ (i : Item Located). recordOf (i .event)) in
-    let z : 13 * (r / 13 - length is) + r % 13 ≡ r - 13 * length is = omega arith in
-    rw (n, row-words is (replicate (r / 13 - length is) blank), blank-words (r / 13 - length is), append-assoc)
-    (ap (λ (q : List ℕ). itemWords is ++ q) (replicate-append-replicate {A = ℕ} (13 * (r / 13 - length is)) (r % 13) 0 ∙ ap (λ (k : ℕ). replicate k 0) z))
+filled : (es : List EventRead) (r : ℕ) → length es ≤ r / 13
+    → rowWords (map recordRead es ++ replicate (r / 13 - length (map recordRead es)) blank) ++ replicate (r % 13) 0
+    ≡ eventWords es ++ replicate (r - 13 * length es) 0
+filled es r h =
+    let n = length-map es recordRead in
+    let z : 13 * (r / 13 - length es) + r % 13 ≡ r - 13 * length es = omega arith in
+    rw (n, row-words es (replicate (r / 13 - length es) blank), blank-words (r / 13 - length es), append-assoc)
+    (ap (λ (q : List ℕ). eventWords es ++ q) (replicate-append-replicate {A = ℕ} (13 * (r / 13 - length es)) (r % 13) 0 ∙ ap (λ (k : ℕ). replicate k 0) z))
 
 refused-words : (r k place : ℕ) (x : Result) → faulty k place ≡ endingOf 0 x → nothing (place * 32 + k) r tableWords 10 ≡ inWords r (outcome x (r / 13))
 unfolding inWords
-refused-words r k place (accepted is m) e = let z : _≡_ {A = ℕ} 0 1 = cc in absurd (omega arith)
+refused-words r k place (accepted es m) e = let z : _≡_ {A = ℕ} 0 1 = cc in absurd (omega arith)
 refused-words r k place (refusal j p) e =
     let a : k ≡ j = cc in
     let b : place ≡ p = cc in
@@ -67,18 +65,18 @@ accepted-words : (r n : ℕ) (d : Counts) (w v : List ℕ) (x : Result) → ende
     → leaving (n * 2 ^ 32) v w (listed d) ≡ inWords r (outcome x (r / 13))
 unfolding Clean inWords
 accepted-words r n d w v (refusal j p) e h g k = let z : _≡_ {A = ℕ} 0 1 = cc in absurd (omega arith)
-accepted-words r n d w v (accepted is m) e h g k = λ i. leaving (word i) (record-words i) (table-words i) (listed (counts i))
+accepted-words r n d w v (accepted es m) e h g k = λ i. leaving (word i) (record-words i) (table-words i) (listed (counts i))
   where
-    events-are : length (map (λ (i : Item Located). recordOf (i .event)) is) ≡ length is
-    events-are = length-map is (λ (i : Item Located). recordOf (i .event))
+    events-are : length (map recordRead es) ≡ length es
+    events-are = length-map es recordRead
 
-    count₀ : n ≡ 0 + length is
+    count₀ : n ≡ 0 + length es
     count₀ = cc
 
-    count : n ≡ length (map (λ (i : Item Located). recordOf (i .event)) is)
+    count : n ≡ length (map recordRead es)
     count = omega (arith, count₀, events-are)
 
-    word : n * 2 ^ 32 ≡ length (map (λ (i : Item Located). recordOf (i .event)) is) * 2 ^ 32 + 0
+    word : n * 2 ^ 32 ≡ length (map recordRead es) * 2 ^ 32 + 0
     word = omega (arith, count)
 
     known : vocabulary d w ≡ m .state .tables
@@ -90,13 +88,13 @@ accepted-words r n d w v (accepted is m) e h g k = λ i. leaving (word i) (recor
     counts : d ≡ countsOf (m .state .tables)
     counts = sym (counts-are d w) ∙ ap countsOf known
 
-    record-words : v ≡ rowWords (map (λ (i : Item Located). recordOf (i .event)) is ++ replicate (r / 13 - length (map (λ (i : Item Located). recordOf (i .event)) is)) blank) ++ replicate (r % 13) 0
+    record-words : v ≡ rowWords (map recordRead es ++ replicate (r / 13 - length (map recordRead es)) blank) ++ replicate (r % 13) 0
     record-words =
-        let l = item-length is in
-        let f : 13 * length is ≤ r = omega (arith, count₀) in
-        let y : 0 + length (itemWords is) ≡ 13 * length is = omega arith in
-        k ∙ sets-eq (itemWords is) (replicate r 0) 0 (rw (length-replicate {A = ℕ} r 0) (omega arith)) ∙ ap (λ (q : List ℕ). itemWords is ++ q) (rw y (drop-zeros r (13 * length is) f))
-        ∙ sym (filled is r (omega (arith, count₀)))
+        let l = event-length es in
+        let f : 13 * length es ≤ r = omega (arith, count₀) in
+        let y : 0 + length (eventWords es) ≡ 13 * length es = omega arith in
+        k ∙ sets-eq (eventWords es) (replicate r 0) 0 (rw (length-replicate {A = ℕ} r 0) (omega arith)) ∙ ap (λ (q : List ℕ). eventWords es ++ q) (rw y (drop-zeros r (13 * length es) f))
+        ∙ sym (filled es r (omega (arith, count₀)))
 
 -- ---- by cases
 module _ (s : List ℕ) (r t c : ℕ) where

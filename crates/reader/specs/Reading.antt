@@ -17,25 +17,37 @@ use Rattle.tables.specs.Kept.{listed}
 use Rattle.tables.specs.Told.{Told, toldAccepted, toldRefused, entriesOf}
 use Rattle.events.specs.declared.Event.{Event}
 use Rattle.tables.specs.Located.{Located, plain, plainState, start}
-use Rattle.events.specs.Records.{blank, recordOf}
+use Rattle.events.specs.Records.{blank, recordAt}
 use Rattle.reader.specs.declared.Answer as A
 use Rattle.reader.specs.declared.Answer.the-variants.{Accepted, Refused}
 use Rattle.read_items.specs.Steps.{step}
 use Rattle.read_items.specs.Items.{Stand, Step, more, quiet, done, stop}
 
--- Items in order and where the reader stands at the end; or a refusal.
+-- An event that was read: its place, and its item.
+pub record EventRead : Type 0 where
+  pub place : ℕ
+  pub item : Item Located
+
+-- The record that is handed out for it.
+abbrev pub recordRead : EventRead → Event
+recordRead e = recordAt (e .place) (e .item .event)
+
+abbrev pub itemsRead : List EventRead → List (Item Located)
+itemsRead = map (λ (e : EventRead). e .item)
+
+-- Events in order and where the reader stands at the end; or a refusal.
 pub data Result : Type 0 where
-  accepted : List (Item Located) → Stand → Result
+  accepted : List EventRead → Stand → Result
   refusal : (number place : ℕ) → Result
 
-abbrev pub plus : Item Located → Result → Result
-plus i (accepted is m) = accepted (i ∷ is) m
-plus i (refusal n p) = refusal n p
+abbrev pub plus : EventRead → Result → Result
+plus e (accepted es m) = accepted (e ∷ es) m
+plus e (refusal n p) = refusal n p
 
 -- A step's answer, and how to go on: the first event without a record is refused (14) at its place.
 abbrev pub turn : (ℕ → Stand → Result) → ℕ → Stand → Step → Result
 turn go zero m (more p i n) = refusal ROOM p
-turn go (suc left) m (more p i n) = plus i (go left n)
+turn go (suc left) m (more p i n) = plus (record { place = p; item = i }) (go left n)
 turn go room m (quiet n) = go room n
 turn go room m done = accepted [] m
 turn go room m (stop n p) = refusal n p
@@ -111,10 +123,10 @@ module _ (ver : Version) (s : Octets) where
 
   -- The octets s are accepted, with records for `room` events; these are the items handed out, and this is known at the end, with octets in place of places.
   pub record Accepts (room : ℕ) (items : List (Item Octets)) (z : State Octets) : Type 0 where
-    pub events : List (Item Located)
+    pub events : List EventRead
     pub last : Stand
     pub reads : reading room ≡ accepted events last
-    pub are : map (plain s) events ≡ items
+    pub are : map (plain s) (itemsRead events) ≡ items
     pub end-is : plainState s (last .state) ≡ z
 
 -- What the requirements' table says of each answer.
@@ -147,7 +159,7 @@ accepting es v room =
     }
 
 abbrev pub outcome : Result → ℕ → Outcome
-outcome (accepted is m) room = accepting (map (λ (i : Item Located). recordOf (i .event)) is) (m .state .tables) room
+outcome (accepted es m) room = accepting (map recordRead es) (m .state .tables) room
 outcome (refusal n p) room = refusing n p room tableWords
 
 -- Reading, with `room` event records and `table` table words lent: SIZE, then the table room (14), both at place 0, then the fields.
@@ -159,7 +171,7 @@ readOf ver s room table =
 
 -- The number that comes back to C: 0, or the place times 32 plus the refusal's number.
 abbrev pub numberOf : Result → ℕ
-numberOf (accepted is m) = 0
+numberOf (accepted es m) = 0
 numberOf (refusal n p) = p * 32 + n
 
 -- The check: as a reader with an event record for each half of the longest document, which are 32,768 on the link.

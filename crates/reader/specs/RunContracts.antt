@@ -8,7 +8,6 @@ use lib.Seq.{sets}
 use lib.Dec.{ltb}
 use Rattle.format.specs.Octets.{Words}
 use Rattle.format.specs.Numbers.{pick}
-use Rattle.format.specs.Events.{Item}
 use Rattle.format.specs.Tables.{Vocabulary, link}
 use Rattle.tables.specs.Located.{Located, start}
 use Rattle.tables.specs.Counts.{countsOf, tableWords}
@@ -16,7 +15,6 @@ use Rattle.tables.specs.Rows.{vocabulary}
 use Rattle.tables.specs.Kept.{Clean}
 use Rattle.tables.specs.Told.{lowWord}
 use Rattle.events.specs.declared.Event.{Event}
-use Rattle.events.specs.Records.{recordOf}
 use Rattle.events.specs.Words.{recordWords}
 use Rattle.reader.specs.declared.Answer.{Answer}
 use Rattle.reader.specs.declared.Answer.the-variants.{Accepted, Refused}
@@ -25,7 +23,7 @@ use Rattle.read_items.specs.declared.State.{State}
 use Rattle.reader.specs.declared.run.Opening.{Opening}
 use Rattle.reader.specs.declared.run.Opening.the-variants.{Onward, Halt}
 use Rattle.reader.specs.Reading as R
-use Rattle.reader.specs.Reading.{Result, accepted, refusal, told}
+use Rattle.reader.specs.Reading.{EventRead, recordRead, Result, accepted, refusal, told}
 
 abbrev pub openingOf : Opening → R.Opening
 openingOf (Onward body) = R.onward body (start link)
@@ -42,7 +40,7 @@ pub data Ending : Type 0 where
 
 -- With n events before it.
 abbrev pub endingOf : ℕ → Result → Ending
-endingOf n (accepted is m) = ended (n + length is) (m .state .tables)
+endingOf n (accepted es m) = ended (n + length es) (m .state .tables)
 endingOf n (refusal k p) = faulty k p
 
 abbrev pub seenEnding : Answer → Words → Ending
@@ -50,9 +48,9 @@ seenEnding (Accepted n c) w = ended n (vocabulary c w)
 seenEnding (Refused k p) w = faulty k p
 
 -- ---- events in records of 13 words
-unfoldable pub itemWords : List (Item Located) → Words
-itemWords [] = []
-itemWords (i ∷ is) = recordWords (recordOf (i .event)) ++ itemWords is
+unfoldable pub eventWords : List EventRead → Words
+eventWords [] = []
+eventWords (e ∷ es) = recordWords (recordRead e) ++ eventWords es
 
 -- Words with an event in record n, if they have one.
 unfoldable pub kept : Words → ℕ → Event → Words
@@ -60,7 +58,7 @@ kept w n e = pick (ltb n (length w / 13)) (sets w (13 * n) (recordWords e)) w
 
 -- Words with the events of a run from record n on. A refusal promises nothing of them.
 abbrev pub keptFrom : Words → ℕ → Result → Words
-keptFrom w n (accepted is m) = sets w (13 * n) (itemWords is)
+keptFrom w n (accepted es m) = sets w (13 * n) (eventWords es)
 keptFrom w n (refusal k p) = []
 
 abbrev pub Keeps : Answer → Words → Words → Type 0

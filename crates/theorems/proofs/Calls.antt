@@ -19,10 +19,9 @@ use Rattle.tables.specs.declared.Counts.{Counts}
 use Rattle.tables.specs.Counts.{tableWords}
 use Rattle.tables.specs.Located.{Located, plain, plainState}
 use Rattle.events.specs.declared.Event.{Event}
-use Rattle.events.specs.Records.{recordOf}
 use Rattle.reader.specs.declared.Answer.{Answer}
 use Rattle.reader.specs.declared.Answer.the-variants.{Accepted, Refused}
-use Rattle.reader.specs.Reading.{Result, accepted, refusal, sized, reading, Outcome, Leaves, refusing, accepting, outcome, readOf, numberOf, checkOf}
+use Rattle.reader.specs.Reading.{EventRead, itemsRead, recordRead, Result, accepted, refusal, sized, reading, Outcome, Leaves, refusing, accepting, outcome, readOf, numberOf, checkOf}
 use Rattle.reader.specs.Words.{answerWord, leaving, nothing, inWords, readWords}
 use Rattle.tables.proofs.Found.{both-true}
 use Rattle.theorems.specs.Bounded.{Bounded}
@@ -38,15 +37,15 @@ pub record Written (ver : Version) (s : Octets) : Type 0 where
 
 -- A call with this room left the records of these events, blank records behind them, and these tables; and the rules write s from the events.
 pub record Handed (ver : Version) (s : Octets) (room : ℕ) (o : Outcome) : Type 0 where
-  pub events : List (Item Located)
+  pub events : List EventRead
   pub last : State Located
-  pub is : o ≡ accepting (map (λ (i : Item Located). recordOf (i .event)) events) (last .tables) room
-  pub writes : Document ver (map (plain s) events) (plainState s last) s
+  pub is : o ≡ accepting (map recordRead events) (last .tables) room
+  pub writes : Document ver (map (plain s) (itemsRead events)) (plainState s last) s
 
 module _ (ver : Version) (ok : Bounded ver) (s : Octets) (bytes : AreOctets s) where
   module _ (room : ℕ) where
     from-result : (a : Result) → Whole.Means ver ok s bytes a → (n : ℕ) (c : Counts) → outcome a room .answer ≡ Accepted n c → Handed ver s room (outcome a room)
-    from-result (accepted is m) w n c e = record { events = is; last = m .state; is = refl; writes = w }
+    from-result (accepted es m) w n c e = record { events = es; last = m .state; is = refl; writes = w }
     from-result (refusal k p) w n c e = absurd (let z : _≡_ {A = ℕ} 0 1 = cc in omega arith)
 
     by-room : (table n : ℕ) (c : Counts) (b d : Bool)
@@ -64,7 +63,7 @@ module _ (ver : Version) (ok : Bounded ver) (s : Octets) (bytes : AreOctets s) w
     --     And all that the rules write, if there is a record for each event and the table room is right; the events in the row are those of the items, and the
     --     tables in the words those that the rules know at the end.
     pub written-is-read : (items : List (Item Octets)) (z : State Octets) → Document ver items z s → length items ≤ room
-        → (h : Handed ver s room (readOf ver s room tableWords)) × (map (plain s) (h .events) ≡ items) × (plainState s (h .last) ≡ z)
+        → (h : Handed ver s room (readOf ver s room tableWords)) × (map (plain s) (itemsRead (h .events)) ≡ items) × (plainState s (h .last) ≡ z)
     unfolding readOf
     written-is-read items z w h =
         let a = Whole.accepts ver s items z w room h in
@@ -80,7 +79,7 @@ module _ (ver : Version) (ok : Bounded ver) (s : Octets) (bytes : AreOctets s) w
         )
 
   from-number : (a : Result) → Whole.Means ver ok s bytes a → numberOf a ≡ 0 → Written ver s
-  from-number (accepted is m) w e = record { items = map (plain s) is; last = plainState s (m .state); writes = w }
+  from-number (accepted es m) w e = record { items = map (plain s) (itemsRead es); last = plainState s (m .state); writes = w }
   from-number (refusal n p) w e = let h = w .0 in absurd (omega arith)
 
   -- 14. THE CHECK answers 0 for what the rules write, and for nothing else.
@@ -99,7 +98,7 @@ module _ (ver : Version) (ok : Bounded ver) (s : Octets) (bytes : AreOctets s) w
     left = readOf ver s (r / 13) t
 
     from-refusal : (a : Result) → Whole.Means ver ok s bytes a → (k p : ℕ) → outcome a (r / 13) .answer ≡ Refused k p → (1 ≤ k) × (k ≤ 15)
-    from-refusal (accepted is m) w k p e = absurd (let z : _≡_ {A = ℕ} 0 1 = cc in omega arith)
+    from-refusal (accepted es m) w k p e = absurd (let z : _≡_ {A = ℕ} 0 1 = cc in omega arith)
     from-refusal (refusal n place) w k p e =
         let ek : n ≡ k = cc in
         let f = w .0 in

@@ -13,17 +13,17 @@ use Rattle.format.specs.Events.{Item}
 use Rattle.format.specs.Tables.{Version}
 use Rattle.format.specs.Items.{State}
 use Rattle.format.specs.Document.{Document}
-use Rattle.tables.specs.Located.{Located, plain, plainState}
+use Rattle.tables.specs.Located.{plain, plainState}
 use Rattle.tables.specs.Counts.{tableWords}
 use Rattle.tables.specs.Told.{toldAccepted, entriesOf}
-use Rattle.events.specs.Records.{blank, recordOf}
-use Rattle.reader.specs.Reading.{Result, accepted, refusal, sized, reading, refusing, outcome, readOf, Accepts}
+use Rattle.events.specs.Records.{blank}
+use Rattle.reader.specs.Reading.{EventRead, itemsRead, recordRead, Result, accepted, refusal, sized, reading, refusing, outcome, readOf, Accepts}
 use Rattle.theorems.specs.Bounded.{Bounded}
 use Rattle.theorems.specs.Demands.{HandsOut, ReadsExactly}
 use Rattle.theorems.proofs.Words.{entries-map}
 use Rattle.theorems.proofs.Document as Whole
 use Rattle.theorems.proofs.Fits.{accepted-fits, accepted-sized}
-use Rattle.theorems.proofs.Demands.{accepted-is-written, one-pair, refused, records-well-made, made-earlier-places, spelled-places, tables-made-places}
+use Rattle.theorems.proofs.Demands.{accepted-is-written, one-pair, refused, places-are, records-well-made, made-earlier-places, spelled-places, tables-made-places}
 
 module _ (ver : Version) (s : Octets) (room table : ℕ) where
   pub accepts : (items : List (Item Octets)) (z : State Octets) (w : Document ver items z s) → length items ≤ room → table ≡ tableWords → HandsOut ver s room items z w (readOf ver s room table)
@@ -31,14 +31,15 @@ module _ (ver : Version) (s : Octets) (room table : ℕ) where
   accepts items z w h right =
       let a = Whole.accepts ver s items z w room h in
       let known : plainState s (a .last .state) ≡ z = a .end-is in
-      let is : length (a .events) ≡ length items = sym (length-map (a .events) (plain s)) ∙ ap length (a .are) in
-      let as-many : length (map (λ (i : Item Located). recordOf (i .event)) (a .events)) ≡ length items = length-map (a .events) (λ (i : Item Located). recordOf (i .event)) ∙ is in
+      let is : length (a .events) ≡ length items = sym (length-map (itemsRead (a .events)) (plain s) ∙ length-map (a .events) (λ (e : EventRead). e .item)) ∙ ap length (a .are) in
+      let as-many : length (map recordRead (a .events)) ≡ length items = length-map (a .events) recordRead ∙ is in
       rw (accepted-sized ver s room (a .events) (a .last) (a .reads), eq-eqb table tableWords right, a .reads)
       (record {
         events = a .events;
         tables = a .last .state .tables;
         answer = λ i. toldAccepted (as-many i) ((sym (entries-map _ (a .last .state .tables)) ∙ ap (λ (u : State Octets). entriesOf (u .tables)) known) i);
-        row = ap (λ (n : ℕ). map (λ (i : Item Located). recordOf (i .event)) (a .events) ++ replicate (room - n) blank) as-many;
+        row = ap (λ (n : ℕ). map recordRead (a .events) ++ replicate (room - n) blank) as-many;
+        places = places-are ver s room (a .events) (a .last) (a .reads);
         table-words = refl;
         events-are = a .are;
         tables-are = ap (λ (u : State Octets). u .tables) known;
@@ -51,9 +52,9 @@ module _ (ver : Version) (s : Octets) (room table : ℕ) where
 module _ (ver : Version) (ok : Bounded ver) (s : Octets) (bytes : AreOctets s) (room table : ℕ) where
   only-from : table ≡ tableWords → (r : Result) → reading ver s room ≡ r → outcome r room .told .number ≡ 0
       → (items : List (Item Octets)) × (z : State Octets) × Document ver items z s × (length items ≤ room) × (table ≡ tableWords)
-  only-from right (accepted is m) q e =
-      let a : Accepts ver s room (map (plain s) is) (plainState s (m .state)) = record { events = is; last = m; reads = q; are = refl; end-is = refl } in
-      (map (plain s) is, plainState s (m .state), accepted-is-written ver ok s bytes room _ _ a, accepted-fits ver s room _ _ a, right)
+  only-from right (accepted es m) q e =
+      let a : Accepts ver s room (map (plain s) (itemsRead es)) (plainState s (m .state)) = record { events = es; last = m; reads = q; are = refl; end-is = refl } in
+      (map (plain s) (itemsRead es), plainState s (m .state), accepted-is-written ver ok s bytes room _ _ a, accepted-fits ver s room _ _ a, right)
   only-from right (refusal n p) q e = absurd (let k = refused ver ok s bytes room n p q .0 in omega arith)
 
   only : (b d : Bool) → eqb table tableWords ≡ d → pick b (pick d (outcome (reading ver s room) room) (refusing 14 0 room table)) (refusing 1 0 room table) .told .number ≡ 0

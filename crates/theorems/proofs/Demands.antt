@@ -19,7 +19,7 @@ use Rattle.format.specs.Allowed.{All, Allowed}
 use Rattle.fields.proofs.Characters.{one-list}
 use Rattle.tables.specs.Located.{Located, builtInPrefix, builtInNamespace, plain, plainState, start}
 use Rattle.read_items.specs.Items.{Stand}
-use Rattle.reader.specs.Reading.{accepted, refusal, Mark, run, onward, opening, origin, fuelOf, reading, marks, numberOf, checkOf, Accepts}
+use Rattle.reader.specs.Reading.{EventRead, itemsRead, recordRead, accepted, refusal, Mark, run, onward, opening, origin, fuelOf, reading, marks, numberOf, checkOf, Accepts}
 use Rattle.events.specs.declared.Event.{Event}
 use Rattle.events.specs.Records.{recordOf}
 use Rattle.events.specs.WellMade.{WellMade}
@@ -67,7 +67,7 @@ module _ (ver : Version) (ok : Bounded ver) (s : Octets) (bytes : AreOctets s) w
       let e : accepted (a .events) (a .last) ≡ accepted (b .events) (b .last) = sym (a .reads) ∙ b .reads in
       let p : a .events ≡ b .events = cc in
       let q : a .last ≡ b .last = cc in
-      (sym (a .are) ∙ ap (map (plain s)) p ∙ b .are, sym (a .end-is) ∙ ap (λ (m : Stand). plainState s (m .state)) q ∙ b .end-is)
+      (sym (a .are) ∙ ap (λ (l : List EventRead). map (plain s) (itemsRead l)) p ∙ b .are, sym (a .end-is) ∙ ap (λ (m : Stand). plainState s (m .state)) q ∙ b .end-is)
 
 --    And one pair is written as one run of octets only.
 pub one-document : (ver : Version) (items : List (Item Octets)) (y z : State Octets) (s t : Octets) → Document ver items y s → Document ver items z t → (s ≡ t) × (y ≡ z)
@@ -81,6 +81,11 @@ room-short ver s room h = Whole.too-short ver s room h
 pub room-enough : (ver : Version) (s : Octets) (room : ℕ) → length (marks ver s) ≤ room → reading ver s room ≡ reading ver s (length (marks ver s))
 room-enough ver s room h = Whole.long-enough ver s room h
 
+--    PLACED: the events that are handed out have these places, in order.
+pub places-are : (ver : Version) (s : Octets) (room : ℕ) (events : List EventRead) (last : Stand) → reading ver s room ≡ accepted events last
+    → map (λ (e : EventRead). e .place) events ≡ map (λ (k : Mark). k .place) (marks ver s)
+places-are ver s room events last e = Whole.places-are ver s room events last e
+
 -- 4. MADE EARLIER: every number, save the 0 of the empty string, is, when it is used, that of an entry made earlier in the document or built in; and the
 --    entry is the very string, or the whole name, that the event says.
 pub made-earlier : (ver : Version) (items : List (Item Octets)) (z : State Octets) (s : Octets) → Document ver items z s → Known (starting ver xmlPrefix xmlNamespace) (acts items)
@@ -88,13 +93,13 @@ made-earlier ver items z s w = Before.earlier ver xmlPrefix xmlNamespace (docume
 
 --    PLACES: in what the reader hands out, the string behind a number has the very place and length of the entry made earlier, or is built in; so each part of a
 --    name behind a number.
-pub made-earlier-places : (ver : Version) (s : Octets) (room : ℕ) (events : List (Item Located)) (last : Stand) → reading ver s room ≡ accepted events last
-    → Known (starting ver builtInPrefix builtInNamespace) (acts events)
+pub made-earlier-places : (ver : Version) (s : Octets) (room : ℕ) (events : List EventRead) (last : Stand) → reading ver s room ≡ accepted events last
+    → Known (starting ver builtInPrefix builtInNamespace) (acts (itemsRead events))
 made-earlier-places ver s room events last e = Places.earlier-places ver s room events last e
 
 --    SPELLED: the strings that the choices spell have, in order, the very places and lengths at which the rules write them.
 pub spelled-places : (ver : Version) (items : List (Item Octets)) (z : State Octets) (s : Octets) (w : Document ver items z s) (room : ℕ) → length items ≤ room
-    → (events : List (Item Located)) (last : Stand) → reading ver s room ≡ accepted events last → allSpelled events ≡ spelledIn (w .rule)
+    → (events : List EventRead) (last : Stand) → reading ver s room ≡ accepted events last → allSpelled (itemsRead events) ≡ spelledIn (w .rule)
 spelled-places ver items z s w room h events last e = Whole.spelled-is ver s items z w room h events last e
 
 --    MADE: the tables at the end hold the built-in entries, then what the choices of the items make, in order, and nothing else; and the reader's tables have the
@@ -102,8 +107,8 @@ spelled-places ver items z s w room h events last e = Whole.spelled-is ver s ite
 pub tables-made : (ver : Version) (items : List (Item Octets)) (z : State Octets) (s : Octets) → Document ver items z s → Holds (z .tables) (after (starting ver xmlPrefix xmlNamespace) (acts items))
 tables-made ver items z s w = Before.made ver xmlPrefix xmlNamespace (document-done w)
 
-pub tables-made-places : (ver : Version) (s : Octets) (room : ℕ) (events : List (Item Located)) (last : Stand) → reading ver s room ≡ accepted events last
-    → Holds (last .state .tables) (after (starting ver builtInPrefix builtInNamespace) (acts events))
+pub tables-made-places : (ver : Version) (s : Octets) (room : ℕ) (events : List EventRead) (last : Stand) → reading ver s room ≡ accepted events last
+    → Holds (last .state .tables) (after (starting ver builtInPrefix builtInNamespace) (acts (itemsRead events)))
 tables-made-places ver s room events last e = Places.made-places ver s room events last e
 
 -- 5. TABLES: what the reader knows after each event is what the rules know then.
@@ -158,8 +163,8 @@ pub text-says-one : (x : Octets) (s t : IsText x) → s .says ≡ t .says
 text-says-one x s t = one-list (s .says) (t .says) (s .are) (t .are) (sym (s .octets) ∙ t .octets)
 
 --    RECORDS: so is every record that the reader hands out; its stretches lie in the document, and what is built in stands only where it can.
-pub records-well-made : (ver : Version) (s : Octets) (room : ℕ) (events : List (Item Located)) (last : Stand) → reading ver s room ≡ accepted events last
-    → All (λ (i : Item Located). WellMade s (recordOf (i .event))) events
+pub records-well-made : (ver : Version) (s : Octets) (room : ℕ) (events : List EventRead) (last : Stand) → reading ver s room ≡ accepted events last
+    → All (WellMade s) (map recordRead events)
 records-well-made ver s room events last e = Records.well-made s ver room events last e
 
 -- 10. THE RULES CAN WRITE EVERY DOCUMENT: a list that is a document, its events as the requirements allow them, no string over 2^32 octets, fewer than 2^20 events, is written with

@@ -13,13 +13,13 @@ use Rattle.format.specs.Items.{content, State}
 use Rattle.format.specs.Document.{halves, Written, knownAfter, beginning, header, started, Document}
 use Rattle.tables.specs.Located.{Located, builtInPrefix, builtInNamespace, octetsOf, plain, plainState, start}
 use Rattle.read_items.specs.Items.{Stand}
-use Rattle.reader.specs.Reading.{Result, accepted, refusal, Mark, run, Opening, onward, halt, opening, origin, fuelOf, resultFrom, reading, marksFrom, marks, numberOf, Accepts}
+use Rattle.reader.specs.Reading.{EventRead, itemsRead, Result, accepted, refusal, Mark, run, Opening, onward, halt, opening, origin, fuelOf, resultFrom, reading, marksFrom, marks, numberOf, Accepts}
 use Rattle.theorems.specs.Bounded.{Bounded}
 use Rattle.theorems.specs.Places.{allSpelled, spelledIn}
 use Rattle.theorems.proofs.Lists.{Refusal, halves-append, halves-length, halves-drop, halves-complete, drop-past}
 use Rattle.theorems.proofs.Words.{starting-map}
 use Rattle.theorems.proofs.Entries.{ranged-started}
-use Rattle.theorems.proofs.Run.{Inside, Right, run-right, fuel-free, NotShort, run-not-short, trace-few, placesOf, room-short, room-enough, Reads, run-complete}
+use Rattle.theorems.proofs.Run.{Inside, Right, run-right, fuel-free, NotShort, run-not-short, trace-few, placesOf, room-short, room-enough, AtMarks, run-at-marks, Reads, run-complete}
 use Rattle.theorems.proofs.Opening.{Opened, opening-sound, opening-complete}
 
 pub link-bounded : Bounded link
@@ -44,15 +44,15 @@ module _ (ver : Version) (ok : Bounded ver) (s : Octets) (bytes : AreOctets s) w
 
   -- what a result means
   abbrev pub Means : Result → Type 0
-  Means (accepted is m) = Document ver (map (plain s) is) (plainState s (m .state)) s
+  Means (accepted es m) = Document ver (map (plain s) (itemsRead es)) (plainState s (m .state)) s
   Means (refusal n p) = Refusal s n p
 
   from-run : s ≡ header ver ++ drop at s → (h : length s ≤ ver .octets) (a : Result) → Right ver s bytes (brief h) (origin at (start ver)) a → Means a
-  from-run d h (accepted is m) r =
+  from-run d h (accepted es m) r =
       record {
         body = drop (2 * at) (halves s);
         here = ap halves d ∙ halves-append (header ver) (drop at s) ∙ ap (λ (l : Octets). halves (header ver) ++ l) (sym (halves-drop at s));
-        rule = subst (λ (v : State Octets). Written ver (2 * at) v (map (plain s) is) (drop (2 * at) (halves s)) (plainState s (m .state))) (plain-start ver s) r;
+        rule = subst (λ (v : State Octets). Written ver (2 * at) v (map (plain s) (itemsRead es)) (drop (2 * at) (halves s)) (plainState s (m .state))) (plain-start ver s) r;
         short = h;
       }
   from-run d h (refusal n p) r = r
@@ -80,7 +80,7 @@ module _ (ver : Version) (ok : Bounded ver) (s : Octets) (bytes : AreOctets s) w
 
     -- the number that comes back then
     never-14 : (a : Result) → Means a → NotShort a → numberOf a % 32 ≡ 14 → ⊥
-    never-14 (accepted is m) g h e = omega arith
+    never-14 (accepted es m) g h e = omega arith
     never-14 (refusal n p) g h e = h (let k = g .1 in omega arith)
 
     pub number-never-14 : length (marks ver s) ≤ room → numberOf (reading ver s room) % 32 ≡ 14 → ⊥
@@ -133,13 +133,13 @@ module _ (ver : Version) (s : Octets) where
         record { events = r .events; last = r .last; reads = rw (opens) (r .runs); are = r .are; end-is = r .end-is }
 
     -- the strings that are handed out as spelled have the places where the rules spell them
-    pub spelled-is : (room : ℕ) → length items ≤ room → (events : List (Item Located)) (last : Stand) → reading ver s room ≡ accepted events last → allSpelled events ≡ spelledIn (w .rule)
+    pub spelled-is : (room : ℕ) → length items ≤ room → (events : List EventRead) (last : Stand) → reading ver s room ≡ accepted events last → allSpelled (itemsRead events) ≡ spelledIn (w .rule)
     unfolding accepts
     spelled-is room h events last e =
         let a = accepts room h in
         let both : accepted (a .events) (a .last) ≡ accepted events last = sym (a .reads) ∙ e in
         let same : events ≡ a .events = cc in
-        ap allSpelled same ∙ reads-all room h .spells
+        ap (λ (l : List EventRead). allSpelled (itemsRead l)) same ∙ reads-all room h .spells
 
     pub known-is : map (λ (k : Mark). plainState s (k .stand .state)) (marks ver s) ≡ knownAfter ver (w .rule)
     unfolding marks
@@ -161,3 +161,12 @@ module _ (ver : Version) (s : Octets) where
   pub long-enough : (room : ℕ) → length (marks ver s) ≤ room → reading ver s room ≡ reading ver s (length (marks ver s))
   unfolding reading marks
   long-enough room h = enough-from room (opening ver s) h
+
+  -- the events that are handed out have the places of the marks
+  from-at-marks : (room : ℕ) (o : Opening) → AtMarks (marksFrom ver s o) (resultFrom ver s room o)
+  from-at-marks room (onward body tables) = run-at-marks ver s (fuelOf s) room (origin body tables)
+  from-at-marks room (halt n p) = tt
+
+  pub places-are : (room : ℕ) (events : List EventRead) (last : Stand) → reading ver s room ≡ accepted events last → map (λ (e : EventRead). e .place) events ≡ placesOf (marks ver s)
+  unfolding reading marks
+  places-are room events last e = subst (AtMarks (marks ver s)) e (from-at-marks room (opening ver s))

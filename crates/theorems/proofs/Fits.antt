@@ -10,22 +10,22 @@ use Rattle.format.specs.Events.{Item}
 use Rattle.format.specs.Tables.{Version}
 use Rattle.format.specs.Items.{State}
 use Rattle.format.specs.Document.{header}
-use Rattle.tables.specs.Located.{Located, plain, start}
+use Rattle.tables.specs.Located.{plain, start}
 use Rattle.read_items.specs.Items.{Stand, Step, more, quiet, done, stop}
 use Rattle.read_items.specs.Steps.{step}
-use Rattle.reader.specs.Reading.{Result, accepted, refusal, plus, turn, run, Opening, onward, halt, opening, origin, fuelOf, resultFrom, sized, reading, Accepts}
+use Rattle.reader.specs.Reading.{EventRead, itemsRead, Result, accepted, refusal, plus, turn, run, Opening, onward, halt, opening, origin, fuelOf, resultFrom, sized, reading, Accepts}
 
 abbrev Fits : ℕ → Result → Type 0
-Fits room (accepted is m) = length is ≤ room
+Fits room (accepted es m) = length es ≤ room
 Fits room (refusal n p) = Unit {0}
 
-plus-fits : (room : ℕ) (i : Item Located) (a : Result) → Fits room a → Fits (suc room) (plus i a)
-plus-fits room i (accepted is m) h = omega arith
-plus-fits room i (refusal n p) h = tt
+plus-fits : (room : ℕ) (e : EventRead) (a : Result) → Fits room a → Fits (suc room) (plus e a)
+plus-fits room e (accepted es m) h = omega arith
+plus-fits room e (refusal n p) h = tt
 
 turn-fits : (go : ℕ → Stand → Result) → ((r : ℕ) (n : Stand) → Fits r (go r n)) → (room : ℕ) (m : Stand) (a : Step) → Fits room (turn go room m a)
 turn-fits go rec zero m (more p i n) = tt
-turn-fits go rec (suc r) m (more p i n) = plus-fits r i (go r n) (rec r n)
+turn-fits go rec (suc r) m (more p i n) = plus-fits r _ (go r n) (rec r n)
 turn-fits go rec room m (quiet n) = rec room n
 turn-fits go rec room m done = omega arith
 turn-fits go rec room m (stop n p) = tt
@@ -43,15 +43,16 @@ pub accepted-fits : (ver : Version) (s : Octets) (room : ℕ) (items : List (Ite
 unfolding reading
 accepted-fits ver s room items z a =
     let h : length (a .events) ≤ room = subst (Fits room) (a .reads) (from-fits ver s room (opening ver s)) in
-    let l = length-map (a .events) (plain s) in
+    let l = length-map (itemsRead (a .events)) (plain s) in
+    let j = length-map (a .events) (λ (e : EventRead). e .item) in
     let k = ap length (a .are) in
     omega arith
 
 -- and it has a document's size
-sized-is : (ver : Version) (s : Octets) (room : ℕ) (is : List (Item Located)) (m : Stand) → reading ver s room ≡ accepted is m → (b : Bool) → sized ver s ≡ b → sized ver s ≡ true
+sized-is : (ver : Version) (s : Octets) (room : ℕ) (es : List EventRead) (m : Stand) → reading ver s room ≡ accepted es m → (b : Bool) → sized ver s ≡ b → sized ver s ≡ true
 unfolding reading opening
-sized-is ver s room is m r true e = e
-sized-is ver s room is m r false e = let q = rw e at r in absurd (let z : _≡_ {A = ℕ} 0 1 = cc in omega arith)
+sized-is ver s room es m r true e = e
+sized-is ver s room es m r false e = let q = rw e at r in absurd (let z : _≡_ {A = ℕ} 0 1 = cc in omega arith)
 
-pub accepted-sized : (ver : Version) (s : Octets) (room : ℕ) (is : List (Item Located)) (m : Stand) → reading ver s room ≡ accepted is m → sized ver s ≡ true
-accepted-sized ver s room is m r = sized-is ver s room is m r (sized ver s) refl
+pub accepted-sized : (ver : Version) (s : Octets) (room : ℕ) (es : List EventRead) (m : Stand) → reading ver s room ≡ accepted es m → sized ver s ≡ true
+accepted-sized ver s room es m r = sized-is ver s room es m r (sized ver s) refl

@@ -31,7 +31,7 @@ use Rattle.tables.proofs.EntryLaws.{entry-at}
 use Rattle.read_names.specs.Names.{noTriple, NameRead, DeclaredRead, prefixBit, namespaceBit, lonePrefix, partsAt, numberedAt, nameAt, declaredAt, nameBit}
 use Rattle.read_items.specs.Items.{Stand, Step, more, quiet, done, stop, into, namePadding, startOf, namespaceAt, elementAt, namedAt, attributeAt, chunkAt, commentAt, instructionAt, otherAt, childAt, declaringAt, itemAt}
 use Rattle.read_items.specs.Steps.{endsAt, padsAt, documentEnd, endAt, byHalves, step}
-use Rattle.reader.specs.Reading.{Result, accepted, refusal, plus, turn, run, Opening, onward, halt, opening, origin, fuelOf, resultFrom, reading}
+use Rattle.reader.specs.Reading.{EventRead, itemsRead, Result, accepted, refusal, plus, turn, run, Opening, onward, halt, opening, origin, fuelOf, resultFrom, reading}
 use Rattle.theorems.proofs.Lists.{test, test-le, test-not, either}
 use Rattle.theorems.proofs.Names.{bits-paired}
 use Rattle.theorems.proofs.Effects.{IdDone, id-made, id-used, PartDone, no-part, a-part, StringDone, string-made, string-used, ValueDone, empty-value, a-value, NameDone, name-made, name-used}
@@ -281,17 +281,17 @@ module _ (ver : Version) (s : Octets) where
 
   -- ---- a run
   abbrev GaveAll : Vocabulary Located → Result → Type 0
-  GaveAll v (accepted is m) = Done empty (Lies s) v is (m .state .tables)
+  GaveAll v (accepted es m) = Done empty (Lies s) v (itemsRead es) (m .state .tables)
   GaveAll v (refusal n p) = Unit {0}
 
-  plus-gave : {v w : Vocabulary Located} (i : Item Located) → ItemDone empty (Lies s) v i w → (a : Result) → GaveAll w a → GaveAll v (plus i a)
-  plus-gave i u (accepted is m) r = an-item u r
-  plus-gave i u (refusal n p) r = tt
+  plus-gave : {v w : Vocabulary Located} (e : EventRead) → ItemDone empty (Lies s) v (e .item) w → (a : Result) → GaveAll w a → GaveAll v (plus e a)
+  plus-gave e u (accepted es m) r = an-item u r
+  plus-gave e u (refusal n p) r = tt
 
   turn-gave : (go : ℕ → Stand → Result) → ((r : ℕ) (n : Stand) → GaveAll (n .state .tables) (go r n)) → (room : ℕ) (m : Stand) (a : Step) → Gave (m .state .tables) a
       → GaveAll (m .state .tables) (turn go room m a)
   turn-gave go rec zero m (more p i n) g = tt
-  turn-gave go rec (suc r) m (more p i n) g = plus-gave i g (go r n) (rec r n)
+  turn-gave go rec (suc r) m (more p i n) g = plus-gave _ g (go r n) (rec r n)
   turn-gave go rec room m (quiet n) g = subst (λ (v : Vocabulary Located). GaveAll v (go room n)) g (rec room n)
   turn-gave go rec room m done g = no-item
   turn-gave go rec room m (stop n p) g = tt
@@ -312,6 +312,6 @@ module _ (ver : Version) (s : Octets) (room : ℕ) where
       opens-with e = cc
   from-gave (halt n p) k = tt
 
-  pub reading-done : (is : List (Item Located)) (m : Stand) → reading ver s room ≡ accepted is m → Done empty (Lies s) (start ver) is (m .state .tables)
+  pub reading-done : (es : List EventRead) (m : Stand) → reading ver s room ≡ accepted es m → Done empty (Lies s) (start ver) (itemsRead es) (m .state .tables)
   unfolding reading
-  reading-done is m e = subst (GaveAll ver s (start ver)) e (from-gave (opening ver s) (opening-sound ver s))
+  reading-done es m e = subst (GaveAll ver s (start ver)) e (from-gave (opening ver s) (opening-sound ver s))

@@ -3,7 +3,7 @@
 use Prim.Native.Nat.{ℕ, _≤_}
 use mathlib.Core.Path.{_≡_, refl}
 use mathlib.Core.Option.{Option, none, some}
-use mathlib.Core.List.{List}
+use mathlib.Core.List.{List, [], _∷_, map}
 use native.Mathlib.Omega.{arith}
 use Rattle.format.specs.Octets.{Octets}
 use Rattle.format.specs.Events.{Name, Event, Namespace, Start, Attribute, Text, Comment, Instruction, End, Item}
@@ -17,8 +17,8 @@ use Rattle.events.specs.Records.{eventString, optionalEventString, recordOf}
 use Rattle.events.specs.WellMade as W
 use Rattle.events.specs.WellMade.{IsStretch, IsPrefix, IsNamespace, IsValue, IsName, WellMade}
 use Rattle.read_items.specs.Items.{Stand}
-use Rattle.reader.specs.Reading.{accepted, reading}
-use Rattle.theorems.proofs.Plain.{all-so, IfAny, Parts, OrEmpty, is-empty, not-empty, Holds, holds}
+use Rattle.reader.specs.Reading.{EventRead, itemsRead, recordRead, accepted, reading}
+use Rattle.theorems.proofs.Plain.{IfAny, Parts, OrEmpty, is-empty, not-empty, Holds, holds}
 use Rattle.theorems.proofs.ReadEffects.{Lies, reading-done}
 
 module _ (s : Octets) where
@@ -80,8 +80,10 @@ module _ (s : Octets) where
   as-record (Instruction x y) a = W.an-instruction (as-stretch (omega arith) (a .0)) (as-value (omega arith) (a .1))
   as-record End a = W.an-end
 
-  pub well-made : (ver : Version) (room : ℕ) (is : List (Item Located)) (m : Stand) → reading ver s room ≡ accepted is m → All (λ (i : Item Located). WellMade s (recordOf (i .event))) is
+  as-records : (es : List EventRead) → All (λ (i : Item Located). Holds Stands empty (i .event)) (itemsRead es) → All (WellMade s) (map recordRead es)
+  as-records [] a = tt
+  as-records (e ∷ es) a = (as-record (e .item .event) (a .0), as-records es (a .1))
+
+  pub well-made : (ver : Version) (room : ℕ) (es : List EventRead) (m : Stand) → reading ver s room ≡ accepted es m → All (WellMade s) (map recordRead es)
   unfolding start
-  well-made ver room is m e =
-      all-so (λ (i : Item Located). WellMade s (recordOf (i .event))) (λ i a. as-record (i .event) a) is
-      (holds Stands empty (Lies s) (λ t x l. spelled-here l) ver the-prefix the-namespace (reading-done ver s room is m e))
+  well-made ver room es m e = as-records es (holds Stands empty (Lies s) (λ t x l. spelled-here l) ver the-prefix the-namespace (reading-done ver s room es m e))

@@ -21,7 +21,7 @@ use Rattle.fields.proofs.RoundTrip.{some-first}
 use Rattle.tables.specs.Located.{Located, plain, plainTables, plainState}
 use Rattle.read_items.specs.Items.{Stand, Step, more, quiet, done, stop, octet, itemAt}
 use Rattle.read_items.specs.Steps.{endsAt, padsAt, documentEnd, endAt, byHalves, step}
-use Rattle.reader.specs.Reading.{Result, accepted, refusal, plus, turn, Mark, marked, run, trace}
+use Rattle.reader.specs.Reading.{EventRead, itemsRead, Result, accepted, refusal, plus, turn, Mark, marked, run, trace}
 use Rattle.tables.proofs.Found.{both-true}
 use Rattle.theorems.specs.Places.{itemSpelled, allSpelled, inItem, spelledIn}
 use Rattle.theorems.proofs.Lists.{Refusal, Fault, fault, test, either, either-lt, not-true, drop-head, drop-past, ends-sound, ends-complete, pads-sound, pads-complete, halves-drop, halves-length, halves-sound, halves-complete, align-is, aligned-ge, aligned-in, pad-length}
@@ -35,7 +35,7 @@ use Rattle.theorems.proofs.Items.{Took, item-sound, item-complete}
 -- ---- an item has octets, and opens one element at most
 -- A result is not the refusal of an event without a record.
 abbrev pub NotShort : Result → Type 0
-NotShort (accepted is m) = Unit {0}
+NotShort (accepted es m) = Unit {0}
 NotShort (refusal c p) = c ≡ 14 → ⊥
 
 module _ {ver : Version} where
@@ -166,21 +166,21 @@ module _ (ver : Version) (s : Octets) (bytes : (i : ℕ) → getD s i 0 < 256) (
       λ t1. item-fine m ml t1 (itemAt ver s k (m .state) md) (item-sound ver s bytes short k (m .state) md (ml .ranged) (aligned-in (m .at) (length s) (ml .at)) refl))
 
   abbrev pub Right : Stand → Result → Type 0
-  Right m (accepted is n) = Rest m (map (plain s) is) (plainState s (n .state))
+  Right m (accepted es n) = Rest m (map (plain s) (itemsRead es)) (plainState s (n .state))
   Right m (refusal c p) = Refusal s c p
 
-  plus-right : (m n : Stand) (p : ℕ) (i : Item Located) → Fine m (more p i n) → (a : Result) → Right n a → Right m (plus i a)
-  plus-right m n p i g (accepted is l) r = g .0 (map (plain s) is) (plainState s (l .state)) r
-  plus-right m n p i g (refusal c q) r = r
+  plus-right : (m n : Stand) (p : ℕ) (e : EventRead) → Fine m (more p (e .item) n) → (a : Result) → Right n a → Right m (plus e a)
+  plus-right m n p e g (accepted es l) r = g .0 (map (plain s) (itemsRead es)) (plainState s (l .state)) r
+  plus-right m n p e g (refusal c q) r = r
 
   quiet-right : (m n : Stand) → Fine m (quiet n) → (a : Result) → Right n a → Right m a
-  quiet-right m n g (accepted is l) r = g .0 (map (plain s) is) (plainState s (l .state)) r
+  quiet-right m n g (accepted es l) r = g .0 (map (plain s) (itemsRead es)) (plainState s (l .state)) r
   quiet-right m n g (refusal c p) r = r
 
   -- an accepted run is written by the rules; a refusal is one of the requirements'
   turn-right : (go : ℕ → Stand → Result) → ((r : ℕ) (n : Stand) → Inside s n → Right n (go r n)) → (room : ℕ) (m : Stand) (a : Step) → Fine m a → Right m (turn go room m a)
   turn-right go rec zero m (more p i n) g = (omega arith, omega arith, g .3)
-  turn-right go rec (suc r) m (more p i n) g = plus-right m n p i g (go r n) (rec r n (g .1))
+  turn-right go rec (suc r) m (more p i n) g = plus-right m n p _ g (go r n) (rec r n (g .1))
   turn-right go rec room m (quiet n) g = quiet-right m n g (go room n) (rec room n (g .1))
   turn-right go rec room m done w = w
   turn-right go rec room m (stop c p) w = w .0
@@ -194,7 +194,7 @@ module _ (ver : Version) (s : Octets) (bytes : (i : ℕ) → getD s i 0 < 256) (
   turn-free : (go go′ : ℕ → Stand → Result) (k : ℕ) → ((r : ℕ) (n : Stand) → Inside s n → left n < 2 * k → go r n ≡ go′ r n)
       → (room : ℕ) (m : Stand) → left m < 2 * suc k → (a : Step) → Fine m a → turn go room m a ≡ turn go′ room m a
   turn-free go go′ k rec zero m h (more p i n) g = refl
-  turn-free go go′ k rec (suc r) m h (more p i n) g = let l = g .2 in ap (λ (x : Result). plus i x) (rec r n (g .1) (omega arith))
+  turn-free go go′ k rec (suc r) m h (more p i n) g = let l = g .2 in ap (plus _) (rec r n (g .1) (omega arith))
   turn-free go go′ k rec room m h (quiet n) g = let l = g .2 in rec room n (g .1) (omega arith)
   turn-free go go′ k rec room m h done w = refl
   turn-free go go′ k rec room m h (stop c p) w = refl
@@ -219,14 +219,14 @@ module _ (ver : Version) (s : Octets) (bytes : (i : ℕ) → getD s i 0 < 256) (
   trace-few (suc fuel) m ml = marked-few (λ n. trace ver s fuel n) (λ n h. trace-few fuel n h) m (step ver s m) (step-fine m ml)
 
   -- with a record for every event, nothing is refused for want of room
-  plus-not-short : (i : Item Located) (a : Result) → NotShort a → NotShort (plus i a)
-  plus-not-short i (accepted is m) h = tt
-  plus-not-short i (refusal c p) h = h
+  plus-not-short : (e : EventRead) (a : Result) → NotShort a → NotShort (plus e a)
+  plus-not-short e (accepted es m) h = tt
+  plus-not-short e (refusal c p) h = h
 
   turn-not-short : (go : ℕ → Stand → Result) (marks : Stand → List Mark) → ((r : ℕ) (n : Stand) → Inside s n → length (marks n) ≤ r → NotShort (go r n))
       → (room : ℕ) (m : Stand) (a : Step) → Fine m a → length (marked marks a) ≤ room → NotShort (turn go room m a)
   turn-not-short go marks rec zero m (more p i n) g h = absurd (omega arith)
-  turn-not-short go marks rec (suc r) m (more p i n) g h = plus-not-short i (go r n) (rec r n (g .1) (omega arith))
+  turn-not-short go marks rec (suc r) m (more p i n) g h = plus-not-short _ (go r n) (rec r n (g .1) (omega arith))
   turn-not-short go marks rec room m (quiet n) g h = rec room n (g .1) h
   turn-not-short go marks rec room m done g h = tt
   turn-not-short go marks rec room m (stop c p) g h = g .1
@@ -241,6 +241,15 @@ module _ (ver : Version) (s : Octets) (bytes : (i : ℕ) → getD s i 0 < 256) (
 abbrev pub placesOf : List Mark → Octets
 placesOf = map (λ (k : Mark). k .place)
 
+-- the events of an accepted run have the places of its marks, in order
+abbrev pub AtMarks : List Mark → Result → Type 0
+AtMarks ks (accepted es m) = map (λ (e : EventRead). e .place) es ≡ placesOf ks
+AtMarks ks (refusal c p) = Unit {0}
+
+plus-at-marks : (e : EventRead) (n : Stand) (ks : List Mark) (a : Result) → AtMarks ks a → AtMarks (record { place = e .place; stand = n } ∷ ks) (plus e a)
+plus-at-marks e n ks (accepted es m) h = ap (λ (l : Octets). e .place ∷ l) h
+plus-at-marks e n ks (refusal c p) h = tt
+
 module _ (run₁ : ℕ → Stand → Result) (trace₁ : Stand → List Mark) where
   turn-short : ((r : ℕ) (n : Stand) → r < length (trace₁ n) → run₁ r n ≡ refusal 14 (getD (placesOf (trace₁ n)) r 0))
       → (room : ℕ) (m : Stand) (a : Step) → room < length (marked trace₁ a) → turn run₁ room m a ≡ refusal 14 (getD (placesOf (marked trace₁ a)) room 0)
@@ -253,10 +262,17 @@ module _ (run₁ : ℕ → Stand → Result) (trace₁ : Stand → List Mark) wh
   turn-enough : ((r : ℕ) (n : Stand) → length (trace₁ n) ≤ r → run₁ r n ≡ run₁ (length (trace₁ n)) n)
       → (room : ℕ) (m : Stand) (a : Step) → length (marked trace₁ a) ≤ room → turn run₁ room m a ≡ turn run₁ (length (marked trace₁ a)) m a
   turn-enough rec zero m (more p i n) h = absurd (omega arith)
-  turn-enough rec (suc r) m (more p i n) h = ap (λ (x : Result). plus i x) (rec r n (omega arith))
+  turn-enough rec (suc r) m (more p i n) h = ap (plus _) (rec r n (omega arith))
   turn-enough rec room m (quiet n) h = rec room n h
   turn-enough rec room m done h = refl
   turn-enough rec room m (stop c p) h = refl
+
+  turn-at-marks : ((r : ℕ) (n : Stand) → AtMarks (trace₁ n) (run₁ r n)) → (room : ℕ) (m : Stand) (a : Step) → AtMarks (marked trace₁ a) (turn run₁ room m a)
+  turn-at-marks rec zero m (more p i n) = tt
+  turn-at-marks rec (suc r) m (more p i n) = plus-at-marks _ n (trace₁ n) (run₁ r n) (rec r n)
+  turn-at-marks rec room m (quiet n) = rec room n
+  turn-at-marks rec room m done = refl
+  turn-at-marks rec room m (stop c p) = tt
 
 module _ (ver : Version) (s : Octets) where
   -- the first event without a record is refused at its place
@@ -270,6 +286,11 @@ module _ (ver : Version) (s : Octets) where
   unfolding run trace
   room-enough zero room m h = refl
   room-enough (suc fuel) room m h = turn-enough (λ r n. run ver s fuel r n) (λ n. trace ver s fuel n) (λ r n y. room-enough fuel r n y) room m (step ver s m) h
+
+  pub run-at-marks : (fuel room : ℕ) (m : Stand) → AtMarks (trace ver s fuel m) (run ver s fuel room m)
+  unfolding run trace
+  run-at-marks zero room m = tt
+  run-at-marks (suc fuel) room m = turn-at-marks (λ r n. run ver s fuel r n) (λ n. trace ver s fuel n) (λ r n. run-at-marks fuel r n) room m (step ver s m)
 
 -- ---- what the rules write is read
 no-end : (n h : ℕ) (t u : Octets) → h < 15 → replicate n 0 ++ (h ∷ t) ≡ 15 ∷ u → ⊥
@@ -361,20 +382,20 @@ module _ (ver : Version) (s : Octets) where
 
   -- a run with room for every event; what is known after each, and where the strings are spelled
   pub record Reads (fuel room : ℕ) (m : Stand) (items : List (Item Octets)) (z : State Octets) (after : List (State Octets)) (l : List Located) : Type 0 where
-    pub events : List (Item Located)
+    pub events : List EventRead
     pub last : Stand
     pub runs : run ver s fuel room m ≡ accepted events last
-    pub are : map (plain s) events ≡ items
+    pub are : map (plain s) (itemsRead events) ≡ items
     pub end-is : plainState s (last .state) ≡ z
     pub known : map (λ (k : Mark). plainState s (k .stand .state)) (trace ver s fuel m) ≡ after
-    pub spells : allSpelled events ≡ l
+    pub spells : allSpelled (itemsRead events) ≡ l
 
   go-on : (fuel room : ℕ) (m n : Stand) (p : ℕ) (f : Item Located) (i : Item Octets) (items : List (Item Octets)) (z w : State Octets) (after : List (State Octets)) (l r : List Located) → step ver s m ≡ more p f n → plain s f ≡ i → itemSpelled f ≡ l → plainState s (n .state) ≡ w
       → Reads fuel room n items z after r → Reads (suc fuel) (suc room) m (i ∷ items) z (w ∷ after) (l ++ r)
   unfolding run trace allSpelled
   go-on fuel room m n p f i items z w after l l′ e q sp st r =
       record {
-        events = f ∷ r .events;
+        events = record { place = p; item = f } ∷ r .events;
         last = r .last;
         runs = rw (e, r .runs);
         are = ap₂ (λ (a : Item Octets) (l : List (Item Octets)). a ∷ l) q (r .are);

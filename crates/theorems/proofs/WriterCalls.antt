@@ -20,7 +20,7 @@ use Rattle.tables.specs.Located.{Located, plain, plainState, start}
 use Rattle.events.specs.declared.Event.{Event}
 use Rattle.events.specs.Records.{recordOf}
 use Rattle.events.specs.FromWords.{recordsOf}
-use Rattle.reader.specs.Reading.{accepting as reading, readOf}
+use Rattle.reader.specs.Reading.{EventRead, itemsRead, recordRead, accepting as reading, readOf}
 use Rattle.writer.specs.declared.Answer.{Answer}
 use Rattle.writer.specs.declared.Answer.the-variants.{Accepted, Refused}
 use Rattle.writer.specs.Events.{wellMade, eventOf, isContent, goesOn, allText}
@@ -64,10 +64,10 @@ module _ (ver : Version) (ok : Bounded ver) (text : Octets) (room : ℕ) (es : L
 
 -- What reading octets leaves: the records of events whose plain forms are these items', blank records behind them, and tables that are these, as octets.
 pub record ReadBack (ver : Version) (s : Octets) (records : ℕ) (items : List (Item Octets)) (z : State Octets) : Type 0 where
-  pub events : List (Item Located)
+  pub events : List EventRead
   pub last : State Located
-  pub is : readOf ver s records tableWords ≡ reading (map (λ (i : Item Located). recordOf (i .event)) events) (last .tables) records
-  pub same : map (plain s) events ≡ items
+  pub is : readOf ver s records tableWords ≡ reading (map recordRead events) (last .tables) records
+  pub same : map (plain s) (itemsRead events) ≡ items
   pub tables : plainState s last ≡ z
 
 -- 18. READ BACK: what a call wrote is read, with a record for each event, and gives the same events and tables.

@@ -3,11 +3,10 @@ use Prim.Native.Nat.{ℕ}
 use mathlib.Core.Option.{none, some}
 use mathlib.Core.List.{List, [], _∷_, _++_, map}
 use Rattle.format.specs.Octets.{Octets}
-use Rattle.format.specs.Events.{Name, Event, Namespace, Start, Attribute, Text, End, Item, eventMap}
+use Rattle.format.specs.Events.{Name, Event, Namespace, Start, Attribute, Text, End, eventMap}
 use Rattle.format.specs.Tables.{Triple, Vocabulary, xmlPrefix, xmlNamespace, link}
 use Rattle.format.specs.Document.{header}
 use Rattle.tables.specs.Located.{Located, octetsOf, plainTables}
-use Rattle.events.specs.Records.{recordOf}
 use Rattle.reader.specs.Reading as RReading
 use Rattle.writer.specs.Writing as WWriting
 
@@ -21,13 +20,13 @@ pub data Found : Type 0 where
   found : List (Event Octets) → Vocabulary Octets → Octets → Vocabulary Octets → Found
   number : ℕ → ℕ → Found
 
-abbrev pub both : Octets → List (Item Located) → Vocabulary Located → WWriting.Result → Found
-both s is v (WWriting.written js hs z) =
-    found (map (λ (i : Item Located). eventMap (octetsOf s) (i .event)) is) (plainTables s v) (header link ++ WWriting.joined hs) (plainTables s (z .tables))
-both s is v (WWriting.refusal n p) = number n p
+abbrev pub both : Octets → List RReading.EventRead → Vocabulary Located → WWriting.Result → Found
+both s es v (WWriting.written js hs z) =
+    found (map (λ (e : RReading.EventRead). eventMap (octetsOf s) (e .item .event)) es) (plainTables s v) (header link ++ WWriting.joined hs) (plainTables s (z .tables))
+both s es v (WWriting.refusal n p) = number n p
 
 abbrev pub read : Octets → RReading.Result → Found
-read s (RReading.accepted is m) = both s is (m .state .tables) (WWriting.writing link s 16384 (map (λ (i : Item Located). recordOf (i .event)) is))
+read s (RReading.accepted es m) = both s es (m .state .tables) (WWriting.writing link s 16384 (map RReading.recordRead es))
 read s (RReading.refusal n p) = number n p
 
 abbrev pub finds : Case → Found

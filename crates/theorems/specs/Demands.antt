@@ -67,21 +67,22 @@ pub data WriteWordsAnswer (es : List Event) (r t c : ℕ) (w : WriteWords.WordsL
   refuses : {n p : ℕ} → WriterNumber n → p ≤ length es → w .answer ≡ p * 32 + n → w .out ≡ replicate r 0 → w .tables ≡ replicate t 0 → w .counts ≡ replicate c 0 → WriteWordsAnswer es r t c w
 
 -- ---- what a call that reads owes by demand 3
--- For these items, which the rules write by the derivation w, the call left their records, blank ones behind them, and their tables; its answer has the counts. Each
--- record is as the requirements' "Events" has it; each spelled string has the place at which the rules write it, and each number names an entry made earlier or built in, at its
--- very place. The tables hold what is built in and what the events made, each entry at its very place.
+-- For these items, which the rules write by the derivation w, the call left their records, blank ones behind them, and their tables; its answer has the counts. The
+-- events have the places of the document's marks, in order. Each record is as the requirements' "Events" has it; each spelled string has the place at which the
+-- rules write it, and each number names an entry made earlier or built in, at its very place. The tables hold what is built in and what the events made, each entry at its very place.
 pub record HandsOut (ver : Version) (s : Octets) (room : ℕ) (items : List (Item Octets)) (z : State Octets) (w : Document ver items z s) (o : Read.Outcome) : Type 0 where
-  pub events : List (Item Located)
+  pub events : List Read.EventRead
   pub tables : Vocabulary Located
   pub answer : o .told ≡ toldAccepted (length items) (entriesOf (z .tables))
-  pub row : o .row ≡ map (λ (i : Item Located). recordOf (i .event)) events ++ replicate (room - length items) blank
+  pub row : o .row ≡ map Read.recordRead events ++ replicate (room - length items) blank
+  pub places : map (λ (e : Read.EventRead). e .place) events ≡ map (λ (k : Read.Mark). k .place) (Read.marks ver s)
   pub table-words : o .tables ≡ wordsOf entryWords tables
-  pub events-are : map (plain s) events ≡ items
+  pub events-are : map (plain s) (Read.itemsRead events) ≡ items
   pub tables-are : plainTables s tables ≡ z .tables
-  pub well-made : All (λ (i : Item Located). WellMade s (recordOf (i .event))) events
-  pub spelled : allSpelled events ≡ spelledIn (w .rule)
-  pub earlier : Known (starting ver builtInPrefix builtInNamespace) (acts events)
-  pub tables-made : Holds tables (after (starting ver builtInPrefix builtInNamespace) (acts events))
+  pub well-made : All (WellMade s) (map Read.recordRead events)
+  pub spelled : allSpelled (Read.itemsRead events) ≡ spelledIn (w .rule)
+  pub earlier : Known (starting ver builtInPrefix builtInNamespace) (acts (Read.itemsRead events))
+  pub tables-made : Holds tables (after (starting ver builtInPrefix builtInNamespace) (acts (Read.itemsRead events)))
 
 pub record ReadsExactly (ver : Version) (s : Octets) (room table : ℕ) (o : Read.Outcome) : Type 0 where
   -- what the rules write is accepted, if there is a record for each event and the right table room, and this is handed out
