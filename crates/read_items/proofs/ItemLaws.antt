@@ -546,19 +546,23 @@ module _ (s W : List ℕ) (st : State) (g : Good s st W) (k : ℕ) where
         refuse (g .tidy .room) (rw (lt-ltb _ _ h, le-ltb _ _ d, le-ltb _ _ b, lt-ltb _ _ c, le-ltb _ _ z))
 
     module _ (w : List ℕ) (r : Step) where
-      pub child-element : getD s k 0 / 64 % 4 ≡ 0 → Meets s W r w (elementAt link s k (getD s k 0) false (standOf st W .state))
+      -- a is the first two bits of the octet, b the other six
+      pub child-element : (a b : ℕ) → a ≡ getD s k 0 / 64 % 4 → b ≡ getD s k 0 / 1 % 64 → a < 2 → Meets s W r w (elementAt link s k b (eqb a 1) (standOf st W .state))
           → Meets s W r w (childAt link s k (standOf st W .state))
       unfolding childAt
-      child-element e p = let d : getD s k 0 < 0x40 = omega arith in rw (lt-ltb _ _ h, lt-ltb _ _ d) p
-
-      pub child-element-attributes : getD s k 0 / 64 % 4 ≡ 1 → (b : ℕ) → b ≡ getD s k 0 / 1 % 64 → Meets s W r w (elementAt link s k b true (standOf st W .state))
-          → Meets s W r w (childAt link s k (standOf st W .state))
-      unfolding childAt
-      child-element-attributes e b eb p =
-          let d : 0x40 ≤ getD s k 0 = omega arith in
-          let c : getD s k 0 < 0x80 = omega arith in
-          let x : b ≡ getD s k 0 - 0x40 = omega arith in
-          rw (lt-ltb _ _ h, le-ltb _ _ d, lt-ltb _ _ c) (rw x at p)
+      child-element a b ea eb l p =
+          elim (decLt (getD s k 0) 0x40) [
+            | yes d ↦
+                let z : a ≡ 0 = omega arith in
+                let x : b ≡ getD s k 0 = omega arith in
+                rw (lt-ltb _ _ h, lt-ltb _ _ d) (rw (z, x) at p)
+            | no n ↦
+                let d : 0x40 ≤ getD s k 0 = omega arith in
+                let c : getD s k 0 < 0x80 = omega arith in
+                let z : a ≡ 1 = omega arith in
+                let x : b ≡ getD s k 0 - 0x40 = omega arith in
+                rw (lt-ltb _ _ h, le-ltb _ _ d, lt-ltb _ _ c) (rw (z, x) at p)
+          ]
 
       pub child-text : getD s k 0 / 64 % 4 ≡ 2 → (st .level ≡ 0 → ⊥) → Meets s W r w (chunkAt link s k (standOf st W .state))
           → Meets s W r w (childAt link s k (standOf st W .state))

@@ -368,11 +368,9 @@ impl State {
         }
         let o = s[k];
         let code = bits(o, 1, 2);
-        if code == 0 {
-            return self.element_at(s, t, k, o, false);
-        }
-        if code == 1 {
-            return self.element_at(s, t, k, bits(o, 3, 8), true);
+        // One place that calls element_at, so that it is inlined.
+        if code < 2 {
+            return self.element_at(s, t, k, bits(o, 3, 8), code == 1);
         }
         if code == 2 {
             if self.level == 0 {
