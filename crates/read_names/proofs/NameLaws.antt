@@ -1,7 +1,7 @@
 -- Names and declarations on plain values: a law for each way out of each method, and that the tables stay in order.
 -- Assumes nothing.
 use mathlib.Core.Path.{_≡_, refl, sym, ap, _∙_}
-use mathlib.Core.Bool.{Bool, true, false, not}
+use mathlib.Core.Bool.{Bool, true, false, not, and-false}
 use mathlib.Core.Option.{some}
 use mathlib.Core.List.{List, [], _∷_, _++_, map}
 use Prim.Native.Nat.{ℕ, zero, suc, _+_, _-_, _*_, _%_, _≤_, _<_}
@@ -15,7 +15,7 @@ use Rattle.format.specs.Numbers.{pick, Form, numbers, c25, lengths, top}
 use Rattle.fields.specs.Utf8.{isText}
 use Rattle.format.specs.Tables.{StringTable, PREFIX, NAMESPACE-NAME, LOCAL-NAME}
 use Rattle.format.specs.Tables.{NameTable, ELEMENT-NAME, ATTRIBUTE-NAME, Triple, Vocabulary, strings, names, adding, addingName}
-use Rattle.format.specs.Tables.{holds, holdsName, link}
+use Rattle.format.specs.Tables.{holds, holdsName, sameTriple, link}
 use Rattle.format.specs.Names.{NameLayout, ofElement, ofAttribute}
 use Rattle.fields.specs.declared.Cursor.{Cursor}
 use Rattle.fields.specs.declared.Number.{Number}
@@ -26,11 +26,11 @@ use Rattle.tables.specs.declared.Counts.{Counts}
 use Rattle.tables.specs.declared.Row.{Row}
 use Rattle.tables.specs.Located.{Located, empty, stretch, octetsOf}
 use Rattle.tables.specs.Counts.{tableWords}
-use Rattle.tables.specs.Search.{numberOfTriple}
+use Rattle.tables.specs.Search.{lowest, numberOfTriple}
 use Rattle.tables.specs.Rows.{tableOf, place, stringAt, tripleAt, entries, vocabulary}
 use Rattle.tables.specs.Kept.{nameTableOf, countOf, oneMore, Counted, rowAt, stored, layoutOf, tripleOf}
 use Rattle.tables.proofs.ByNumber.{eight-nine}
-use Rattle.tables.proofs.Adding.{extended, strings-adding}
+use Rattle.tables.proofs.Adding.{extended, strings-adding, names-adding}
 use Rattle.tables.proofs.Laws.{names-are, length-strings, length-names, string-nth, name-nth, counted-more, name-added, clean-name, holds-name-number, inside-name}
 use Rattle.events.specs.declared.EventString.{EventString}
 use Rattle.events.specs.declared.EventString.the-variants.{Absent}
@@ -176,6 +176,11 @@ ranged-adding c v x q r =
       | ATTRIBUTE-NAME ↦ ranged-more c (oneMore c 9) (omega arith) (omega arith) (omega arith) (v .attributes) x (r ATTRIBUTE-NAME) q
     ])
 
+-- a name that its table does not hold is not in the words that hold the table
+pub words-unnamed : (c : Counts) (w : List ℕ) (t n : ℕ) (x : Triple) → 8 ≤ t → t < 10 → n ≡ countOf c t → 0 ≡ numberOfTriple (names (vocabulary c w) (nameTableOf t)) x
+    → 0 ≡ numberOfTriple (entries (tripleAt w) (768 * t) n) x
+words-unnamed c w t n x low high en e = rw en (rw (names-are c w t low high) at e)
+
 -- x is the name that is read, of which y is seen; n is how many names there are, f the number that was found
 module _ (c : Counts) (w : List ℕ) (t k next n f : ℕ) (y : Parts) (x : Triple) (low : 8 ≤ t) (high : t < 10) (en : n ≡ countOf c t)
     (ef : f ≡ numberOfTriple (entries (tripleAt w) (768 * t) n) x) where
@@ -222,9 +227,9 @@ extended-longer false l x = omega arith
 abbrev Grown : Vocabulary Located → Vocabulary Located → Type 0
 Grown v w = (u : StringTable) → length (strings v u) ≤ length (strings w u)
 
--- the number is one of table t, and no table has lost an entry
+-- the number is one of table t, no table has lost an entry, and the names are as before
 abbrev Placed : ℕ → StringTable → Vocabulary Located → S.Got Seen → Type 0
-Placed low t v (S.got x next w) = (low ≤ x .number) × (x .number ≤ length (strings w t)) × Grown v w
+Placed low t v (S.got x next w) = (low ≤ x .number) × (x .number ≤ length (strings w t)) × Grown v w × ((u : NameTable) → names w u ≡ names v u)
 Placed low t v (S.refused n p) = Unit {0}
 
 module _ {B : Type 0} (P : S.Got B → Type 0) where
@@ -248,13 +253,13 @@ module _ (s : List ℕ) (t : StringTable) (k : ℕ) (v : Vocabulary Located) whe
       (λ n c e. tests P (leb (c .at + n) (length s)) _ _
       (λ a. tests P (isText (octetsOf s (stretch (c .at) n))) _ _
       (λ b. tests P (holds (map (octetsOf s) (strings v t)) (octetsOf s (stretch (c .at) n))) _ _ (λ h. tt)
-      (λ h. tests P (ltb (length (strings v t)) (link .entries)) _ _ (λ r. let g = new-placed (stretch (c .at) n) in (omega arith, g .0, g .1)) (λ r. tt)))
+      (λ h. tests P (ltb (length (strings v t)) (link .entries)) _ _ (λ r. let g = new-placed (stretch (c .at) n) in (omega arith, g .0, g .1, names-adding v t (stretch (c .at) n))) (λ r. tt)))
       (λ b. tt))
       (λ a. tt))
       (λ n p. tt))
       (λ o. numbered P (fieldAt c25 top 2 s k) _
       (λ n c e. tests P (leb n (length (strings v t))) _ _
-      (λ h. let g = field-got top s k c25 2 e in (g .0, leb-true _ _ h, λ u. omega arith))
+      (λ h. let g = field-got top s k c25 2 e in (g .0, leb-true _ _ h, λ u. omega arith, λ u. refl))
       (λ h. tt))
       (λ n p. tt))
 
@@ -264,9 +269,9 @@ module _ (s : List ℕ) (t : StringTable) (k : ℕ) (v : Vocabulary Located) whe
     where
       present : (g : S.Got IdRead) → Placed 1 t v (idSeen g)
           → Placed 0 t v (optionalSeen (S.then g λ (i : IdRead) next w. S.got (record { string = some (i .string); how = some (i .how); number = i .number }) next w))
-      present (S.got i next w) h = (omega arith, h .1, h .2)
+      present (S.got i next w) h = (omega arith, h .1, h .2, h .3)
       present (S.refused n p) h = tt
-  optional-placed false = (omega arith, omega arith, λ u. omega arith)
+  optional-placed false = (omega arith, omega arith, λ u. omega arith, λ u. refl)
 
 -- the numbers of a name's strings, read one behind the other
 pub strings-ranged : (s : List ℕ) (p n : Bool) (k k₁ k₂ k₃ : ℕ) (v v₁ v₂ : Vocabulary Located) (c : Counts) (w : List ℕ) (x₁ x₂ x₃ : Seen)
@@ -284,6 +289,19 @@ strings-ranged s p n k k₁ k₂ k₃ v v₁ v₂ c w x₁ x₂ x₃ e₁ e₂ e
     let l₁ = length-strings c w 1 (omega arith) in
     let l₂ = length-strings c w 2 (omega arith) in
     (omega arith, omega arith, omega arith, omega arith, tt)
+
+-- a local name that is new is in no name
+unnamed : (c : Counts) (x : Triple) → c .local < x .local → (l : List Triple) (k : ℕ) → Ranged c l → 0 ≡ lowest (λ (y : Triple). sameTriple y x) k l
+unfolding lowest sameTriple
+unnamed c x h [] k r = refl
+unnamed c x h (y ∷ l) k r = rw (ne-eqb (y .local) (x .local) (omega arith), and-false, and-false) (unnamed c x h l (suc k) (r .4))
+
+pub local-new : (s : List ℕ) (k k₁ : ℕ) (c d : Counts) (w w₁ : List ℕ) (x : Seen) → Tidy s c w → S.got x k₁ (vocabulary d w₁) ≡ idSeen (idAt link s (tableOf 2) k (vocabulary c w))
+    → (t : NameTable) (p n : ℕ) → c .local < x .number → 0 ≡ numberOfTriple (names (vocabulary d w₁) t) (record { prefix = p; namespace = n; local = x .number })
+unfolding numberOfTriple
+local-new s k k₁ c d w w₁ x tidy e t p n h =
+    let g = rw (← e) at (id-placed s (tableOf 2) k (vocabulary c w)) in
+    rw (g .3 t) (unnamed c _ h (names (vocabulary c w) t) 1 (tidy .ranged t))
 
 -- ---- what is seen of a name's strings
 module _ {C : Type 0} (z : S.Got C → S.Got Parts) (refusal : (n p : ℕ) → z (S.refused n p) ≡ S.refused n p) (h : Seen → ℕ → Vocabulary Located → S.Got Parts) where

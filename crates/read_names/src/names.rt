@@ -1,13 +1,14 @@
 // Names, C.17 and C.18, and namespace declarations, C.12. Each method reads one from where it stands.
 ghost use mathlib.Core.Path.{_≡_};
 ghost use mathlib.Core.List.{[], _∷_};
-ghost use Prim.Native.Nat.{_<_, _≤_};
+ghost use Prim.Native.Nat.{_*_, _<_, _≤_};
 ghost use lib.ListN.{length};
 ghost use Rattle.format.specs.Numbers.{top};
-ghost use Rattle.format.specs.Tables.{link};
+ghost use Rattle.format.specs.Tables.{link, names};
 ghost use Rattle.fields.specs.Fields.{fieldAt};
 ghost use Rattle.tables.specs.Counts.{tableWords};
-ghost use Rattle.tables.specs.Rows.{vocabulary};
+ghost use Rattle.tables.specs.Search.{numberOfTriple};
+ghost use Rattle.tables.specs.Rows.{tripleAt, entries, vocabulary};
 ghost use Rattle.tables.specs.Kept.{nameTableOf, Counted, layoutOf, tripleOf};
 ghost use Rattle.read_names.specs.Names.{nameBit, partsAt, numberedAt, nameAt, declaredAt};
 ghost use Rattle.read_names.specs.Contracts.{Ranged, Tidy, seenName, NameTidy, nameSeen, declaredSeen};
@@ -103,14 +104,33 @@ fn texts(t: &[u32], x: Row) -> Parts
     }
 }
 
+// A name's number in its table, 0 if it has none. A local name above `locals` is in no entry, so that it is not searched for.
+fn find_name(t: &[u32], table: usize, n: u32, x: Row, locals: u32) -> u32
+    requires { ⌜ (length (now t) ≡ tableWords) × (table < 10) × (n ≤ 256) × (locals < x .c → 0 ≡ numberOfTriple (entries (tripleAt (now t)) (768 * table) n) (tripleOf x)) ⌝ }
+    ensures { λ r. ⌜ r ≡ numberOfTriple (entries (tripleAt (now (t .entry))) (768 * table) n) (tripleOf x) ⌝ }
+{
+    if locals < x.c {
+        return 0;
+    }
+    tables::find_name(t, table, n, x.a, x.b, x.c)
+}
+
 impl Here {
-    // A name whose strings end here: its triple is new, and is added.
-    fn triple(mut self, t: &mut [u32], table: usize, place: usize, name: Parts, x: Row) -> Named
-        requires { ⌜ (length (now t) ≡ tableWords) × Counted (self .counts) × (8 ≤ table) × (table < 10) × Ranged (self .counts) (tripleOf x ∷ []) ⌝ }
+    // A name whose strings end here: its triple is new, and is added. Names that are there have local names up to `locals`.
+    fn triple(
+        mut self,
+        t: &mut [u32],
+        table: usize,
+        place: usize,
+        name: Parts,
+        x: Row,
+        locals: u32,
+    ) -> Named
+        requires { ⌜ (length (now t) ≡ tableWords) × Counted (self .counts) × (8 ≤ table) × (table < 10) × Ranged (self .counts) (tripleOf x ∷ []) × (locals < x .c → 0 ≡ numberOfTriple (names (vocabulary (self .counts) (now t)) (nameTableOf table)) (tripleOf x)) ⌝ }
         ensures { λ r. ⌜ (seenName r (now (t .exit)) ≡ newName link (nameTableOf table) (tripleOf x) name place (self .at) (vocabulary (self .counts) (now (t .entry)))) × KeepsTidy self (now (t .entry)) r (now (t .exit)) ⌝ }
     {
         let n = self.counts.of(table);
-        if tables::find_name(t, table, n, x.a, x.b, x.c) != 0 {
+        if find_name(t, table, n, x, locals) != 0 {
             return Named::Faulty(REPEAT, place);
         }
         if Counts::ENTRIES <= n {
@@ -149,7 +169,8 @@ impl Here {
             namespace,
             local,
         };
-        next.triple(t, table, place, name, Row { a: p, b: n, c: l })
+        let locals = behind_namespace.counts.local;
+        next.triple(t, table, place, name, Row { a: p, b: n, c: l }, locals)
     }
 
     // A name by number.

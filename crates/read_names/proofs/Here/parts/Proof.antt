@@ -2,7 +2,7 @@
 -- Assumes nothing.
 use native.Mathlib.Omega.{arith}
 use borrow.Author.Needs.{needs}
-use Rattle.read_names.proofs.NameLaws.{layout-table, strings-ranged, parts-lone, parts-prefix, parts-namespace, parts-local, parts-read, string-handed}
+use Rattle.read_names.proofs.NameLaws.{layout-table, strings-ranged, local-new, parts-lone, parts-prefix, parts-namespace, parts-local, parts-read, string-handed}
 use Rattle.read_names.proofs.Here.parts.Statement.{statement}
 use Rattle.read_names.proofs.Here.parts.Tie as tie
 
@@ -115,7 +115,7 @@ triple-requires c κs =
     let first = rw (at-first .first .given .1) at (at-optional .optional .ensures) in
     let second = rw (at-second .second .given .1) at (at-optional2 .optional2 .ensures) in
     let third = rw (c .before .before .third .given .1) at (at-id .id .ensures) in
-    (third .1 .0 .room, third .1 .0 .counted, at-start .pre .2, at-start .pre .3, strings-ranged _ _ _ _ _ _ _ _ _ _ _ _ _ _ _ (first .0) (second .0) (third .0))
+    (third .1 .0 .room, third .1 .0 .counted, at-start .pre .2, at-start .pre .3, strings-ranged _ _ _ _ _ _ _ _ _ _ _ _ _ _ _ (first .0) (second .0) (third .0), local-new _ _ _ _ _ _ _ _ (second .1 .0) (third .0) _ _ _)
 
 same-length-4 : tie.Need-same-length-4
 same-length-4 c =

@@ -2,7 +2,7 @@
 -- Assumes nothing.
 use native.Mathlib.Omega.{arith}
 use borrow.Author.Needs.{needs}
-use Rattle.read_names.proofs.NameLaws.{name-held, name-full, name-new}
+use Rattle.read_names.proofs.NameLaws.{words-unnamed, name-held, name-full, name-new}
 use Rattle.read_names.proofs.Here.triple.Statement.{statement}
 use Rattle.read_names.proofs.Here.triple.Tie as tie
 use Rattle.tables.specs.Kept.{tripleOf}
@@ -12,9 +12,10 @@ of-requires c κs = search needs
 
 find-name-requires : tie.Need-find-name-requires
 find-name-requires c κs =
-    let few = c .before .before .before .pre .1 (c .before .before .before .args .table) in
+    let at-start = c .before .before .before in
+    let few = at-start .pre .1 (at-start .args .table) in
     let n = c .before .of .ensures in
-    omega arith
+    (at-start .pre .0, at-start .pre .3, omega arith, λ h. words-unnamed _ _ _ _ _ (at-start .pre .2) (at-start .pre .3) n (at-start .pre .5 h))
 
 same-length : tie.Need-same-length
 same-length c = search needs

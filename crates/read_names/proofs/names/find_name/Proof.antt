@@ -1,0 +1,17 @@
+-- `find_name` meets its contract: a name whose local name is new is in no entry.
+-- Assumes nothing.
+use borrow.Author.Needs.{needs}
+use Rattle.read_names.proofs.names.find_name.Statement.{statement}
+use Rattle.read_names.proofs.names.find_name.Tie as tie
+
+returns : tie.Need-returns
+returns c = c .before .before .before .pre .3 (c .if1 .taken)
+
+find-name-requires : tie.Need-find-name-requires
+find-name-requires c κs = search needs
+
+returns-2 : tie.Need-returns-2
+returns-2 c = search needs
+
+pub find-name-spec : {M : Type 1} → statement M
+find-name-spec = tie.close (tie.spec returns find-name-requires returns-2)
