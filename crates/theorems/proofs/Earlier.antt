@@ -79,9 +79,9 @@ module _ {S : Type 0} where
   adds-name-number t k x = record { then = λ y a. a }
 
 -- ---- these acts lead from v to w: they use what is there, and what they make is what w has more
-record Does {S : Type 0} (v : Vocabulary S) (l : List (Act S)) (w : Vocabulary S) : Type 0 where
+pub record Does {S : Type 0} (v : Vocabulary S) (l : List (Act S)) (w : Vocabulary S) : Type 0 where
   known : (y : Tables S (Name S)) → Holds v y → (rest : List (Act S)) → Known (after y l) rest → Known y (l ++ rest)
-  then : (y : Tables S (Name S)) → Holds v y → Holds w (after y l)
+  pub then : (y : Tables S (Name S)) → Holds v y → Holds w (after y l)
 
 module _ {S : Type 0} where
   both : {v w z : Vocabulary S} {l m : List (Act S)} → Does v l w → Does w m z → Does v (l ++ m) z
@@ -135,7 +135,7 @@ module _ {S : Type 0} where
   same-start ver p u CONTENT-CHARACTER-CHUNK = refl
   same-start ver p u OTHER-STRING = refl
 
-  holds-start : (ver : Version) (p u : S) → Holds (starting ver p u) (starting ver p u)
+  pub holds-start : (ver : Version) (p u : S) → Holds (starting ver p u) (starting ver p u)
   unfolding names starting
   holds-start ver p u = record { strings-are = same-start ver p u; names-are = λ t. elim t [ ELEMENT-NAME ↦ no-triple | ATTRIBUTE-NAME ↦ no-triple ] }
 
@@ -165,7 +165,7 @@ module _ {S : Type 0} {d : S} {Spelt : S → Type 0} where
   name-does {t} (name-made {v₃ = v3} lone up un ul) = both (part-does up) (both (part-does un) (both (id-does ul) (makes-name v3 t _ _ (parts-mean up un ul))))
   name-does (name-used en) = uses-name d en
 
-  item-does : {v w : Vocabulary S} {i : Item S} → ItemDone d Spelt v i w → Does v (ofItem i) w
+  pub item-does : {v w : Vocabulary S} {i : Item S} → ItemDone d Spelt v i w → Does v (ofItem i) w
   item-does (done-namespace up un) = both (part-does up) (both (part-does un) none-done)
   item-does (done-start u) = both (name-does u) none-done
   item-does (done-attribute u1 u2) = both (name-does u1) (both (value-does u2) none-done)

@@ -88,7 +88,7 @@ module _ {ver : Version} where
       → Declared ver v p n hp hn o w → ItemDone [] Said v (Namespace p n by forNamespace hp hn) w
   namespace-done (declared up un) = done-namespace (part-done up) (part-done un)
 
-  octets-done : {v w : State Octets} {i : Item Octets} {o : Octets} → ItemWrittenAs ver v i o w → ItemDone [] Said (v .tables) i (w .tables)
+  pub octets-done : {v w : State Octets} {i : Item Octets} {o : Octets} → ItemWrittenAs ver v i o w → ItemDone [] Said (v .tables) i (w .tables)
   unfolding ofElement ofAttribute
   octets-done (o-start a md may deep u) = done-start (name-done u)
   octets-done (o-first-namespace md may deep u) = namespace-done u

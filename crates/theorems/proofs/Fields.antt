@@ -5,7 +5,7 @@ use Prim.Native.Nat.{ℕ, _+_, _-_, _*_, _^_, _≤_, _<_}
 use native.Mathlib.Omega.{arith}
 use borrow.Author.Tests.{le-leb}
 use lib.ListN.{length, getD, drop, length-append}
-use Rattle.format.specs.Octets.{Octets, Words}
+use Rattle.format.specs.Octets.{Octets}
 use Rattle.format.specs.Numbers.{Form, spell, sizes, longest}
 use Rattle.format.specs.Characters.{IsText}
 use Rattle.format.specs.Tables.{Vocabulary}
@@ -104,7 +104,7 @@ module _ (s : Octets) where
   pub spelt : (fs : List Form) (bit lead base k : ℕ) (x rest : Octets) → Ordered fs → rooms fs ≤ 2 ^ (9 - bit) → longest ≤ sizes fs → base ≡ lead * 2 ^ (9 - bit) → Spelling x
       → drop k s ≡ withLength fs base x ++ rest → Spelt fs bit base k x
   spelt fs bit lead base k x rest ok r sz bl sp d =
-      let w : Words = spell fs base (length x) in
+      let w : Octets = spell fs base (length x) in
       let d1 : drop k s ≡ w ++ (x ++ rest) = d ∙ append-assoc w x rest in
       let p = sp .some in
       let f = sp .fits in

@@ -15,6 +15,7 @@ mod Triples
 mod Effects
 mod Growing
 mod Earlier
+mod Acts
 mod Wider
 mod Structure
 mod Documents

@@ -9,7 +9,7 @@ use borrow.Author.Tests.{eqb-true, eqb-false, eq-eqb, ltb-true, ltb-false, leb-t
 use lib.Dec.{eqb, ltb, leb}
 use lib.ListN.{length, getD, take, drop, length-append, length-drop, take-append-drop, length-replicate}
 use lib.Seq.{drop-drop, take-at, drop-at, drop-nil}
-use Rattle.format.specs.Octets.{Octets, Words}
+use Rattle.format.specs.Octets.{Octets, Halves}
 use Rattle.format.specs.Numbers.{pick}
 use Rattle.format.specs.Document.{halves, pad, aligned}
 use Rattle.read_items.specs.Steps.{halfAt, endsAt, padsAt}
@@ -77,7 +77,7 @@ not-true false f = refl
 pub drop-add : (l : Octets) (a b : ℕ) → drop b (drop a l) ≡ drop (a + b) l
 drop-add l a b = drop-drop b a l
 
-pub drop-past : (l : Octets) (at : ℕ) (w : Words) (t : Octets) → drop at l ≡ w ++ t → drop (at + length w) l ≡ t
+pub drop-past : (l : Octets) (at : ℕ) (w t : Octets) → drop at l ≡ w ++ t → drop (at + length w) l ≡ t
 drop-past l at w t e = sym (drop-add l at (length w)) ∙ rw e (drop-at w t (length w) refl)
 
 -- an octet
@@ -122,7 +122,7 @@ halves-sound s k o n e = halves-drop k s ∙ ap halves e ∙ halves-append o (dr
 pub octet-is : (a b : ℕ) → a / 16 ≡ b / 16 → a % 16 ≡ b % 16 → a ≡ b
 octet-is a b p q = omega arith
 
-halves-split : (t : Octets) (w : Words) (r : Octets) → halves t ≡ halves w ++ r → t ≡ w ++ drop (length w) t
+halves-split : (t w : Octets) (r : Halves) → halves t ≡ halves w ++ r → t ≡ w ++ drop (length w) t
 unfolding halves
 halves-split t [] r e = refl
 halves-split [] (o ∷ w) r e = cc
@@ -130,7 +130,7 @@ halves-split (p ∷ t) (o ∷ w) r e =
     let z : p ≡ o = octet-is p o (cc) (cc) in
     ap₂ (λ (a : ℕ) (l : Octets). a ∷ l) z (halves-split t w r (cc))
 
-pub halves-complete : (s : Octets) (k : ℕ) (o r : Octets) → drop (2 * k) (halves s) ≡ halves o ++ r → drop k s ≡ o ++ drop (k + length o) s
+pub halves-complete : (s : Octets) (k : ℕ) (o : Octets) (r : Halves) → drop (2 * k) (halves s) ≡ halves o ++ r → drop k s ≡ o ++ drop (k + length o) s
 halves-complete s k o r e =
     halves-split (drop k s) o r (sym (halves-drop k s) ∙ e) ∙ ap (λ (l : Octets). o ++ l) (drop-add s k (length o))
 
@@ -162,12 +162,12 @@ half-is (o ∷ s) (suc (suc at)) =
     let b : suc (suc at) % 2 ≡ at % 2 = omega arith in
     rw (a, b) (half-is s at)
 
-half-here : (l : Octets) (at h : ℕ) → getD l at 16 ≡ h → h < 16 → drop at l ≡ h ∷ drop (suc at) l
+half-here : (l : Halves) (at h : ℕ) → getD l at 16 ≡ h → h < 16 → drop at l ≡ h ∷ drop (suc at) l
 half-here [] at h e l = absurd (omega arith)
 half-here (x ∷ l) zero h e k = ap (λ (y : ℕ). y ∷ l) e
 half-here (x ∷ l) (suc at) h e k = half-here l at h e k
 
-half-there : (l : Octets) (at h : ℕ) (t : Octets) → drop at l ≡ h ∷ t → getD l at 16 ≡ h
+half-there : (l : Halves) (at h : ℕ) (t : Halves) → drop at l ≡ h ∷ t → getD l at 16 ≡ h
 half-there [] at h t e = let z : [] ≡ h ∷ t = sym (drop-nil at) ∙ e in absurd (let y : _≡_ {A = ℕ} 0 1 = cc in omega arith)
 half-there (x ∷ l) zero h t e = cc
 half-there (x ∷ l) (suc at) h t e = half-there l at h t e
@@ -176,7 +176,7 @@ pub ends-sound : (s : Octets) (at : ℕ) → endsAt s at ≡ true → drop at (h
 unfolding endsAt
 ends-sound s at e = half-here (halves s) at 15 (half-is s at ∙ eqb-true (halfAt s at) 15 e) (omega arith)
 
-pub ends-complete : (s : Octets) (at : ℕ) (t : Octets) → drop at (halves s) ≡ 15 ∷ t → endsAt s at ≡ true
+pub ends-complete : (s : Octets) (at : ℕ) (t : Halves) → drop at (halves s) ≡ 15 ∷ t → endsAt s at ≡ true
 unfolding endsAt
 ends-complete s at t e = eq-eqb (halfAt s at) 15 (sym (half-is s at) ∙ half-there (halves s) at 15 t e)
 
@@ -194,7 +194,7 @@ pads-sound s at e =
     let q : eqb (halfAt s at) 0 ≡ true = rw z at e in
     rw (z, y) (half-here (halves s) at 0 (half-is s at ∙ eqb-true (halfAt s at) 0 q) (omega arith)))
 
-pub pads-complete : (s : Octets) (at : ℕ) (t : Octets) → drop at (halves s) ≡ pad at ++ t → (padsAt s at ≡ true) × (drop (aligned at) (halves s) ≡ t)
+pub pads-complete : (s : Octets) (at : ℕ) (t : Halves) → drop at (halves s) ≡ pad at ++ t → (padsAt s at ≡ true) × (drop (aligned at) (halves s) ≡ t)
 unfolding padsAt pad aligned
 pads-complete s at t e =
     parity at

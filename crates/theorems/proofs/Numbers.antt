@@ -6,7 +6,7 @@ use native.Mathlib.Omega.{arith}
 use lib.Dec.{ltb, leb}
 use lib.ListN.{length, getD, take, drop, length-append, length-drop, take-append-drop}
 use lib.Seq.{drop-cons, length-take-le}
-use Rattle.format.specs.Octets.{Octets, Words}
+use Rattle.format.specs.Octets.{Octets}
 use Rattle.fields.specs.declared.Number.{Number}
 use Rattle.fields.specs.declared.Number.the-variants.{Got as Num, Refused as NoNum}
 use Rattle.format.specs.Numbers.{Form, spell, sizes}
@@ -84,7 +84,7 @@ module _ (s : Octets) (bytes : (i : ℕ) → getD s i 0 < 256) where
 pub num-complete : (s : Octets) (fs : List Form) (top bit lead base n k : ℕ) (t : Octets) → Ordered fs → rooms fs ≤ 2 ^ (9 - bit) → 1 ≤ n → n ≤ sizes fs → n ≤ top → base ≡ lead * 2 ^ (9 - bit)
     → drop k s ≡ spell fs base n ++ t → fieldAt fs top bit s k ≡ Num n (record { at = k + length (spell fs base n) })
 num-complete s fs top bit lead base n k t ok r p h u bl d =
-    let w : Words = spell fs base n in
+    let w : Octets = spell fs base n in
     let some = some-first fs base n ok p h in
     let l1 = length-append w t in
     let l2 = length-drop k s in
@@ -99,7 +99,7 @@ pub num-first : (s : Octets) (fs : List Form) (base n k : ℕ) (t : Octets) → 
     → (base ≤ getD s k 0) × (getD s k 0 < base + rooms fs) × (k < length s)
 num-first s fs base n k t ok p h d = go (spell fs base n) refl
   where
-    go : (w : Words) → spell fs base n ≡ w → (base ≤ getD s k 0) × (getD s k 0 < base + rooms fs) × (k < length s)
+    go : (w : Octets) → spell fs base n ≡ w → (base ≤ getD s k 0) × (getD s k 0 < base + rooms fs) × (k < length s)
     go [] e = absurd (let q = some-first fs base n ok p h in let z = ap length e in omega arith)
     go (o ∷ w) e =
         let a = drop-head s k o (w ++ t) (d ∙ ap (λ (l : Octets). l ++ t) e) in

@@ -5,6 +5,7 @@ use Rattle.theorems.specs.Bounded.{Bounded}
 use Rattle.theorems.specs.Demands.{Demand1, Demand2, Demand3, RulesExact}
 use Rattle.theorems.proofs.Document.{link-bounded}
 use Rattle.theorems.proofs.Demands.{a-document, allowed, permitted, one-document, every-choice-within}
+use Rattle.theorems.proofs.Acts.{every-number, tables-after}
 use Rattle.theorems.proofs.Calls.{whatever-stood, words-whatever-stood}
 use Rattle.theorems.proofs.WriterCalls.{write-whatever-stood, written-whatever-stood}
 use Rattle.theorems.proofs.DemandOne.{check-answers, read-answers, read-words-answer, write-answers, write-words-answer}
@@ -40,6 +41,8 @@ module _ (ver : Version) (ok : Bounded ver) where
         allowed = allowed ver;
         permitted = permitted ver;
         one-document = one-document ver;
+        every-number = every-number ver;
+        tables-after = tables-after ver;
         every-choice = λ items w doc may short permits shallow i. every-choice-within ver items w ok doc may short permits shallow i;
       }
 

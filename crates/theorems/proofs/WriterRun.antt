@@ -78,7 +78,7 @@ module _ (ver : Version) (ok : Bounded ver) (text : Octets) where
     abbrev wi : WroteItem
     wi = writeItem ver text a (settled v ev) ev
 
-    abbrev hs : Octets
+    abbrev hs : Halves
     hs = halvesOf ver text room at v ev wi
 
     -- 16: the structure

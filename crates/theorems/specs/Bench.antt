@@ -1,9 +1,10 @@
--- The bench (the requirements, "Documents on the bench"): the cases of its first two tables, and two chunks that are not joined, in one list. That each is found as it is wanted is proofs/Bench.
+-- The bench (the requirements, "Documents on the bench"): the cases of its first two tables, and others with what these leave out, in one list. That each is found as it is wanted is proofs/Bench.
 use Prim.Native.Nat.{ℕ}
 use mathlib.Core.Option.{none, some}
 use mathlib.Core.List.{List, [], _∷_, _++_, map}
+use lib.ListN.{replicate}
 use Rattle.format.specs.Octets.{Octets}
-use Rattle.format.specs.Events.{Name, Event, Namespace, Start, Attribute, Text, End, eventMap}
+use Rattle.format.specs.Events.{Name, Event, Namespace, Start, Attribute, Text, Comment, Instruction, End, eventMap}
 use Rattle.format.specs.Tables.{Triple, Vocabulary, xmlPrefix, xmlNamespace, link}
 use Rattle.format.specs.Document.{header}
 use Rattle.tables.specs.Located.{Located, octetsOf, plainTables}
@@ -53,6 +54,19 @@ u = 0x75 ∷ []
 abbrev hi : Octets
 hi = 0x68 ∷ 0x69 ∷ []
 
+abbrev p : Octets
+p = 0x70 ∷ []
+
+abbrev t : Octets
+t = 0x74 ∷ []
+
+-- Strings of five and of six octets: the writer adds the first to its table, and not the second.
+abbrev fives : Octets
+fives = 0x66 ∷ 0x69 ∷ 0x76 ∷ 0x65 ∷ 0x73 ∷ []
+
+abbrev sixsix : Octets
+sixsix = 0x73 ∷ 0x69 ∷ 0x78 ∷ 0x73 ∷ 0x69 ∷ 0x78 ∷ []
+
 abbrev local : Octets → Name Octets
 local x = record { prefix = none; namespace = none; local = x }
 
@@ -85,6 +99,19 @@ cases =
     -- <a>hihi</a>, written as two chunks: they are two events
     ∷ document (behindHeader (0x3C ∷ 0x00 ∷ 0x61 ∷ 0x91 ∷ 0x68 ∷ 0x69 ∷ 0xA0 ∷ 0xFF ∷ [])) (Start (local a) ∷ Text hi ∷ Text hi ∷ End ∷ [])
     (tables [] (a ∷ []) [] (hi ∷ []) (triple 0 0 1 ∷ []) [])
+    -- <!--c--><a><?t u?></a>
+    ∷ document (behindHeader (0xE2 ∷ 0x40 ∷ 0x63 ∷ 0x3C ∷ 0x00 ∷ 0x61 ∷ 0xE1 ∷ 0x00 ∷ 0x74 ∷ 0x40 ∷ 0x75 ∷ 0xFF ∷ [])) (Comment c ∷ Start (local a) ∷ Instruction t u ∷ End ∷ [])
+    (record { prefixes = xmlPrefix ∷ []; namespaces = xmlNamespace ∷ []; locals = a ∷ []; ncnames = t ∷ []; uris = []; values = []; chunks = []; others = c ∷ u ∷ []; elements = triple 0 0 1 ∷ []; attributes = [] })
+    -- <p:a xmlns:p="u"/>
+    ∷ document (behindHeader (0x38 ∷ 0xCF ∷ 0x00 ∷ 0x70 ∷ 0x00 ∷ 0x75 ∷ 0xF0 ∷ 0x3F ∷ 0x81 ∷ 0x81 ∷ 0x00 ∷ 0x61 ∷ 0xFF ∷ []))
+    (Namespace (some p) (some u) ∷ Start (record { prefix = some p; namespace = some u; local = a }) ∷ End ∷ [])
+    (record { prefixes = xmlPrefix ∷ p ∷ []; namespaces = xmlNamespace ∷ u ∷ []; locals = a ∷ []; ncnames = []; uris = []; values = []; chunks = []; others = []; elements = triple 2 2 1 ∷ []; attributes = [] })
+    -- a chunk of five octets, which is added, and one of six, which is not
+    ∷ document (behindHeader (0x3C ∷ 0x00 ∷ 0x61 ∷ 0x92 ∷ 0x02 ∷ (fives ++ (0x82 ∷ 0x03 ∷ (sixsix ++ (0xFF ∷ [])))))) (Start (local a) ∷ Text fives ∷ Text sixsix ∷ End ∷ [])
+    (tables [] (a ∷ []) [] (fives ∷ []) (triple 0 0 1 ∷ []) [])
+    -- 32 open elements, and one more
+    ∷ document (behindHeader (0x3C ∷ 0x00 ∷ 0x61 ∷ (replicate 31 0x00 ++ (replicate 16 0xFF ++ (0xF0 ∷ []))))) (replicate 32 (Start (local a)) ++ replicate 32 End) (tables [] (a ∷ []) [] [] (triple 0 0 1 ∷ []) [])
+    ∷ refused (behindHeader (0x3C ∷ 0x00 ∷ 0x61 ∷ replicate 32 0x00)) 13 39
     ∷ refused (behindHeader (0xF0 ∷ [])) 15 5
     ∷ refused (behindHeader (0x00 ∷ [])) 10 5
     ∷ refused (0xE0 ∷ 0x00 ∷ 0x00 ∷ []) 2 0

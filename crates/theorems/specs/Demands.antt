@@ -10,9 +10,9 @@ use Rattle.format.specs.Refusals.{SIZE, TEXT, FULL, DEPTH, ROOM, EVENT}
 use Rattle.format.specs.Numbers.{longest}
 use Rattle.format.specs.Events as E
 use Rattle.format.specs.Events.{Item, IsDocument, stringsOf, deepest}
-use Rattle.format.specs.Tables.{StringTable, Vocabulary, strings, starting, Version, InLimits}
+use Rattle.format.specs.Tables.{StringTable, Vocabulary, strings, starting, xmlPrefix, xmlNamespace, Version, InLimits}
 use Rattle.format.specs.Items.{State}
-use Rattle.format.specs.Document.{Document, header, started}
+use Rattle.format.specs.Document.{knownAfter, Document, header, started}
 use Rattle.format.specs.Uses.{acts, after, Known, Holds}
 use Rattle.format.specs.Allowed.{All, Allowed}
 use Rattle.tables.specs.Located.{Located, builtInPrefix, builtInNamespace, plain, plainTables, plainState}
@@ -29,6 +29,7 @@ use Rattle.reader.specs.Words as ReadWords
 use Rattle.writer.specs.declared.Answer as WriteAnswer
 use Rattle.writer.specs.Writing as Write
 use Rattle.writer.specs.Words as WriteWords
+use Rattle.theorems.specs.Acts.{allNumbers, used, HoldAfter}
 use Rattle.theorems.specs.Places.{allSpelled, spelledIn}
 use Rattle.theorems.specs.Permitted.{PermitsAll}
 use Rattle.theorems.specs.Verdicts.{plains, itemsOf, WrittenUnlessLong, Refused}
@@ -209,6 +210,9 @@ pub record RulesExact (ver : Version) : Type 0 where
   pub allowed : (items : List (Item Octets)) (z : State Octets) (s : Octets) → Document ver items z s → All (λ (i : Item Octets). Allowed (i .event)) items
   pub permitted : (items : List (Item Octets)) (z : State Octets) (s : Octets) → Document ver items z s → PermitsAll (started ver) items (z .tables)
   pub one-document : (items : List (Item Octets)) (y z : State Octets) (s t : Octets) → Document ver items y s → Document ver items z t → (s ≡ t) × (y ≡ z)
+  -- the acts, of which `earlier` and `tables-made` speak above, use every number of the choices; and what is known after each item is what the acts up to it made
+  pub every-number : (items : List (Item Octets)) (z : State Octets) (s : Octets) → Document ver items z s → used (acts items) ≡ allNumbers items
+  pub tables-after : (items : List (Item Octets)) (z : State Octets) (s : Octets) (w : Document ver items z s) → HoldAfter (starting ver xmlPrefix xmlNamespace) items (knownAfter ver (w .rule))
   pub every-choice : (items : List (Item Octets)) (w : Vocabulary Octets) → IsDocument (map (λ (i : Item Octets). i .event) items) → All Allowed (map (λ (i : Item Octets). i .event) items)
       → All (λ (e : E.Event Octets). All (λ (x : Octets). length x ≤ longest) (stringsOf e)) (map (λ (i : Item Octets). i .event) items) → PermitsAll (started ver) items w
       → deepest 0 (map (λ (i : Item Octets). i .event) items) ≤ ver .depth → InLimits ver w → WrittenUnlessLong ver items w

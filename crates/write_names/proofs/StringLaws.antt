@@ -32,7 +32,7 @@ use Rattle.write_names.specs.declared.Here.{Here}
 use Rattle.write_names.specs.declared.Wrote as W
 use Rattle.write_names.specs.declared.Wrote.the-variants.{Put, Full}
 use Rattle.write_names.specs.Choices.{Wrote, writeId, writeOptional, writeLiteral, writeValue, worthAdding, within}
-use Rattle.write_names.specs.Contracts.{Begins, InOrder, Suits, Fills, Spells, heldAs, spelledOctets, spelledWords, Stands, Meets}
+use Rattle.write_names.specs.Contracts.{Begins, InOrder, Suits, Fills, Spells, heldAs, spelledOctets, spelledTables, Stands, Meets}
 use Rattle.write_names.proofs.Order.{string-more, order-string, full-string}
 
 -- ---- a string of an event
@@ -277,8 +277,8 @@ module _ (text w : List ℕ) (c : Counts) (t : ℕ) (order : InOrder text c w) (
 
   -- one that is not added
   pub literal-kept : (n ≤ 5 → 256 ≤ countOf c t) → {out out′ : List ℕ} {at r : ℕ} → Puts out at r out′ (withLength (lengths bit) lead (octetsOf text (stretch p n))) × (r ≤ at + 16389)
-      → Stands text out at 16389 (record { at = r; counts = c }) out′ w (spelledOctets bit lead add text (strings (vocabulary c w) (tableOf t)) (locatedOf x)) (spelledWords text (tableOf t) (vocabulary c w) (locatedOf x))
-  unfolding spelledOctets spelledWords
+      → Stands text out at 16389 (record { at = r; counts = c }) out′ w (spelledOctets bit lead add text (strings (vocabulary c w) (tableOf t)) (locatedOf x)) (spelledTables text (tableOf t) (vocabulary c w) (locatedOf x))
+  unfolding spelledOctets spelledTables
   literal-kept why q =
       let z : lead + add * 0 ≡ lead = omega arith in
       rw (located, case 5 n worth-long (λ l. worth-full l (why l)), z) (stands-put text w c order (q .0) (q .1))
@@ -286,8 +286,8 @@ module _ (text w : List ℕ) (c : Counts) (t : ℕ) (order : InOrder text c w) (
   pub literal-added : n ≤ 5 → countOf c t < 256 → (b : ℕ) → b ≡ lead + add → (h : Here) (v : List ℕ) {out out′ : List ℕ} {at r : ℕ}
       → (h ≡ record { at = r; counts = oneMore c t }) × (v ≡ stored w t (countOf c t) p n 0)
       → Puts out at r out′ (withLength (lengths bit) b (octetsOf text (stretch p n))) × (r ≤ at + 16389)
-      → Stands text out at 16389 h out′ v (spelledOctets bit lead add text (strings (vocabulary c w) (tableOf t)) (locatedOf x)) (spelledWords text (tableOf t) (vocabulary c w) (locatedOf x))
-  unfolding spelledOctets spelledWords
+      → Stands text out at 16389 h out′ v (spelledOctets bit lead add text (strings (vocabulary c w) (tableOf t)) (locatedOf x)) (spelledTables text (tableOf t) (vocabulary c w) (locatedOf x))
+  unfolding spelledOctets spelledTables
   literal-added l room b eb h v e q =
       let z : lead + add * 1 ≡ b = omega arith in
       let f = spells-stretch text x spells in
@@ -308,9 +308,9 @@ module _ (text w : List ℕ) (c : Counts) (t : ℕ) (order : InOrder text c w) (
 
     literal-spelled : k ≡ 0 → {out out′ v : List ℕ} {at : ℕ} (h : Here)
         → Stands text out at 16389 h out′ v (spelledOctets (q .lengthBit) (q .spelledBits) (q .addBit) text (strings (vocabulary c w) (tableOf t)) (locatedOf x))
-        (spelledWords text (tableOf t) (vocabulary c w) (locatedOf x))
+        (spelledTables text (tableOf t) (vocabulary c w) (locatedOf x))
         → Stands text out at 16389 h out′ v (writeLiteral link q text (tableOf t) (vocabulary c w) (locatedOf x) .octets) (writeLiteral link q text (tableOf t) (vocabulary c w) (locatedOf x) .tables)
-    unfolding writeLiteral spelledOctets spelledWords
+    unfolding writeLiteral spelledOctets spelledTables
     literal-spelled z h p = rw (← number-is, z) p
 
   module _ (fills : Fills text x) where
@@ -328,7 +328,7 @@ module _ (text w : List ℕ) (c : Counts) (t : ℕ) (order : InOrder text c w) (
     value-numbered n m p = rw (value-is n) (literal-numbered (fills-spells text x fills n) c14 m (p .0) (let l = p .1 in omega arith))
 
     pub value-spelled : (stringSize x ≡ 0 → ⊥) → k ≡ 0 → {out out′ v : List ℕ} {at : ℕ} (h : Here)
-        → Stands text out at 16389 h out′ v (spelledOctets 5 0 0x40 text (strings (vocabulary c w) (tableOf t)) (locatedOf x)) (spelledWords text (tableOf t) (vocabulary c w) (locatedOf x))
+        → Stands text out at 16389 h out′ v (spelledOctets 5 0 0x40 text (strings (vocabulary c w) (tableOf t)) (locatedOf x)) (spelledTables text (tableOf t) (vocabulary c w) (locatedOf x))
         → Stands text out at 16389 h out′ v (writeValue link text (tableOf t) (vocabulary c w) (locatedOf x) .octets) (writeValue link text (tableOf t) (vocabulary c w) (locatedOf x) .tables)
     unfolding c14
     value-spelled n z h p = rw (value-is n) (literal-spelled (fills-spells text x fills n) c14 z h p)
@@ -347,7 +347,7 @@ module _ (text w : List ℕ) (c : Counts) (order : InOrder text c w) (x : EventS
   chunk-numbered n p = literal-numbered text w c 6 order x k held spells c15 n (p .0) (let l = p .1 in omega arith)
 
   pub chunk-spelled : k ≡ 0 → {out out′ v : List ℕ} {at : ℕ} (h : Here)
-      → Stands text out at 16389 h out′ v (spelledOctets 7 0x80 0x10 text (strings (vocabulary c w) (tableOf 6)) (locatedOf x)) (spelledWords text (tableOf 6) (vocabulary c w) (locatedOf x))
+      → Stands text out at 16389 h out′ v (spelledOctets 7 0x80 0x10 text (strings (vocabulary c w) (tableOf 6)) (locatedOf x)) (spelledTables text (tableOf 6) (vocabulary c w) (locatedOf x))
       → Stands text out at 16389 h out′ v (writeLiteral link c15 text CONTENT-CHARACTER-CHUNK (vocabulary c w) (locatedOf x) .octets)
       (writeLiteral link c15 text CONTENT-CHARACTER-CHUNK (vocabulary c w) (locatedOf x) .tables)
   unfolding c15 tableOf

@@ -81,8 +81,8 @@ heldAs text t v XmlNamespace = numberIn (map (octetsOf text) (strings v t)) (oct
 unfoldable pub spelledOctets : (bit lead add : ℕ) → Octets → List Located → Located → Octets
 spelledOctets n lead add text table x = withLength (lengths n) (lead + add * bit (worthAdding link table (octetsOf text x))) (octetsOf text x)
 
-unfoldable pub spelledWords : Octets → StringTable → Vocabulary Located → Located → Vocabulary Located
-spelledWords text t v x = keeping (worthAdding link (strings v t) (octetsOf text x)) v t x
+unfoldable pub spelledTables : Octets → StringTable → Vocabulary Located → Located → Vocabulary Located
+spelledTables text t v x = keeping (worthAdding link (strings v t) (octetsOf text x)) v t x
 
 -- The name of three strings.
 abbrev pub namedOf : Parts → Name Located

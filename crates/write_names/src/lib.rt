@@ -17,7 +17,7 @@ ghost use Rattle.tables.specs.Kept.{countOf, oneMore, stored, layoutOf};
 ghost use Rattle.events.specs.Records.{locatedOf, optionalOf};
 ghost use Rattle.events.specs.Words.{stringTag};
 ghost use Rattle.write_names.specs.Choices.{writeId, writeOptional, writeLiteral, writeValue};
-ghost use Rattle.write_names.specs.Contracts.{InOrder, Suits, Fills, heldAs, Spells, spelledOctets, spelledWords, Stands, Meets};
+ghost use Rattle.write_names.specs.Contracts.{InOrder, Suits, Fills, heldAs, Spells, spelledOctets, spelledTables, Stands, Meets};
 use events::EventString;
 use fields::put::put;
 use fields::put::put_length;
@@ -214,7 +214,7 @@ impl Here {
         x: EventString,
     ) -> Here
         requires { ⌜ (InOrder (now text) (self .counts) (now t)) × (self .at ≤ 900000) × (table < 8) × (Spells (now text) x) × (1 ≤ bit) × (bit ≤ 7) × (lead + add + 2 ^ (9 - bit) ≤ 256) ⌝ }
-        ensures { λ r. ⌜ Stands (now (text .entry)) (now (out .entry)) (self .at) 16389 r (now (out .exit)) (now (t .exit)) (spelledOctets bit lead add (now (text .entry)) (strings (vocabulary (self .counts) (now (t .entry))) (tableOf table)) (locatedOf x)) (spelledWords (now (text .entry)) (tableOf table) (vocabulary (self .counts) (now (t .entry))) (locatedOf x)) ⌝ }
+        ensures { λ r. ⌜ Stands (now (text .entry)) (now (out .entry)) (self .at) 16389 r (now (out .exit)) (now (t .exit)) (spelledOctets bit lead add (now (text .entry)) (strings (vocabulary (self .counts) (now (t .entry))) (tableOf table)) (locatedOf x)) (spelledTables (now (text .entry)) (tableOf table) (vocabulary (self .counts) (now (t .entry))) (locatedOf x)) ⌝ }
     {
         let place = x.place();
         let size = x.size();

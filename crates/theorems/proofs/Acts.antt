@@ -1,0 +1,78 @@
+-- The acts of what is written use every number of its choices, and after each item the tables hold what the acts up to it made.
+use Prim.Native.Nat.{ℕ}
+use mathlib.Core.Path.{_≡_, refl, ap₂, _∙_}
+use mathlib.Core.Bool.{true, false}
+use mathlib.Core.Option.{Option}
+use mathlib.Core.List.{List, [], _∷_, _++_, append-nil}
+use Rattle.format.specs.Octets.{Octets, Halves}
+use Rattle.format.specs.Events.{Name, How, NameHow, Item}
+use Rattle.format.specs.Tables.{StringTable, NameTable, Tables, Vocabulary, starting, xmlPrefix, xmlNamespace, Version}
+use Rattle.format.specs.Items.{State}
+use Rattle.format.specs.Document.{Written, document-end, attributes-end, element-end, item, knownAfter, beginning, Document}
+use Rattle.format.specs.Uses.{Act, makes, uses, makesName, usesName, ofString, ofOption, ofName, ofItem, acts, after, Holds}
+use Rattle.theorems.specs.Acts.{numberIn, numberIfAny, numbersInName, numbersIn, allNumbers, used, HoldAfter}
+use Rattle.theorems.proofs.Effects.{IdDone, id-made, id-used, PartDone, no-part, a-part, StringDone, string-made, string-used, ValueDone, empty-value, a-value, NameDone, name-made, name-used}
+use Rattle.theorems.proofs.Effects.{ItemDone, done-namespace, done-start, done-attribute, done-text, done-comment, done-instruction, done-end, Done, no-item, an-item, octets-done, document-done}
+use Rattle.theorems.proofs.Earlier.{item-does, holds-start}
+
+used-append : {S : Type 0} (a b : List (Act S)) → used (a ++ b) ≡ used a ++ used b
+used-append [] b = refl
+used-append (makes t x ∷ a) b = used-append a b
+used-append (uses t k x ∷ a) b = rw (used-append a b)
+used-append (makesName t x ∷ a) b = used-append a b
+used-append (usesName t k x ∷ a) b = rw (used-append a b)
+
+-- two parts, one behind the other
+both : {S : Type 0} (a b : List (Act S)) {m n : List ℕ} → used a ≡ m → used b ≡ n → used (a ++ b) ≡ m ++ n
+both a b p q = used-append a b ∙ ap₂ (λ (x y : List ℕ). x ++ y) p q
+
+module _ {S : Type 0} {d : S} {Spelt : S → Type 0} where
+  id-numbers : {t : StringTable} {v w : Vocabulary S} {x : S} {h : How} {n : ℕ} → IdDone d Spelt t v x h n w → used (ofString t x h) ≡ numberIn h
+  id-numbers (id-made sp) = refl
+  id-numbers (id-used en) = refl
+
+  part-numbers : {t : StringTable} {v w : Vocabulary S} {x : Option S} {h : Option How} {n : ℕ} → PartDone d Spelt t v x h n w → used (ofOption t x h) ≡ numberIfAny h
+  part-numbers no-part = refl
+  part-numbers (a-part u) = id-numbers u
+
+  string-numbers : {t : StringTable} {v w : Vocabulary S} {x : S} {h : How} → StringDone d Spelt t v x h w → used (ofString t x h) ≡ numberIn h
+  string-numbers (string-made true sp) = refl
+  string-numbers (string-made false sp) = refl
+  string-numbers (string-used en) = refl
+
+  value-numbers : {t : StringTable} {v w : Vocabulary S} {x : S} {h : How} → ValueDone d Spelt t v x h w → used (ofString t x h) ≡ numberIn h
+  value-numbers empty-value = refl
+  value-numbers (a-value u) = string-numbers u
+
+  name-numbers : {t : NameTable} {v w : Vocabulary S} {x : Name S} {h : NameHow} → NameDone d Spelt t v x h w → used (ofName t x h) ≡ numbersInName h
+  name-numbers {t} {h = h} (name-made {hl = hl} lone up un ul) =
+      both _ _ (part-numbers up) (both _ _ (part-numbers un) (both _ (makesName t _ ∷ []) (id-numbers ul) refl ∙ append-nil (numberIn hl)))
+  name-numbers (name-used en) = refl
+
+  item-numbers : {v w : Vocabulary S} {i : Item S} → ItemDone d Spelt v i w → used (ofItem i) ≡ numbersIn (i .choice)
+  item-numbers (done-namespace {hn = hn} up un) = both _ _ (part-numbers up) (both _ [] (part-numbers un) refl ∙ append-nil (numberIfAny hn))
+  item-numbers (done-start {h = h} u) = both _ [] (name-numbers u) refl ∙ append-nil (numbersInName h)
+  item-numbers (done-attribute {g = g} u1 u2) = both _ _ (name-numbers u1) (both _ [] (value-numbers u2) refl ∙ append-nil (numberIn g))
+  item-numbers (done-text {h = h} u) = both _ [] (string-numbers u) refl ∙ append-nil (numberIn h)
+  item-numbers (done-comment {h = h} u) = both _ [] (value-numbers u) refl ∙ append-nil (numberIn h)
+  item-numbers (done-instruction {g = g} u1 u2) = both _ _ (id-numbers u1) (both _ [] (value-numbers u2) refl ∙ append-nil (numberIn g))
+  item-numbers done-end = refl
+
+  all-numbers : {v z : Vocabulary S} {items : List (Item S)} → Done d Spelt v items z → used (acts items) ≡ allNumbers items
+  all-numbers no-item = refl
+  all-numbers (an-item u r) = both _ _ (item-numbers u) (all-numbers r)
+
+pub every-number : (ver : Version) (items : List (Item Octets)) (z : State Octets) (s : Octets) → Document ver items z s → used (acts items) ≡ allNumbers items
+every-number ver items z s w = all-numbers (document-done w)
+
+module _ (ver : Version) where
+  hold-after : {at : ℕ} {v z : State Octets} {items : List (Item Octets)} {hs : Halves} (r : Written ver at v items hs z) (t : Tables Octets (Name Octets)) → Holds (v .tables) t → HoldAfter t items (knownAfter ver r)
+  unfolding knownAfter
+  hold-after (document-end md lv rt) t h = tt
+  hold-after (attributes-end md r) t h = hold-after r t h
+  hold-after (element-end md lv r) t h = (h, hold-after r t h)
+  hold-after (item u r) t h = let g = item-does (octets-done u) .then t h in (g, hold-after r _ g)
+
+  pub tables-after : (items : List (Item Octets)) (z : State Octets) (s : Octets) (w : Document ver items z s) → HoldAfter (starting ver xmlPrefix xmlNamespace) items (knownAfter ver (w .rule))
+  unfolding beginning
+  tables-after items z s w = hold-after (w .rule) _ (holds-start ver xmlPrefix xmlNamespace)
