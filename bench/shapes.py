@@ -114,5 +114,5 @@ def xml(rows):
     """The XML text, and how many starts, attributes and octets of text a parser must find in it."""
     rows = list(rows)
     kinds = [kind for kind, _ in rows]
-    text = subprocess.run([os.path.join(ROOT, 'xml')], input=''.join(lines(rows)).encode(), capture_output=True, check=True).stdout
+    text = subprocess.run([os.path.join(ROOT, 'programs', 'lines-to-xml')], input=''.join(lines(rows)).encode(), capture_output=True, check=True).stdout
     return text, (kinds.count(START), kinds.count(ATTRIBUTE), sum(len(strings[3]) for kind, strings in rows if kind == TEXT))

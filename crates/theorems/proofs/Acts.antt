@@ -1,12 +1,12 @@
 -- The acts of what is written use every number of its choices, and after each item the tables hold what the acts up to it made.
 use Prim.Native.Nat.{ℕ}
-use mathlib.Core.Path.{_≡_, refl, ap₂, _∙_}
+use mathlib.Core.Path.{_≡_, refl, ap, ap₂, _∙_}
 use mathlib.Core.Bool.{true, false}
 use mathlib.Core.Option.{Option}
 use mathlib.Core.List.{List, [], _∷_, _++_, append-nil}
 use Rattle.format.specs.Octets.{Octets, Halves}
 use Rattle.format.specs.Events.{Name, How, NameHow, Item}
-use Rattle.format.specs.Tables.{StringTable, NameTable, Tables, Vocabulary, starting, xmlPrefix, xmlNamespace, Version}
+use Rattle.format.specs.Tables.{StringTable, PREFIX, NAMESPACE-NAME, LOCAL-NAME, OTHER-NCNAME, ATTRIBUTE-VALUE, CONTENT-CHARACTER-CHUNK, OTHER-STRING, NameTable, ELEMENT-NAME, ATTRIBUTE-NAME, Tables, Vocabulary, starting, xmlPrefix, xmlNamespace, Version}
 use Rattle.format.specs.Items.{State}
 use Rattle.format.specs.Document.{Written, document-end, attributes-end, element-end, item, knownAfter, beginning, Document}
 use Rattle.format.specs.Uses.{Act, makes, uses, makesName, usesName, ofString, ofOption, ofName, ofItem, acts, after, Holds}
@@ -22,7 +22,10 @@ used-append (uses t k x ∷ a) b = rw (used-append a b)
 used-append (makesName t x ∷ a) b = used-append a b
 used-append (usesName t k x ∷ a) b = rw (used-append a b)
 
--- two parts, one behind the other
+-- one part, and two, one behind the other
+alone : {S : Type 0} (a : List (Act S)) {m : List ℕ} → used a ≡ m → used (a ++ []) ≡ m
+alone a p = ap used (append-nil a) ∙ p
+
 both : {S : Type 0} (a b : List (Act S)) {m n : List ℕ} → used a ≡ m → used b ≡ n → used (a ++ b) ≡ m ++ n
 both a b p q = used-append a b ∙ ap₂ (λ (x y : List ℕ). x ++ y) p q
 
@@ -45,22 +48,27 @@ module _ {S : Type 0} {d : S} {Spelt : S → Type 0} where
   value-numbers (a-value u) = string-numbers u
 
   name-numbers : {t : NameTable} {v w : Vocabulary S} {x : Name S} {h : NameHow} → NameDone d Spelt t v x h w → used (ofName t x h) ≡ numbersInName h
-  name-numbers {t} {h = h} (name-made {hl = hl} lone up un ul) =
-      both _ _ (part-numbers up) (both _ _ (part-numbers un) (both _ (makesName t _ ∷ []) (id-numbers ul) refl ∙ append-nil (numberIn hl)))
+  name-numbers {t} (name-made {p = p} {n = n} {l = l} {hp = hp} {hn = hn} {hl = hl} lone up un ul) =
+      let made : List (Act S) = makesName t (record { prefix = p; namespace = n; local = l }) ∷ [] in
+      both (ofOption PREFIX p hp) (ofOption NAMESPACE-NAME n hn ++ (ofString LOCAL-NAME l hl ++ made)) (part-numbers up)
+      (both (ofOption NAMESPACE-NAME n hn) (ofString LOCAL-NAME l hl ++ made) (part-numbers un) (both (ofString LOCAL-NAME l hl) made (id-numbers ul) refl ∙ append-nil (numberIn hl)))
   name-numbers (name-used en) = refl
 
   item-numbers : {v w : Vocabulary S} {i : Item S} → ItemDone d Spelt v i w → used (ofItem i) ≡ numbersIn (i .choice)
-  item-numbers (done-namespace {hn = hn} up un) = both _ _ (part-numbers up) (both _ [] (part-numbers un) refl ∙ append-nil (numberIfAny hn))
-  item-numbers (done-start {h = h} u) = both _ [] (name-numbers u) refl ∙ append-nil (numbersInName h)
-  item-numbers (done-attribute {g = g} u1 u2) = both _ _ (name-numbers u1) (both _ [] (value-numbers u2) refl ∙ append-nil (numberIn g))
-  item-numbers (done-text {h = h} u) = both _ [] (string-numbers u) refl ∙ append-nil (numberIn h)
-  item-numbers (done-comment {h = h} u) = both _ [] (value-numbers u) refl ∙ append-nil (numberIn h)
-  item-numbers (done-instruction {g = g} u1 u2) = both _ _ (id-numbers u1) (both _ [] (value-numbers u2) refl ∙ append-nil (numberIn g))
+  item-numbers (done-namespace {p = p} {n = n} {hp = hp} {hn = hn} up un) =
+      both (ofOption PREFIX p hp) (ofOption NAMESPACE-NAME n hn ++ []) (part-numbers up) (alone (ofOption NAMESPACE-NAME n hn) (part-numbers un))
+  item-numbers (done-start {x = x} {h = h} u) = alone (ofName ELEMENT-NAME x h) (name-numbers u)
+  item-numbers (done-attribute {x = x} {y = y} {h = h} {g = g} u1 u2) =
+      both (ofName ATTRIBUTE-NAME x h) (ofString ATTRIBUTE-VALUE y g ++ []) (name-numbers u1) (alone (ofString ATTRIBUTE-VALUE y g) (value-numbers u2))
+  item-numbers (done-text {y = y} {h = h} u) = alone (ofString CONTENT-CHARACTER-CHUNK y h) (string-numbers u)
+  item-numbers (done-comment {y = y} {h = h} u) = alone (ofString OTHER-STRING y h) (value-numbers u)
+  item-numbers (done-instruction {x = x} {y = y} {h = h} {g = g} u1 u2) =
+      both (ofString OTHER-NCNAME x h) (ofString OTHER-STRING y g ++ []) (id-numbers u1) (alone (ofString OTHER-STRING y g) (value-numbers u2))
   item-numbers done-end = refl
 
   all-numbers : {v z : Vocabulary S} {items : List (Item S)} → Done d Spelt v items z → used (acts items) ≡ allNumbers items
   all-numbers no-item = refl
-  all-numbers (an-item u r) = both _ _ (item-numbers u) (all-numbers r)
+  all-numbers (an-item {i = i} {items = items} u r) = both (ofItem i) (acts items) (item-numbers u) (all-numbers r)
 
 pub every-number : (ver : Version) (items : List (Item Octets)) (z : State Octets) (s : Octets) → Document ver items z s → used (acts items) ≡ allNumbers items
 every-number ver items z s w = all-numbers (document-done w)

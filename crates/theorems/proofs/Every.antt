@@ -1,4 +1,4 @@
--- The rules can write every document with every permitted choice: nothing in them is narrower than the requirements. So with the required choices every list of events that is a document is written, and on
+-- The rules can write every document with every permitted choice: nothing in them is narrower than the requirements. So with the required choices every list of events that is a document is written, and
 -- within the limits of a version too, unless it is over one of them.
 use Prim.Native.Nat.{ℕ, _*_, _≤_, _<_}
 use mathlib.Core.Path.{_≡_, refl, sym, ap, subst}

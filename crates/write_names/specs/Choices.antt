@@ -14,7 +14,7 @@ use Rattle.format.specs.Names.{has, NameLayout}
 use Rattle.tables.specs.Located.{Located, octetsOf}
 use Rattle.tables.specs.Search.{numberIn, numberOfTriple}
 
--- What a field is written as: its octets, how, the tables then; and the string's number, where it has one.
+-- What a field is written as: its octets, how, the tables then; and the number of an identifying string or a name then, 0 for the others.
 pub record Wrote (H : Type 0) : Type 0 where
   pub octets : Octets
   pub how : H
@@ -53,7 +53,7 @@ writeName q lead text v x =
     (record { octets = spell (q .numberForms) lead k; how = byNumber k; number = k; tables = v })
 
 module _ (ver : Version) where
-  -- A string of 1 to 5 octets is added where its table has room.
+  -- A string of up to 5 octets is added where its table has room. (An empty one does not come here.)
   unfoldable pub worthAdding : {S : Type 0} → List S → Octets → Bool
   worthAdding table x = leb (length x) 5 && ltb (length table) (ver .entries)
 

@@ -15,7 +15,7 @@ use Rattle.format.specs.Strings.{keeping}
 use Rattle.tables.specs.Search.{numberIn, numberOfTriple}
 use Rattle.write_names.specs.Choices.{worthAdding}
 
--- How a string, a name or an event is written, and the tables then; and the number that a string has then, 0 where it has none.
+-- How a string, a name or an event is written, and the tables then; and the number of an identifying string or a name then, 0 for the others.
 pub record Chose (H : Type 0) : Type 0 where
   pub how : H
   pub number : ℕ
