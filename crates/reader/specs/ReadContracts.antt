@@ -7,7 +7,7 @@ use lib.Dec.{eqb}
 use Rattle.format.specs.Octets.{Octets, Words}
 use Rattle.format.specs.Numbers.{pick}
 use Rattle.format.specs.Tables.{Vocabulary, link}
-use Rattle.format.specs.Refusals.{SIZE, ROOM}
+use Rattle.format.specs.Refusals.{SIZE, TRUNCATED, ROOM}
 use Rattle.tables.specs.declared.Counts.{Counts}
 use Rattle.tables.specs.Located.{Located}
 use Rattle.tables.specs.Counts.{tableWords}
@@ -54,7 +54,7 @@ reach go left m done = ended (m .state .tables)
 reach go left m (stop n p) = fault n p
 
 unfoldable pub nextOf : Octets → (fuel : ℕ) → Stand → Reached
-nextOf s zero m = fault 2 (m .at / 2)
+nextOf s zero m = fault TRUNCATED (m .at / 2)
 nextOf s (suc fuel) m = reach (λ n. nextOf s fuel n) fuel m (stepSeen (step link s m))
 
 -- What the code's answer says, with the counts and tables that it leaves.

@@ -1,7 +1,7 @@
 // One event as octets: judged, written behind the end that an attribute list owes, and held against the room.
 ghost use mathlib.Core.Path.{_≡_};
 ghost use mathlib.Core.Bool.{Bool};
-ghost use mathlib.Core.List.{List};
+ghost use Rattle.format.specs.Octets.{Octets, Words};
 ghost use Prim.Native.Nat.{ℕ, _+_, _*_, _/_, _<_, _≤_};
 ghost use lib.ListN.{length};
 ghost use Rattle.format.specs.Events as E;
@@ -220,7 +220,7 @@ impl State {
     // The place is behind what fits the output and the limit of a document.
     fn held(self, room: usize) -> Step
         requires { ⌜ self .at ≤ 400000 ⌝ }
-        ensures { λ r. ⌜ ((text : List ℕ) → r ≡ holding text room self) ⌝ }
+        ensures { λ r. ⌜ ((text : Octets) → r ≡ holding text room self) ⌝ }
     {
         let octets = (self.at + 1) / 2;
         if room < octets {
@@ -235,7 +235,7 @@ impl State {
     // An element's end.
     fn close(self, out: &mut [u8]) -> Step
         requires { ⌜ (self .at ≤ 32769) × (0 < self .level) × (self .level ≤ 32) ⌝ }
-        ensures { λ r. ⌜ ((text : List ℕ) (a : Bool) (w : List ℕ) → InOrder text (self .counts) w → Lands text a self (now (out .entry)) w E.End r (now (out .exit)) w) ⌝ }
+        ensures { λ r. ⌜ ((text : Octets) (a : Bool) (w : Words) → InOrder text (self .counts) w → Lands text a self (now (out .entry)) w E.End r (now (out .exit)) w) ⌝ }
     {
         put_end(out, self.at);
         let counts = self.counts;
