@@ -11,7 +11,7 @@ use lib.ListN.{length, length-append}
 use Rattle.format.specs.Octets.{Octets}
 use Rattle.format.specs.Numbers.{pick, spell, sizes, lengths, c25, top}
 use Rattle.format.specs.Events.{Name, How, spelled, numbered, NameHow, inParts, byNumber}
-use Rattle.format.specs.Tables.{StringTable, PREFIX, NAMESPACE-NAME, LOCAL-NAME, NameTable, ELEMENT-NAME, ATTRIBUTE-NAME, Triple, Vocabulary, strings, names, adding, addingName, holdsName, Entry, first, later, Behind, nothing, an-entry, Means, Version, InLimits}
+use Rattle.format.specs.Tables.{StringTable, PREFIX, NAMESPACE-NAME, LOCAL-NAME, NameTable, ELEMENT-NAME, ATTRIBUTE-NAME, Triple, Vocabulary, strings, names, adding, addingName, holdsName, Entry, New, first, later, Behind, nothing, an-entry, Means, Version, InLimits}
 use Rattle.format.specs.Strings.{withLength, Spelling, bit, Layout, c14, keeping, Identifying, id-spelled, id-numbered, Optional, absent, present, Literal, literal-spelled, literal-numbered, Value, value-empty, value}
 use Rattle.format.specs.Names.{has, NameLayout, Named, in-parts, by-number}
 use Rattle.tables.specs.Search.{numberIn, numberOfTriple}
@@ -22,6 +22,7 @@ use Rattle.tables.proofs.Laws.{holds-number, number-entry, holds-name-number, n
 use Rattle.write_names.specs.Choices.{worthAdding}
 use Rattle.write_names.specs.Chosen.{Chose, chooseId, chooseOptional, chooseName, chooseLiteral, chooseValue}
 use Rattle.tables.proofs.Found.{clash, both-true}
+use Rattle.tables.proofs.NewLaws.{new-string, new-name}
 use Rattle.theorems.specs.Permitted.{PermitsId, id-new, id-entry, PermitsIfAny, not-there, there, PermitsString, string-spelled, string-entry, PermitsValue, value-none, value-spelled, value-entry, PermitsName, name-parts, name-entry}
 
 -- ---- tables grow, and stay within the limits
@@ -112,7 +113,7 @@ found t v x n e =
 module _ (t : StringTable) (v : Vocabulary Octets) (x : Octets) where
   id-from : (k : ℕ) → numberIn (strings v t) x ≡ k
       → IdCase t v x (pick (eqb k 0) (record { how = spelled true; number = suc (length (strings v t)); tables = adding v t x }) (record { how = numbered k; number = k; tables = v }))
-  id-from zero e = id-new (holds-number (strings v t) x ∙ ap (λ (k : ℕ). not (eqb k 0)) e)
+  id-from zero e = id-new (new-string (strings v t) x .0 (holds-number (strings v t) x ∙ ap (λ (k : ℕ). not (eqb k 0)) e))
   id-from (suc n) e = rw (ne-eqb (suc n) 0 (λ z. omega arith)) (id-entry {k = n} (found t v x n e))
 
   pub id-case : IdCase t v x (chooseId t v x)
@@ -341,7 +342,7 @@ module _ (t : NameTable) (v : Vocabulary Octets) (x : Name Octets) where
 
   pub data NameCase : Chose NameHow → Type 0 where
     name-held : {j : ℕ} → Entry (names v t) j triple → Means v triple x → NameCase (record { how = byNumber (suc j); number = suc j; tables = v })
-    name-new : holdsName (names (l .tables) t) triple ≡ false
+    name-new : New (names (l .tables) t) triple
         → NameCase (record { how = inParts (p .how) (n .how) (l .how); number = suc (length (names (l .tables) t)); tables = addingName (l .tables) t triple })
 
   no-names : (u : NameTable) → names (l .tables) u ≡ names v u
@@ -367,7 +368,7 @@ module _ (t : NameTable) (v : Vocabulary Octets) (x : Name Octets) where
       → NameCase (pick (eqb k 0)
       (record { how = inParts (p .how) (n .how) (l .how); number = suc (length (names (l .tables) t)); tables = addingName (l .tables) t triple })
       (record { how = byNumber k; number = k; tables = v }))
-  name-from r zero e = name-new (holds-name-number (names (l .tables) t) triple ∙ ap (λ (k : ℕ). not (eqb k 0)) e)
+  name-from r zero e = name-new (new-name (names (l .tables) t) triple .0 (holds-name-number (names (l .tables) t) triple ∙ ap (λ (k : ℕ). not (eqb k 0)) e))
   name-from r (suc m) e =
       let en = rw e at (name-number-entry (names (l .tables) t) triple (λ z. absurd (omega arith))) in
       let y : suc m - 1 ≡ m = omega arith in

@@ -24,6 +24,7 @@ use Rattle.fields.proofs.Numbers.{c25-ordered, numbers-ordered}
 use Rattle.fields.proofs.RoundTrip.{some-first}
 use Rattle.tables.specs.Located.{Located, empty, octetsOf, plainTables}
 use Rattle.tables.proofs.EntryLaws.{entry-made, entry-is, entry-at}
+use Rattle.tables.proofs.NewLaws.{new-name}
 use Rattle.read_names.specs.Strings.{Got, refused, idAt, optionalAt}
 use Rattle.read_names.specs.Names.{NameRead, DeclaredRead, prefixBit, namespaceBit, lonePrefix, nameBit, nameOf, noTriple, partsAt, numberedAt, nameAt, declaredAt}
 use Rattle.theorems.specs.Places.{optionSpelled, nameSpelled, inName, inDeclared}
@@ -144,7 +145,7 @@ module _ (ver : Version) (s : Octets) (bytes : (i : ℕ) → getD s i 0 < 256) (
       let same-names = names-map (octetsOf s) v₃ (q .table) in
       record {
         octets = (lead + q .inPartsBits + 2 * has (Option·map (octetsOf s) (p .string)) + has (Option·map (octetsOf s) (n .string))) ∷ (r₁ .octets ++ (r₂ .octets ++ r₃ .octets));
-        rule = rw (adding-name-map (octetsOf s) v₃ (q .table) x) (in-parts paired (r₁ .rule .0) (r₂ .rule .0) (r₃ .rule) (rw same-names t1) (rw same-names t2));
+        rule = rw (adding-name-map (octetsOf s) v₃ (q .table) x) (in-parts paired (r₁ .rule .0) (r₂ .rule .0) (r₃ .rule) (new-name (names (plainTables s v₃) (q .table)) x .0 (rw same-names t1)) (rw same-names t2));
         here = drop-cons s k 0 h ∙ ap₂ (λ (y : ℕ) (l : Octets). y ∷ l) oct (three-parts (suc k) (r₁ .octets) (r₂ .octets) (r₃ .octets) k₁ k₂ k₃ (r₁ .here) (r₂ .here) (r₃ .here));
         next-is = let y : length (r₁ .octets ++ (r₂ .octets ++ r₃ .octets)) ≡ length (r₁ .octets) + (length (r₂ .octets) + length (r₃ .octets)) = simp length-append in omega arith;
         inside = r₃ .inside;
@@ -271,7 +272,7 @@ module _ (ver : Version) (s : Octets) where
       let la : length (op ++ (on ++ ol)) ≡ length op + (length on + length ol) = simp length-append in (
         hit-parts o (omega arith) (omega arith) (omega arith) (not-lone p n o paired is)
             (hit-at s (NameQ (record { prefix = p; namespace = n; local = l }) (inParts hp hn hl) _) (k2 + length ol) (k + suc (length (op ++ (on ++ ol)))) (addingName w₃ (q .table) (record { prefix = kp; namespace = kn; local = kl })) (partsAt ver q s o k v) (omega arith)
-            (parts-read q k v p n l hp hn hl kp kn kl o k1 k2 (k2 + length ol) w₁ w₂ w₃ _ _ _ is paired i1 i2 i3 new room)),
+            (parts-read q k v p n l hp hn hl kp kn kl o k1 k2 (k2 + length ol) w₁ w₂ w₃ _ _ _ is paired i1 i2 i3 (new-name (names w₃ (q .table)) (record { prefix = kp; namespace = kn; local = kl }) .1 new) room)),
         omega arith,
         a .0,
       )

@@ -23,6 +23,7 @@ use Rattle.fields.proofs.Lengths.{lengths-ordered}
 use Rattle.fields.proofs.RoundTrip.{some-first}
 use Rattle.tables.specs.Located.{Located, empty, stretch, octetsOf, plainTables}
 use Rattle.tables.proofs.EntryLaws.{entry-made, entry-is, entry-at}
+use Rattle.tables.proofs.NewLaws.{new-string}
 use Rattle.read_names.specs.Strings.{Got, got, refused, IdRead, OptionalRead, StringRead, idAt, optionalAt, numberBit, spelledAt, literalAt, valueAt}
 use Rattle.theorems.specs.Places.{ifSpelled, optionSpelled, inField, inOption}
 use Rattle.theorems.proofs.Lists.{fault, test, test-lt, test-le, test-not, test-ge, either-lt, either-eq, drop-head}
@@ -142,7 +143,7 @@ module _ (ver : Version) (s : Octets) (bytes : (i : ℕ) → getD s i 0 < 256) (
       λ t1. test-lt P (refused 12 k) (fault s 12 k refl kl) (length (strings v t)) (ver .entries) _
       λ t2. record {
         octets = withLength (lengths 2) 0 (octetsOf s (stretch next n));
-        rule = rw (adding-map (octetsOf s) v t (stretch next n), ← len) (id-spelled sp (rw (strings-map (octetsOf s) v t) t1) (omega arith));
+        rule = rw (adding-map (octetsOf s) v t (stretch next n), ← len) (id-spelled sp (new-string (strings (plainTables s v) t) (octetsOf s (stretch next n)) .0 (rw (strings-map (octetsOf s) v t) t1)) (omega arith));
         here = d;
         next-is = l;
         inside = ll;
@@ -261,7 +262,7 @@ module _ (ver : Version) (s : Octets) where
       let e = spelt s (lengths 2) 2 0 0 k x rest (lengths-ordered 2 (omega arith) (omega arith)) (omega arith) (long-enough 2) refl sp d in
       let hi = e .high in
       let len = length-strings (octetsOf s) v t in
-      let fresh : holds (map (octetsOf s) (strings v t)) x ≡ false = rw (strings-map (octetsOf s) v t) at new in
+      let fresh : holds (map (octetsOf s) (strings v t)) x ≡ false = rw (strings-map (octetsOf s) v t) at (new-string (strings (plainTables s v) t) x .1 new) in
       let end = e .end-is in
       hit-at s (IdQ x (spelled true) (suc (length (strings (plainTables s v) t))) _) (e .next + length x) _ _ _ (e .end-is)
       (rw (lt-ltb (getD s k 0) 0x80 (omega arith), e .num, spelling-is s (lengths 2) 2 0 k x e _ (sp .formed), e .text-is, fresh, lt-ltb (length (strings v t)) (ver .entries) (omega arith))

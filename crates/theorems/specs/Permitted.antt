@@ -11,13 +11,13 @@ use Rattle.format.specs.Octets.{Octets}
 use Rattle.format.specs.Events.{Name, Event, Namespace, Start, Attribute, Text, Comment, Instruction, End, How, spelled, numbered, NameHow, inParts, byNumber}
 use Rattle.format.specs.Events.{Choice, forNamespace, forStart, forAttribute, forText, forComment, forInstruction, forEnd, Item}
 use Rattle.format.specs.Tables.{StringTable, PREFIX, NAMESPACE-NAME, LOCAL-NAME, OTHER-NCNAME, ATTRIBUTE-VALUE, CONTENT-CHARACTER-CHUNK, OTHER-STRING}
-use Rattle.format.specs.Tables.{NameTable, ELEMENT-NAME, ATTRIBUTE-NAME, Triple, Vocabulary, strings, names, adding, addingName, holds, holdsName, Entry, Means}
+use Rattle.format.specs.Tables.{NameTable, ELEMENT-NAME, ATTRIBUTE-NAME, Triple, Vocabulary, strings, names, adding, addingName, Entry, New, Means}
 use Rattle.format.specs.Strings.{keeping}
 
 -- `PermitsId t v x h n w`: with the tables v, the identifying string x of table t may be written as h says; its number is n, and the tables are w then. Spelled where the table does
 -- not hold it, and then it is added (7.13.7 b); or the number, from 1, of any entry that is this very string (7.13.7 a).
 pub data PermitsId (t : StringTable) (v : Vocabulary Octets) (x : Octets) : How → ℕ → Vocabulary Octets → Type 0 where
-  id-new : holds (strings v t) x ≡ false → PermitsId t v x (spelled true) (suc (length (strings v t))) (adding v t x)
+  id-new : New (strings v t) x → PermitsId t v x (spelled true) (suc (length (strings v t))) (adding v t x)
   id-entry : {k : ℕ} → Entry (strings v t) k x → PermitsId t v x (numbered (suc k)) (suc k) v
 
 -- One that may be absent; then its number is 0.
@@ -41,7 +41,7 @@ pub data PermitsValue (t : StringTable) (v : Vocabulary Octets) : Octets → How
 pub data PermitsName (t : NameTable) (v : Vocabulary Octets) : Name Octets → NameHow → Vocabulary Octets → Type 0 where
   name-parts : {p n : Option Octets} {l : Octets} {hp hn : Option How} {hl : How} {kp kn kl : ℕ} {v₁ v₂ v₃ : Vocabulary Octets}
       → PermitsIfAny PREFIX v p hp kp v₁ → PermitsIfAny NAMESPACE-NAME v₁ n hn kn v₂ → PermitsId LOCAL-NAME v₂ l hl kl v₃
-      → holdsName (names v₃ t) (record { prefix = kp; namespace = kn; local = kl }) ≡ false
+      → New (names v₃ t) (record { prefix = kp; namespace = kn; local = kl })
       → PermitsName t v (record { prefix = p; namespace = n; local = l }) (inParts hp hn hl) (addingName v₃ t (record { prefix = kp; namespace = kn; local = kl }))
   name-entry : {k : ℕ} {x : Triple} {y : Name Octets} → Entry (names v t) k x → Means v x y → PermitsName t v y (byNumber (suc k)) v
 
