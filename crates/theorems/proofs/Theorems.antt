@@ -1,8 +1,9 @@
 -- THE THEOREMS: the three demands hold of every bounded version, and so of the link, which is the version that the contracts of the code name; and its rules are exact. Their
 -- statements are specs/Demands.
+use mathlib.Core.Path.{refl}
 use Rattle.format.specs.Tables.{Version, link}
 use Rattle.theorems.specs.Bounded.{Bounded}
-use Rattle.theorems.specs.Demands.{Demand1, Demand2, Demand3, RulesExact}
+use Rattle.theorems.specs.Demands.{Demand1, Demand2, Demand3, RulesExact, AsRequired}
 use Rattle.theorems.proofs.Document.{link-bounded}
 use Rattle.theorems.proofs.Demands.{a-document, allowed, permitted, one-document, every-choice-within}
 use Rattle.theorems.proofs.Acts.{every-number, tables-after}
@@ -46,7 +47,11 @@ module _ (ver : Version) (ok : Bounded ver) where
         every-choice = λ items w doc may short permits shallow i. every-choice-within ver items w ok doc may short permits shallow i;
       }
 
--- Of the link.
+-- Of the link, whose values are the requirements'.
+pub link-as-required : AsRequired link
+unfolding link
+link-as-required = record { octets = refl; entries = refl; depth = refl; identification = refl; built-in = refl }
+
 pub link-demand-1 : Demand1 link
 link-demand-1 = demand-1 link link-bounded
 

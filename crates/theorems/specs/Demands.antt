@@ -2,8 +2,9 @@
 -- contracts equate what a call answers and leaves with `checkOf`, `readOf`, `readWords`, `writeOf` and `writeWords`. That the demands hold of these is proofs/Theorems.
 use Prim.Native.Nat.{ℕ, _+_, _-_, _*_, _/_, _%_, _^_, _≤_, _<_}
 use mathlib.Core.Path.{_≡_}
+use mathlib.Core.Bool.{true}
 use mathlib.Core.Logic.{_↔_}
-use mathlib.Core.List.{List, _++_, map}
+use mathlib.Core.List.{List, [], _∷_, _++_, map}
 use lib.ListN.{length, replicate}
 use Rattle.format.specs.Octets.{Octets, Halves, Words, AreOctets}
 use Rattle.format.specs.Refusals.{SIZE, TEXT, FULL, DEPTH, ROOM, EVENT}
@@ -222,3 +223,11 @@ pub record Demand3 (ver : Version) : Type 0 where
   pub read : (s : Octets) → AreOctets s → (room table : ℕ) → ReadsExactly ver s room table (Read.readOf ver s room table)
   pub read-words : (s : Octets) → AreOctets s → (r t c : ℕ) → ReadsExactlyInWords ver s r t c (ReadWords.readWords ver s r t c)
   pub check : (s : Octets) → AreOctets s → (Read.checkOf ver s ≡ 0) ↔ ((items : List (Item Octets)) × (z : State Octets) × Document ver items z s)
+
+-- What the demands say of a version they say of the link with the requirements' own values ("Limits", "Header"), spelled here a second time.
+pub record AsRequired (ver : Version) : Type 0 where
+  pub octets : ver .octets ≡ 16384
+  pub entries : ver .entries ≡ 256
+  pub depth : ver .depth ≡ 32
+  pub identification : ver .identification ≡ 0xE0 ∷ 0x00 ∷ 0x00 ∷ 0x01 ∷ []
+  pub built-in : ver .builtIn ≡ true
