@@ -1,14 +1,13 @@
 -- DEMANDS 1 AND 3 OF THE CODE. The contract of `reader::read::read` equates what a call answers and leaves with `readOf`, that of `lomphachit_read` with
 -- `readWords`, and that of the check its answer with `checkOf`: so a call accepts exactly what the rules write, and hands out those events, whatever stood in
 -- the room. That there is one such pair only is `one-pair`, beside this file.
-use Prim.Native.Nat.{ℕ, _+_, _*_, _/_, _^_, _≤_, _<_}
+use Prim.Native.Nat.{ℕ, _+_, _*_, _/_, _^_, _≤_}
 use mathlib.Core.Path.{_≡_, refl, sym, ap, _∙_}
 use mathlib.Core.Bool.{Bool, true, false}
 use mathlib.Core.List.{List, map}
 use native.Mathlib.Omega.{arith}
 use lib.ListN.{length}
-use lib.Dec.{eqb, leb}
-use borrow.Author.Tests.{leb-true}
+use lib.Dec.{eqb}
 use Rattle.format.specs.Octets.{Octets, Words, AreOctets}
 use Rattle.format.specs.Numbers.{pick}
 use Rattle.format.specs.Events.{Item}
@@ -23,7 +22,6 @@ use Rattle.reader.specs.declared.Answer.{Answer}
 use Rattle.reader.specs.declared.Answer.the-variants.{Accepted, Refused}
 use Rattle.reader.specs.Reading.{EventRead, itemsRead, recordRead, Result, accepted, refusal, sized, reading, Outcome, Leaves, refusing, accepting, outcome, readOf, numberOf, checkOf}
 use Rattle.reader.specs.Words.{answerWord, leaving, nothing, inWords, readWords}
-use Rattle.tables.proofs.Found.{both-true}
 use Rattle.theorems.specs.Bounded.{Bounded}
 use Rattle.theorems.proofs.Fits.{accepted-sized}
 use Rattle.theorems.proofs.Document as Whole

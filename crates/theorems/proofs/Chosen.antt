@@ -11,7 +11,7 @@ use lib.ListN.{length, length-append}
 use Rattle.format.specs.Octets.{Octets}
 use Rattle.format.specs.Numbers.{pick, spell, sizes, lengths, c25, top}
 use Rattle.format.specs.Events.{Name, How, spelled, numbered, NameHow, inParts, byNumber}
-use Rattle.format.specs.Tables.{StringTable, PREFIX, NAMESPACE-NAME, LOCAL-NAME, NameTable, ELEMENT-NAME, ATTRIBUTE-NAME, Triple, Vocabulary, strings, names, adding, addingName, holdsName, Entry, New, first, later, Behind, nothing, an-entry, Means, Version, InLimits}
+use Rattle.format.specs.Tables.{StringTable, PREFIX, NAMESPACE-NAME, LOCAL-NAME, NameTable, ELEMENT-NAME, ATTRIBUTE-NAME, Triple, Vocabulary, strings, names, adding, addingName, Entry, New, first, later, Behind, nothing, an-entry, Means, Version, InLimits}
 use Rattle.format.specs.Strings.{withLength, Spelling, bit, Layout, c14, keeping, Identifying, id-spelled, id-numbered, Optional, absent, present, Literal, literal-spelled, literal-numbered, Value, value-empty, value}
 use Rattle.format.specs.Names.{has, NameLayout, Named, in-parts, by-number}
 use Rattle.tables.specs.Search.{numberIn, numberOfTriple}

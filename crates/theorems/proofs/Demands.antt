@@ -17,7 +17,7 @@ use Rattle.format.specs.Document.{beginning, knownAfter, Document, header, star
 use Rattle.format.specs.Uses.{acts, after, Known, Holds}
 use Rattle.format.specs.Allowed.{All, Allowed}
 use Rattle.fields.proofs.Characters.{one-list}
-use Rattle.tables.specs.Located.{Located, builtInPrefix, builtInNamespace, plain, plainState, start}
+use Rattle.tables.specs.Located.{Located, builtInPrefix, builtInNamespace, plain, plainState}
 use Rattle.read_items.specs.Items.{Stand}
 use Rattle.reader.specs.Reading.{EventRead, itemsRead, recordRead, accepted, refusal, Mark, run, onward, opening, origin, fuelOf, reading, marks, numberOf, checkOf, Accepts}
 use Rattle.events.specs.declared.Event.{Event}

@@ -6,7 +6,7 @@ use mathlib.Core.List.{List, _∷_, map}
 use borrow.Author.Tests.{lt-ltb}
 use Rattle.format.specs.Octets.{Octets, Halves}
 use Rattle.format.specs.Events.{Event, Namespace, Start, Attribute, Text, Comment, Instruction, End, Item, no-attribute, IsDocument}
-use Rattle.format.specs.Tables.{Vocabulary, Version}
+use Rattle.format.specs.Tables.{Version}
 use Rattle.format.specs.Items.{State, mayStart, ItemWrittenAs, o-start, o-first-namespace, o-namespace, o-named-start, o-attribute, o-text, o-comment, o-instruction}
 use Rattle.format.specs.Document.{Written, document-end, attributes-end, element-end, item, Document, started}
 use Rattle.writer.specs.Events.{goesOn}

@@ -9,8 +9,7 @@ use Rattle.format.specs.Octets.{Octets}
 use Rattle.format.specs.Events.{Item}
 use Rattle.format.specs.Tables.{Version}
 use Rattle.format.specs.Items.{State}
-use Rattle.format.specs.Document.{header}
-use Rattle.tables.specs.Located.{plain, start}
+use Rattle.tables.specs.Located.{plain}
 use Rattle.read_items.specs.Items.{Stand, Step, more, quiet, done, stop}
 use Rattle.read_items.specs.Steps.{step}
 use Rattle.reader.specs.Reading.{EventRead, itemsRead, Result, accepted, refusal, plus, turn, run, Opening, onward, halt, opening, origin, fuelOf, resultFrom, sized, reading, Accepts}

@@ -12,13 +12,13 @@ use Rattle.format.specs.Octets.{Octets}
 use Rattle.theorems.proofs.Opening.{Opened, opening-sound}
 use Rattle.format.specs.Numbers.{pick, Form, lengths, c25, top}
 use Rattle.fields.specs.Utf8.{isText}
-use Rattle.format.specs.Events.{Namespace, forNamespace, Item, _by_}
+use Rattle.format.specs.Events.{Namespace, forNamespace, _by_}
 use Rattle.format.specs.Tables.{StringTable, PREFIX, NAMESPACE-NAME, LOCAL-NAME, OTHER-NCNAME, ATTRIBUTE-VALUE, CONTENT-CHARACTER-CHUNK, OTHER-STRING}
 use Rattle.format.specs.Tables.{NameTable, Vocabulary, strings, names, holds, holdsName, Entry, Version}
 use Rattle.format.specs.Strings.{bit, Layout, c14, c15}
 use Rattle.format.specs.Names.{has, NameLayout, ofElement, ofAttribute}
 use Rattle.format.specs.Items.{Mode, content, declaring, listing, State, mayStart}
-use Rattle.format.specs.Document.{aligned, beginning, header}
+use Rattle.format.specs.Document.{aligned, beginning}
 use Rattle.fields.specs.declared.Number.{Number}
 use Rattle.fields.specs.declared.Number.the-variants.{Got as Num, Refused as NoNum}
 use Rattle.fields.specs.Fields.{fieldAt, noTop}

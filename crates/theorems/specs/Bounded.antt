@@ -1,6 +1,6 @@
 -- What a version must keep to for the theorems to hold of it. That the link does is proofs/Document. (The words that callers lend for tables are for 256 entries in each, as on the link:
 -- for a version with more, the definitions of the calls leave more words than were lent, so no code can meet them.)
-use Prim.Native.Nat.{ℕ, _≤_}
+use Prim.Native.Nat.{_≤_}
 use Rattle.format.specs.Numbers.{top, longest}
 use Rattle.format.specs.Tables.{Version}
 

@@ -204,6 +204,12 @@ pub record Demand2 (ver : Version) : Type 0 where
       → (map (λ (k : Read.Mark). plainState s (k .stand .state)) (Read.marks ver s) ≡ map (plainState text) (Write.knownWriting ver text room es))
       × (length (Write.knownWriting ver text room es) ≡ length es)
 
+-- 3. Octets are accepted exactly when the rules write them from some events and choices; there is one such pair, and its events are handed out.
+pub record Demand3 (ver : Version) : Type 0 where
+  pub read : (s : Octets) → AreOctets s → (room table : ℕ) → ReadsExactly ver s room table (Read.readOf ver s room table)
+  pub read-words : (s : Octets) → AreOctets s → (r t c : ℕ) → ReadsExactlyInWords ver s r t c (ReadWords.readWords ver s r t c)
+  pub check : (s : Octets) → AreOctets s → (Read.checkOf ver s ≡ 0) ↔ ((items : List (Item Octets)) × (z : State Octets) × Document ver items z s)
+
 -- The rules themselves, on which 2 and 3 rest, are neither too wide nor too narrow. What they write is a document of allowed events with permitted choices, and they write
 -- every such list within the version's limits, with every permitted choice, as one run of octets.
 pub record RulesExact (ver : Version) : Type 0 where
@@ -217,12 +223,6 @@ pub record RulesExact (ver : Version) : Type 0 where
   pub every-choice : (items : List (Item Octets)) (w : Vocabulary Octets) → IsDocument (map (λ (i : Item Octets). i .event) items) → All Allowed (map (λ (i : Item Octets). i .event) items)
       → All (λ (e : E.Event Octets). All (λ (x : Octets). length x ≤ longest) (stringsOf e)) (map (λ (i : Item Octets). i .event) items) → PermitsAll (started ver) items w
       → deepest 0 (map (λ (i : Item Octets). i .event) items) ≤ ver .depth → InLimits ver w → WrittenUnlessLong ver items w
-
--- 3. Octets are accepted exactly when the rules write them from some events and choices; there is one such pair, and its events are handed out.
-pub record Demand3 (ver : Version) : Type 0 where
-  pub read : (s : Octets) → AreOctets s → (room table : ℕ) → ReadsExactly ver s room table (Read.readOf ver s room table)
-  pub read-words : (s : Octets) → AreOctets s → (r t c : ℕ) → ReadsExactlyInWords ver s r t c (ReadWords.readWords ver s r t c)
-  pub check : (s : Octets) → AreOctets s → (Read.checkOf ver s ≡ 0) ↔ ((items : List (Item Octets)) × (z : State Octets) × Document ver items z s)
 
 -- What the demands say of a version they say of the link with the requirements' own values ("Limits", "Header"), spelled here a second time.
 pub record AsRequired (ver : Version) : Type 0 where

@@ -2,8 +2,7 @@
 -- permitted choice, and no other, is proofs/Every and proofs/Permitted. Where X.891 leaves more open, the requirements are kept: an identifying string that its table holds is not spelled again (REPEAT; 7.13.7
 -- lets it be), nor a name whose triple is held.
 use Prim.Native.Nat.{ℕ, suc, _<_}
-use mathlib.Core.Path.{_≡_}
-use mathlib.Core.Bool.{Bool, true, false}
+use mathlib.Core.Bool.{Bool, true}
 use mathlib.Core.Option.{Option, none, some}
 use mathlib.Core.List.{List, [], _∷_}
 use lib.ListN.{length}
