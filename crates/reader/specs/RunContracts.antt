@@ -10,7 +10,7 @@ use Rattle.format.specs.Octets.{Words}
 use Rattle.format.specs.Numbers.{pick}
 use Rattle.format.specs.Tables.{Vocabulary, link}
 use Rattle.tables.specs.Located.{Located, start}
-use Rattle.tables.specs.Counts.{countsOf, tableWords}
+use Rattle.tables.specs.Counts.{countsOf}
 use Rattle.tables.specs.Rows.{vocabulary}
 use Rattle.tables.specs.Kept.{Clean}
 use Rattle.tables.specs.Told.{lowWord}

@@ -15,7 +15,7 @@ use Rattle.format.specs.Tables.{StringTable, PREFIX, NAMESPACE-NAME, LOCAL-NAME
 use Rattle.tables.specs.declared.Counts.{Counts}
 use Rattle.tables.specs.Located.{Located, stretch, builtInPrefix, builtInNamespace, octetsOf, start}
 use Rattle.tables.specs.Search.{numberIn}
-use Rattle.tables.specs.Counts.{countsOf, tableWords}
+use Rattle.tables.specs.Counts.{countsOf}
 use Rattle.tables.specs.Rows.{tableOf, place, vocabulary}
 use Rattle.tables.specs.Kept.{nameTableOf, countOf, oneMore, stored}
 use Rattle.tables.proofs.Adding.{extended, adding-is}
