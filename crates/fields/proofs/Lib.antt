@@ -8,5 +8,7 @@ pub mod FirstOctet
 pub mod Numbers
 pub mod Lengths
 pub mod Spelled
+pub mod Weights
+pub mod Low
 pub mod Utf8
 pub mod Characters

@@ -8,12 +8,13 @@ use native.Mathlib.Omega.{arith}
 use native.Mathlib.Numerals.{add-one}
 use native.Mathlib.Decide.{decLt}
 use borrow.Author.Tests.{lt-ltb, le-ltb, le-leb, lt-leb, eq-eqb, ne-eqb, eqb-true}
-use lib.Dec.{T, leb, eqb, eqb→eq}
+use lib.Dec.{T, leb, ltb, eqb, ltb→lt, eqb→eq}
 use lib.ListN.{length, getD, take, drop, length-take, length-drop}
 use lib.Seq.{drop-cons, drop-drop, take-nil}
 use Rattle.fields.specs.declared.Within.{Within}
 use Rattle.fields.specs.Utf8.{rows, astray, between, first, next, after, isText, fromFirst, character, higher, highestOf}
 use Rattle.fields.proofs.Laws.{case}
+use Rattle.fields.proofs.Low.{allLow, highest-low}
 
 both : (a b : Bool) → T (a && b) → T a × T b
 both true b t = (tt, t)
@@ -164,26 +165,16 @@ alone : (b : ℕ) → b < 0x80 → next between b ≡ between
 unfolding between
 alone b k = sym (next-first between b between-none) ∙ sym (by-range between b 0 128 (unfold first rows between astray in tt) (omega arith) (omega arith))
 
--- where the highest octet is below 0x80, all are
-higher-low : (h b : ℕ) → higher h b < 0x80 → (h < 0x80) × (b < 0x80)
-unfolding higher
-higher-low h b k =
-    elim (decLt h b) [
-      | yes l ↦ (let m = rw (lt-ltb _ _ l) at k in (omega arith, m))
-      | no l ↦ (let m = rw (le-ltb _ _ (let n : b ≤ h = omega arith in n)) at k in (m, omega arith))
-    ]
+all-alone : (bs : List ℕ) → T (allLow bs) → after between bs ≡ between
+unfolding allLow after
+all-alone [] t = refl
+all-alone (b ∷ bs) t =
+    let p = both (ltb b 0x80) (allLow bs) t in
+    rw (alone b (ltb→lt b 0x80 (p .0))) (all-alone bs (p .1))
 
-all-alone : (h : ℕ) (bs : List ℕ) → highestOf h bs < 0x80 → (h < 0x80) × (after between bs ≡ between)
-unfolding highestOf after
-all-alone h [] k = (k, refl)
-all-alone h (b ∷ bs) k =
-    let r = all-alone (higher h b) bs k in
-    let l = higher-low h b (r .0) in
-    (l .0, rw (alone b (l .1)) (r .1))
-
-pub low-text : (bs : List ℕ) → highestOf 0 bs < 0x80 → true ≡ isText bs
+pub low-text : (bs : List ℕ) → ltb (highestOf 0 bs) 0x80 ≡ true → true ≡ isText bs
 unfolding isText between
-low-text bs k = rw (all-alone 0 bs k .1)
+low-text bs k = rw (all-alone bs (subst T (sym k ∙ highest-low 0 bs) tt))
 
 drop-take : (n m : ℕ) (l : List ℕ) → drop n (take m l) ≡ take (m - n) (drop n l)
 drop-take zero m l = let e : m - 0 ≡ m = omega arith in rw e

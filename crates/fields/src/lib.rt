@@ -1,14 +1,15 @@
-// One field of a document at a time: numbers and lengths read by a cursor, with an enum for the answer, or put into an output; and text.
+// One field of a document at a time: numbers and lengths read by a cursor, with an enum for the answer, or put into an output; text; and eight octets as one number.
 // May depend on format alone.
 pub mod put;
 
 ghost use mathlib.Core.Path.{_≡_};
 ghost use mathlib.Core.Bool.{_&&_};
 ghost use Prim.Native.Nat.{_+_, _-_, _^_, _<_, _≤_};
-ghost use lib.Dec.{leb};
+ghost use lib.Dec.{leb, ltb};
 ghost use lib.ListN.{length, take, drop};
 ghost use Rattle.format.specs.Numbers.{lengths, numbers, c25, top};
 ghost use Rattle.fields.specs.Fields.{bitsOf, valueFrom, behind, fieldAt, noTop};
+ghost use Rattle.fields.specs.WeightContracts.{weight, Small};
 ghost use Rattle.fields.specs.Utf8.{isText, fromFirst, character, higher, highestOf};
 
 // The link's version: the octets before the body, which are E0 00 (12.6), version 1 (12.7, 12.9) and no optional part (12.8); where the body starts; octets of the longest document.
@@ -268,12 +269,53 @@ fn highest(s: &[u8], from: usize, to: usize) -> u8
     high
 }
 
+// Four octets from `at` on as one number, the first the lowest.
+fn four(x: &[u8], at: usize) -> u64
+    requires { ⌜ at + 4 ≤ length (now x) ⌝ }
+    ensures { λ r. ⌜ (r ≡ weight (take 4 (drop at (now (x .entry))))) × Small (take 4 (drop at (now (x .entry)))) × (r < 0x1_0000_0000) ⌝ }
+{
+    wide(x[at])
+        + 0x100 * wide(x[at + 1])
+        + 0x1_0000 * wide(x[at + 2])
+        + 0x100_0000 * wide(x[at + 3])
+}
+
+// Eight octets from `at` on as one number, so that they are loaded and looked at at once.
+pub fn eight(x: &[u8], at: usize) -> u64
+    requires { ⌜ at + 8 ≤ length (now x) ⌝ }
+    ensures { λ r. ⌜ (r ≡ weight (take 8 (drop at (now (x .entry))))) × Small (take 8 (drop at (now (x .entry)))) ⌝ }
+{
+    four(x, at) + 0x1_0000_0000 * four(x, at + 4)
+}
+
+// The high bit of each of eight octets, set where one is above 0x7F.
+const HIGH: u64 = 0x8080_8080_8080_8080;
+
+// No octet from `from` to before `to` is above 0x7F. Most strings are short: one load of eight octets tells it, or two that overlap.
+fn plain(s: &[u8], from: usize, to: usize) -> bool
+    requires { ⌜ (from ≤ to) × (to ≤ length (now s)) ⌝ }
+    ensures { λ r. ⌜ r ≡ ltb (highestOf 0 (take (to - from) (drop from (now (s .entry))))) 0x80 ⌝ }
+{
+    let n = to - from;
+    if n < 8 {
+        if 8 <= s.len() - from {
+            // Only the first n of them count. Two shifts: where n is 0, one would be by 64, which none may be.
+            return eight(s, from) & ((HIGH >> 8) >> (56 - 8 * n)) == 0;
+        }
+    } else if n <= 16 {
+        let first = eight(s, from) & HIGH;
+        let last = eight(s, to - 8) & HIGH;
+        return first == 0 && last == 0;
+    }
+    highest(s, from, to) < 0x80
+}
+
 // The octets from `from` to before `to` are text. Where none is above 0x7F, they are.
 pub fn is_text(s: &[u8], from: usize, to: usize) -> bool
     requires { ⌜ (from ≤ to) × (to ≤ length (now s)) ⌝ }
     ensures { λ r. ⌜ r ≡ isText (take (to - from) (drop from (now (s .entry)))) ⌝ }
 {
-    if highest(s, from, to) < 0x80 {
+    if plain(s, from, to) {
         return true;
     }
     let mut i = from;

@@ -1,5 +1,5 @@
 // The ten tables in lent room: how many entries each has, and what is found and added there.
-// May depend on format.
+// May depend on format and fields.
 ghost use mathlib.Core.Path.{_≡_};
 ghost use mathlib.Core.Bool.{false};
 ghost use mathlib.Core.List.{map};
@@ -7,7 +7,6 @@ ghost use Prim.Native.Nat.{_+_, _-_, _*_, _<_, _≤_};
 ghost use lib.ListN.{length, getD, replicate};
 ghost use Rattle.format.specs.Tables.{link, same, sameTriple};
 ghost use Rattle.tables.specs.Located.{stretch, octetsOf, start};
-ghost use Rattle.tables.specs.Weights.{weight, Small};
 ghost use Rattle.tables.specs.Counts.{countsOf, tableWords};
 ghost use Rattle.tables.specs.Rows.{tableOf, builtIn, stringAt, tripleAt, entries};
 ghost use Rattle.tables.specs.Search.{numberIn, numberOfTriple};
@@ -163,32 +162,6 @@ pub fn clear(t: &mut [u32])
     }
 }
 
-// An octet as a number, so that casts are proved here alone.
-fn wide8(x: u8) -> u64
-    ensures { λ r. ⌜ (r ≡ x) × (r < 256) ⌝ }
-{
-    x as u64
-}
-
-// Four octets from `at` on as one number, the first the lowest.
-fn four(x: &[u8], at: usize) -> u64
-    requires { ⌜ at + 4 ≤ length (now x) ⌝ }
-    ensures { λ r. ⌜ (r ≡ weight (octetsOf (now (x .entry)) (stretch at 4))) × Small (octetsOf (now (x .entry)) (stretch at 4)) × (r < 0x1_0000_0000) ⌝ }
-{
-    wide8(x[at])
-        + 0x100 * wide8(x[at + 1])
-        + 0x1_0000 * wide8(x[at + 2])
-        + 0x100_0000 * wide8(x[at + 3])
-}
-
-// Eight octets from `at` on as one number, so that they are loaded and compared at once.
-fn eight(x: &[u8], at: usize) -> u64
-    requires { ⌜ at + 8 ≤ length (now x) ⌝ }
-    ensures { λ r. ⌜ (r ≡ weight (octetsOf (now (x .entry)) (stretch at 8))) × Small (octetsOf (now (x .entry)) (stretch at 8)) ⌝ }
-{
-    four(x, at) + 0x1_0000_0000 * four(x, at + 4)
-}
-
 // Whether n octets of x, from a on, are those of y, from b on: octet by octet, from the last one back, for strings that have no eight.
 fn same_few(x: &[u8], a: usize, y: &[u8], b: usize, n: usize) -> bool
     requires { ⌜ (a + n ≤ length (now x)) × (b + n ≤ length (now y)) ⌝ }
@@ -220,11 +193,11 @@ fn same_octets(x: &[u8], a: usize, m: usize, y: &[u8], b: usize, n: usize) -> bo
     let mut i = n;
     while 8 < i {
         i -= 8;
-        if eight(x, a + i) != eight(y, b + i) {
+        if fields::eight(x, a + i) != fields::eight(y, b + i) {
             return false;
         }
     }
-    eight(x, a) == eight(y, b)
+    fields::eight(x, a) == fields::eight(y, b)
 }
 
 // Whether the string that is built into a table, empty where none is, is that of s at place.

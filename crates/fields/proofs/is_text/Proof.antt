@@ -17,11 +17,11 @@ Inv-loop s from to i₀ i = (i ≤ to) × (after between (take (to - i) (drop i 
 abbrev μ-loop : tie.MeasureT-loop
 μ-loop s from to i₀ i = to - i
 
-highest-requires : tie.Need-highest-requires Inv-loop μ-loop
-highest-requires c κs = search needs
+plain-requires : tie.Need-plain-requires Inv-loop μ-loop
+plain-requires c κs = search needs
 
 returns : tie.Need-returns Inv-loop μ-loop
-returns c = low-text _ (rw (c .before .highest .ensures) at (c .if1 .taken))
+returns c = low-text _ (sym (c .before .plain .ensures) ∙ c .if1 .taken)
 
 loop-holds : tie.Need-loop-holds Inv-loop μ-loop
 loop-holds c = (omega arith, refl)
@@ -84,7 +84,7 @@ is-text-spec =
     (tie.spec
     Inv-loop
     μ-loop
-    highest-requires
+    plain-requires
     returns
     loop-holds
     shared-slice-read-if2
