@@ -205,7 +205,7 @@ impl Within {
         ensures { λ r. ⌜ r ≡ fromFirst self (take (to - (i + 1)) (drop (i + 1) (now (s .entry)))) ⌝ }
     {
         let n = self.left as usize;
-        if to - i <= n {
+        if to <= i + n {
             return 0;
         }
         if !among(s[i + 1], self.low, self.high) {

@@ -13,8 +13,8 @@ use Rattle.fields.proofs.Within.from_first.Tie as tie
 cast-n : tie.Need-cast-n
 cast-n c = search needs
 
-sub-if1 : tie.Need-sub-if1
-sub-if1 c = search needs
+add-if1 : tie.Need-add-if1
+add-if1 c = search needs
 
 returns : tie.Need-returns
 returns c =
@@ -110,7 +110,7 @@ from-first-spec =
     tie.close
     (tie.spec
     cast-n
-    sub-if1
+    add-if1
     returns
     add-among
     shared-slice-read-among
