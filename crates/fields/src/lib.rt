@@ -270,7 +270,7 @@ fn highest(s: &[u8], from: usize, to: usize) -> u8
 }
 
 // Four octets from `at` on as one number, the first the lowest.
-fn four(x: &[u8], at: usize) -> u64
+pub fn four(x: &[u8], at: usize) -> u64
     requires { ⌜ at + 4 ≤ length (now x) ⌝ }
     ensures { λ r. ⌜ (r ≡ weight (take 4 (drop at (now (x .entry))))) × Small (take 4 (drop at (now (x .entry)))) × (r < 0x1_0000_0000) ⌝ }
 {

@@ -29,7 +29,7 @@ module _ {A : Type 0} (f : ℕ → A) where
       let z : at + 3 * suc k ≡ at + 3 + 3 * k = omega arith in
       rw z (entry-nth (at + 3) n k d (omega arith))
 
-  entries-more : (at n : ℕ) → entries f at (n + 1) ≡ entries f at n ++ (f (at + 3 * n) ∷ [])
+  pub entries-more : (at n : ℕ) → entries f at (n + 1) ≡ entries f at n ++ (f (at + 3 * n) ∷ [])
   unfolding entries
   entries-more at zero = let z : at + 3 * 0 ≡ at = omega arith in rw z
   entries-more at (suc n) =
@@ -39,7 +39,7 @@ module _ {A : Type 0} (f : ℕ → A) where
 
 -- ---- a row stored behind table t's n
 module _ (w : List ℕ) (t n a b c : ℕ) where
-  stored-other : (k : ℕ) → (k ≡ 768 * t + 3 * n → ⊥) → (k ≡ suc (768 * t + 3 * n) → ⊥) → (k ≡ suc (suc (768 * t + 3 * n)) → ⊥)
+  pub stored-other : (k : ℕ) → (k ≡ 768 * t + 3 * n → ⊥) → (k ≡ suc (768 * t + 3 * n) → ⊥) → (k ≡ suc (suc (768 * t + 3 * n)) → ⊥)
       → getD (stored w t n a b c) k 0 ≡ getD w k 0
   unfolding stored
   stored-other k n0 n1 n2 =

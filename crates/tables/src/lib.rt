@@ -162,7 +162,7 @@ pub fn clear(t: &mut [u32])
     }
 }
 
-// Whether n octets of x, from a on, are those of y, from b on: octet by octet, from the last one back, for strings that have no eight.
+// Whether n octets of x, from a on, are those of y, from b on: octet by octet, from the last one back, for strings that have no four.
 fn same_few(x: &[u8], a: usize, y: &[u8], b: usize, n: usize) -> bool
     requires { ⌜ (a + n ≤ length (now x)) × (b + n ≤ length (now y)) ⌝ }
     ensures { λ r. ⌜ r ≡ same (octetsOf (now (x .entry)) (stretch a n)) (octetsOf (now (y .entry)) (stretch b n)) ⌝ }
@@ -177,6 +177,20 @@ fn same_few(x: &[u8], a: usize, y: &[u8], b: usize, n: usize) -> bool
     true
 }
 
+// The same for strings that have no eight: the last four octets, then the first four, some of them a second time.
+fn same_short(x: &[u8], a: usize, y: &[u8], b: usize, n: usize) -> bool
+    requires { ⌜ (a + n ≤ length (now x)) × (b + n ≤ length (now y)) × (n ≤ 8) ⌝ }
+    ensures { λ r. ⌜ r ≡ same (octetsOf (now (x .entry)) (stretch a n)) (octetsOf (now (y .entry)) (stretch b n)) ⌝ }
+{
+    if n < 4 {
+        return same_few(x, a, y, b, n);
+    }
+    if fields::four(x, a + (n - 4)) != fields::four(y, b + (n - 4)) {
+        return false;
+    }
+    fields::four(x, a) == fields::four(y, b)
+}
+
 // Whether m octets of x, from a on, are n octets of y, from b on. Lengths are compared before octets, and octets from the last ones back: names
 // that are alike, as those of ports, mostly differ at their end. The first eight are compared at once as well, some of them a second time where n is
 // no multiple of eight: that is cheaper than the few octet by octet.
@@ -188,7 +202,7 @@ fn same_octets(x: &[u8], a: usize, m: usize, y: &[u8], b: usize, n: usize) -> bo
         return false;
     }
     if n < 8 {
-        return same_few(x, a, y, b, n);
+        return same_short(x, a, y, b, n);
     }
     let mut i = n;
     while 8 < i {
@@ -201,7 +215,7 @@ fn same_octets(x: &[u8], a: usize, m: usize, y: &[u8], b: usize, n: usize) -> bo
 }
 
 // Whether the string that is built into a table, empty where none is, is that of s at place.
-fn is_built_in(s: &[u8], table: usize, place: usize, len: usize) -> bool
+pub fn is_built_in(s: &[u8], table: usize, place: usize, len: usize) -> bool
     requires { ⌜ place + len ≤ length (now s) ⌝ }
     ensures { λ r. ⌜ r ≡ same (octetsOf (now (s .entry)) (builtIn (tableOf table))) (octetsOf (now (s .entry)) (stretch place len)) ⌝ }
 {
@@ -220,7 +234,7 @@ fn is_built_in(s: &[u8], table: usize, place: usize, len: usize) -> bool
 }
 
 // Whether entry i of a table, from 0, is the string of s at place. The length of a built-in entry is 0.
-fn is_string(s: &[u8], t: &[u32], table: usize, i: u32, place: usize, len: usize) -> bool
+pub fn is_string(s: &[u8], t: &[u32], table: usize, i: u32, place: usize, len: usize) -> bool
     requires { ⌜ (length (now t) ≡ tableWords) × (table < 8) × (i < 256) × (place + len ≤ length (now s)) × Ends (now s) (stringAt (tableOf table) (now t) (768 * table + 3 * i)) ⌝ }
     ensures { λ r. ⌜ r ≡ same (octetsOf (now (s .entry)) (stringAt (tableOf table) (now (t .entry)) (768 * table + 3 * i))) (octetsOf (now (s .entry)) (stretch place len)) ⌝ }
 {
@@ -232,7 +246,7 @@ fn is_string(s: &[u8], t: &[u32], table: usize, i: u32, place: usize, len: usize
 }
 
 // The lowest number of a table's first n entries that is the string of s at place, whatever an entry may be; 0 if none is.
-fn find_any(s: &[u8], t: &[u32], table: usize, n: u32, place: usize, len: usize) -> u32
+pub fn find_any(s: &[u8], t: &[u32], table: usize, n: u32, place: usize, len: usize) -> u32
     requires { ⌜ (length (now t) ≡ tableWords) × (table < 8) × (n ≤ 256) × (place + len ≤ length (now s)) × Inside (now s) (entries (stringAt (tableOf table) (now t)) (768 * table) n) ⌝ }
     ensures { λ r. ⌜ r ≡ numberIn (map (octetsOf (now (s .entry))) (entries (stringAt (tableOf table) (now (t .entry))) (768 * table) n)) (octetsOf (now (s .entry)) (stretch place len)) ⌝ }
 {
@@ -247,7 +261,7 @@ fn find_any(s: &[u8], t: &[u32], table: usize, n: u32, place: usize, len: usize)
 }
 
 // Whether the row at word j has the octets of s at place, of which `last` is the last. A built-in entry has no length, so it is none of these.
-fn is_spelled(s: &[u8], t: &[u32], j: usize, place: usize, len: usize, last: u8) -> bool
+pub fn is_spelled(s: &[u8], t: &[u32], j: usize, place: usize, len: usize, last: u8) -> bool
     requires { ⌜ (length (now t) ≡ tableWords) × (j + 3 ≤ tableWords) × (1 ≤ len) × (place + len ≤ length (now s)) × (last ≡ getD (now s) (place + (len - 1)) 0) × ((getD (now t) (j + 1) 0 ≡ 0 → ⊥) → getD (now t) j 0 + getD (now t) (j + 1) 0 ≤ length (now s)) ⌝ }
     ensures { λ r. ⌜ r ≡ same (octetsOf (now (s .entry)) (stretch (getD (now (t .entry)) j 0) (getD (now (t .entry)) (j + 1) 0))) (octetsOf (now (s .entry)) (stretch place len)) ⌝ }
 {
@@ -295,7 +309,7 @@ pub fn find(s: &[u8], t: &[u32], table: usize, n: u32, place: usize, len: usize)
 }
 
 // Whether the row at word j is the name with these numbers. Most names of a document have the same prefix and namespace.
-fn is_name(t: &[u32], j: usize, prefix: u32, namespace: u32, local: u32) -> bool
+pub fn is_name(t: &[u32], j: usize, prefix: u32, namespace: u32, local: u32) -> bool
     requires { ⌜ (length (now t) ≡ tableWords) × (j + 3 ≤ tableWords) ⌝ }
     ensures { λ r. ⌜ r ≡ sameTriple (tripleAt (now (t .entry)) j) (record { prefix = prefix; namespace = namespace; local = local }) ⌝ }
 {

@@ -1,0 +1,63 @@
+-- `roll` meets its contract: eight octets at a time: what is left from octet i on gives what the whole gives.
+-- Assumes nothing.
+use borrow.Author.Needs.{needs}
+use native.Mathlib.Omega.{arith}
+use mathlib.Core.Path.{_≡_}
+use Prim.Native.Nat.{_-_, _/_, _≤_, _<_}
+use Rattle.tables.specs.Located.{stretch, octetsOf}
+use Rattle.index.specs.Hash.{rolled}
+use Rattle.index.proofs.Hash.{rolled-start, rolled-next, rolled-end}
+use Rattle.index.proofs.roll.Statement.{statement}
+use Rattle.index.proofs.roll.Tie as tie
+
+abbrev Inv-loop : tie.InvT-loop
+Inv-loop s place len h₀ i₀ h i =
+    (i ≤ len) × (h < 0x100000000) × (rolled (octetsOf s (stretch place len)) i ((len - i - 1) / 8) h ≡ rolled (octetsOf s (stretch place len)) 0 ((len - 1) / 8) 0)
+
+abbrev μ-loop : tie.MeasureT-loop
+μ-loop s place len h₀ i₀ h i = len - i
+
+loop-holds : tie.Need-loop-holds Inv-loop μ-loop
+loop-holds c = (omega arith, omega arith, rolled-start _ (c .before .args .len))
+
+sub-loop : tie.Need-sub-loop Inv-loop μ-loop
+sub-loop c = search needs
+
+add-eight : tie.Need-add-eight Inv-loop μ-loop
+add-eight c = search needs
+
+eight-requires : tie.Need-eight-requires Inv-loop μ-loop
+eight-requires c κs = search needs
+
+blend-requires : tie.Need-blend-requires Inv-loop μ-loop
+blend-requires c κs = search needs
+
+add-i : tie.Need-add-i Inv-loop μ-loop
+add-i c = search needs
+
+loop-less : tie.Need-loop-less Inv-loop μ-loop
+loop-less c = search needs
+
+loop-again : tie.Need-loop-again Inv-loop μ-loop
+loop-again c =
+    let e = rolled-next _ _ _ (c .before .before .before .before .before .pre .1) _ _ _ (omega arith) (c .before .before .before .loop .inv .2) in
+    (omega arith, c .blend .ensures .1, rw (c .blend .ensures .0, c .before .eight .ensures .0) e)
+
+returns : tie.Need-returns Inv-loop μ-loop
+returns c = (rolled-end _ _ _ _ _ (omega arith) (c .before .loop .inv .2), c .before .loop .inv .1)
+
+pub roll-spec : {M : Type 1} → statement M
+roll-spec =
+    tie.close
+    (tie.spec
+    Inv-loop
+    μ-loop
+    loop-holds
+    sub-loop
+    add-eight
+    eight-requires
+    blend-requires
+    add-i
+    loop-less
+    loop-again
+    returns)

@@ -1,0 +1,64 @@
+-- Contracts of the code, not definitions to be believed. What ties the index to the tables.
+use Prim.Native.Nat.{ℕ, _+_, _*_, _≤_, _<_}
+use mathlib.Core.Path.{_≡_}
+use mathlib.Core.Bool.{Bool, true, not}
+use lib.ListN.{length, getD}
+use Rattle.format.specs.Octets.{Octets, Words}
+use Rattle.format.specs.Tables.{Triple, same, sameTriple}
+use Rattle.tables.specs.Located.{octetsOf}
+use Rattle.tables.specs.Rows.{tableOf, builtIn, stringAt, tripleAt}
+use Rattle.tables.specs.Kept.{stored}
+use Rattle.index.specs.Hash.{bucket, nameBucket}
+use Rattle.index.specs.Chain.{Kind, reached, Chains}
+
+-- Octets in the index: 384 for each table.
+abbrev pub slots : ℕ
+slots = 3840
+
+-- A table's strings as octets. The built-in string is not indexed: the search tests it apart.
+unfoldable pub strings : Octets → ℕ → Kind Octets
+strings s table = record { alike = same; bucketOf = bucket; indexed = λ (y : Octets). not (same (octetsOf s (builtIn (tableOf table))) y) }
+
+unfoldable pub stringsAt : (s : Octets) (t : Words) (table at : ℕ) → Octets
+stringsAt s t table at = octetsOf s (stringAt (tableOf table) t at)
+
+-- A table's names.
+unfoldable pub names : Kind Triple
+names = record { alike = sameTriple; bucketOf = nameBucket; indexed = λ (y : Triple). true }
+
+-- The first n entries of one table are indexed.
+unfoldable pub StringsIndexed : (s : Octets) (t : Words) (index : Octets) (table n : ℕ) → Type 0
+StringsIndexed s t index table n = Chains (strings s table) (stringsAt s t table) (768 * table) (reached n) index (384 * table)
+
+unfoldable pub NamesIndexed : (t : Words) (index : Octets) (table n : ℕ) → Type 0
+NamesIndexed t index table n = Chains names (tripleAt t) (768 * table) (reached n) index (384 * table)
+
+-- Counts that are words of a lent slice, as a function of the table; those of `Counts` are `countOf`.
+abbrev pub inWords : Words → ℕ → ℕ
+inWords w table = getD w table 0
+
+-- The tables that `only` names are indexed, with the counts that they have.
+pub record Indexed (only : ℕ → Bool) (s : Octets) (count : ℕ → ℕ) (t : Words) (index : Octets) : Type 0 where
+  pub size : length index ≡ slots
+  pub within : (table : ℕ) → count table ≤ 256
+  pub ofStrings : (table : ℕ) → table < 8 → only table ≡ true → StringsIndexed s t index table (count table)
+  pub ofNames : (table : ℕ) → 8 ≤ table → table < 10 → only table ≡ true → NamesIndexed t index table (count table)
+
+-- One table has one entry more, its n + 1st.
+pub record OneMore (table n : ℕ) (count more : ℕ → ℕ) : Type 0 where
+  pub was : count table ≡ n
+  pub here : more table ≡ n + 1
+  pub elsewhere : (k : ℕ) → (k ≡ table → ⊥) → more k ≡ count k
+
+-- Words t and index became u and other when a table's entry n + 1 was added: what was indexed is.
+pub record Keeps (s : Octets) (table n : ℕ) (t : Words) (index : Octets) (u : Words) (other : Octets) : Type 0 where
+  pub still : (only : ℕ → Bool) (count more : ℕ → ℕ) → OneMore table n count more → Indexed only s count t index → Indexed only s more u other
+
+-- The string at a place was added behind a table's n entries: what was indexed is. And the same of a name.
+pub record StringEntered (s : Octets) (table n place len : ℕ) (t : Words) (index : Octets) (u : Words) (other : Octets) : Type 0 where
+  pub words : u ≡ stored t table n place len 0
+  pub keeps : Keeps s table n t index u other
+
+pub record NameEntered (s : Octets) (table n : ℕ) (x : Triple) (t : Words) (index : Octets) (u : Words) (other : Octets) : Type 0 where
+  pub words : u ≡ stored t table n (x .prefix) (x .namespace) (x .local)
+  pub keeps : Keeps s table n t index u other

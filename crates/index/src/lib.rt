@@ -1,0 +1,311 @@
+// A hash index over the tables, local to a run: what `tables::find` and `tables::find_name` answer, in a few comparisons.
+// May depend on format, fields and tables.
+ghost use mathlib.Core.Path.{_≡_};
+ghost use mathlib.Core.Bool.{false};
+ghost use mathlib.Core.List.{List, map};
+ghost use Prim.Native.Nat.{ℕ, _+_, _-_, _*_, _/_, _<_, _≤_};
+ghost use lib.ListN.{length};
+ghost use Rattle.format.specs.Tables.{same};
+ghost use Rattle.tables.specs.Located.{stretch, octetsOf};
+ghost use Rattle.tables.specs.Counts.{tableWords};
+ghost use Rattle.tables.specs.Rows.{tableOf, builtIn, stringAt, tripleAt, entries};
+ghost use Rattle.tables.specs.Search.{numberIn, numberOfTriple};
+ghost use Rattle.tables.specs.Kept.{Inside};
+ghost use Rattle.index.specs.Hash.{summed, blended, spread, rolled, bucket, nameBucket};
+ghost use Rattle.index.specs.Chain.{lastRow, pushed};
+ghost use Rattle.index.specs.Indexed.{slots, strings, stringsAt, names, StringsIndexed, NamesIndexed, StringEntered, NameEntered};
+
+// Octets of the index: PART for each table.
+pub const SLOTS: usize = 3840;
+
+// Of a table, HEADS heads, one for a bucket, and 256 links, one for a row. An octet is a row's number, 0 for none.
+const PART: usize = 384;
+
+const HEADS: usize = 128;
+
+// The row whose number does not fit an octet: it is in no chain, and is looked at apart.
+const LAST: u32 = 255;
+
+// Casts, so that they are proved here alone.
+fn octet(x: u8) -> u64
+    ensures { λ r. ⌜ (r ≡ x) × (r < 256) ⌝ }
+{
+    x as u64
+}
+
+fn word(x: u32) -> u64
+    ensures { λ r. ⌜ (r ≡ x) × (r < 0x1_0000_0000) ⌝ }
+{
+    x as u64
+}
+
+fn wide(x: u32) -> usize
+    ensures { λ r. ⌜ r ≡ x ⌝ }
+{
+    x as usize
+}
+
+fn number(x: u8) -> usize
+    ensures { λ r. ⌜ r ≡ x ⌝ }
+{
+    x as usize
+}
+
+fn sum(h: u64, x: u64) -> u64
+    requires { ⌜ h < 0x1_0000_0000 ⌝ }
+    ensures { λ r. ⌜ r ≡ summed h x ⌝ }
+{
+    559_461_615 * h + 678_962_597 * (x % 0x1_0000_0000) + 655_011_477 * (x / 0x1_0000_0000)
+}
+
+// One number more taken into a number of 32 bits.
+fn blend(h: u64, x: u64) -> u64
+    requires { ⌜ h < 0x1_0000_0000 ⌝ }
+    ensures { λ r. ⌜ (r ≡ blended h x) × (r < 0x1_0000_0000) ⌝ }
+{
+    sum(h, x) / 0x100 % 0x1_0000_0000
+}
+
+// A bucket for two numbers.
+fn spread(h: u64, x: u64) -> usize
+    requires { ⌜ h < 0x1_0000_0000 ⌝ }
+    ensures { λ r. ⌜ (r ≡ spread h x) × (r < 128) ⌝ }
+{
+    (sum(h, x) / 0x100_0000 % 128) as usize
+}
+
+// The eights of the string of s at place, but for the last, in one number.
+fn roll(s: &[u8], place: usize, len: usize) -> u64
+    requires { ⌜ (1 ≤ len) × (place + len ≤ length (now s)) ⌝ }
+    ensures { λ r. ⌜ (r ≡ rolled (octetsOf (now (s .entry)) (stretch place len)) 0 ((len - 1) / 8) 0) × (r < 0x1_0000_0000) ⌝ }
+{
+    let mut h = 0;
+    let mut i = 0;
+    while 8 < len - i {
+        h = blend(h, fields::eight(s, place + i));
+        i += 8;
+    }
+    h
+}
+
+// The bucket of the string of s at place. Most names have at most 16 octets, and no loop.
+pub fn bucket_of(s: &[u8], place: usize, len: usize) -> usize
+    requires { ⌜ (1 ≤ len) × (place + len ≤ length (now s)) ⌝ }
+    ensures { λ r. ⌜ (r ≡ bucket (octetsOf (now (s .entry)) (stretch place len))) × (r < 128) ⌝ }
+{
+    if len < 4 {
+        let middle = octet(s[place + len / 2]);
+        let last = octet(s[place + (len - 1)]);
+        return spread(0, octet(s[place]) + 0x100 * middle + 0x1_0000 * last);
+    }
+    if len <= 8 {
+        let last = fields::four(s, place + (len - 4));
+        return spread(0, fields::four(s, place) + 0x1_0000_0000 * last);
+    }
+    let end = fields::eight(s, place + (len - 8));
+    if len <= 16 {
+        return spread(blend(0, fields::eight(s, place)), end);
+    }
+    spread(roll(s, place, len), end)
+}
+
+// The number of the string of s at place in row 255 of a full table, 0 elsewhere: what is left where a chain ends.
+fn find_last(s: &[u8], t: &[u32], table: usize, n: u32, place: usize, len: usize) -> u32
+    requires { ⌜ (length (now t) ≡ tableWords) × (table < 8) × (n ≤ 256) × (place + len ≤ length (now s)) × Inside (now s) (entries (stringAt (tableOf table) (now t)) (768 * table) n) ⌝ }
+    ensures { λ r. ⌜ r ≡ lastRow (strings (now (s .entry)) table) (stringsAt (now (s .entry)) (now (t .entry)) table) (768 * table) n (octetsOf (now (s .entry)) (stretch place len)) ⌝ }
+{
+    if n <= LAST {
+        return 0;
+    }
+    if tables::is_string(s, t, table, LAST, place, len) {
+        return n;
+    }
+    0
+}
+
+// The lowest number of the string of s at place, which is not built in, by its chain, that of bucket h; 0 if it has none. n is the table's count.
+fn find_chained(
+    s: &[u8],
+    t: &[u32],
+    index: &[u8],
+    table: usize,
+    n: u32,
+    place: usize,
+    len: usize,
+    h: usize,
+) -> u32
+    requires { ⌜ (length (now t) ≡ tableWords) × (length (now index) ≡ slots) × (table < 8) × (n ≤ 256) × (1 ≤ len) × (place + len ≤ length (now s)) × Inside (now s) (entries (stringAt (tableOf table) (now t)) (768 * table) n) × StringsIndexed (now s) (now t) (now index) table n × (h ≡ bucket (octetsOf (now s) (stretch place len))) × (h < 128) × (same (octetsOf (now s) (builtIn (tableOf table))) (octetsOf (now s) (stretch place len)) ≡ false) ⌝ }
+    ensures { λ r. ⌜ r ≡ numberIn (map (octetsOf (now (s .entry))) (entries (stringAt (tableOf table) (now (t .entry))) (768 * table) n)) (octetsOf (now (s .entry)) (stretch place len)) ⌝ }
+{
+    let last = s[place + (len - 1)];
+    let head = PART * table + h;
+    let mut k = number(index[head]);
+    while 0 < k {
+        if tables::is_spelled(s, t, 768 * table + 3 * (k - 1), place, len, last) {
+            return k as u32;
+        }
+        k = number(index[PART * table + HEADS + (k - 1)]);
+    }
+    find_last(s, t, table, n, place, len)
+}
+
+// The lowest number of a table's first n entries that is the string of s at place, whose bucket is h; 0 if none is. A built-in string is looked for row by
+// row: it is in the first row.
+pub fn find_in(
+    s: &[u8],
+    t: &[u32],
+    index: &[u8],
+    table: usize,
+    n: u32,
+    place: usize,
+    len: usize,
+    h: usize,
+) -> u32
+    requires { ⌜ (length (now t) ≡ tableWords) × (length (now index) ≡ slots) × (table < 8) × (n ≤ 256) × (1 ≤ len) × (place + len ≤ length (now s)) × Inside (now s) (entries (stringAt (tableOf table) (now t)) (768 * table) n) × StringsIndexed (now s) (now t) (now index) table n × (h ≡ bucket (octetsOf (now s) (stretch place len))) × (h < 128) ⌝ }
+    ensures { λ r. ⌜ r ≡ numberIn (map (octetsOf (now (s .entry))) (entries (stringAt (tableOf table) (now (t .entry))) (768 * table) n)) (octetsOf (now (s .entry)) (stretch place len)) ⌝ }
+{
+    if tables::is_built_in(s, table, place, len) {
+        return tables::find_any(s, t, table, n, place, len);
+    }
+    find_chained(s, t, index, table, n, place, len, h)
+}
+
+// The same where the bucket is not known. An empty string is looked for row by row.
+pub fn find(
+    s: &[u8],
+    t: &[u32],
+    index: &[u8],
+    table: usize,
+    n: u32,
+    place: usize,
+    len: usize,
+) -> u32
+    requires { ⌜ (length (now t) ≡ tableWords) × (length (now index) ≡ slots) × (table < 8) × (n ≤ 256) × (place + len ≤ length (now s)) × Inside (now s) (entries (stringAt (tableOf table) (now t)) (768 * table) n) × StringsIndexed (now s) (now t) (now index) table n ⌝ }
+    ensures { λ r. ⌜ r ≡ numberIn (map (octetsOf (now (s .entry))) (entries (stringAt (tableOf table) (now (t .entry))) (768 * table) n)) (octetsOf (now (s .entry)) (stretch place len)) ⌝ }
+{
+    if len == 0 {
+        return tables::find_any(s, t, table, n, place, len);
+    }
+    find_in(s, t, index, table, n, place, len, bucket_of(s, place, len))
+}
+
+// Row n of a table in front of the chain of bucket h.
+fn push(index: &mut [u8], table: usize, h: usize, n: u32)
+    requires { ⌜ (length (now index) ≡ slots) × (table < 10) × (h < 128) × (n < 255) ⌝ }
+    ensures { λ _. ⌜ now (index .exit) ≡ pushed (now (index .entry)) (384 * table) h n ⌝ }
+{
+    let front = PART * table + h;
+    let link = PART * table + HEADS + wide(n);
+    index[link] = index[front];
+    index[front] = (n + 1) as u8;
+}
+
+// The string of s at place, whose bucket is h, becomes an entry behind a table's n. `known` is the number that it has there already: the index keeps the
+// lowest, so it is put in its chain only where it has none.
+pub fn enter_in(
+    s: &[u8],
+    t: &mut [u32],
+    index: &mut [u8],
+    table: usize,
+    n: u32,
+    place: u32,
+    len: u32,
+    known: u32,
+    h: usize,
+)
+    requires { ⌜ (length (now t) ≡ tableWords) × (length (now index) ≡ slots) × (table < 8) × (n < 256) × (1 ≤ len) × (place + len ≤ length (now s)) × (known ≡ numberIn (map (octetsOf (now s)) (entries (stringAt (tableOf table) (now t)) (768 * table) n)) (octetsOf (now s) (stretch place len))) × (h ≡ bucket (octetsOf (now s) (stretch place len))) × (h < 128) ⌝ }
+    ensures { λ _. ⌜ StringEntered (now (s .entry)) table n place len (now (t .entry)) (now (index .entry)) (now (t .exit)) (now (index .exit)) ⌝ }
+{
+    tables::add(t, table, n, place, len, 0);
+    if known != 0 {
+        return;
+    }
+    if LAST <= n {
+        return;
+    }
+    if tables::is_built_in(s, table, wide(place), wide(len)) {
+        return;
+    }
+    push(index, table, h, n);
+}
+
+// The same where the bucket and the number are not known: what a table is given that may hold the string already.
+pub fn enter(s: &[u8], t: &mut [u32], index: &mut [u8], table: usize, n: u32, place: u32, len: u32)
+    requires { ⌜ (length (now t) ≡ tableWords) × (length (now index) ≡ slots) × (table < 8) × (n < 256) × (1 ≤ len) × (place + len ≤ length (now s)) × Inside (now s) (entries (stringAt (tableOf table) (now t)) (768 * table) n) × StringsIndexed (now s) (now t) (now index) table n ⌝ }
+    ensures { λ _. ⌜ StringEntered (now (s .entry)) table n place len (now (t .entry)) (now (index .entry)) (now (t .exit)) (now (index .exit)) ⌝ }
+{
+    let at = wide(place);
+    let size = wide(len);
+    let h = bucket_of(s, at, size);
+    let known = find_in(s, t, index, table, n, at, size, h);
+    enter_in(s, t, index, table, n, place, len, known, h);
+}
+
+// The bucket of a name.
+fn name_bucket(prefix: u32, namespace: u32, local: u32) -> usize
+    ensures { λ r. ⌜ (r ≡ nameBucket (record { prefix = prefix; namespace = namespace; local = local })) × (r < 128) ⌝ }
+{
+    spread(word(prefix), word(local) + 0x1_0000_0000 * word(namespace))
+}
+
+// The number of the name with these numbers in row 255 of a full table, 0 elsewhere.
+fn find_last_name(t: &[u32], table: usize, n: u32, prefix: u32, namespace: u32, local: u32) -> u32
+    requires { ⌜ (length (now t) ≡ tableWords) × (table < 10) × (n ≤ 256) ⌝ }
+    ensures { λ r. ⌜ r ≡ lastRow names (tripleAt (now (t .entry))) (768 * table) n (record { prefix = prefix; namespace = namespace; local = local }) ⌝ }
+{
+    if n <= LAST {
+        return 0;
+    }
+    if tables::is_name(t, 768 * table + 765, prefix, namespace, local) {
+        return n;
+    }
+    0
+}
+
+// The lowest number of a table's first n entries that is the name with these numbers; 0 if none is.
+pub fn find_name(
+    t: &[u32],
+    index: &[u8],
+    table: usize,
+    n: u32,
+    prefix: u32,
+    namespace: u32,
+    local: u32,
+) -> u32
+    requires { ⌜ (length (now t) ≡ tableWords) × (length (now index) ≡ slots) × (table < 10) × (n ≤ 256) × NamesIndexed (now t) (now index) table n ⌝ }
+    ensures { λ r. ⌜ r ≡ numberOfTriple (entries (tripleAt (now (t .entry))) (768 * table) n) (record { prefix = prefix; namespace = namespace; local = local }) ⌝ }
+{
+    let first = PART * table + name_bucket(prefix, namespace, local);
+    let mut j = number(index[first]);
+    while 0 < j {
+        if tables::is_name(t, 768 * table + 3 * (j - 1), prefix, namespace, local) {
+            return j as u32;
+        }
+        j = number(index[PART * table + HEADS + (j - 1)]);
+    }
+    find_last_name(t, table, n, prefix, namespace, local)
+}
+
+// The name with these numbers becomes an entry behind a table's n; `found` is as `known` for `enter_in`.
+pub fn enter_name(
+    t: &mut [u32],
+    index: &mut [u8],
+    table: usize,
+    n: u32,
+    prefix: u32,
+    namespace: u32,
+    local: u32,
+    found: u32,
+)
+    requires { ⌜ (length (now t) ≡ tableWords) × (length (now index) ≡ slots) × (8 ≤ table) × (table < 10) × (n < 256) × (found ≡ numberOfTriple (entries (tripleAt (now t)) (768 * table) n) (record { prefix = prefix; namespace = namespace; local = local })) ⌝ }
+    ensures { λ _. ⌜ ((s : List ℕ) → NameEntered s table n (record { prefix = prefix; namespace = namespace; local = local }) (now (t .entry)) (now (index .entry)) (now (t .exit)) (now (index .exit))) ⌝ }
+{
+    tables::add(t, table, n, prefix, namespace, local);
+    if found != 0 {
+        return;
+    }
+    if LAST <= n {
+        return;
+    }
+    push(index, table, name_bucket(prefix, namespace, local), n);
+}
