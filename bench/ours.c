@@ -1,4 +1,4 @@
-/* Calls the archive on one document so many times, for a count of instructions from outside. All room is lent exactly as long as the document needs it, so that no
+/* Calls the archive on one document so many times, or the limit (bench/build), for a count of instructions from outside. All room is lent exactly as long as the document needs it, so that no
    blanking of unused room is counted: a record for each event, and for the writer as many octets as the document has.
 
    usage: ours check|read|write CALLS < octets    # a digest of what is left in the lent room on standard output

@@ -1,4 +1,4 @@
-"""The documents of the bench, at any size: fast infoset octets, and the same infoset as XML text. For bench/run and bench/profile."""
+"""The documents of the bench, at any size: fast infoset octets, and the same infoset as XML text. For bench/run, bench/hold and bench/profile."""
 import os, struct, subprocess
 
 ROOT = os.path.dirname(os.path.dirname(os.path.abspath(__file__)))
