@@ -3,8 +3,8 @@
 use borrow.Author.Needs.{needs}
 use Prim.Native.Nat.{_-_}
 use lib.ListN.{length}
-use Rattle.writing.proofs.same.Statement.{statement}
-use Rattle.writing.proofs.same.Tie as tie
+use Rattle.writing.proofs.area.same.Statement.{statement}
+use Rattle.writing.proofs.area.same.Tie as tie
 
 abbrev Inv-loop : tie.InvT-loop
 Inv-loop a b i₀ i = Unit {0}

@@ -3,8 +3,8 @@
 use borrow.Author.Needs.{needs}
 use mathlib.Core.Path.{_≡_}
 use lib.ListN.{length}
-use Rattle.writing.proofs.first_same.Statement.{statement}
-use Rattle.writing.proofs.first_same.Tie as tie
+use Rattle.writing.proofs.area.first_same.Statement.{statement}
+use Rattle.writing.proofs.area.first_same.Tie as tie
 
 abbrev Inv-loop : tie.InvT-loop
 Inv-loop known₀ text hash mine n at₀ left₀ known at left = length known ≡ length known₀

@@ -1,0 +1,66 @@
+// What is printed: the document, the writer's refusal, or what is wrong with a line.
+use crate::event_lines::Fault;
+use crate::event_lines::Line;
+use crate::sums::least;
+use libc::STDOUT_FILENO;
+use tables::Counts;
+
+// One octet more than a text area may have, so that the writer sees a longer one to be longer.
+const LENT: usize = 16385;
+
+fn put_text(text: &[u8]) {
+    io::write_all(STDOUT_FILENO, text);
+}
+
+fn put_why(fault: Fault) {
+    match fault {
+        Fault::Letter => put_text(b"a line starts with N, S, A, T, C, P, E or end"),
+        Fault::Space => put_text(b"one space stands before a string"),
+        Fault::String => put_text(b"a string starts with - or ="),
+        Fault::Digit => put_text(b"a string's octets are pairs of hex digits"),
+        Fault::Fewer => put_text(b"the line ends before its last string"),
+        Fault::More => put_text(b"the line goes on after its last string"),
+        Fault::Last => put_text(b"the last line is end and the number of event lines"),
+        Fault::After => put_text(b"no line follows end"),
+        Fault::Cut => put_text(b"its line end is missing"),
+    }
+}
+
+pub fn put_fault(number: u64, fault: Fault) {
+    put_text(b"line ");
+    io::print_decimal(STDOUT_FILENO, number);
+    put_text(b" is not in the format: ");
+    put_why(fault);
+    put_text(b"\n");
+}
+
+// The writer's answer: the refusal in its low 32 bits, or 0 there and the number of octets above them.
+fn put_answer(out: &[u8], answer: u64) {
+    let refusal = answer % 0x1_0000_0000;
+    if refusal != 0 {
+        put_text(b"refused ");
+        io::print_decimal(STDOUT_FILENO, refusal % 32);
+        put_text(b" at ");
+        io::print_decimal(STDOUT_FILENO, refusal / 32);
+        put_text(b"\n");
+        return;
+    }
+    let n = least((answer / 0x1_0000_0000) as usize, out.len());
+    put_text(&out[0..n]);
+}
+
+pub fn put_document(line: Line, text: &[u8], records: &[u32]) {
+    let mut out = [0u8; 16384];
+    let mut tables = [0u32; Counts::WORDS];
+    let mut counts = [0u32; 10];
+    let r = least(line.from, records.len());
+    let t = least(least(line.fill, LENT), text.len());
+    let answer = lomphachit::lomphachit_write(
+        &records[0..r],
+        &text[0..t],
+        &mut out,
+        &mut tables,
+        &mut counts,
+    );
+    put_answer(&out, answer);
+}
