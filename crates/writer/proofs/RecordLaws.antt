@@ -6,9 +6,9 @@ use mathlib.Core.List.{List}
 use Prim.Native.Nat.{ℕ, _+_, _-_, _≤_, _<_}
 use native.Mathlib.Omega.{arith}
 use native.Mathlib.Decide.{decLt}
-use borrow.Author.Tests.{lt-ltb, le-leb, lt-leb}
-use lib.Dec.{ltb, leb}
-use lib.ListN.{take, drop}
+use borrow.Author.Tests.{lt-ltb, le-leb, lt-leb, eq-eqb, ne-eqb}
+use lib.Dec.{eqb, ltb, leb}
+use lib.ListN.{length, take, drop}
 use Rattle.fields.specs.Utf8.{isText, after, next, first, rows, between}
 use Rattle.format.specs.Tables.{xmlPrefix, xmlNamespace}
 use Rattle.tables.specs.Located.{stretch, octetsOf}
@@ -17,7 +17,10 @@ use Rattle.events.specs.declared.EventString.{EventString}
 use Rattle.events.specs.declared.EventString.the-variants.{Absent, Empty, Stretch, XmlPrefix, XmlNamespace}
 use Rattle.events.specs.declared.Kind.the-variants.{Namespace}
 use Rattle.events.specs.declared.Event.{Event}
-use Rattle.writer.specs.Events.{locatedOf, optionalOf, nameOf, eventOf, optionalText, nameText, allText}
+use Rattle.events.specs.Words.{stringTag, stringPlace, stringSize}
+use Rattle.writer.specs.Events.{isAbsent, isStretch, isPrefix, isNamespace, isValue, locatedOf, optionalOf, nameOf, eventOf, optionalText, nameText, allText}
+use Rattle.writer.specs.Contracts.{Lies}
+use Rattle.writer.specs.RecordContracts.{isOne}
 
 -- ---- a stretch, by its place p and its size n in m octets
 module _ (m p n : ℕ) where
@@ -36,6 +39,61 @@ module _ (m p n : ℕ) where
         | no a ↦ let b : p ≤ m - n = omega arith in let l : p + n ≤ m = omega arith in rw (le-leb _ _ b, le-leb _ _ l)
       ]
 
+-- ---- one test of a string, and those that are made of it
+module _ (text : List ℕ) (x : EventString) (a b t : ℕ) (e : t ≡ stringTag x) where
+  pub one-lies : (p n : ℕ) → t ≡ 2 → p ≡ stringPlace x → n ≡ stringSize x → (ltb 0 n && leb (p + n) (length text)) ≡ isOne text x a b
+  unfolding isOne
+  one-lies p n h f g = rw (← e, h, f, g)
+
+  module _ (h : t ≡ 2 → ⊥) where
+    pub one-first : t ≡ a → eqb t a ≡ isOne text x a b
+    unfolding isOne
+    one-first k = rw (← e, ne-eqb _ _ h, eq-eqb _ _ k)
+
+    pub one-second : (t ≡ a → ⊥) → eqb t b ≡ isOne text x a b
+    unfolding isOne
+    one-second k = rw (← e, ne-eqb _ _ h, ne-eqb _ _ k)
+
+module _ (text : List ℕ) where
+  pub one-stretch : (x : EventString) → isOne text x 2 2 ≡ isStretch text x
+  unfolding isOne
+  one-stretch Absent = refl
+  one-stretch Empty = refl
+  one-stretch (Stretch p n) = refl
+  one-stretch XmlPrefix = refl
+  one-stretch XmlNamespace = refl
+
+  pub one-prefix : (x : EventString) → isOne text x 0 3 ≡ isPrefix text x
+  unfolding isOne
+  one-prefix Absent = refl
+  one-prefix Empty = refl
+  one-prefix (Stretch p n) = refl
+  one-prefix XmlPrefix = refl
+  one-prefix XmlNamespace = refl
+
+  pub one-namespace : (x : EventString) → isOne text x 0 4 ≡ isNamespace text x
+  unfolding isOne
+  one-namespace Absent = refl
+  one-namespace Empty = refl
+  one-namespace (Stretch p n) = refl
+  one-namespace XmlPrefix = refl
+  one-namespace XmlNamespace = refl
+
+  pub one-value : (x : EventString) → isOne text x 1 1 ≡ isValue text x
+  unfolding isOne
+  one-value Absent = refl
+  one-value Empty = refl
+  one-value (Stretch p n) = refl
+  one-value XmlPrefix = refl
+  one-value XmlNamespace = refl
+
+pub tag-absent : (x : EventString) → eqb (stringTag x) 0 ≡ isAbsent x
+tag-absent Absent = refl
+tag-absent Empty = refl
+tag-absent (Stretch p n) = refl
+tag-absent XmlPrefix = refl
+tag-absent XmlNamespace = refl
+
 -- ---- text
 module _ (text : List ℕ) where
   -- what is no stretch is text
@@ -53,6 +111,28 @@ module _ (text : List ℕ) where
 
   pub stretch-text : (p n : ℕ) → isText (take ((p + n) - p) (drop p text)) ≡ isText (octetsOf text (stretch p n))
   stretch-text p n = let q : p + n - p ≡ n = omega arith in rw (q, octets-stretch text p n)
+
+  -- by the tag
+  pub other-text : (x : EventString) → (stringTag x ≡ 2 → ⊥) → true ≡ isText (octetsOf text (locatedOf x))
+  other-text Absent h = absent-text
+  other-text Empty h = absent-text
+  other-text (Stretch p n) h = absurd (h refl)
+  other-text XmlPrefix h = prefix-text
+  other-text XmlNamespace h = namespace-text
+
+  pub tagged-text : (x : EventString) → stringTag x ≡ 2 → isText (take ((stringPlace x + stringSize x) - stringPlace x) (drop (stringPlace x) text)) ≡ isText (octetsOf text (locatedOf x))
+  tagged-text Absent h = absurd (omega arith)
+  tagged-text Empty h = absurd (omega arith)
+  tagged-text (Stretch p n) h = stretch-text p n
+  tagged-text XmlPrefix h = absurd (omega arith)
+  tagged-text XmlNamespace h = absurd (omega arith)
+
+  pub tagged-lies : (x : EventString) → stringTag x ≡ 2 → Lies text x → stringPlace x + stringSize x ≤ length text
+  tagged-lies Absent h l = absurd (omega arith)
+  tagged-lies Empty h l = absurd (omega arith)
+  tagged-lies (Stretch p n) h l = l .1
+  tagged-lies XmlPrefix h l = absurd (omega arith)
+  tagged-lies XmlNamespace h l = absurd (omega arith)
 
   -- a string that is not there is text as the empty one is
   optional-text : (x : EventString) → optionalText text (optionalOf x) ≡ isText (octetsOf text (locatedOf x))

@@ -6,6 +6,7 @@ pub mod Writing
 pub mod Words
 pub mod OutputContracts
 pub mod Contracts
+pub mod RecordContracts
 pub mod AheadContracts
 pub mod StepContracts
 pub mod ItemContracts

@@ -10,6 +10,7 @@ ghost use Rattle.format.specs.Items.{mayStart};
 ghost use Rattle.tables.specs.Located.{Located, octetsOf};
 ghost use Rattle.events.specs.declared.Event.{Event};
 ghost use Rattle.writer.specs.Events.{isAbsent, isStretch, isPrefix, isNamespace, isValue, isName, noName, wellMade, locatedOf, nameOf, eventOf, amongChildren, isDeclaring, isListing, goesOn, nameText, allText};
+ghost use Rattle.writer.specs.RecordContracts.{isOne};
 ghost use Rattle.writer.specs.Writing.{opens};
 ghost use Rattle.writer.specs.Contracts.{modeOf, stateOf, Lies, Placed, faultOf};
 use crate::Mode;
@@ -26,19 +27,24 @@ const DEPTH: u32 = 13;
 
 const EVENT: u32 = 16;
 
+// The tags of strings.
+const ABSENT: u32 = 0;
+
+const EMPTY: u32 = 1;
+
+const STRETCH: u32 = 2;
+
+const XML_PREFIX: u32 = 3;
+
+const XML_NAMESPACE: u32 = 4;
+
 // Open elements, at most.
 const DEEPEST: u32 = 32;
 
 fn is_absent(x: EventString) -> bool
     ensures { λ r. ⌜ r ≡ isAbsent x ⌝ }
 {
-    match x {
-        EventString::Absent => true,
-        EventString::Empty => false,
-        EventString::Stretch(_, _) => false,
-        EventString::XmlPrefix => false,
-        EventString::XmlNamespace => false,
-    }
+    x.tag() == ABSENT
 }
 
 // A stretch is not empty and lies in the text area. Place and size are the caller's and may be any numbers, so they are not added.
@@ -55,52 +61,39 @@ fn lies_in(text: &[u8], place: u32, size: u32) -> bool
     place as usize <= text.len() - n
 }
 
+// A string in the text area, or one with either of two tags.
+fn is_one(text: &[u8], x: EventString, a: u32, b: u32) -> bool
+    ensures { λ r. ⌜ r ≡ isOne (now (text .entry)) x a b ⌝ }
+{
+    let tag = x.tag();
+    if tag == STRETCH {
+        return lies_in(text, x.place(), x.size());
+    }
+    tag == a || tag == b
+}
+
 fn is_stretch(text: &[u8], x: EventString) -> bool
     ensures { λ r. ⌜ r ≡ isStretch (now (text .entry)) x ⌝ }
 {
-    match x {
-        EventString::Absent => false,
-        EventString::Empty => false,
-        EventString::Stretch(place, size) => lies_in(text, place, size),
-        EventString::XmlPrefix => false,
-        EventString::XmlNamespace => false,
-    }
+    is_one(text, x, STRETCH, STRETCH)
 }
 
 fn is_prefix(text: &[u8], x: EventString) -> bool
     ensures { λ r. ⌜ r ≡ isPrefix (now (text .entry)) x ⌝ }
 {
-    match x {
-        EventString::Absent => true,
-        EventString::Empty => false,
-        EventString::Stretch(place, size) => lies_in(text, place, size),
-        EventString::XmlPrefix => true,
-        EventString::XmlNamespace => false,
-    }
+    is_one(text, x, ABSENT, XML_PREFIX)
 }
 
 fn is_namespace(text: &[u8], x: EventString) -> bool
     ensures { λ r. ⌜ r ≡ isNamespace (now (text .entry)) x ⌝ }
 {
-    match x {
-        EventString::Absent => true,
-        EventString::Empty => false,
-        EventString::Stretch(place, size) => lies_in(text, place, size),
-        EventString::XmlPrefix => false,
-        EventString::XmlNamespace => true,
-    }
+    is_one(text, x, ABSENT, XML_NAMESPACE)
 }
 
 fn is_value(text: &[u8], x: EventString) -> bool
     ensures { λ r. ⌜ r ≡ isValue (now (text .entry)) x ⌝ }
 {
-    match x {
-        EventString::Absent => false,
-        EventString::Empty => true,
-        EventString::Stretch(place, size) => lies_in(text, place, size),
-        EventString::XmlPrefix => false,
-        EventString::XmlNamespace => false,
-    }
+    is_one(text, x, EMPTY, EMPTY)
 }
 
 // A name's strings: a prefix only with a namespace.
@@ -152,16 +145,11 @@ fn is_text_string(text: &[u8], x: EventString) -> bool
     requires { ⌜ Lies (now text) x ⌝ }
     ensures { λ r. ⌜ r ≡ isText (octetsOf (now (text .entry)) (locatedOf x)) ⌝ }
 {
-    match x {
-        EventString::Absent => true,
-        EventString::Empty => true,
-        EventString::Stretch(place, size) => {
-            let from = place as usize;
-            is_text(text, from, from + size as usize)
-        }
-        EventString::XmlPrefix => true,
-        EventString::XmlNamespace => true,
+    if x.tag() != STRETCH {
+        return true;
     }
+    let from = x.place() as usize;
+    is_text(text, from, from + x.size() as usize)
 }
 
 fn name_text(text: &[u8], e: Event) -> bool

@@ -1,23 +1,26 @@
--- `is_text_string` meets its contract, by the string's variant.
+-- `is_text_string` meets its contract: by the tag.
 -- Assumes nothing.
-use mathlib.Core.Path.{_∙_}
+use mathlib.Core.Path.{_∙_, sym}
 use native.Mathlib.Omega.{arith}
 use borrow.Author.Needs.{needs}
-use Rattle.writer.proofs.RecordLaws.{absent-text, prefix-text, namespace-text, stretch-text}
+use Rattle.writer.proofs.RecordLaws.{other-text, tagged-text, tagged-lies}
 use Rattle.writer.proofs.records.is_text_string.Statement.{statement}
 use Rattle.writer.proofs.records.is_text_string.Tie as tie
 
-enum-told : tie.Need-enum-told
-enum-told c = search needs
+tag-requires : tie.Need-tag-requires
+tag-requires c κs = search needs
 
-enum-told-2 : tie.Need-enum-told-2
-enum-told-2 c = search needs
+returns : tie.Need-returns
+returns c = other-text _ (c .before .before .before .args .x) (rw (c .before .tag .ensures) at (c .if1 .taken))
 
-enum-known-x : tie.Need-enum-known-x
-enum-known-x c = search needs
+place-requires : tie.Need-place-requires
+place-requires c κs = search needs
 
 cast-from : tie.Need-cast-from
 cast-from c = search needs
+
+size-requires : tie.Need-size-requires
+size-requires c κs = search needs
 
 cast-is-text : tie.Need-cast-is-text
 cast-is-text c = search needs
@@ -26,44 +29,26 @@ add-is-text : tie.Need-add-is-text
 add-is-text c = search needs
 
 is-text-requires : tie.Need-is-text-requires
-is-text-requires c κs = let l = rw (c .before .x .given .1) at (c .before .before .before .before .pre) in (omega arith, l .1)
-
-enum-told-3 : tie.Need-enum-told-3
-enum-told-3 c = search needs
-
-enum-told-4 : tie.Need-enum-told-4
-enum-told-4 c = search needs
-
-returns : tie.Need-returns
-returns c = rw (c .enum-told .given .1) (absent-text _)
+is-text-requires c κs =
+    let t = sym (c .before .before .before .tag .ensures) ∙ c .before .before .if1 .left in
+    let l = tagged-lies _ (c .before .before .before .before .before .args .x) t (c .before .before .before .before .before .pre) in
+    (omega arith, rw (c .before .place .ensures, c .size .ensures) l)
 
 returns-2 : tie.Need-returns-2
-returns-2 c = rw (c .enum-told2 .given .1) (absent-text _)
-
-returns-3 : tie.Need-returns-3
-returns-3 c = rw (c .before .before .x .given .1) (c .is-text .ensures ∙ stretch-text _ _ _)
-
-returns-4 : tie.Need-returns-4
-returns-4 c = rw (c .enum-told3 .given .1) (prefix-text _)
-
-returns-5 : tie.Need-returns-5
-returns-5 c = rw (c .enum-told4 .given .1) (namespace-text _)
+returns-2 c =
+    let t = sym (c .before .before .before .before .tag .ensures) ∙ c .before .before .before .if1 .left in
+    c .is-text .ensures ∙ rw (c .before .before .place .ensures, c .before .size .ensures) (tagged-text _ (c .before .before .before .before .before .before .args .x) t)
 
 pub is-text-string-spec : {M : Type 1} → statement M
 is-text-string-spec =
     tie.close
     (tie.spec
-    enum-told
-    enum-told-2
-    enum-known-x
+    tag-requires
+    returns
+    place-requires
     cast-from
+    size-requires
     cast-is-text
     add-is-text
     is-text-requires
-    enum-told-3
-    enum-told-4
-    returns
-    returns-2
-    returns-3
-    returns-4
-    returns-5)
+    returns-2)
