@@ -1,7 +1,7 @@
 -- Event records read back from words: which record 13 words stand for, and the records of a list of words.
 use mathlib.Core.Path.{_≡_}
 use Prim.Native.Nat.{ℕ, zero, suc, _+_, _/_}
-use mathlib.Core.Bool.{_&&_}
+use mathlib.Core.Bool.{Bool, true, false, _&&_}
 use mathlib.Core.List.{List, [], _∷_}
 use lib.Dec.{leb, eqb}
 use lib.ListN.{length, getD}
@@ -14,6 +14,7 @@ use Rattle.events.specs.declared.Event.{Event}
 use Rattle.events.specs.declared.words.Told.{Told}
 use Rattle.events.specs.declared.words.Told.the-variants.{Said, Not}
 use Rattle.events.specs.Records.{blank}
+use Rattle.events.specs.Words.{kindNumber}
 
 -- The kinds by number, from 0.
 abbrev pub kinds : List Kind
@@ -66,3 +67,12 @@ recordsOf w = recordsFrom w 0 (length w / 13)
 abbrev pub AllKinded : List Event → Type 0
 AllKinded [] = Unit {0}
 AllKinded (e ∷ es) = (e .kind ≡ Blank → ⊥) × AllKinded es
+
+-- Contracts of the code, not definitions to be believed: three words say a string; the first record is there, and of the kind that has this number.
+abbrev pub isSaid : Told → Bool
+isSaid (Said x) = true
+isSaid Not = false
+
+abbrev pub beginsWith : (number : ℕ) → List Event → Bool
+beginsWith number [] = false
+beginsWith number (e ∷ es) = eqb (kindNumber (e .kind)) number

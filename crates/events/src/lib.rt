@@ -9,6 +9,12 @@ ghost use lib.ListN.{length, set, getD, take, replicate};
 ghost use Rattle.events.specs.Records.{blank, namespaceRecord, startRecord, attributeRecord, chunkRecord, commentRecord, instructionRecord, endRecord};
 ghost use Rattle.events.specs.Words.{kindNumber, stringTag, stringPlace, stringSize};
 pub use words::from_words;
+pub use words::has_record;
+pub use words::is_kind;
+pub use words::keep;
+
+// Words of a record: one for the kind, and three for each of the four strings.
+pub const RECORD: usize = 13;
 
 // A string of an event: none; the empty one; octets of the document or text area by place and length; one of the two built-in strings.
 pub enum EventString {

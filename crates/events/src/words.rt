@@ -1,11 +1,16 @@
-// Event records from words, for callers that have no enums.
+// Event records from words and into words, for callers that have no enums.
 ghost use mathlib.Core.Path.{_≡_};
-ghost use Prim.Native.Nat.{_+_, _*_, _≤_};
-ghost use lib.ListN.{length};
-ghost use Rattle.events.specs.FromWords.{kindOf, toldByTag, toldBy, toldAt, framed, recordAt};
+ghost use Prim.Native.Nat.{_+_, _*_, _/_, _≤_, _<_};
+ghost use lib.ListN.{length, drop};
+ghost use lib.Seq.{sets};
+ghost use lib.Dec.{ltb};
+ghost use Rattle.events.specs.Words.{stringWords};
+ghost use Rattle.events.specs.Kept.{kept};
+ghost use Rattle.events.specs.FromWords.{kindOf, toldByTag, toldBy, toldAt, framed, recordAt, recordsOf, isSaid, beginsWith};
 use crate::Event;
 use crate::EventString;
 use crate::Kind;
+use crate::RECORD;
 
 // What three words say: a string, or none where they are not well formed.
 enum Told {
@@ -105,4 +110,66 @@ pub fn from_words(w: &[u32], n: usize) -> Event
         told_at(w, at + 7),
         told_at(w, at + 10),
     )
+}
+
+// There is a record n in the words.
+pub fn has_record(w: &[u32], n: usize) -> bool
+    ensures { λ r. ⌜ r ≡ ltb n (length (now (w .entry)) / 13) ⌝ }
+{
+    n < w.len() / RECORD
+}
+
+// The three words of a string.
+fn put_string(w: &mut [u32], at: usize, x: EventString)
+    requires { ⌜ at + 3 ≤ length (now w) ⌝ }
+    ensures { λ _. ⌜ now (w .exit) ≡ sets (now (w .entry)) at (stringWords x) ⌝ }
+{
+    w[at] = x.tag();
+    w[at + 1] = x.place();
+    w[at + 2] = x.size();
+}
+
+// An event in record n of the words, where they have one.
+pub fn keep(w: &mut [u32], n: usize, e: Event)
+    ensures { λ _. ⌜ now (w .exit) ≡ kept (now (w .entry)) n e ⌝ }
+{
+    if w.len() / RECORD <= n {
+        return;
+    }
+    let at = RECORD * n;
+    let kind = e.kind;
+    w[at] = kind.number();
+    let prefix = e.prefix;
+    put_string(w, at + 1, prefix);
+    let namespace = e.namespace;
+    put_string(w, at + 4, namespace);
+    let name = e.name;
+    put_string(w, at + 7, name);
+    let value = e.value;
+    put_string(w, at + 10, value);
+}
+
+fn is_told(w: &[u32], at: usize) -> bool
+    requires { ⌜ at + 3 ≤ length (now w) ⌝ }
+    ensures { λ r. ⌜ r ≡ isSaid (toldAt (now (w .entry)) at) ⌝ }
+{
+    let Told::Said(_) = told_at(w, at) else {
+        return false;
+    };
+    true
+}
+
+// There is a record n in the words, and it is well formed and of the kind that has this number: what a look ahead asks, so no record is made.
+pub fn is_kind(w: &[u32], n: usize, number: u32) -> bool
+    requires { ⌜ (1 ≤ number) × (number ≤ 7) ⌝ }
+    ensures { λ r. ⌜ r ≡ beginsWith number (drop n (recordsOf (now (w .entry)))) ⌝ }
+{
+    if w.len() / RECORD <= n {
+        return false;
+    }
+    let at = RECORD * n;
+    if w[at] != number {
+        return false;
+    }
+    is_told(w, at + 1) && (is_told(w, at + 4) && (is_told(w, at + 7) && is_told(w, at + 10)))
 }

@@ -1,4 +1,4 @@
--- What the reading of a number is, from any starting bit: a law for each way out of `Cursor::number`.
+-- What the reading of a number is, from any starting bit: a law for each way out of `Cursor::longer_number`.
 -- Assumes nothing.
 use mathlib.Core.Path.{_≡_, refl}
 use mathlib.Core.List.{List, [], _∷_, map}

@@ -6,7 +6,7 @@ ghost use mathlib.Core.Path.{_≡_};
 ghost use mathlib.Core.Bool.{_&&_};
 ghost use Prim.Native.Nat.{_+_, _-_, _^_, _<_, _≤_};
 ghost use lib.Dec.{leb, ltb};
-ghost use lib.ListN.{length, take, drop};
+ghost use lib.ListN.{length, getD, take, drop};
 ghost use Rattle.format.specs.Numbers.{lengths, numbers, c25, top};
 ghost use Rattle.fields.specs.Fields.{bitsOf, valueFrom, behind, fieldAt, noTop};
 ghost use Rattle.fields.specs.WeightContracts.{weight, Small};
@@ -121,20 +121,44 @@ impl Cursor {
         Number::Refused(CODE, at)
     }
 
-    // C.27, C.28: a number from bit 3 or 4, coded 0, 100, 101, or 110 and padding.
-    pub fn number(self, s: &[u8], bit: u32) -> Number
-        requires { ⌜ (1 ≤ bit) × (bit ≤ 6) ⌝ }
-        ensures { λ r. ⌜ r ≡ fieldAt (numbers bit) top bit (now (s .entry)) (self .at) ⌝ }
+    // C.27: a number from bit 3. The octet alone is decided here, so that it costs no call: see `longer_number`.
+    pub fn number_at_bit_3(self, s: &[u8]) -> Number
+        ensures { λ r. ⌜ r ≡ fieldAt (numbers 3) top 3 (now (s .entry)) (self .at) ⌝ }
     {
         let at = self.at;
         if s.len() <= at {
             return Number::Refused(TRUNCATED, at);
         }
         let o = s[at];
-        let short = values(8 - bit);
-        if bits(o, bit, bit) == 0 {
-            return self.behind(s, bits(o, bit + 1, 8), 0, 1, short, TOP);
+        if bits(o, 3, 3) == 0 {
+            return self.behind(s, bits(o, 4, 8), 0, 1, 32, TOP);
         }
+        self.longer_number(s, 3)
+    }
+
+    // C.28: a number from bit 4.
+    pub fn number_at_bit_4(self, s: &[u8]) -> Number
+        ensures { λ r. ⌜ r ≡ fieldAt (numbers 4) top 4 (now (s .entry)) (self .at) ⌝ }
+    {
+        let at = self.at;
+        if s.len() <= at {
+            return Number::Refused(TRUNCATED, at);
+        }
+        let o = s[at];
+        if bits(o, 4, 4) == 0 {
+            return self.behind(s, bits(o, 5, 8), 0, 1, 16, TOP);
+        }
+        self.longer_number(s, 4)
+    }
+
+    // C.27, C.28: a number from bit 3 or 4 that has 1 there: coded 100, 101, or 110 and padding.
+    fn longer_number(self, s: &[u8], bit: u32) -> Number
+        requires { ⌜ (1 ≤ bit) × (bit ≤ 6) × (self .at < length (now s)) × (bitsOf (getD (now s) (self .at) 0) bit bit ≡ 0 → ⊥) ⌝ }
+        ensures { λ r. ⌜ r ≡ fieldAt (numbers bit) top bit (now (s .entry)) (self .at) ⌝ }
+    {
+        let at = self.at;
+        let o = s[at];
+        let short = values(8 - bit);
         let code = bits(o, bit, bit + 2);
         let rest = bits(o, bit + 3, 8);
         let middle = values(14 - bit);

@@ -48,7 +48,7 @@ module _ (only : ℕ → Bool) (s t : List ℕ) (count : ℕ → ℕ) (small : (
 
 -- ---- a row is stored
 module _ (s t : List ℕ) (table n a b c : ℕ) where
-  row-kept : (k j : ℕ) → k < 10 → j < 256 → n < 256 → (k ≡ table → j ≡ n → ⊥) → (i : ℕ) → i < 3 → getD (stored t table n a b c) (768 * k + 3 * j + i) 0 ≡ getD t (768 * k + 3 * j + i) 0
+  pub row-kept : (k j : ℕ) → k < 10 → j < 256 → n < 256 → (k ≡ table → j ≡ n → ⊥) → (i : ℕ) → i < 3 → getD (stored t table n a b c) (768 * k + 3 * j + i) 0 ≡ getD t (768 * k + 3 * j + i) 0
   row-kept k j l u r e i v =
       elim (ℕ-discrete k table) [
         | yes z ↦ (let w : j ≡ n → ⊥ = e z in stored-other t table n a b c (768 * k + 3 * j + i) (λ y. w (omega arith)) (λ y. w (omega arith)) (λ y. w (omega arith)))
@@ -57,7 +57,7 @@ module _ (s t : List ℕ) (table n a b c : ℕ) where
 
   -- a row's words, then what they say
   module _ (k j : ℕ) (l : k < 10) (u : j < 256) (r : n < 256) (e : k ≡ table → j ≡ n → ⊥) where
-    word-kept : getD (stored t table n a b c) (768 * k + 3 * j) 0 ≡ getD t (768 * k + 3 * j) 0
+    pub word-kept : getD (stored t table n a b c) (768 * k + 3 * j) 0 ≡ getD t (768 * k + 3 * j) 0
     word-kept = let z : 768 * k + 3 * j + 0 ≡ 768 * k + 3 * j = omega arith in rw z at (row-kept k j l u r e 0 (omega arith))
 
     string-kept : stringsAt s (stored t table n a b c) k (768 * k + 3 * j) ≡ stringsAt s t k (768 * k + 3 * j)

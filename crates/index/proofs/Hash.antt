@@ -1,12 +1,12 @@
 -- A string's bucket by the octets where it stands.
 -- Assumes nothing.
-use mathlib.Core.Path.{_≡_, sym, ap, _∙_}
+use mathlib.Core.Path.{_≡_, refl, sym, ap, _∙_}
 use mathlib.Core.Bool.{Bool, true, false}
 use mathlib.Core.List.{List}
 use lib.Dec.{ltb}
 use Rattle.format.specs.Numbers.{pick}
 use Rattle.format.specs.Tables.{Triple}
-use Prim.Native.Nat.{ℕ, suc, _+_, _-_, _*_, _/_, _≤_, _<_}
+use Prim.Native.Nat.{ℕ, zero, suc, _+_, _-_, _*_, _/_, _≤_, _<_}
 use native.Mathlib.Omega.{arith}
 use borrow.Author.Tests.{lt-ltb, le-ltb}
 use lib.ListN.{length, getD, take, drop, length-take, length-drop}
@@ -57,14 +57,14 @@ module _ (s : List ℕ) (place len : ℕ) (h : place + len ≤ length s) where
       let first : part (octetsOf s (stretch place len)) 0 4 ≡ weight (take 4 (drop place s)) = (rw z at (part-at 0 4 (omega arith))) in
       rw (length-octets s place len h, le-ltb len 4 a, lt-ltb len 9 b, first, part-at (len - 4) 4 (omega arith))
 
-  pub bucket-long : 9 ≤ len
+  pub bucket-long : 9 ≤ len → len < 66
       → spread (rolled (octetsOf s (stretch place len)) 0 ((len - 1) / 8) 0) (weight (take 8 (drop (place + (len - 8)) s))) ≡ bucket (octetsOf s (stretch place len))
   unfolding bucket
-  bucket-long a = rw (length-octets s place len h, le-ltb len 4 (omega arith), le-ltb len 9 a, part-at (len - 8) 8 (omega arith))
+  bucket-long a b = rw (length-octets s place len h, le-ltb len 4 (omega arith), le-ltb len 9 a, lt-ltb len 66 b, part-at (len - 8) 8 (omega arith))
 
   pub bucket-middle : 9 ≤ len → len < 17
       → spread (blended 0 (weight (take 8 (drop place s)))) (weight (take 8 (drop (place + (len - 8)) s))) ≡ bucket (octetsOf s (stretch place len))
-  bucket-middle a b = rw (← one) (bucket-long a)
+  bucket-middle a b = rw (← one) (bucket-long a (omega arith))
     where
       one : rolled (octetsOf s (stretch place len)) 0 ((len - 1) / 8) 0 ≡ blended 0 (weight (take 8 (drop place s)))
       one = first-eight (octetsOf s (stretch place len)) ((len - 1) / 8) (omega arith) ∙ ap (blended 0) (let z : place + 0 ≡ place = omega arith in rw z at (part-at 0 8 (omega arith)))
@@ -76,6 +76,21 @@ module _ (s : List ℕ) (place len : ℕ) (h : place + len ≤ length s) where
   rolled-next i x w l e =
       let z : (len - i - 1) / 8 ≡ suc ((len - (i + 8) - 1) / 8) = omega arith in
       rw (← part-at i 8 (omega arith)) (rw z at e)
+
+-- the first octets of a string are those of a longer one
+rolled-first : (s : List ℕ) (place n len : ℕ) → place + len ≤ length s → n ≤ len → (k at x : ℕ) → at + 8 * k ≤ n
+    → rolled (octetsOf s (stretch place n)) at k x ≡ rolled (octetsOf s (stretch place len)) at k x
+unfolding rolled
+rolled-first s place n len h l zero at x u = refl
+rolled-first s place n len h l (suc k) at x u =
+    let e = part-at s place n (omega arith) at 8 (omega arith) ∙ sym (part-at s place len h at 8 (omega arith)) in
+    rw e (rolled-first s place n len h l k (at + 8) _ (omega arith))
+
+pub bucket-far : (s : List ℕ) (place len : ℕ) → place + len ≤ length s → 66 ≤ len
+    → spread (rolled (octetsOf s (stretch place 65)) 0 8 0) (weight (take 8 (drop (place + (len - 8)) s))) ≡ bucket (octetsOf s (stretch place len))
+unfolding bucket
+bucket-far s place len h a =
+    rw (length-octets s place len h, le-ltb len 4 (omega arith), le-ltb len 9 (omega arith), le-ltb len 66 a, part-at s place len h (len - 8) 8 (omega arith), rolled-first s place 65 len h (omega arith) 8 0 0 (omega arith))
 
 pub rolled-end : (l : List ℕ) (len i x w : ℕ) → len - i ≤ 8 → rolled l i ((len - i - 1) / 8) x ≡ w → x ≡ w
 unfolding rolled

@@ -28,12 +28,12 @@ unfoldable pub rolled : Octets → (at n h : ℕ) → ℕ
 rolled l at zero h = h
 rolled l at (suc n) h = rolled l (at + 8) n (blended h (part l at 8))
 
--- By all octets: of less than four the first, the middle and the last, of up to eight the first and the last four; else by eights, and the last eight.
+-- By the octets that count: of less than four the first, the middle and the last, of up to eight the first and the last four; else the first 64 by eights, and the last eight.
 unfoldable pub bucket : Octets → ℕ
 bucket l =
     pick (ltb (length l) 4) (spread 0 (getD l 0 0 + 256 * getD l (length l / 2) 0 + 65536 * getD l (length l - 1) 0))
     (pick (ltb (length l) 9) (spread 0 (part l 0 4 + 4294967296 * part l (length l - 4) 4))
-    (spread (rolled l 0 ((length l - 1) / 8) 0) (part l (length l - 8) 8)))
+    (spread (rolled l 0 (pick (ltb (length l) 66) ((length l - 1) / 8) 8) 0) (part l (length l - 8) 8)))
 
 unfoldable pub nameBucket : Triple → ℕ
 nameBucket x = spread (x .prefix) (x .local + 4294967296 * x .namespace)

@@ -26,6 +26,9 @@ const HEADS: usize = 128;
 // The row whose number does not fit an octet: it is in no chain, and is looked at apart.
 const LAST: u32 = 255;
 
+// Of a longer string the first 64 octets, which `roll` takes of so many, and the last eight count: a long chunk is not looked through.
+const COUNTED: usize = 65;
+
 // Casts, so that they are proved here alone.
 fn octet(x: u8) -> u64
     ensures { λ r. ⌜ (r ≡ x) × (r < 256) ⌝ }
@@ -106,7 +109,10 @@ pub fn bucket_of(s: &[u8], place: usize, len: usize) -> usize
     if len <= 16 {
         return spread(blend(0, fields::eight(s, place)), end);
     }
-    spread(roll(s, place, len), end)
+    if len <= COUNTED {
+        return spread(roll(s, place, len), end);
+    }
+    spread(roll(s, place, COUNTED), end)
 }
 
 // The number of the string of s at place in row 255 of a full table, 0 elsewhere: what is left where a chain ends.

@@ -1,2 +1,5 @@
+pub mod StepLaws
+pub mod Fields
+pub mod EndLaws
 pub mod ItemLaws
 pub mod Places

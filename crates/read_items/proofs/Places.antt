@@ -21,7 +21,7 @@ use Rattle.read_items.specs.Items.{Stand, Step, more, quiet, done, stop,
 use Rattle.read_items.specs.Steps.{endsAt, padsAt, documentEnd, endAt, byHalves, step}
 use Rattle.read_names.proofs.StringLaws.{tests, there-is}
 use Rattle.read_names.proofs.Places.{Fault, Within, id-within, literal-within, value-within, parts-within, numbered-within, name-within, declared-within}
-use Rattle.read_items.proofs.ItemLaws.{end-within}
+use Rattle.read_items.proofs.EndLaws.{end-within}
 
 module _ (s : List ℕ) where
   abbrev pub Placed : Step → Type 0

@@ -1,81 +1,86 @@
--- Contracts of the code, not definitions to be believed. What the functions of a step hand on: where it stands behind a field, and what an answer has to meet.
-use Prim.Native.Nat.{ℕ, _+_, _*_}
+-- Contracts of the code, not definitions to be believed. What the functions of a step hand on.
+use Prim.Native.Nat.{ℕ, _+_, _-_, _*_, _/_, _≤_, _<_}
 use mathlib.Core.Path.{_≡_}
-use mathlib.Core.Bool.{Bool, true, false}
-use lib.Dec.{ltb}
+use mathlib.Core.Bool.{Bool}
+use lib.ListN.{length}
+use lib.Dec.{eqb, ltb}
 use Rattle.format.specs.Octets.{Octets, Words}
 use Rattle.format.specs.Numbers.{pick}
-use Rattle.format.specs.Events.{Start, forStart, _by_}
 use Rattle.format.specs.Tables.{link}
-use Rattle.format.specs.Names.{ofElement}
-use Rattle.format.specs.Items as F
-use Rattle.format.specs.Refusals.{DEPTH}
-use Rattle.tables.specs.Located.{Located}
-use Rattle.events.specs.Records.{startRecord}
-use Rattle.read_names.specs.declared.Here.{Here}
-use Rattle.read_names.specs.declared.Field.{Field}
-use Rattle.read_names.specs.declared.Field.the-variants.{Got, Refused}
-use Rattle.read_names.specs.declared.Named.{Named}
-use Rattle.read_names.specs.declared.Named.the-variants.{Read, Faulty}
-use Rattle.read_items.specs.declared.Mode.{Mode}
-use Rattle.read_items.specs.declared.Mode.the-variants.{Content, Listing}
-use Rattle.read_items.specs.declared.State.{State}
+use Rattle.format.specs.Refusals.{CODE, PADDING, FORMAT, DEPTH}
+use Rattle.tables.specs.Counts.{tableWords}
+use Rattle.tables.specs.Rows.{tripleAt}
+use Rattle.states.specs.declared.State.{State}
+use Rattle.states.specs.States.{openedAt}
+use Rattle.events.specs.declared.EventString.{EventString}
+use Rattle.events.specs.declared.EventString.the-variants.{Absent}
+use Rattle.events.specs.declared.Kind.{Kind}
+use Rattle.events.specs.declared.Kind.the-variants.{Start}
+use Rattle.events.specs.declared.Event.{Event}
+use Rattle.events.specs.Kept.{kept}
+use Rattle.read_names.specs.declared.Entry.{Entry}
+use Rattle.read_names.specs.declared.Entry.the-variants.{Got, Refused}
+use Rattle.read_names.specs.declared.Parts.{Parts}
+use Rattle.read_names.specs.Contracts.{nameStringsAt}
 use Rattle.read_items.specs.declared.Step.{Step}
-use Rattle.read_items.specs.declared.Step.the-variants.{More, Stop}
-use Rattle.read_names.specs.Names.{numberedAt}
+use Rattle.read_items.specs.declared.Step.the-variants.{More, Quiet, Done, Stop}
 use Rattle.read_items.specs.Items as I
 use Rattle.read_items.specs.Items.{Stand}
-use Rattle.read_items.specs.Contracts.{Good, standOf, seenStep, stepSeen, StepGood}
+use Rattle.read_items.specs.Steps.{endAt}
+use Rattle.read_items.specs.Contracts.{Lent, lent, Good, Met}
 
--- An answer stands for the definition's, and what it leaves is in order; v were the table words before it.
-pub record Meets (s : Octets) (v : Words) (r : Step) (w : Words) (d : I.Step) : Type 0 where
-  pub is : seenStep r w ≡ stepSeen d
-  pub good : StepGood s v r w
+-- A refusal at an octet.
+abbrev pub Stopped : (number place : ℕ) → Step
+Stopped n p = Stop (record { at = p; level = 0; root = 0; mode = 0 }) n
 
--- The same for any tables, for code that does not touch them.
-abbrev pub Keeps : Octets → State → Step → (Stand → I.Step) → Type 0
-Keeps s st r d = (w : Words) → Good s st w → Meets s w r w (d (standOf st w))
+-- The same for anything lent, for code that touches none of it.
+abbrev pub Keeps : Octets → State → ℕ → Step → (Stand → I.Step) → Type 0
+Keeps s st n r d = (a : Lent) → Good s st a → Met s st n a r a d
 
--- At the half behind an end, among children at a level.
-abbrev pub afterEnd : State → ℕ → State
-afterEnd st n = record { at = st .at + 1; level = n; root = st .root; mode = Content; counts = st .counts }
+-- An end: it touches the records alone.
+abbrev pub Ended : Octets → State → ℕ → Words → Step → Words → Type 0
+Ended s st n r x r′ = (t c : Words) (i : Octets) → Good s st (lent t c i r) → Met s st n (lent t c i r) x (lent t c i r′) (λ m. endAt s m (m .state .mode))
 
--- A field at octet k, with the tables as they are.
-abbrev pub hereOf : State → ℕ → Here
-hereOf st k = record { at = k; counts = st .counts }
+-- The record of a Start or an attribute, from its name's strings.
+abbrev pub namedRecord : Kind → Parts → EventString → Event
+namedRecord kind x value = record { kind = kind; prefix = x .prefix; namespace = x .namespace; name = x .local; value = value }
 
--- At the octet behind a field.
-abbrev pub movedTo : State → Here → Mode → State
-movedTo st h m = record { at = 2 * h .at; level = st .level; root = st .root; mode = m; counts = h .counts }
+-- A name's number is that of a row whose numbers are those of rows.
+abbrev pub NameThere : Words → (table number : ℕ) → Type 0
+NameThere t table n =
+    (length t ≡ tableWords) × (8 ≤ table) × (table < 10) × (1 ≤ n) × (n ≤ 256)
+    × (tripleAt t (768 * table + 3 * (n - 1)) .prefix ≤ 256)
+    × (tripleAt t (768 * table + 3 * (n - 1)) .namespace ≤ 256)
+    × (tripleAt t (768 * table + 3 * (n - 1)) .local ≤ 256)
 
-abbrev pub afterStart : Bool → Mode
-afterStart true = Listing false
-afterStart false = Content
+abbrev pub Named : Words → (table : ℕ) → Entry → Type 0
+Named t table (Got n next) = NameThere t table n × (next ≤ 16384)
+Named t table (Refused n p) = Unit {0}
 
-abbrev pub openedAt : State → Here → Bool → State
-openedAt st h a = record { at = 2 * h .at; level = st .level + 1; root = true; mode = afterStart a; counts = h .counts }
+-- A Start whose name is read: no more elements may be open (13), or its event is kept in record n.
+unfoldable pub startStep : State → ℕ → Bool → Entry → Step
+startStep st k a (Got n next) = pick (ltb (st .level) (link .depth)) (More (openedAt st next a) k) (Stopped DEPTH k)
+startStep st k a (Refused n p) = Stopped n p
 
--- A field's refusal is the step's.
-abbrev pub refusedBy : Field → Step
-refusedBy (Got x n h) = Stop 0 (h .at)
-refusedBy (Refused n p) = Stop n p
+unfoldable pub startRecords : State → Words → Entry → Words → ℕ → Words
+startRecords st t (Got number next) r n = pick (ltb (st .level) (link .depth)) (kept r n (namedRecord Start (nameStringsAt t 8 number) Absent)) r
+startRecords st t (Refused k p) r n = r
 
-abbrev pub faultyBy : Named → Step
-faultyBy (Read x h) = Stop 0 (h .at)
-faultyBy (Faulty n p) = Stop n p
+-- A refusal's number is a word.
+abbrev pub Fits : Step → Type 0
+Fits (More st p) = Unit {0}
+Fits (Quiet st k) = Unit {0}
+Fits (Done st k) = Unit {0}
+Fits (Stop st n) = n < 0x1_0000_0000
 
--- Where a name ends.
-abbrev pub nextOf : Named → ℕ
-nextOf (Read x h) = h .at
-nextOf (Faulty n p) = 0
+pub record StartsBy (st : State) (k : ℕ) (a : Bool) (t : Words) (x : Entry) (r : Words) (n : ℕ) (y : Step) (r′ : Words) : Type 0 where
+  pub is : y ≡ startStep st k a x
+  pub keeps : r′ ≡ startRecords st t x r n
+  pub fits : Fits y
 
--- A Start whose name is read.
-abbrev pub startBy : ℕ → Bool → State → Named → Step
-startBy k a st (Read x h) = More (openedAt st h a) k (startRecord (x .prefix) (x .namespace) (x .local))
-startBy k a st (Faulty n p) = Stop n p
-
--- An element by its name's number: its faults, then depth (13).
-unfoldable pub numberedStart : Octets → ℕ → Bool → F.State Located → I.Step
-numberedStart s k a v =
-    I.into (numberedAt link ofElement s k (v .tables))
-    λ x next w. pick (ltb (v .level) (link .depth)) (I.more k (Start (x .name) by forStart (x .how)) (I.octet next (F.opened v w a))) (I.stop DEPTH k)
+-- What is no item.
+unfoldable pub otherStep : (level o k : ℕ) → Step
+otherStep level o k =
+    pick (ltb o 0xF0)
+    (pick (eqb (o / 4) (pick (ltb 0 level) 0x32 0x31)) (Stopped FORMAT k) (Stopped CODE k))
+    (Stopped PADDING k)

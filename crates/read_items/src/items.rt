@@ -1,39 +1,41 @@
 // Items: one step from where the reader stands, by the first octet of what stands there.
 ghost use mathlib.Core.Path.{_≡_};
-ghost use mathlib.Core.Bool.{not, _||_};
 ghost use Prim.Native.Nat.{_<_, _≤_};
 ghost use lib.ListN.{length, getD};
 ghost use lib.Dec.{ltb};
 ghost use Rattle.format.specs.Numbers.{pick};
 ghost use Rattle.format.specs.Tables.{link};
-ghost use Rattle.events.specs.Records.{namespaceRecord, startRecord, attributeRecord};
-ghost use Rattle.read_items.specs.Items.{namePadding, namespaceAt, elementAt, namedAt, attributeAt, chunkAt, commentAt, instructionAt, otherAt, childAt, declaringAt, itemAt};
+ghost use Rattle.states.specs.States.{modeOf};
+ghost use Rattle.read_items.specs.Items.{namePadding, elementAt, namedAt, namespaceAt, attributeAt, chunkAt, commentAt, instructionAt, childAt, declaringAt, itemAt};
 ghost use Rattle.read_items.specs.Steps.{step};
-ghost use Rattle.read_items.specs.Contracts.{Good, standOf, modeOf, seenStep, stepSeen, StepGood};
-ghost use Rattle.read_items.specs.ItemContracts.{Meets, Keeps, hereOf, movedTo, afterStart, openedAt, refusedBy, faultyBy, nextOf, startBy, numberedStart};
+ghost use Rattle.read_items.specs.Contracts.{lent, Good, Meets, Met};
+ghost use Rattle.read_items.specs.ItemContracts.{Named, NameThere, StartsBy, Stopped, namedRecord, otherStep};
+ghost use Rattle.events.specs.Kept.{kept};
+ghost use Rattle.read_names.specs.Contracts.{nameStringsAt};
 use crate::DEPTH;
-use crate::Mode;
-use crate::State;
 use crate::Step;
-use crate::ends::pads_at;
+use crate::ends;
 use events::Event;
 use events::EventString;
+use events::Kind;
 use fields::CODE;
 use fields::PADDING;
 use fields::TRUNCATED;
 use fields::bits;
+use read_names::Declaration;
+use read_names::Entry;
 use read_names::FORMAT;
 use read_names::Field;
-use read_names::Here;
-use read_names::Named;
-use read_names::Parts;
 use read_names::STRUCTURE;
 use read_names::octet;
-
-// Open elements, at most.
-const LEVELS: u32 = 32;
+use read_names::value;
+use states::State;
 
 // Tables by number.
+const PREFIX: usize = 0;
+
+const NAMESPACE_NAME: usize = 1;
+
 const TARGETS: usize = 3;
 
 const ATTRIBUTE_VALUES: usize = 5;
@@ -44,60 +46,47 @@ const ELEMENTS: usize = 8;
 
 const ATTRIBUTES: usize = 9;
 
-// A string's refusal is the step's.
-fn refused(r: Field) -> Step
-    ensures { λ a. ⌜ a ≡ refusedBy r ⌝ }
+// A refusal at an octet.
+pub fn stop(number: u32, place: usize) -> Step
+    ensures { λ r. ⌜ (r ≡ Stopped number place) × (number < 0x1_0000_0000) ⌝ }
 {
-    match r {
-        Field::Got(_, _, next) => Step::Stop(0, next.at),
-        Field::Refused(n, place) => Step::Stop(n, place),
-    }
+    let at = State {
+        at: place,
+        level: 0,
+        root: 0,
+        mode: State::CONTENT,
+    };
+    Step::Stop(at, number as usize)
 }
 
-// A name's refusal is the step's.
-fn faulty(r: Named) -> Step
-    ensures { λ a. ⌜ a ≡ faultyBy r ⌝ }
+// A Start or an attribute, whose name has this number, in record n. Its strings are looked up only where there is a record to keep them.
+fn keep_named(
+    t: &[u32],
+    records: &mut [u32],
+    n: usize,
+    table: usize,
+    number: u32,
+    kind: Kind,
+    value: EventString,
+)
+    requires { ⌜ NameThere (now t) table number ⌝ }
+    ensures { λ _. ⌜ now (records .exit) ≡ kept (now (records .entry)) n (namedRecord kind (nameStringsAt (now (t .entry)) table number) value) ⌝ }
 {
-    match r {
-        Named::Read(_, next) => Step::Stop(0, next.at),
-        Named::Faulty(n, place) => Step::Stop(n, place),
+    if !events::has_record(records, n) {
+        return;
     }
-}
-
-fn namespace_event(x: Parts) -> Event
-    ensures { λ r. ⌜ r ≡ namespaceRecord (x .prefix) (x .namespace) ⌝ }
-{
+    let x = read_names::strings_of(t, table, number);
     let prefix = x.prefix;
     let namespace = x.namespace;
-    events::namespace(prefix, namespace)
-}
-
-fn start_event(x: Parts) -> Event
-    ensures { λ r. ⌜ r ≡ startRecord (x .prefix) (x .namespace) (x .local) ⌝ }
-{
-    let prefix = x.prefix;
-    let namespace = x.namespace;
-    let local = x.local;
-    events::start(prefix, namespace, local)
-}
-
-fn attribute_event(x: Parts, value: EventString) -> Event
-    ensures { λ r. ⌜ r ≡ attributeRecord (x .prefix) (x .namespace) (x .local) value ⌝ }
-{
-    let prefix = x.prefix;
-    let namespace = x.namespace;
-    let local = x.local;
-    events::attribute(prefix, namespace, local, value)
-}
-
-// Behind a Start whose attribute bit is a.
-fn after_start(a: bool) -> Mode
-    ensures { λ r. ⌜ r ≡ afterStart a ⌝ }
-{
-    if a {
-        return Mode::Listing(false);
-    }
-    Mode::Content
+    let name = x.local;
+    let e = Event {
+        kind,
+        prefix,
+        namespace,
+        name,
+        value,
+    };
+    events::keep(records, n, e);
 }
 
 // The six bits of an element's name hold padding: behind 110, or behind 1110.
@@ -115,7 +104,7 @@ fn name_padding(b: u8) -> bool
 }
 
 // The six bits of what this profile does not read: entity references inside elements, type declarations outside.
-fn other_code(level: u32) -> u8
+fn other_code(level: usize) -> u8
     ensures { λ r. ⌜ r ≡ pick (ltb 0 level) 0x32 0x31 ⌝ }
 {
     if 0 < level {
@@ -124,305 +113,375 @@ fn other_code(level: u32) -> u8
     0x31
 }
 
-impl State {
-    // A field at octet k, with the tables as they are.
-    fn here(self, k: usize) -> Here
-        ensures { λ r. ⌜ r ≡ hereOf self k ⌝ }
-    {
-        let counts = self.counts;
-        Here { at: k, counts }
+// No item of this profile: one of another (8), or what no rule assigns (5); 1111 is an end that stands where none is due (6).
+fn other_at(level: usize, o: u8, k: usize) -> Step
+    ensures { λ r. ⌜ r ≡ otherStep level o k ⌝ }
+{
+    if 0xF0 <= o {
+        return stop(PADDING, k);
     }
-
-    // At the octet behind a field.
-    fn moved(self, next: Here, mode: Mode) -> State
-        requires { ⌜ next .at ≤ 16384 ⌝ }
-        ensures { λ r. ⌜ r ≡ movedTo self next mode ⌝ }
-    {
-        let counts = next.counts;
-        State {
-            at: 2 * next.at,
-            level: self.level,
-            root: self.root,
-            mode,
-            counts,
-        }
+    if bits(o, 1, 6) == other_code(level) {
+        return stop(FORMAT, k);
     }
+    stop(CODE, k)
+}
 
-    // The same, where the mode stays.
-    fn knowing(self, next: Here) -> State
-        requires { ⌜ next .at ≤ 16384 ⌝ }
-        ensures { λ r. ⌜ r ≡ movedTo self next (self .mode) ⌝ }
-    {
-        let mode = self.mode;
-        self.moved(next, mode)
-    }
-
-    // An element more.
-    fn opened(self, next: Here, a: bool) -> State
-        requires { ⌜ (next .at ≤ 16384) × (self .level < 32) ⌝ }
-        ensures { λ r. ⌜ r ≡ openedAt self next a ⌝ }
-    {
-        let counts = next.counts;
-        let mode = after_start(a);
-        State {
-            at: 2 * next.at,
-            level: self.level + 1,
-            root: true,
-            mode,
-            counts,
-        }
-    }
-
-    // A Start at octet k whose name is read.
-    fn start_of(self, k: usize, a: bool, r: Named) -> Step
-        requires { ⌜ (nextOf r ≤ 16384) × (self .level < 32) ⌝ }
-        ensures { λ x. ⌜ x ≡ startBy k a self r ⌝ }
-    {
-        let Named::Read(x, next) = r else {
-            return faulty(r);
-        };
-        let e = start_event(x);
-        Step::More(self.opened(next, a), k, e)
-    }
-
-    // A chunk at octet k, whose bits start with 10.
-    fn chunk_at(self, s: &[u8], t: &mut [u32], k: usize) -> Step
-        requires { ⌜ (Good (now s) self (now t)) × (k < length (now s)) × (0x80 ≤ getD (now s) k 0) × (getD (now s) k 0 < 0xC0) ⌝ }
-        ensures { λ r. ⌜ Meets (now (s .entry)) (now (t .entry)) r (now (t .exit)) (chunkAt link (now (s .entry)) k (standOf self (now (t .entry)) .state)) ⌝ }
-    {
-        let r = self.here(k).chunk(s, t);
-        let Field::Got(x, _, next) = r else {
-            return refused(r);
-        };
-        let e = events::chunk(x);
-        Step::More(self.knowing(next), k, e)
-    }
-
-    // A comment, behind the octet k.
-    fn comment_at(self, s: &[u8], t: &mut [u32], k: usize) -> Step
-        requires { ⌜ (Good (now s) self (now t)) × (k < length (now s)) ⌝ }
-        ensures { λ r. ⌜ Meets (now (s .entry)) (now (t .entry)) r (now (t .exit)) (commentAt link (now (s .entry)) k (standOf self (now (t .entry)) .state)) ⌝ }
-    {
-        let r = self.here(k + 1).value(s, t, OTHER_STRINGS);
-        let Field::Got(x, _, next) = r else {
-            return refused(r);
-        };
-        let e = events::comment(x);
-        Step::More(self.knowing(next), k, e)
-    }
-
-    // An instruction: the target and the content, behind the octet k.
-    fn instruction_at(self, s: &[u8], t: &mut [u32], k: usize) -> Step
-        requires { ⌜ (Good (now s) self (now t)) × (k < length (now s)) ⌝ }
-        ensures { λ r. ⌜ Meets (now (s .entry)) (now (t .entry)) r (now (t .exit)) (instructionAt link (now (s .entry)) k (standOf self (now (t .entry)) .state)) ⌝ }
-    {
-        let r = self.here(k + 1).id(s, t, TARGETS);
-        let Field::Got(x, _, content) = r else {
-            return refused(r);
-        };
-        let v = content.value(s, t, OTHER_STRINGS);
-        let Field::Got(y, _, next) = v else {
-            return refused(v);
-        };
-        let e = events::instruction(x, y);
-        Step::More(self.knowing(next), k, e)
-    }
-
-    // No item of this profile: one of another (8), or what no rule assigns (5); 1111 is an end that stands where none is due (6).
-    fn other_at(self, s: &[u8], k: usize) -> Step
-        requires { ⌜ k < length (now s) ⌝ }
-        ensures { λ r. ⌜ Keeps (now (s .entry)) self r (λ m. otherAt link (now (s .entry)) k (m .state)) ⌝ }
-    {
-        let o = s[k];
-        if 0xF0 <= o {
-            return Step::Stop(PADDING, k);
-        }
-        if bits(o, 1, 6) == other_code(self.level) {
-            return Step::Stop(FORMAT, k);
-        }
-        Step::Stop(CODE, k)
-    }
-
-    // The declaration at octet k, of an element whose attribute bit is a.
-    fn namespace_at(self, s: &[u8], t: &mut [u32], k: usize, a: bool) -> Step
-        requires { ⌜ (Good (now s) self (now t)) × (k ≤ length (now s)) × (self .level < 32) ⌝ }
-        ensures { λ r. ⌜ Meets (now (s .entry)) (now (t .entry)) r (now (t .exit)) (namespaceAt link (now (s .entry)) k (standOf self (now (t .entry)) .state) a) ⌝ }
-    {
-        let r = self.here(k).declared(s, t);
-        let Named::Read(x, next) = r else {
-            return faulty(r);
-        };
-        let e = namespace_event(x);
-        Step::More(self.moved(next, Mode::Declaring(a)), k, e)
-    }
-
-    // An element by its name's number, whose faults come before the depth.
-    fn numbered_start(self, s: &[u8], t: &[u32], k: usize, a: bool) -> Step
-        requires { ⌜ (Good (now s) self (now t)) × (k ≤ length (now s)) ⌝ }
-        ensures { λ r. ⌜ Meets (now (s .entry)) (now (t .entry)) r (now (t .entry)) (numberedStart (now (s .entry)) k a (standOf self (now (t .entry)) .state)) ⌝ }
-    {
-        let r = self.here(k).numbered(s, t, ELEMENTS);
-        if self.level < LEVELS {
-            return self.start_of(k, a, r);
-        }
-        let Named::Read(_, _) = r else {
-            return faulty(r);
-        };
-        Step::Stop(DEPTH, k)
-    }
-
-    // An element may start inside another, and outside if there was no root yet.
-    fn may_start(self) -> bool
-        ensures { λ r. ⌜ r ≡ (ltb 0 (self .level) || not (self .root)) ⌝ }
-    {
-        if 0 < self.level {
-            return true;
-        }
-        !self.root
-    }
-
-    // An element whose first octet, k, holds the attribute bit a and the six bits b: a number; or declarations, 1110 00, or a name in parts.
-    fn element_at(self, s: &[u8], t: &mut [u32], k: usize, b: u8, a: bool) -> Step
-        requires { ⌜ (Good (now s) self (now t)) × (k < length (now s)) × (b < 64) ⌝ }
-        ensures { λ r. ⌜ Meets (now (s .entry)) (now (t .entry)) r (now (t .exit)) (elementAt link (now (s .entry)) k b a (standOf self (now (t .entry)) .state)) ⌝ }
-    {
-        if name_padding(b) {
-            return Step::Stop(PADDING, k);
-        }
-        if !self.may_start() {
-            return Step::Stop(STRUCTURE, k);
-        }
-        if b < 0x38 {
-            return self.numbered_start(s, t, k, a);
-        }
-        // A prefix without a namespace.
-        if bits(b, 7, 8) == 2 {
-            return Step::Stop(STRUCTURE, k);
-        }
-        if LEVELS <= self.level {
-            return Step::Stop(DEPTH, k);
-        }
-        if b == 0x38 {
-            return self.namespace_at(s, t, k + 1, a);
-        }
-        let r = self.here(k).parts(s, t, ELEMENTS, b);
-        self.start_of(k, a, r)
-    }
-
-    // The name behind the declarations, whose first octet is k: 00, then a number or parts; 1110 is no name.
-    fn named_at(self, s: &[u8], t: &mut [u32], k: usize, a: bool) -> Step
-        requires { ⌜ (Good (now s) self (now t)) × (k ≤ length (now s)) × (self .level < 32) ⌝ }
-        ensures { λ r. ⌜ Meets (now (s .entry)) (now (t .entry)) r (now (t .exit)) (namedAt link (now (s .entry)) k a (standOf self (now (t .entry)) .state)) ⌝ }
-    {
-        if s.len() <= k {
-            return Step::Stop(TRUNCATED, k);
-        }
-        let o = s[k];
-        if bits(o, 3, 6) == 14 {
-            return Step::Stop(CODE, k);
-        }
-        if bits(o, 1, 2) != 0 {
-            return Step::Stop(PADDING, k);
-        }
-        if name_padding(o) {
-            return Step::Stop(PADDING, k);
-        }
-        let r = self.here(k).name(s, t, ELEMENTS, o);
-        self.start_of(k, a, r)
-    }
-
-    // An attribute at octet k: 0, its name and its value.
-    fn attribute_at(self, s: &[u8], t: &mut [u32], k: usize) -> Step
-        requires { ⌜ (Good (now s) self (now t)) × (k ≤ length (now s)) ⌝ }
-        ensures { λ r. ⌜ Meets (now (s .entry)) (now (t .entry)) r (now (t .exit)) (attributeAt link (now (s .entry)) k (standOf self (now (t .entry)) .state)) ⌝ }
-    {
-        if s.len() <= k {
-            return Step::Stop(TRUNCATED, k);
-        }
-        let o = s[k];
-        if bits(o, 1, 1) != 0 {
-            return Step::Stop(CODE, k);
-        }
-        if bits(o, 2, 6) == 31 {
-            return Step::Stop(PADDING, k);
-        }
-        let r = self.here(k).name(s, t, ATTRIBUTES, o);
-        let Named::Read(x, value) = r else {
-            return faulty(r);
-        };
-        let v = value.value(s, t, ATTRIBUTE_VALUES);
-        let Field::Got(y, _, next) = v else {
-            return refused(v);
-        };
-        let e = attribute_event(x, y);
-        Step::More(self.moved(next, Mode::Listing(true)), k, e)
-    }
-
-    // A child by its first octet, k: 0 element, 10 chunk, which is inside elements only, E1 instruction, E2 comment.
-    fn child_at(self, s: &[u8], t: &mut [u32], k: usize) -> Step
-        requires { ⌜ (Good (now s) self (now t)) × (k ≤ length (now s)) ⌝ }
-        ensures { λ r. ⌜ Meets (now (s .entry)) (now (t .entry)) r (now (t .exit)) (childAt link (now (s .entry)) k (standOf self (now (t .entry)) .state)) ⌝ }
-    {
-        if s.len() <= k {
-            return Step::Stop(TRUNCATED, k);
-        }
-        let o = s[k];
-        let code = bits(o, 1, 2);
-        // One place that calls element_at, so that it is inlined.
-        if code < 2 {
-            return self.element_at(s, t, k, bits(o, 3, 8), code == 1);
-        }
-        if code == 2 {
-            if self.level == 0 {
-                return Step::Stop(CODE, k);
+// A Start at octet k, whose name is read.
+fn start_of(
+    st: State,
+    t: &[u32],
+    records: &mut [u32],
+    n: usize,
+    k: usize,
+    a: bool,
+    r: Entry,
+) -> Step
+    requires { ⌜ Named (now t) 8 r ⌝ }
+    ensures { λ x. ⌜ StartsBy st k a (now (t .entry)) r (now (records .entry)) n x (now (records .exit)) ⌝ }
+{
+    match r {
+        Entry::Refused(number, place) => stop(number, place),
+        Entry::Got(number, next) => {
+            if State::LEVELS <= st.level {
+                return stop(DEPTH, k);
             }
-            return self.chunk_at(s, t, k);
+            keep_named(
+                t,
+                records,
+                n,
+                ELEMENTS,
+                number,
+                Kind::Start,
+                EventString::Absent,
+            );
+            Step::More(st.opened(next, a), k)
         }
-        if o == 0xE1 {
-            return self.instruction_at(s, t, k);
-        }
-        if o == 0xE2 {
-            return self.comment_at(s, t, k);
-        }
-        self.other_at(s, k)
     }
+}
 
-    // Behind a declaration: F0 and the name, or another declaration.
-    fn declaring_at(self, s: &[u8], t: &mut [u32], k: usize, a: bool) -> Step
-        requires { ⌜ (Good (now s) self (now t)) × (k ≤ length (now s)) × (self .level < 32) ⌝ }
-        ensures { λ r. ⌜ Meets (now (s .entry)) (now (t .entry)) r (now (t .exit)) (declaringAt link (now (s .entry)) k a (standOf self (now (t .entry)) .state)) ⌝ }
-    {
-        if octet(s, k) == 0xF0 {
-            return self.named_at(s, t, k + 1, a);
+// A chunk at octet k, whose bits start with 10.
+fn chunk_at(
+    st: State,
+    s: &[u8],
+    t: &mut [u32],
+    counts: &mut [u32],
+    index: &mut [u8],
+    records: &mut [u32],
+    n: usize,
+    k: usize,
+) -> Step
+    requires { ⌜ (Good (now s) st (lent (now t) (now counts) (now index) (now records))) × (k < length (now s)) × (0x80 ≤ getD (now s) k 0) × (getD (now s) k 0 < 0xC0) ⌝ }
+    ensures { λ r. ⌜ Meets (now (s .entry)) st n (lent (now (t .entry)) (now (counts .entry)) (now (index .entry)) (now (records .entry))) r (lent (now (t .exit)) (now (counts .exit)) (now (index .exit)) (now (records .exit))) (chunkAt link (now (s .entry)) k) ⌝ }
+{
+    match read_names::chunk(s, t, counts, k) {
+        Field::Refused(number, place) => stop(number, place),
+        Field::Got(x, next) => {
+            let e = events::chunk(x);
+            events::keep(records, n, e);
+            Step::More(st.moved(next, st.mode), k)
         }
-        self.namespace_at(s, t, k, a)
     }
+}
 
-    // The item at octet k, by where the reader is.
-    fn item_at(self, s: &[u8], t: &mut [u32], k: usize) -> Step
-        requires { ⌜ (Good (now s) self (now t)) × (k ≤ length (now s)) ⌝ }
-        ensures { λ r. ⌜ Meets (now (s .entry)) (now (t .entry)) r (now (t .exit)) (itemAt link (now (s .entry)) k (standOf self (now (t .entry)) .state) (modeOf (self .mode))) ⌝ }
-    {
-        let mode = self.mode;
-        match mode {
-            Mode::Content => self.child_at(s, t, k),
-            Mode::Declaring(a) => self.declaring_at(s, t, k, a),
-            Mode::Listing(_) => self.attribute_at(s, t, k),
+// A comment, behind the octet k.
+fn comment_at(
+    st: State,
+    s: &[u8],
+    t: &mut [u32],
+    counts: &mut [u32],
+    index: &mut [u8],
+    records: &mut [u32],
+    n: usize,
+    k: usize,
+) -> Step
+    requires { ⌜ (Good (now s) st (lent (now t) (now counts) (now index) (now records))) × (k < length (now s)) ⌝ }
+    ensures { λ r. ⌜ Meets (now (s .entry)) st n (lent (now (t .entry)) (now (counts .entry)) (now (index .entry)) (now (records .entry))) r (lent (now (t .exit)) (now (counts .exit)) (now (index .exit)) (now (records .exit))) (commentAt link (now (s .entry)) k) ⌝ }
+{
+    match value(s, t, counts, OTHER_STRINGS, k + 1) {
+        Field::Refused(number, place) => stop(number, place),
+        Field::Got(x, next) => {
+            let e = events::comment(x);
+            events::keep(records, n, e);
+            Step::More(st.moved(next, st.mode), k)
         }
     }
+}
 
-    // An end, or the item at the next octet behind padding that is right.
-    pub fn step(self, s: &[u8], t: &mut [u32]) -> Step
-        requires { ⌜ Good (now s) self (now t) ⌝ }
-        ensures { λ r. ⌜ (seenStep r (now (t .exit)) ≡ stepSeen (step link (now (s .entry)) (standOf self (now (t .entry))))) × StepGood (now (s .entry)) (now (t .entry)) r (now (t .exit)) ⌝ }
-    {
-        let at = self.at;
-        if self.ends_here(s) {
-            return self.end_at(s);
-        }
-        if !pads_at(s, at) {
-            return Step::Stop(PADDING, at / 2);
-        }
-        self.item_at(s, t, (at + 1) / 2)
+// An instruction: the target and the content, behind the octet k.
+fn instruction_at(
+    st: State,
+    s: &[u8],
+    t: &mut [u32],
+    counts: &mut [u32],
+    index: &mut [u8],
+    records: &mut [u32],
+    n: usize,
+    k: usize,
+) -> Step
+    requires { ⌜ (Good (now s) st (lent (now t) (now counts) (now index) (now records))) × (k < length (now s)) ⌝ }
+    ensures { λ r. ⌜ Meets (now (s .entry)) st n (lent (now (t .entry)) (now (counts .entry)) (now (index .entry)) (now (records .entry))) r (lent (now (t .exit)) (now (counts .exit)) (now (index .exit)) (now (records .exit))) (instructionAt link (now (s .entry)) k) ⌝ }
+{
+    match read_names::id(s, t, counts, index, TARGETS, k + 1) {
+        Entry::Refused(number, place) => stop(number, place),
+        Entry::Got(target, behind) => match value(s, t, counts, OTHER_STRINGS, behind) {
+            Field::Refused(number, place) => stop(number, place),
+            Field::Got(content, next) => {
+                let e = events::instruction(read_names::string_at(t, TARGETS, target), content);
+                events::keep(records, n, e);
+                Step::More(st.moved(next, st.mode), k)
+            }
+        },
     }
+}
+
+// The declaration at octet k, of an element whose attribute bit is a.
+fn namespace_at(
+    st: State,
+    s: &[u8],
+    t: &mut [u32],
+    counts: &mut [u32],
+    index: &mut [u8],
+    records: &mut [u32],
+    n: usize,
+    k: usize,
+    a: bool,
+) -> Step
+    requires { ⌜ (Good (now s) st (lent (now t) (now counts) (now index) (now records))) × (k ≤ length (now s)) × (st .level < 32) ⌝ }
+    ensures { λ r. ⌜ Meets (now (s .entry)) st n (lent (now (t .entry)) (now (counts .entry)) (now (index .entry)) (now (records .entry))) r (lent (now (t .exit)) (now (counts .exit)) (now (index .exit)) (now (records .exit))) (λ v. namespaceAt link (now (s .entry)) k v a) ⌝ }
+{
+    match read_names::declared(s, t, counts, index, k) {
+        Declaration::Refused(number, place) => stop(number, place),
+        Declaration::Got(prefix, namespace, next) => {
+            let e = events::namespace(
+                read_names::string_at(t, PREFIX, prefix),
+                read_names::string_at(t, NAMESPACE_NAME, namespace),
+            );
+            events::keep(records, n, e);
+            Step::More(st.moved(next, states::declaring(a)), k)
+        }
+    }
+}
+
+// An element by its first octet, at k, whose attribute bit is a and other six bits are b: a number; or declarations, 1110 00, or a name in parts.
+fn element_at(
+    st: State,
+    s: &[u8],
+    t: &mut [u32],
+    counts: &mut [u32],
+    index: &mut [u8],
+    records: &mut [u32],
+    n: usize,
+    k: usize,
+    b: u8,
+    a: bool,
+) -> Step
+    requires { ⌜ (Good (now s) st (lent (now t) (now counts) (now index) (now records))) × (k < length (now s)) × (b < 64) ⌝ }
+    ensures { λ r. ⌜ Meets (now (s .entry)) st n (lent (now (t .entry)) (now (counts .entry)) (now (index .entry)) (now (records .entry))) r (lent (now (t .exit)) (now (counts .exit)) (now (index .exit)) (now (records .exit))) (elementAt link (now (s .entry)) k b a) ⌝ }
+{
+    if name_padding(b) {
+        return stop(PADDING, k);
+    }
+    if !st.may_start() {
+        return stop(STRUCTURE, k);
+    }
+    if b < 0x38 {
+        let r = read_names::numbered(s, counts, ELEMENTS, k);
+        return start_of(st, t, records, n, k, a, r);
+    }
+    // A prefix without a namespace.
+    if bits(b, 7, 8) == 2 {
+        return stop(STRUCTURE, k);
+    }
+    if State::LEVELS <= st.level {
+        return stop(DEPTH, k);
+    }
+    if b == 0x38 {
+        return namespace_at(st, s, t, counts, index, records, n, k + 1, a);
+    }
+    let r = read_names::in_parts(s, t, counts, index, ELEMENTS, k, b);
+    start_of(st, t, records, n, k, a, r)
+}
+
+// The name behind the declarations, whose first octet is k: 00, then a number or parts; 1110 is no name.
+fn named_at(
+    st: State,
+    s: &[u8],
+    t: &mut [u32],
+    counts: &mut [u32],
+    index: &mut [u8],
+    records: &mut [u32],
+    n: usize,
+    k: usize,
+    a: bool,
+) -> Step
+    requires { ⌜ (Good (now s) st (lent (now t) (now counts) (now index) (now records))) × (k ≤ length (now s)) × (st .level < 32) ⌝ }
+    ensures { λ r. ⌜ Meets (now (s .entry)) st n (lent (now (t .entry)) (now (counts .entry)) (now (index .entry)) (now (records .entry))) r (lent (now (t .exit)) (now (counts .exit)) (now (index .exit)) (now (records .exit))) (namedAt link (now (s .entry)) k a) ⌝ }
+{
+    if s.len() <= k {
+        return stop(TRUNCATED, k);
+    }
+    let o = s[k];
+    if bits(o, 3, 6) == 14 {
+        return stop(CODE, k);
+    }
+    if bits(o, 1, 2) != 0 {
+        return stop(PADDING, k);
+    }
+    if name_padding(o) {
+        return stop(PADDING, k);
+    }
+    let r = read_names::name(s, t, counts, index, ELEMENTS, k, o);
+    start_of(st, t, records, n, k, a, r)
+}
+
+// An attribute at octet k: 0, its name and its value.
+fn attribute_at(
+    st: State,
+    s: &[u8],
+    t: &mut [u32],
+    counts: &mut [u32],
+    index: &mut [u8],
+    records: &mut [u32],
+    n: usize,
+    k: usize,
+) -> Step
+    requires { ⌜ (Good (now s) st (lent (now t) (now counts) (now index) (now records))) × (k ≤ length (now s)) ⌝ }
+    ensures { λ r. ⌜ Meets (now (s .entry)) st n (lent (now (t .entry)) (now (counts .entry)) (now (index .entry)) (now (records .entry))) r (lent (now (t .exit)) (now (counts .exit)) (now (index .exit)) (now (records .exit))) (attributeAt link (now (s .entry)) k) ⌝ }
+{
+    if s.len() <= k {
+        return stop(TRUNCATED, k);
+    }
+    let o = s[k];
+    if bits(o, 1, 1) != 0 {
+        return stop(CODE, k);
+    }
+    if bits(o, 2, 6) == 31 {
+        return stop(PADDING, k);
+    }
+    match read_names::name(s, t, counts, index, ATTRIBUTES, k, o) {
+        Entry::Refused(number, place) => stop(number, place),
+        Entry::Got(name, behind) => match value(s, t, counts, ATTRIBUTE_VALUES, behind) {
+            Field::Refused(number, place) => stop(number, place),
+            Field::Got(x, next) => {
+                keep_named(t, records, n, ATTRIBUTES, name, Kind::Attribute, x);
+                Step::More(st.moved(next, State::LISTED), k)
+            }
+        },
+    }
+}
+
+// A child by its first octet, k: 0 element, 10 chunk, which is inside elements only, E1 instruction, E2 comment.
+fn child_at(
+    st: State,
+    s: &[u8],
+    t: &mut [u32],
+    counts: &mut [u32],
+    index: &mut [u8],
+    records: &mut [u32],
+    n: usize,
+    k: usize,
+) -> Step
+    requires { ⌜ (Good (now s) st (lent (now t) (now counts) (now index) (now records))) × (k ≤ length (now s)) ⌝ }
+    ensures { λ r. ⌜ Meets (now (s .entry)) st n (lent (now (t .entry)) (now (counts .entry)) (now (index .entry)) (now (records .entry))) r (lent (now (t .exit)) (now (counts .exit)) (now (index .exit)) (now (records .exit))) (childAt link (now (s .entry)) k) ⌝ }
+{
+    if s.len() <= k {
+        return stop(TRUNCATED, k);
+    }
+    let o = s[k];
+    let code = bits(o, 1, 2);
+    // One place that calls element_at, so that it is inlined.
+    if code < 2 {
+        let b = bits(o, 3, 8);
+        return element_at(st, s, t, counts, index, records, n, k, b, code == 1);
+    }
+    if code == 2 {
+        if st.level == 0 {
+            return stop(CODE, k);
+        }
+        return chunk_at(st, s, t, counts, index, records, n, k);
+    }
+    if o == 0xE1 {
+        return instruction_at(st, s, t, counts, index, records, n, k);
+    }
+    if o == 0xE2 {
+        return comment_at(st, s, t, counts, index, records, n, k);
+    }
+    other_at(st.level, o, k)
+}
+
+// Behind a declaration: F0 and the name, or another declaration.
+fn declaring_at(
+    st: State,
+    s: &[u8],
+    t: &mut [u32],
+    counts: &mut [u32],
+    index: &mut [u8],
+    records: &mut [u32],
+    n: usize,
+    k: usize,
+    a: bool,
+) -> Step
+    requires { ⌜ (Good (now s) st (lent (now t) (now counts) (now index) (now records))) × (k ≤ length (now s)) × (st .level < 32) ⌝ }
+    ensures { λ r. ⌜ Meets (now (s .entry)) st n (lent (now (t .entry)) (now (counts .entry)) (now (index .entry)) (now (records .entry))) r (lent (now (t .exit)) (now (counts .exit)) (now (index .exit)) (now (records .exit))) (declaringAt link (now (s .entry)) k a) ⌝ }
+{
+    if octet(s, k) == 0xF0 {
+        return named_at(st, s, t, counts, index, records, n, k + 1, a);
+    }
+    namespace_at(st, s, t, counts, index, records, n, k, a)
+}
+
+// The item at octet k, by where the reader is.
+fn item_at(
+    st: State,
+    s: &[u8],
+    t: &mut [u32],
+    counts: &mut [u32],
+    index: &mut [u8],
+    records: &mut [u32],
+    n: usize,
+    k: usize,
+) -> Step
+    requires { ⌜ (Good (now s) st (lent (now t) (now counts) (now index) (now records))) × (k ≤ length (now s)) ⌝ }
+    ensures { λ r. ⌜ Meets (now (s .entry)) st n (lent (now (t .entry)) (now (counts .entry)) (now (index .entry)) (now (records .entry))) r (lent (now (t .exit)) (now (counts .exit)) (now (index .exit)) (now (records .exit))) (λ v. itemAt link (now (s .entry)) k v (modeOf (st .mode))) ⌝ }
+{
+    if st.mode == State::CONTENT {
+        return child_at(st, s, t, counts, index, records, n, k);
+    }
+    if st.mode < State::DECLARING {
+        return attribute_at(st, s, t, counts, index, records, n, k);
+    }
+    declaring_at(
+        st,
+        s,
+        t,
+        counts,
+        index,
+        records,
+        n,
+        k,
+        st.mode != State::DECLARING,
+    )
+}
+
+// An end, or the item at the next octet behind padding that is right. An event is kept in record n, where there is one.
+pub fn step(
+    st: State,
+    s: &[u8],
+    t: &mut [u32],
+    counts: &mut [u32],
+    index: &mut [u8],
+    records: &mut [u32],
+    n: usize,
+) -> Step
+    requires { ⌜ Good (now s) st (lent (now t) (now counts) (now index) (now records)) ⌝ }
+    ensures { λ r. ⌜ Met (now (s .entry)) st n (lent (now (t .entry)) (now (counts .entry)) (now (index .entry)) (now (records .entry))) r (lent (now (t .exit)) (now (counts .exit)) (now (index .exit)) (now (records .exit))) (step link (now (s .entry))) ⌝ }
+{
+    let at = st.at;
+    if ends::ends_here(st, s) {
+        return ends::end_at(st, s, records, n);
+    }
+    if !ends::pads_at(s, at) {
+        return stop(PADDING, at / 2);
+    }
+    item_at(st, s, t, counts, index, records, n, (at + 1) / 2)
 }

@@ -1,3 +1,4 @@
-pub mod StringLaws
+pub mod Grown
 pub mod NameLaws
 pub mod Places
+pub mod StringLaws

@@ -1,50 +1,54 @@
--- Names and declarations on plain values: a law for each way out of each method, and that the tables stay in order.
+-- Names and declarations on plain values: a law for each way out of each function, and that the tables stay in order.
 -- Assumes nothing.
 use mathlib.Core.Path.{_≡_, refl, sym, ap, _∙_}
 use mathlib.Core.Bool.{Bool, true, false, not, and-false}
-use mathlib.Core.Option.{some}
 use mathlib.Core.List.{List, [], _∷_, _++_, map}
 use Prim.Native.Nat.{ℕ, zero, suc, _+_, _-_, _*_, _%_, _≤_, _<_}
 use native.Mathlib.Omega.{arith}
 use native.Mathlib.Numerals.{add-one}
 use native.Mathlib.Decide.{decLt}
-use borrow.Author.Tests.{lt-ltb, le-ltb, le-leb, lt-leb, eq-eqb, ne-eqb, leb-true}
+use borrow.Author.Tests.{lt-ltb, le-ltb, le-leb, lt-leb, eq-eqb, ne-eqb}
 use lib.Dec.{eqb, ltb, leb}
-use lib.ListN.{length, getD, length-append}
-use Rattle.format.specs.Numbers.{pick, Form, numbers, c25, lengths, top}
+use lib.ListN.{length, getD, set, length-set}
+use Rattle.format.specs.Numbers.{pick, numbers, c25, lengths, top}
 use Rattle.fields.specs.Utf8.{isText}
 use Rattle.format.specs.Tables.{StringTable, PREFIX, NAMESPACE-NAME, LOCAL-NAME}
-use Rattle.format.specs.Tables.{NameTable, ELEMENT-NAME, ATTRIBUTE-NAME, Triple, Vocabulary, strings, names, adding, addingName}
+use Rattle.format.specs.Tables.{NameTable, ELEMENT-NAME, ATTRIBUTE-NAME, Triple, Vocabulary, strings, names, addingName}
 use Rattle.format.specs.Tables.{holds, holdsName, sameTriple, link}
 use Rattle.format.specs.Names.{NameLayout, ofElement, ofAttribute}
+use Rattle.format.specs.Events.{byNumber}
 use Rattle.fields.specs.declared.Cursor.{Cursor}
 use Rattle.fields.specs.declared.Number.{Number}
 use Rattle.fields.specs.declared.Number.the-variants.{Got as Num, Refused as NoNum}
 use Rattle.fields.specs.Fields.{bitsOf, fieldAt, noTop}
+use Rattle.fields.proofs.Laws.{case}
 use Rattle.fields.proofs.Bounds.{field-got}
 use Rattle.tables.specs.declared.Counts.{Counts}
 use Rattle.tables.specs.declared.Row.{Row}
 use Rattle.tables.specs.Located.{Located, empty, stretch, octetsOf}
 use Rattle.tables.specs.Counts.{tableWords}
 use Rattle.tables.specs.Search.{lowest, numberOfTriple}
-use Rattle.tables.specs.Rows.{tableOf, place, stringAt, tripleAt, entries, vocabulary}
-use Rattle.tables.specs.Kept.{nameTableOf, countOf, oneMore, Counted, rowAt, stored, layoutOf, tripleOf}
+use Rattle.tables.specs.Rows.{tableOf, tripleAt, entries, vocabulary}
+use Rattle.tables.specs.Kept.{nameTableOf, unlisted, countOf, oneMore, Counted, rowAt, stored, layoutOf, tripleOf}
 use Rattle.tables.proofs.ByNumber.{eight-nine}
-use Rattle.tables.proofs.Adding.{extended, strings-adding, names-adding}
-use Rattle.tables.proofs.Laws.{names-are, length-strings, length-names, string-nth, name-nth, counted-more, name-added, clean-name, holds-name-number, inside-name}
+use Rattle.tables.proofs.Adding.{names-adding}
+use Rattle.tables.proofs.Laws.{names-are, length-names, string-nth, counted-more, name-added, clean-name, holds-name-number, inside-name}
+use Rattle.tables.proofs.Entries.{stored-0, stored-1, stored-2}
+use Rattle.tables.proofs.Rooms.{stored-length}
+use Rattle.index.specs.Indexed.{NamesIndexed, NameEntered}
 use Rattle.events.specs.declared.EventString.{EventString}
 use Rattle.events.specs.declared.EventString.the-variants.{Absent}
 use Rattle.events.specs.Records.{eventString, optionalEventString}
-use Rattle.tables.proofs.Rooms.{stored-length}
-use Rattle.read_names.specs.declared.Field.{Field}
-use Rattle.read_names.specs.declared.Field.the-variants.{Refused}
+use Rattle.read_names.specs.declared.Entry.{Entry}
+use Rattle.read_names.specs.declared.Entry.the-variants.{Got as Numbered, Refused as NotNumbered}
 use Rattle.read_names.specs.declared.Parts.{Parts}
-use Rattle.read_names.specs.declared.Named.{Named}
 use Rattle.read_names.specs.Strings as S
 use Rattle.read_names.specs.Strings.{IdRead, OptionalRead, idAt, optionalAt, spelling}
 use Rattle.read_names.specs.Names.{NameRead, prefixBit, namespaceBit, nameBit, partOf, nameOf, noTriple, partsAt, numberedAt, nameAt, declaredAt}
-use Rattle.read_names.specs.Contracts.{Ranged, Tidy, Seen, idSeen, optionalSeen, seenName, NameTidy, nameSeen, declaredSeen}
-use Rattle.read_names.specs.NameContracts.{stringFault, numberFault, eventStringAt, eventStringsAt, newName}
+use Rattle.read_names.specs.Contracts.{Ranged, searched, Tidy, Grown, Left, eventStringAt, eventStringsAt, nameStringsAt, Seen, IdLeft, Positive, idSeen, optionalSeen, seenName, nameSeen, declaredSeen}
+use Rattle.read_names.specs.StringContracts.{heldOf}
+use Rattle.read_names.specs.NameContracts.{newName, seenNumber, NewRow}
+use Rattle.read_names.proofs.Grown.{count-at, one-more, one-more-words, grown-none, grown-on, grown-stored, string-stays, InRange, name-at, name-ranged}
 use Rattle.read_names.proofs.StringLaws.{tests, ranged-kept}
 
 -- ---- a table's layout
@@ -70,91 +74,61 @@ pub layout-table : (t : ℕ) → 8 ≤ t → t < 10 → layoutOf t .table ≡ na
 unfolding layoutOf nameTableOf ofElement ofAttribute
 layout-table = eight-nine (λ (t : ℕ). layoutOf t .table ≡ nameTableOf t) refl refl
 
--- ---- the string behind a number
-pub text-none : (w : List ℕ) (t n : ℕ) → n ≡ 0 → Absent ≡ eventStringAt w t n
+-- ---- the strings behind a name's number
+string-is : (c w : List ℕ) (t n : ℕ) → t < 8 → n ≤ countOf (unlisted c) t → eventStringAt w t n ≡ optionalEventString (partOf (strings (vocabulary (unlisted c) w) (tableOf t)) empty n)
 unfolding eventStringAt
-text-none w t n e = rw e
+string-is c w t zero h l = refl
+string-is c w t (suc k) h l = ap eventString (sym (string-nth (unlisted c) w t k empty h l))
 
-pub text-there : (w : List ℕ) (t n : ℕ) (x : EventString) → 1 ≤ n → x ≡ eventString (stringAt (tableOf t) w (768 * t + 3 * (n - 1))) → x ≡ eventStringAt w t n
-unfolding eventStringAt
-text-there w t n x h e = let z : suc (n - 1) ≡ n = omega arith in e ∙ ap (eventStringAt w t) z
-
-text-is : (c : Counts) (w : List ℕ) (t n : ℕ) → t < 8 → n ≤ countOf c t → eventStringAt w t n ≡ optionalEventString (partOf (strings (vocabulary c w) (tableOf t)) empty n)
-unfolding eventStringAt
-text-is c w t zero h l = refl
-text-is c w t (suc k) h l = ap eventString (sym (string-nth c w t k empty h l))
-
-pub texts-are : (w : List ℕ) (x : Triple) (p n l : EventString) → p ≡ eventStringAt w 0 (x .prefix) → n ≡ eventStringAt w 1 (x .namespace) → l ≡ eventStringAt w 2 (x .local)
-    → record { prefix = p; namespace = n; local = l } ≡ eventStringsAt w x
-unfolding eventStringsAt
-texts-are w x p n l ep en el = rw (ep, en, el)
-
--- ---- names by number
--- the triple's numbers are of entries that are there
-abbrev InRange : Counts → Triple → Type 0
-InRange c x = (x .prefix ≤ c .prefix) × (x .namespace ≤ c .namespace) × (1 ≤ x .local) × (x .local ≤ c .local)
-
-ranged-at : (c : Counts) (l : List Triple) (k : ℕ) → Ranged c l → k < length l → InRange c (getD l k noTriple)
-ranged-at c [] k r h = absurd (omega arith)
-ranged-at c (x ∷ l) zero r h = (r .0, r .1, r .2, r .3)
-ranged-at c (x ∷ l) (suc k) r h = ranged-at c l k (r .4) (omega arith)
-
-name-is : (c : Counts) (w : List ℕ) (x : Triple) → InRange c x
+name-is : (c w : List ℕ) (x : Triple) → InRange (unlisted c) x
     → eventStringsAt w x
-    ≡ record { prefix = optionalEventString (nameOf (vocabulary c w) empty x .prefix); namespace = optionalEventString (nameOf (vocabulary c w) empty x .namespace); local = eventString (nameOf (vocabulary c w) empty x .local) }
+    ≡ record { prefix = optionalEventString (nameOf (vocabulary (unlisted c) w) empty x .prefix); namespace = optionalEventString (nameOf (vocabulary (unlisted c) w) empty x .namespace); local = eventString (nameOf (vocabulary (unlisted c) w) empty x .local) }
 unfolding eventStringsAt nameOf strings tableOf countOf
 name-is c w x r =
     λ i. record {
-      prefix = text-is c w 0 (x .prefix) (omega arith) (r .0) i;
-      namespace = text-is c w 1 (x .namespace) (omega arith) (r .1) i;
-      local = (text-is c w 2 (x .local) (omega arith) (r .3) ∙ some-text (x .local) (r .2)) i;
+      prefix = string-is c w 0 (x .prefix) (omega arith) (r .0) i;
+      namespace = string-is c w 1 (x .namespace) (omega arith) (r .1) i;
+      local = (string-is c w 2 (x .local) (omega arith) (r .3) ∙ some-string (x .local) (r .2)) i;
     }
   where
-    some-text : (n : ℕ) → 1 ≤ n → optionalEventString (partOf (vocabulary c w .locals) empty n) ≡ eventString (getD (vocabulary c w .locals) (n - 1) empty)
-    some-text zero h = absurd (omega arith)
-    some-text (suc k) h = let z : suc k - 1 ≡ k = omega arith in rw z
+    some-string : (n : ℕ) → 1 ≤ n → optionalEventString (partOf (vocabulary (unlisted c) w .locals) empty n) ≡ eventString (getD (vocabulary (unlisted c) w .locals) (n - 1) empty)
+    some-string zero h = absurd (omega arith)
+    some-string (suc k) h = let z : suc k - 1 ≡ k = omega arith in rw z
 
--- r is what the number's field gave
-pub number-refused : (q : NameLayout) (s : List ℕ) (k : ℕ) (v : Vocabulary Located) (r : Number) (n p : ℕ) → r ≡ fieldAt (q .numberForms) top (nameBit (q .table)) s k → r ≡ NoNum n p
-    → S.refused n p ≡ nameSeen (numberedAt link q s k v)
-unfolding numberedAt
-number-refused q s k v r n p e d = rw (← e, d)
+-- the row of a name, read by its number
+module _ (w : List ℕ) (t n : ℕ) (x : Row) (e : x ≡ rowAt w (768 * t + 3 * (n - 1))) where
+  pub row-is : tripleOf x ≡ tripleAt w (768 * t + 3 * (n - 1))
+  unfolding rowAt tripleAt
+  row-is = ap tripleOf e
 
-pub number-fits : (fs : List Form) (bit : ℕ) (s : List ℕ) (k : ℕ) (r : Number) (n : ℕ) (next : Cursor) → r ≡ fieldAt fs top bit s k → r ≡ Num n next
-    → (1 ≤ n) × (n ≤ top) × (k < next .at) × (next .at ≤ length s)
-number-fits fs bit s k r n next e d = field-got top s k fs bit (sym e ∙ d)
+  pub strings-are : (p m l : EventString) → p ≡ eventStringAt w 0 (x .a) → m ≡ eventStringAt w 1 (x .b) → l ≡ eventStringAt w 2 (x .c)
+      → record { prefix = p; namespace = m; local = l } ≡ nameStringsAt w t n
+  unfolding nameStringsAt eventStringsAt
+  strings-are p m l ep em el = rw (ep, em, el) (ap (eventStringsAt w) row-is)
 
-module _ (s w : List ℕ) (c : Counts) (k t : ℕ) (low : 8 ≤ t) (high : t < 10) (r : Number) (e : r ≡ fieldAt (layoutOf t .numberForms) top (nameBit (layoutOf t .table)) s k)
-    (n : ℕ) (next : Cursor) (d : r ≡ Num n next) where
-  pub number-beyond : countOf c t < n → S.refused 10 k ≡ nameSeen (numberedAt link (layoutOf t) s k (vocabulary c w))
-  unfolding numberedAt
-  number-beyond h = rw (← e, d, layout-table t low high, length-names c w t low high, lt-leb _ _ h)
-
-  module _ (tidy : Tidy s c w) (h : n ≤ countOf c t) (x : Row) (ex : x ≡ rowAt w (768 * t + 3 * (n - 1))) where
-    row-is : getD (names (vocabulary c w) (nameTableOf t)) (n - 1) noTriple ≡ tripleOf x
-    unfolding rowAt tripleAt
-    row-is = let f = number-fits (layoutOf t .numberForms) (nameBit (layoutOf t .table)) s k r n next e d in name-nth c w t (n - 1) noTriple low high (omega arith) ∙ sym (ap tripleOf ex)
-
-    row-ranged : InRange c (tripleOf x)
-    row-ranged =
-        let f = number-fits (layoutOf t .numberForms) (nameBit (layoutOf t .table)) s k r n next e d in
-        let l = length-names c w t low high in
-        rw row-is at (ranged-at c (names (vocabulary c w) (nameTableOf t)) (n - 1) (tidy .ranged (nameTableOf t)) (omega arith))
-
-    pub row-fits : (x .a ≤ 256) × (x .b ≤ 256) × (x .c ≤ 256)
-    unfolding countOf
-    row-fits =
-        let r = row-ranged in
-        let p = tidy .counted 0 in
-        let m = tidy .counted 1 in
-        let l = tidy .counted 2 in
-        (omega arith, omega arith, omega arith)
-
-    pub number-read : (y : Parts) → y ≡ eventStringsAt w (tripleOf x) → S.got y (next .at) (vocabulary c w) ≡ nameSeen (numberedAt link (layoutOf t) s k (vocabulary c w))
-    unfolding numberedAt
-    number-read y ey =
-        rw (← e, d, layout-table t low high, length-names c w t low high, le-leb _ _ h, row-is, ey)
-        (ap (λ (z : Parts). S.got z (next .at) (vocabulary c w)) (name-is c w (tripleOf x) row-ranged))
+-- ---- a name by number: r is what the number's field gave
+pub number-held : (s c w x : List ℕ) (t k : ℕ) → Tidy s c w x → 8 ≤ t → t < 10 → (r : Number) → r ≡ fieldAt (layoutOf t .numberForms) top (nameBit (layoutOf t .table)) s k
+    → (a : Entry) → a ≡ heldOf (countOf (unlisted c) t) k r
+    → (seenName t a c w ≡ nameSeen (numberedAt link (layoutOf t) s k (vocabulary (unlisted c) w))) × IdLeft s c w t a c w x
+unfolding numberedAt heldOf nameStringsAt
+number-held s c w x t k tidy low high r is a ea = rw (ea, ← is) (by r is)
+  where
+    by : (f : Number) → f ≡ fieldAt (layoutOf t .numberForms) top (nameBit (layoutOf t .table)) s k
+        → (seenName t (heldOf (countOf (unlisted c) t) k f) c w
+        ≡ nameSeen (S.number f λ n next. pick (leb n (length (names (vocabulary (unlisted c) w) (layoutOf t .table))))
+        (S.got (record { name = nameOf (vocabulary (unlisted c) w) empty (getD (names (vocabulary (unlisted c) w) (layoutOf t .table)) (n - 1) noTriple); how = byNumber n }) next (vocabulary (unlisted c) w))
+        (S.refused 10 k)))
+        × IdLeft s c w t (heldOf (countOf (unlisted c) t) k f) c w x
+    by (NoNum n p) e = (refl, (tidy .ten, tidy .room))
+    by (Num n i) e =
+        let g = field-got top s k (layoutOf t .numberForms) (nameBit (layoutOf t .table)) (sym e) in
+        rw (layout-table t low high, length-names (unlisted c) w t low high)
+        (case (countOf (unlisted c) t) n
+        (λ l. rw (lt-leb _ _ l) (refl, (tidy .ten, tidy .room)))
+        (λ l. rw (le-leb _ _ l, name-at s c w x tidy t n low high (g .0) l) (
+          ap (λ (z : Parts). S.got z (i .at) (vocabulary (unlisted c) w)) (name-is c w (tripleAt w (768 * t + 3 * (n - 1))) (name-ranged s c w x tidy t n low high (g .0) l)),
+          (record { tidy = tidy; within = g .3; grown = grown-none c w }, l),
+        )))
 
 -- ---- a new name
 module _ (c d : Counts) (p : c .prefix ≤ d .prefix) (n : c .namespace ≤ d .namespace) (l : c .local ≤ d .local) where
@@ -176,119 +150,119 @@ ranged-adding c v x q r =
       | ATTRIBUTE-NAME ↦ ranged-more c (oneMore c 9) (omega arith) (omega arith) (omega arith) (v .attributes) x (r ATTRIBUTE-NAME) q
     ])
 
--- a name that its table does not hold is not in the words that hold the table
-pub words-unnamed : (c : Counts) (w : List ℕ) (t n : ℕ) (x : Triple) → 8 ≤ t → t < 10 → n ≡ countOf c t → 0 ≡ numberOfTriple (names (vocabulary c w) (nameTableOf t)) x
-    → 0 ≡ numberOfTriple (entries (tripleAt w) (768 * t) n) x
-words-unnamed c w t n x low high en e = rw en (rw (names-are c w t low high) at e)
+-- what the index is asked
+module _ (c w : List ℕ) (t : ℕ) (ten : length c ≡ 10) where
+  pub names-indexed : (x : List ℕ) → NamesIndexed w x t (countOf (unlisted c) t) → NamesIndexed w x t (getD c t 0)
+  names-indexed x h = rw (count-at c ten t) at h
 
--- x is the name that is read, of which y is seen; n is how many names there are, f the number that was found
-module _ (c : Counts) (w : List ℕ) (t k next n f : ℕ) (y : Parts) (x : Triple) (low : 8 ≤ t) (high : t < 10) (en : n ≡ countOf c t)
-    (ef : f ≡ numberOfTriple (entries (tripleAt w) (768 * t) n) x) where
-  held-is : holdsName (names (vocabulary c w) (nameTableOf t)) x ≡ not (eqb f 0)
-  held-is = rw (ef, en, names-are c w t low high) (holds-name-number (entries (tripleAt w) (768 * t) (countOf c t)) x)
+  -- a name that its table does not hold is not in the words that hold the table
+  pub words-unnamed : (x : Triple) → 8 ≤ t → t < 10 → 0 ≡ numberOfTriple (names (vocabulary (unlisted c) w) (nameTableOf t)) x → 0 ≡ numberOfTriple (entries (tripleAt w) (768 * t) (getD c t 0)) x
+  words-unnamed x low high e = rw (names-are (unlisted c) w t low high, count-at c ten t) at e
 
-  pub name-held : (f ≡ 0 → ⊥) → S.refused 11 k ≡ newName link (nameTableOf t) x y k next (vocabulary c w)
+-- x is the name that is read, f the number that was found
+module _ (c w : List ℕ) (t k next f : ℕ) (x : Triple) (low : 8 ≤ t) (high : t < 10) (ten : length c ≡ 10) (fits : length w ≡ tableWords)
+    (ef : f ≡ numberOfTriple (entries (tripleAt w) (768 * t) (getD c t 0)) x) where
+  held-is : holdsName (names (vocabulary (unlisted c) w) (nameTableOf t)) x ≡ not (eqb f 0)
+  held-is = rw (ef, names-are (unlisted c) w t low high, count-at c ten t) (holds-name-number (entries (tripleAt w) (768 * t) (getD c t 0)) x)
+
+  -- the answer, what it leaves, and the row it stands for
+  abbrev Named : Entry → (i d v y : List ℕ) → Type 0
+  Named r i d v y =
+      (seenNumber r d v ≡ newName link (nameTableOf t) x k next (vocabulary (unlisted c) w)) × ((s : List ℕ) → Tidy s c w i → next ≤ length s → IdLeft s c w t r d v y)
+      × NewRow v t x r
+
+  pub name-held : (i : List ℕ) → (f ≡ 0 → ⊥) → Named (NotNumbered 11 k) i c w i
   unfolding newName
-  name-held h = rw (held-is, ne-eqb f 0 h)
+  name-held i h = rw (held-is, ne-eqb f 0 h) (refl, λ s tidy l. (ten, fits), tt)
 
   module _ (new : f ≡ 0) where
-    pub name-full : 256 ≤ n → S.refused 12 k ≡ newName link (nameTableOf t) x y k next (vocabulary c w)
+    pub name-full : (i : List ℕ) → 256 ≤ getD c t 0 → Named (NotNumbered 12 k) i c w i
     unfolding newName link
-    name-full h = rw (held-is, eq-eqb f 0 new, length-names c w t low high, ← en, le-ltb _ _ h)
+    name-full i h = rw (held-is, eq-eqb f 0 new, length-names (unlisted c) w t low high, count-at c ten t, le-ltb _ _ h) (refl, λ s tidy l. (ten, fits), tt)
 
-    module _ (room : n < 256) (small : Counted c) (fits : length w ≡ tableWords) (ranged : Ranged c (x ∷ [])) where
-      name-tidy : (s : List ℕ) → Tidy s c w → Tidy s (oneMore c t) (stored w t (countOf c t) (x .prefix) (x .namespace) (x .local))
-      name-tidy s tidy =
-          let added = name-added c w t small (omega arith) fits x low high in
+    module _ (room : getD c t 0 < 256) (ranged : Ranged (unlisted c) (x ∷ [])) where
+      abbrev then-counts : List ℕ
+      then-counts = set c t (getD c t 0 + 1)
+
+      abbrev then-words : List ℕ
+      then-words = stored w t (getD c t 0) (x .prefix) (x .namespace) (x .local)
+
+      is-added : Counted (unlisted c) → vocabulary (unlisted then-counts) then-words ≡ addingName (vocabulary (unlisted c) w) (nameTableOf t) x
+      is-added small =
+          let n = count-at c ten t in
+          rw (one-more c ten t) (rw n at (name-added (unlisted c) w t small (omega arith) fits x low high))
+
+      left-named : (s i y : List ℕ) → Tidy s c w i → next ≤ length s → NameEntered s t (getD c t 0) x w i then-words y → Left s c w next then-counts then-words y
+      left-named s i y tidy l e =
+          let n = count-at c ten t in
+          let more = one-more c ten t in
           record {
-            size = tidy .size;
-            room = stored-length w t (countOf c t) (x .prefix) (x .namespace) (x .local) ∙ fits;
-            counted = counted-more c t high (omega arith) small;
-            clean = clean-name c w t small (omega arith) fits x low high (tidy .clean);
-            inside = rw added (inside-name s (vocabulary c w) (nameTableOf t) x (tidy .inside));
-            ranged = rw added (ranged-adding c (vocabulary c w) x ranged (tidy .ranged) t low high);
+            tidy = record {
+              size = tidy .size;
+              ten = length-set c t (getD c t 0 + 1) ∙ ten;
+              room = stored-length w t (getD c t 0) (x .prefix) (x .namespace) (x .local) ∙ fits;
+              counted = rw more (counted-more (unlisted c) t high (omega arith) (tidy .counted));
+              clean = rw more (rw n at (clean-name (unlisted c) w t (tidy .counted) (omega arith) fits x low high (tidy .clean)));
+              inside = rw (is-added (tidy .counted)) (inside-name s (vocabulary (unlisted c) w) (nameTableOf t) x (tidy .inside));
+              ranged = rw (is-added (tidy .counted), more) (ranged-adding (unlisted c) (vocabulary (unlisted c) w) x ranged (tidy .ranged) t low high);
+              indexed = e .keeps .still searched (countOf (unlisted c)) (countOf (unlisted then-counts)) (one-more-words c ten t high) (tidy .indexed);
+            };
+            within = l;
+            grown = grown-stored c w t (x .prefix) (x .namespace) (x .local) ten high room (tidy .counted);
           }
 
-      -- d and u are the counts and the words then
-      pub name-new : (d : Counts) (u : List ℕ) → d ≡ oneMore c t → u ≡ stored w t n (x .prefix) (x .namespace) (x .local)
-          → (S.got y next (vocabulary d u) ≡ newName link (nameTableOf t) x y k next (vocabulary c w)) × ((s : List ℕ) → Tidy s c w → next ≤ length s → Tidy s d u × (next ≤ length s))
+      new-row : tripleAt then-words (768 * t + 3 * (getD c t 0 + 1 - 1)) ≡ x
+      unfolding tripleAt
+      new-row =
+          let ends : 768 * t + 3 * getD c t 0 + 3 ≤ length w = omega arith in
+          let z : getD c t 0 + 1 - 1 ≡ getD c t 0 = omega arith in
+          rw z
+          (λ i. record {
+            prefix = stored-0 w t (getD c t 0) (x .prefix) (x .namespace) (x .local) ends i;
+            namespace = stored-1 w t (getD c t 0) (x .prefix) (x .namespace) (x .local) ends i;
+            local = stored-2 w t (getD c t 0) (x .prefix) (x .namespace) (x .local) ends i;
+          })
+
+      name-stored : Counted (unlisted c) → (i y : List ℕ) → ((s : List ℕ) → NameEntered s t (getD c t 0) x w i then-words y)
+          → Named (Numbered (getD c t 0 + 1) next) i then-counts then-words y
       unfolding newName link
-      name-new d u ed eu =
-          rw (ed, eu, en) (
-            rw (held-is, eq-eqb f 0 new, length-names c w t low high, lt-ltb (countOf c t) 256 (omega arith)) (ap (S.got y next) (name-added c w t small (omega arith) fits x low high)),
-            λ s tidy l. (name-tidy s tidy, l),
+      name-stored small i y e =
+          rw (held-is, eq-eqb f 0 new, length-names (unlisted c) w t low high, count-at c ten t, lt-ltb _ _ room, ← add-one (getD c t 0)) (
+            ap (S.got (getD c t 0 + 1) next) (is-added small),
+            λ s tidy l. (left-named s i y tidy l (e s), let m = one-more-words c ten t high .here in omega arith),
+            (omega arith, new-row),
           )
 
--- ---- the number of a string that was read
-extended-longer : (b : Bool) (l : List Located) (x : Located) → length l ≤ length (extended b l x)
-extended-longer true l x = simp length-append (omega arith)
-extended-longer false l x = omega arith
+      pub name-new : Counted (unlisted c) → (i v y : List ℕ) → ((s : List ℕ) → NameEntered s t (getD c t 0) x w i v y)
+          → Named (Numbered (getD c t 0 + 1) next) i then-counts v y
+      name-new small i v y e = rw (e [] .words) (name-stored small i y (λ s. rw (e [] .words) at (e s)))
 
-abbrev Grown : Vocabulary Located → Vocabulary Located → Type 0
-Grown v w = (u : StringTable) → length (strings v u) ≤ length (strings w u)
-
--- the number is one of table t, no table has lost an entry, and the names are as before
-abbrev Placed : ℕ → StringTable → Vocabulary Located → S.Got Seen → Type 0
-Placed low t v (S.got x next w) = (low ≤ x .number) × (x .number ≤ length (strings w t)) × Grown v w × ((u : NameTable) → names w u ≡ names v u)
-Placed low t v (S.refused n p) = Unit {0}
+-- ---- a string that is read leaves the names
+abbrev SameNames : Vocabulary Located → S.Got Seen → Type 0
+SameNames v (S.got x next w) = (u : NameTable) → names w u ≡ names v u
+SameNames v (S.refused n p) = Unit {0}
 
 module _ {B : Type 0} (P : S.Got B → Type 0) where
-  numbered : (a : Number) (f : ℕ → ℕ → S.Got B) → ((n : ℕ) (c : Cursor) → a ≡ Num n c → P (f n (c .at))) → ((n p : ℕ) → P (S.refused n p)) → P (S.number a f)
-  numbered (Num n c) f g h = g n c refl
+  numbered : (a : Number) (f : ℕ → ℕ → S.Got B) → ((n : ℕ) (c : Cursor) → P (f n (c .at))) → ((n p : ℕ) → P (S.refused n p)) → P (S.number a f)
+  numbered (Num n c) f g h = g n c
   numbered (NoNum n p) f g h = h n p
 
-module _ (s : List ℕ) (t : StringTable) (k : ℕ) (v : Vocabulary Located) where
-  new-placed : (x : Located) → (suc (length (strings v t)) ≤ length (strings (adding v t x) t)) × Grown v (adding v t x)
-  new-placed x = (
-    rw (strings-adding v t x t, eq-eqb (place t) (place t) refl) (simp length-append (omega arith)),
-    λ u. rw (strings-adding v t x u) (extended-longer (eqb (place t) (place u)) (strings v u) x),
-  )
-
-  id-placed : Placed 1 t v (idSeen (idAt link s t k v))
-  unfolding idAt spelling
-  id-placed =
-      let P : S.Got IdRead → Type 0 = λ (g : S.Got IdRead). Placed 1 t v (idSeen g) in
-      tests P (ltb (getD s k 0) 0x80) _ _
-      (λ o. numbered P (fieldAt (lengths 2) noTop 2 s k) _
-      (λ n c e. tests P (leb (c .at + n) (length s)) _ _
-      (λ a. tests P (isText (octetsOf s (stretch (c .at) n))) _ _
-      (λ b. tests P (holds (map (octetsOf s) (strings v t)) (octetsOf s (stretch (c .at) n))) _ _ (λ h. tt)
-      (λ h. tests P (ltb (length (strings v t)) (link .entries)) _ _ (λ r. let g = new-placed (stretch (c .at) n) in (omega arith, g .0, g .1, names-adding v t (stretch (c .at) n))) (λ r. tt)))
-      (λ b. tt))
-      (λ a. tt))
-      (λ n p. tt))
-      (λ o. numbered P (fieldAt c25 top 2 s k) _
-      (λ n c e. tests P (leb n (length (strings v t))) _ _
-      (λ h. let g = field-got top s k c25 2 e in (g .0, leb-true _ _ h, λ u. omega arith, λ u. refl))
-      (λ h. tt))
-      (λ n p. tt))
-
-  optional-placed : (there : Bool) → Placed 0 t v (optionalSeen (optionalAt link there s t k v))
-  unfolding optionalAt
-  optional-placed true = present (idAt link s t k v) id-placed
-    where
-      present : (g : S.Got IdRead) → Placed 1 t v (idSeen g)
-          → Placed 0 t v (optionalSeen (S.then g λ (i : IdRead) next w. S.got (record { string = some (i .string); how = some (i .how); number = i .number }) next w))
-      present (S.got i next w) h = (omega arith, h .1, h .2, h .3)
-      present (S.refused n p) h = tt
-  optional-placed false = (omega arith, omega arith, λ u. omega arith, λ u. refl)
-
--- the numbers of a name's strings, read one behind the other
-pub strings-ranged : (s : List ℕ) (p n : Bool) (k k₁ k₂ k₃ : ℕ) (v v₁ v₂ : Vocabulary Located) (c : Counts) (w : List ℕ) (x₁ x₂ x₃ : Seen)
-    → S.got x₁ k₁ v₁ ≡ optionalSeen (optionalAt link p s (tableOf 0) k v) → S.got x₂ k₂ v₂ ≡ optionalSeen (optionalAt link n s (tableOf 1) k₁ v₁)
-    → S.got x₃ k₃ (vocabulary c w) ≡ idSeen (idAt link s (tableOf 2) k₂ v₂) → Ranged c (record { prefix = x₁ .number; namespace = x₂ .number; local = x₃ .number } ∷ [])
-unfolding countOf
-strings-ranged s p n k k₁ k₂ k₃ v v₁ v₂ c w x₁ x₂ x₃ e₁ e₂ e₃ =
-    let a = rw (← e₁) at (optional-placed s (tableOf 0) k v p) in
-    let b = rw (← e₂) at (optional-placed s (tableOf 1) k₁ v₁ n) in
-    let d = rw (← e₃) at (id-placed s (tableOf 2) k₂ v₂) in
-    let a₂ = b .2 (tableOf 0) in
-    let a₃ = d .2 (tableOf 0) in
-    let b₃ = d .2 (tableOf 1) in
-    let l₀ = length-strings c w 0 (omega arith) in
-    let l₁ = length-strings c w 1 (omega arith) in
-    let l₂ = length-strings c w 2 (omega arith) in
-    (omega arith, omega arith, omega arith, omega arith, tt)
+same-names : (s : List ℕ) (t : StringTable) (k : ℕ) (v : Vocabulary Located) → SameNames v (idSeen (idAt link s t k v))
+unfolding idAt spelling
+same-names s t k v =
+    let P : S.Got IdRead → Type 0 = λ (g : S.Got IdRead). SameNames v (idSeen g) in
+    tests P (ltb (getD s k 0) 0x80) _ _
+    (λ o. numbered P (fieldAt (lengths 2) noTop 2 s k) _
+    (λ n c. tests P (leb (c .at + n) (length s)) _ _
+    (λ a. tests P (isText (octetsOf s (stretch (c .at) n))) _ _
+    (λ b. tests P (holds (map (octetsOf s) (strings v t)) (octetsOf s (stretch (c .at) n))) _ _ (λ h. tt)
+    (λ h. tests P (ltb (length (strings v t)) (link .entries)) _ _ (λ r. names-adding v t (stretch (c .at) n)) (λ r. tt)))
+    (λ b. tt))
+    (λ a. tt))
+    (λ n p. tt))
+    (λ o. numbered P (fieldAt c25 top 2 s k) _
+    (λ n c. tests P (leb n (length (strings v t))) _ _ (λ h u. refl) (λ h. tt))
+    (λ n p. tt))
 
 -- a local name that is new is in no name
 unnamed : (c : Counts) (x : Triple) → c .local < x .local → (l : List Triple) (k : ℕ) → Ranged c l → 0 ≡ lowest (λ (y : Triple). sameTriple y x) k l
@@ -296,12 +270,32 @@ unfolding lowest sameTriple
 unnamed c x h [] k r = refl
 unnamed c x h (y ∷ l) k r = rw (ne-eqb (y .local) (x .local) (omega arith), and-false, and-false) (unnamed c x h l (suc k) (r .4))
 
-pub local-new : (s : List ℕ) (k k₁ : ℕ) (c d : Counts) (w w₁ : List ℕ) (x : Seen) → Tidy s c w → S.got x k₁ (vocabulary d w₁) ≡ idSeen (idAt link s (tableOf 2) k (vocabulary c w))
-    → (t : NameTable) (p n : ℕ) → c .local < x .number → 0 ≡ numberOfTriple (names (vocabulary d w₁) t) (record { prefix = p; namespace = n; local = x .number })
+pub local-new : (s c w i d v : List ℕ) (k k₁ : ℕ) (x : Seen) → Tidy s c w i → S.got x k₁ (vocabulary (unlisted d) v) ≡ idSeen (idAt link s (tableOf 2) k (vocabulary (unlisted c) w))
+    → (t : NameTable) (p n : ℕ) → getD c 2 0 < x .number → 0 ≡ numberOfTriple (names (vocabulary (unlisted d) v) t) (record { prefix = p; namespace = n; local = x .number })
 unfolding numberOfTriple
-local-new s k k₁ c d w w₁ x tidy e t p n h =
-    let g = rw (← e) at (id-placed s (tableOf 2) k (vocabulary c w)) in
-    rw (g .3 t) (unnamed c _ h (names (vocabulary c w) t) 1 (tidy .ranged t))
+local-new s c w i d v k k₁ x tidy e t p n h =
+    let g = (rw (← e) at (same-names s (tableOf 2) k (vocabulary (unlisted c) w))) t in
+    rw g (unnamed (unlisted c) _ h (names (vocabulary (unlisted c) w) t) 1 (tidy .ranged t))
+
+-- ---- a name's strings, read one behind the other, and what is said at the end
+abbrev pub Says : List ℕ → (t : ℕ) → Parts → Entry → Type 0
+Says v t y (Numbered n at) = nameStringsAt v t n ≡ y
+Says v t y (NotNumbered n p) = Unit {0}
+
+module _ (c₁ w₁ c₂ w₂ c₃ w₃ : List ℕ) (p n l : ℕ) (hp : p ≤ countOf (unlisted c₁) 0) (hn : n ≤ countOf (unlisted c₂) 1) (hl : l ≤ countOf (unlisted c₃) 2) (g : Grown c₁ w₁ c₂ w₂)
+    (h : Grown c₂ w₂ c₃ w₃) where
+  pub strings-ranged : 1 ≤ l → Ranged (unlisted c₃) (record { prefix = p; namespace = n; local = l } ∷ [])
+  unfolding countOf
+  strings-ranged some = let a = g .counts 0 in let b = h .counts 0 in let e = h .counts 1 in (omega arith, omega arith, some, hl, tt)
+
+  pub new-says : (s d v y : List ℕ) (t : ℕ) (r : Entry) → IdLeft s c₃ w₃ t r d v y → NewRow v t (record { prefix = p; namespace = n; local = l }) r
+      → Says v t (record { prefix = eventStringAt w₁ 0 p; namespace = eventStringAt w₂ 1 n; local = eventStringAt w₃ 2 l }) r
+  unfolding nameStringsAt eventStringsAt
+  new-says s d v y t (Numbered m at) left row =
+      let k = left .0 .grown in
+      let j = grown-on c₂ w₂ c₃ w₃ d v h k in
+      rw (row .1, string-stays c₁ w₁ d v (grown-on c₁ w₁ c₂ w₂ d v g j) 0 p (omega arith) hp, string-stays c₂ w₂ d v j 1 n (omega arith) hn, string-stays c₃ w₃ d v k 2 l (omega arith) hl)
+  new-says s d v y t (NotNumbered m q) left row = tt
 
 -- ---- what is seen of a name's strings
 module _ {C : Type 0} (z : S.Got C → S.Got Parts) (refusal : (n p : ℕ) → z (S.refused n p) ≡ S.refused n p) (h : Seen → ℕ → Vocabulary Located → S.Got Parts) where
@@ -335,17 +329,22 @@ namespace-field : (s : List ℕ) (b k : ℕ) (v : Vocabulary Located) (m : ℕ) 
 unfolding tableOf
 namespace-field s b k v m e = let z : m ≡ b % 2 = omega arith in rw z
 
-seen-new : (held room : Bool) (x : NameRead) (k next : ℕ) (v : Vocabulary Located)
-    → nameSeen (pick held (S.refused 11 k) (pick room (S.got x next v) (S.refused 12 k))) ≡ pick held (S.refused 11 k) (pick room (nameSeen (S.got x next v)) (S.refused 12 k))
-seen-new true room x k next v = refl
-seen-new false true x k next v = refl
-seen-new false false x k next v = refl
+-- a name, where its number is got
+abbrev named : Parts → S.Got ℕ → S.Got Parts
+named y (S.got n next v) = S.got y next v
+named y (S.refused n p) = S.refused n p
+
+seen-new : (held room : Bool) (x : NameRead) (y : Parts) (m k next : ℕ) (v : Vocabulary Located) → nameSeen (S.got x next v) ≡ S.got y next v
+    → nameSeen (pick held (S.refused 11 k) (pick room (S.got x next v) (S.refused 12 k))) ≡ named y (pick held (S.refused 11 k) (pick room (S.got m next v) (S.refused 12 k)))
+seen-new true room x y m k next v e = refl
+seen-new false true x y m k next v e = e
+seen-new false false x y m k next v e = refl
 
 -- a name in parts, of what is seen of its strings
 module _ (q : NameLayout) (s : List ℕ) (b k : ℕ) where
   abbrev behindLocal : Seen → Seen → Seen → ℕ → Vocabulary Located → S.Got Parts
   behindLocal p n l k₃ v₃ =
-      newName link (q .table) (record { prefix = p .number; namespace = n .number; local = l .number }) (record { prefix = p .text; namespace = n .text; local = l .text }) k k₃ v₃
+      named (record { prefix = p .text; namespace = n .text; local = l .text }) (newName link (q .table) (record { prefix = p .number; namespace = n .number; local = l .number }) k k₃ v₃)
 
   abbrev behindNamespace : Seen → Seen → ℕ → Vocabulary Located → S.Got Parts
   behindNamespace p n k₂ v₂ = S.then (localField s k₂ v₂) λ l k₃ v₃. behindLocal p n l k₃ v₃
@@ -363,7 +362,7 @@ module _ (q : NameLayout) (s : List ℕ) (b k : ℕ) where
       λ n k₂ v₂. seen-id nameSeen (λ n p. refl) (behindLocal (record { text = optionalEventString (p .string); number = p .number }) (record { text = optionalEventString (n .string); number = n .number })) (idAt link s LOCAL-NAME k₂ v₂) _
       λ l k₃ v₃.
       let x : Triple = record { prefix = p .number; namespace = n .number; local = l .number } in
-      seen-new (holdsName (names v₃ (q .table)) x) (ltb (length (names v₃ (q .table))) (link .entries)) _ k k₃ (addingName v₃ (q .table) x))
+      seen-new (holdsName (names v₃ (q .table)) x) (ltb (length (names v₃ (q .table))) (link .entries)) _ _ _ k k₃ (addingName v₃ (q .table) x) refl)
 
 module _ (q : NameLayout) (s : List ℕ) (b k : ℕ) (v : Vocabulary Located) (pn : ℕ) (ep : pn ≡ bitsOf b 7 8) where
   pub parts-lone : pn ≡ 2 → S.refused 15 k ≡ nameSeen (partsAt link q s b k v)
@@ -391,19 +390,25 @@ module _ (q : NameLayout) (s : List ℕ) (b k : ℕ) (v : Vocabulary Located) (p
         pub parts-local : (n p : ℕ) → S.refused n p ≡ localField s k₂ v₂ → S.refused n p ≡ nameSeen (partsAt link q s b k v)
         parts-local n p e = rw (parts-third, ← e)
 
-        -- t is the table's number, and g what adding the name gave
-        pub parts-read : (x₃ : Seen) (k₃ : ℕ) (v₃ : Vocabulary Located) → S.got x₃ k₃ v₃ ≡ localField s k₂ v₂ → (t : ℕ) → q .table ≡ nameTableOf t → (g : S.Got Parts)
-            → g ≡ newName link (nameTableOf t) (record { prefix = x₁ .number; namespace = x₂ .number; local = x₃ .number }) (record { prefix = x₁ .text; namespace = x₂ .text; local = x₃ .text }) k k₃ v₃
-            → g ≡ nameSeen (partsAt link q s b k v)
-        parts-read x₃ k₃ v₃ e₃ t et g h = rw (parts-third, ← e₃, et) h
+        -- t is the table's number, and r what adding the name gave
+        pub parts-read : (x₃ : Seen) (k₃ : ℕ) (v₃ : Vocabulary Located) → S.got x₃ k₃ v₃ ≡ localField s k₂ v₂ → (t : ℕ) → q .table ≡ nameTableOf t → (r : Entry) (d u : List ℕ)
+            → seenNumber r d u ≡ newName link (nameTableOf t) (record { prefix = x₁ .number; namespace = x₂ .number; local = x₃ .number }) k k₃ v₃
+            → Says u t (record { prefix = x₁ .text; namespace = x₂ .text; local = x₃ .text }) r → seenName t r d u ≡ nameSeen (partsAt link q s b k v)
+        parts-read x₃ k₃ v₃ e₃ t et r d u h says = rw (parts-third, ← e₃, et, ← h) (by r says)
+          where
+            by : (a : Entry) → Says u t (record { prefix = x₁ .text; namespace = x₂ .text; local = x₃ .text }) a
+                → seenName t a d u ≡ named (record { prefix = x₁ .text; namespace = x₂ .text; local = x₃ .text }) (seenNumber a d u)
+            by (Numbered n at) e = ap (λ (y : Parts). S.got y at (vocabulary (unlisted d) u)) e
+            by (NotNumbered n p) e = refl
 
 -- ---- a refusal handed on
-module _ (s w : List ℕ) (g : S.Got Parts) (a : Named) (n p : ℕ) (h : S.refused n p ≡ g) (room : length w ≡ tableWords) where
-  pub string-handed : (r : Field) → a ≡ stringFault r → r ≡ Refused n p → (seenName a w ≡ g) × NameTidy s a w
-  string-handed r ea er = rw (ea, er) (h, room)
+pub handed : (s c w d v x : List ℕ) (t : ℕ) (g : S.Got Parts) (n p : ℕ) → S.refused n p ≡ g → (length d ≡ 10) × (length v ≡ 7680) → (r : Entry) → r ≡ NotNumbered n p
+    → (seenName t r d v ≡ g) × IdLeft s c w t r d v x × Positive r
+handed s c w d v x t g n p h rooms r e = rw e (h, rooms, tt)
 
-  pub number-handed : (r : Number) → a ≡ numberFault r → r ≡ NoNum n p → (seenName a w ≡ g) × NameTidy s a w
-  number-handed r ea er = rw (ea, er) (h, room)
+pub positive : (v : List ℕ) (t : ℕ) (x : Triple) (r : Entry) → NewRow v t x r → Positive r
+positive v t x (Numbered n at) h = h .0
+positive v t x (NotNumbered n p) h = tt
 
 -- ---- by number or in parts
 module _ (q : NameLayout) (s : List ℕ) (b k : ℕ) (v : Vocabulary Located) (g : S.Got Parts) (i : ℕ) (e : i ≡ q .inPartsBits) where
@@ -468,3 +473,11 @@ module _ (s : List ℕ) (k : ℕ) (v : Vocabulary Located) (there : k < length s
         pub declared-read : (x₂ : Seen) (k₂ : ℕ) (v₂ : Vocabulary Located) → S.got x₂ k₂ v₂ ≡ namespaceField s m k₁ v₁
             → S.got (record { prefix = x₁ .text; namespace = x₂ .text; local = Absent }) k₂ v₂ ≡ declaredSeen (declaredAt link s k v)
         declared-read x₂ k₂ v₂ e = rw (declared-second, ← e)
+
+-- the numbers of a declaration's strings, and what they leave
+pub declared-left : (s c w c₁ w₁ x₁ d v x : List ℕ) (k₁ k₂ p n : ℕ) → Left s c w k₁ c₁ w₁ x₁ × (p ≤ countOf (unlisted c₁) 0) → Left s c₁ w₁ k₂ d v x × (n ≤ countOf (unlisted d) 1)
+    → Left s c w k₂ d v x × (p ≤ 256) × (n ≤ 256)
+declared-left s c w c₁ w₁ x₁ d v x k₁ k₂ p n f g =
+    let a = f .0 .tidy .counted 0 in
+    let b = g .0 .tidy .counted 1 in
+    (record { tidy = g .0 .tidy; within = g .0 .within; grown = grown-on c w c₁ w₁ d v (f .0 .grown) (g .0 .grown) }, omega arith, omega arith)

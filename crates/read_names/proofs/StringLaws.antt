@@ -9,8 +9,7 @@ use native.Mathlib.Omega.{arith}
 use native.Mathlib.Numerals.{add-one}
 use borrow.Author.Tests.{lt-ltb, le-ltb, le-leb, lt-leb, leb-true, eq-eqb, ne-eqb}
 use lib.Dec.{ltb, leb, eqb}
-use lib.ListN.{length, getD, set, take, drop, List·getD-eq-default}
-use lib.Seq.{length-sets}
+use lib.ListN.{length, getD, set, take, drop, length-set, List·getD-eq-default}
 use Rattle.format.specs.Numbers.{pick, Form, lengths, numbers, c25, top}
 use Rattle.fields.specs.Utf8.{isText}
 use Rattle.format.specs.Events.{spelled, numbered}
@@ -27,48 +26,61 @@ use Rattle.tables.specs.declared.Row.{Row}
 use Rattle.tables.specs.Located.{Located, empty, stretch, octetsOf}
 use Rattle.tables.specs.Search.{numberIn}
 use Rattle.tables.specs.Rows.{tableOf, builtIn, stringAt, entries, vocabulary}
-use Rattle.tables.specs.Kept.{listed, countOf, oneMore, stored, rowAt}
+use Rattle.tables.specs.Kept.{unlisted, countOf, stored, rowAt, Inside}
 use Rattle.tables.proofs.Search.{octets-stretch}
 use Rattle.tables.proofs.Adding.{names-adding}
-use Rattle.tables.proofs.Laws.{strings-are, length-strings, string-nth, counted-more, string-added, clean-string, holds-number, inside-string}
+use Rattle.tables.proofs.Entries.{stored-0, stored-1}
+use Rattle.tables.proofs.Rooms.{stored-length}
+use Rattle.tables.proofs.Laws.{strings-are, length-strings, string-nth, counted-more, string-added, clean-string, holds-number, inside-string, inside-table}
+use Rattle.index.specs.Indexed.{Indexed, StringsIndexed, StringEntered}
+use Rattle.index.proofs.Entered.{keeps-elsewhere}
 use Rattle.events.specs.declared.EventString.{EventString}
 use Rattle.events.specs.declared.EventString.the-variants.{Absent, Empty, Stretch, XmlPrefix, XmlNamespace}
 use Rattle.events.specs.Records.{eventString}
-use Rattle.read_names.specs.declared.Here.{Here}
+use Rattle.read_names.specs.declared.Entry.{Entry}
+use Rattle.read_names.specs.declared.Entry.the-variants.{Got as Numbered, Refused as NotNumbered}
 use Rattle.read_names.specs.declared.Field.{Field}
 use Rattle.read_names.specs.declared.Field.the-variants.{Got, Refused}
 use Rattle.read_names.specs.Strings as S
 use Rattle.read_names.specs.Strings.{got, refused, then, number, spelling, IdRead, StringRead, idAt, optionalAt, numberBit, spelledAt, literalAt, valueAt}
-use Rattle.read_names.specs.Contracts.{Ranged, Tidy, Seen, seenField, FieldTidy, idSeen, optionalSeen, stringSeen}
-use Rattle.read_names.specs.StringContracts.{refusalOf, stretchOf, Positive, heldOf, addedOf, addedWords, unnumberedOf, lengthFrom}
+use Rattle.read_names.specs.Contracts.{Ranged, searched, Tidy, Left, eventStringAt, Seen, seenId, IdLeft, Positive, seenField, FieldLeft, idSeen, optionalSeen, stringSeen}
+use Rattle.read_names.specs.StringContracts.{BehindWithin, stretchOf, NumberPositive, heldOf, saidOf, addedOf, addedCounts, addedWords, lengthFrom}
+use Rattle.read_names.proofs.Grown.{count-at, one-more, one-more-words, searched-string, searched-not, grown-none, grown-stored}
 
 -- a test of a definition, taken apart
 pub tests : {A : Type 0} (P : A → Type 0) (t : Bool) (a b : A) → (t ≡ true → P a) → (t ≡ false → P b) → P (pick t a b)
 tests P true a b f g = f refl
 tests P false a b f g = g refl
 
--- ---- a spelled string's octets: m is the length that was read at k
-module _ (s : List ℕ) (k : ℕ) (m f : Number) (is : m ≡ f) where
-  pub stretch-not : (n p : ℕ) → m ≡ NoNum n p → m ≡ stretchOf s k f
-  unfolding stretchOf
-  stretch-not n p e = rw (← is, e)
+-- ---- a spelled string's octets: r is the length that was read at k
+pub behind-within : (most : ℕ) (s : List ℕ) (k : ℕ) (fs : List Form) (bit : ℕ) (r : Number) → r ≡ fieldAt fs most bit s k → BehindWithin s r
+behind-within most s k fs bit (NoNum n p) e = tt
+behind-within most s k fs bit (Num n c) e = field-got most s k fs bit (sym e) .3
 
-  module _ (n : ℕ) (c : Cursor) (e : m ≡ Num n c) where
-    pub stretch-past : length s < c .at + n → NoNum 2 k ≡ stretchOf s k f
+pub starts-within : (s : List ℕ) (r : Number) (n : ℕ) (c : Cursor) → r ≡ Num n c → BehindWithin s r → c .at ≤ length s
+starts-within s r n c e w = rw e at w
+
+module _ (s : List ℕ) (k : ℕ) (r : Number) where
+  pub stretch-not : (n p : ℕ) → r ≡ NoNum n p → r ≡ stretchOf s k r
+  unfolding stretchOf
+  stretch-not n p e = rw e
+
+  module _ (n : ℕ) (c : Cursor) (e : r ≡ Num n c) where
+    pub stretch-past : length s < c .at + n → NoNum 2 k ≡ stretchOf s k r
     unfolding stretchOf
-    stretch-past h = rw (← is, e, lt-leb _ _ h)
+    stretch-past h = rw (e, lt-leb _ _ h)
 
     module _ (b : Bool) (to : ℕ) (h : c .at + n ≤ length s) (is-to : to ≡ c .at + n) (q : b ≡ isText (take (to - c .at) (drop (c .at) s))) where
       tested : b ≡ isText (octetsOf s (stretch (c .at) n))
       tested = let z : to - c .at ≡ n = omega arith in rw (octets-stretch s (c .at) n, ← z) q
 
-      pub stretch-bad : b ≡ false → NoNum 9 k ≡ stretchOf s k f
+      pub stretch-bad : b ≡ false → NoNum 9 k ≡ stretchOf s k r
       unfolding stretchOf
-      stretch-bad t = rw (← is, e, le-leb _ _ h, ← tested, t)
+      stretch-bad t = rw (e, le-leb _ _ h, ← tested, t)
 
-      pub stretch-text : b ≡ true → Num n c ≡ stretchOf s k f
+      pub stretch-text : b ≡ true → Num n c ≡ stretchOf s k r
       unfolding stretchOf
-      stretch-text t = rw (← is, e, le-leb _ _ h, ← tested, t)
+      stretch-text t = rw (e, le-leb _ _ h, ← tested, t)
 
 -- ---- an entry as a string of an event
 module _ (t at : ℕ) (w : List ℕ) (e : Row) (is : e ≡ rowAt w at) where
@@ -105,42 +117,68 @@ built-in-none (suc (suc (suc (suc (suc (suc zero)))))) h a b = refl
 built-in-none (suc (suc (suc (suc (suc (suc (suc zero))))))) h a b = refl
 built-in-none (suc (suc (suc (suc (suc (suc (suc (suc t)))))))) h a b = absurd (omega arith)
 
+-- ---- the string behind a number
+pub string-none : (w : List ℕ) (t n : ℕ) → n ≡ 0 → Absent ≡ eventStringAt w t n
+unfolding eventStringAt
+string-none w t n e = rw e
+
+pub string-there : (w : List ℕ) (t n : ℕ) (x : EventString) → 1 ≤ n → x ≡ eventString (stringAt (tableOf t) w (768 * t + 3 * (n - 1))) → x ≡ eventStringAt w t n
+unfolding eventStringAt
+string-there w t n x h e = let z : suc (n - 1) ≡ n = omega arith in e ∙ ap (eventStringAt w t) z
+
 -- ---- a number that was read
-pub read-positive : (s : List ℕ) (k bit : ℕ) (fs : List Form) (r : Number) → r ≡ fieldAt fs top bit s k → Positive r
-read-positive s k bit fs (Num n c) e = field-got top s k fs bit (sym e) .0
-read-positive s k bit fs (NoNum n p) e = tt
-
-pub positive : (r : Number) (n : ℕ) (c : Cursor) → Positive r → r ≡ Num n c → 1 ≤ n
-positive r n c p e = rw e at p
-
-module _ (w : List ℕ) (h : Here) (t : ℕ) (r : Number) where
-  pub held-not : (n p : ℕ) → r ≡ NoNum n p → refusalOf r ≡ heldOf w h t r
+module _ (count k : ℕ) (r : Number) where
+  pub held-not : (n p : ℕ) → r ≡ NoNum n p → NotNumbered n p ≡ heldOf count k r
   unfolding heldOf
   held-not n p e = rw e
 
   module _ (n : ℕ) (c : Cursor) (e : r ≡ Num n c) where
-    pub held-beyond : countOf (h .counts) t < n → Refused 10 (h .at) ≡ heldOf w h t r
+    pub held-beyond : count < n → NotNumbered 10 k ≡ heldOf count k r
     unfolding heldOf
     held-beyond l = rw (e, lt-leb _ _ l)
 
-    pub held-entry : (x : EventString) → n ≤ countOf (h .counts) t → x ≡ eventString (stringAt (tableOf t) w (768 * t + 3 * (n - 1)))
-        → Got x n (record { at = c .at; counts = h .counts }) ≡ heldOf w h t r
+    pub held-entry : n ≤ count → Numbered n (c .at) ≡ heldOf count k r
     unfolding heldOf
-    held-entry x l q = rw (e, le-leb _ _ l, q)
+    held-entry l = rw (e, le-leb _ _ l)
 
--- ---- one entry more
-module _ (h : Here) (w : List ℕ) (t place size : ℕ) where
-  pub added-full : 256 ≤ countOf (h .counts) t → (Refused 12 (h .at) ≡ addedOf h t place size) × (w ≡ addedWords (h .counts) w t place size)
-  unfolding addedOf addedWords
-  added-full l = (rw (le-ltb _ _ l), rw (le-ltb _ _ l))
+  pub held-positive : (fs : List Form) (bit : ℕ) (s : List ℕ) → count ≤ 256 → r ≡ fieldAt fs top bit s k → NumberPositive (heldOf count k r)
+  unfolding heldOf
+  held-positive fs bit s small e = by r e
+    where
+      by : (f : Number) → f ≡ fieldAt fs top bit s k → NumberPositive (heldOf count k f)
+      by (NoNum n p) q = tt
+      by (Num n c) q = let g = field-got top s k fs bit (sym q) in tests NumberPositive (leb n count) _ _ (λ l. let u : n ≤ count = leb-true _ _ l in (g .0, omega arith)) (λ l. tt)
 
-  pub added-more : (n a b : ℕ) (cs : Counts) (v : List ℕ) → n ≡ countOf (h .counts) t → n < 256 → a ≡ place → b ≡ size → cs ≡ oneMore (h .counts) t
-      → v ≡ stored w t n a b 0
-      → (Got (Stretch a b) (n + 1) (record { at = place + size; counts = cs }) ≡ addedOf h t place size) × (v ≡ addedWords (h .counts) w t place size)
-  unfolding addedOf addedWords
-  added-more n a b cs v en l ea eb ec ev =
-      let room : countOf (h .counts) t < 256 = omega arith in
-      (rw (lt-ltb _ _ room, en, ea, eb, ec), rw (lt-ltb _ _ room, ev, en, ea, eb))
+pub numbers-from-one : (r : Entry) → NumberPositive r → Positive r
+numbers-from-one (Numbered n at) p = p .0
+numbers-from-one (NotNumbered n p) h = tt
+
+pub said-number : (r : Entry) (n at : ℕ) → r ≡ Numbered n at → NumberPositive r → (1 ≤ n) × (n ≤ 256)
+said-number r n at e p = rw e at p
+
+module _ (w : List ℕ) (t : ℕ) (r : Entry) where
+  pub said-not : (n p : ℕ) → r ≡ NotNumbered n p → Refused n p ≡ saidOf w t r
+  unfolding saidOf
+  said-not n p e = rw e
+
+  pub said-entry : (n at : ℕ) (x : EventString) → r ≡ Numbered n at → x ≡ eventString (stringAt (tableOf t) w (768 * t + 3 * (n - 1))) → Got x at ≡ saidOf w t r
+  unfolding saidOf
+  said-entry n at x e q = rw (e, q)
+
+-- ---- one entry more, where its add bit says so
+module _ (c w : List ℕ) (t k place size : ℕ) (add : Bool) (a b : ℕ) (ea : a ≡ place) (eb : b ≡ size) where
+  pub added-not : add ≡ false → (Got (Stretch a b) (place + size) ≡ addedOf c t k place size add) × (c ≡ addedCounts c t add) × (w ≡ addedWords c w t place size add)
+  unfolding addedOf addedCounts addedWords
+  added-not z = rw (z, ea, eb) (refl, refl, refl)
+
+  pub added-full : add ≡ true → 256 ≤ getD c t 0 → (Refused 12 k ≡ addedOf c t k place size add) × (c ≡ addedCounts c t add) × (w ≡ addedWords c w t place size add)
+  unfolding addedOf addedCounts addedWords
+  added-full z l = rw (z, le-ltb _ _ l) (refl, refl, refl)
+
+  pub added-more : add ≡ true → getD c t 0 < 256 → (v : List ℕ) → v ≡ stored w t (getD c t 0) a b 0
+      → (Got (Stretch a b) (place + size) ≡ addedOf c t k place size add) × (set c t (getD c t 0 + 1) ≡ addedCounts c t add) × (v ≡ addedWords c w t place size add)
+  unfolding addedOf addedCounts addedWords
+  added-more z l v ev = rw (z, lt-ltb _ _ l, ev, ea, eb) (refl, refl, refl)
 
 -- ---- tables in order stay so
 growing : (l : List ℕ) (t k : ℕ) → getD l k 0 ≤ getD (set l t (getD l t 0 + 1)) k 0
@@ -154,40 +192,67 @@ pub ranged-kept : (c d : Counts) → c .prefix ≤ d .prefix → c .namespace �
 ranged-kept c d p n k [] r = tt
 ranged-kept c d p n k (x ∷ l) r = (omega arith, omega arith, omega arith, omega arith, ranged-kept c d p n k l (r .4))
 
-module _ (s : List ℕ) (c : Counts) (w : List ℕ) (t place size : ℕ) (tidy : Tidy s c w) (h : t < 8) (room : countOf c t < 256) (ends : place + size ≤ length s) (some : 0 < size) where
-  is-added : vocabulary (oneMore c t) (stored w t (countOf c t) place size 0) ≡ adding (vocabulary c w) (tableOf t) (stretch place size)
-  is-added = string-added c w t (tidy .counted) room (tidy .room) place size h some
+-- a string more in table t, and the index y that is kept with it
+module _ (s c w x : List ℕ) (t place size : ℕ) (tidy : Tidy s c w x) (h : t < 8) (room : getD c t 0 < 256) (ends : place + size ≤ length s) (some : 0 < size) where
+  abbrev then-counts : List ℕ
+  then-counts = set c t (getD c t 0 + 1)
 
-  tidy-more : Tidy s (oneMore c t) (stored w t (countOf c t) place size 0)
-  unfolding oneMore countOf stored
-  tidy-more =
+  abbrev then-words : List ℕ
+  then-words = stored w t (getD c t 0) place size 0
+
+  is-added : vocabulary (unlisted then-counts) then-words ≡ adding (vocabulary (unlisted c) w) (tableOf t) (stretch place size)
+  is-added =
+      let n = count-at c (tidy .ten) t in
+      rw (one-more c (tidy .ten) t) (rw n at (string-added (unlisted c) w t (tidy .counted) (omega arith) (tidy .room) place size h some))
+
+  left-more : (y : List ℕ) → Indexed searched s (countOf (unlisted then-counts)) then-words y → Left s c w (place + size) then-counts then-words y
+  left-more y keeps =
+      let n = count-at c (tidy .ten) t in
       record {
-        size = tidy .size;
-        room = length-sets w (768 * t + 3 * countOf c t) (place ∷ size ∷ 0 ∷ []) ∙ tidy .room;
-        counted = counted-more c t (omega arith) room (tidy .counted);
-        clean = clean-string c w t (tidy .counted) room (tidy .room) place size h some (tidy .clean);
-        inside = rw is-added (inside-string s (vocabulary c w) (tableOf t) (stretch place size) (tidy .inside) ends);
-        ranged = λ k. rw (is-added, names-adding (vocabulary c w) (tableOf t) (stretch place size) k)
-            (ranged-kept c (oneMore c t) (growing (listed c) t 0) (growing (listed c) t 1) (growing (listed c) t 2) (names (vocabulary c w) k) (tidy .ranged k));
+        tidy = record {
+          size = tidy .size;
+          ten = length-set c t (getD c t 0 + 1) ∙ tidy .ten;
+          room = stored-length w t (getD c t 0) place size 0 ∙ tidy .room;
+          counted = rw (one-more c (tidy .ten) t) (counted-more (unlisted c) t (omega arith) (omega arith) (tidy .counted));
+          clean = rw (one-more c (tidy .ten) t) (rw n at (clean-string (unlisted c) w t (tidy .counted) (omega arith) (tidy .room) place size h some (tidy .clean)));
+          inside = rw is-added (inside-string s (vocabulary (unlisted c) w) (tableOf t) (stretch place size) (tidy .inside) ends);
+          ranged = λ k. rw (is-added, names-adding (vocabulary (unlisted c) w) (tableOf t) (stretch place size) k)
+              (ranged-kept (unlisted c) (unlisted then-counts) (growing c t 0) (growing c t 1) (growing c t 2) (names (vocabulary (unlisted c) w) k) (tidy .ranged k));
+          indexed = keeps;
+        };
+        within = ends;
+        grown = grown-stored c w t place size 0 (tidy .ten) (omega arith) room (tidy .counted);
       }
 
--- ---- what a string's answer stands for
-abbrev pub Answers : List ℕ → Field → List ℕ → S.Got Seen → Type 0
-Answers s r w a = (seenField r w ≡ a) × FieldTidy s r w
+  -- of a table that is searched, and of one that is not
+  left-entered : (y : List ℕ) → StringEntered s t (getD c t 0) place size w x then-words y → Left s c w (place + size) then-counts then-words y
+  left-entered y e = left-more y (e .keeps .still searched (countOf (unlisted c)) (countOf (unlisted then-counts)) (one-more-words c (tidy .ten) t (omega arith)) (tidy .indexed))
+
+  left-elsewhere : 5 ≤ t → Left s c w (place + size) then-counts then-words x
+  left-elsewhere l =
+      left-more x
+      (keeps-elsewhere searched s w x t (getD c t 0) place size 0 (countOf (unlisted c)) (countOf (unlisted then-counts)) room (searched-not t l h)
+      (one-more-words c (tidy .ten) t (omega arith)) (tidy .indexed))
+
+  -- the string behind its number
+  new-string : Stretch place size ≡ eventStringAt then-words t (getD c t 0 + 1)
+  unfolding eventStringAt stringAt
+  new-string =
+      let n = count-at c (tidy .ten) t in
+      let one = stored-1 w t (getD c t 0) place size 0 (let r = tidy .room in omega arith) in
+      rw (add-one (getD c t 0), one, stored-0 w t (getD c t 0) place size 0 (let r = tidy .room in omega arith), ne-eqb size 0 (omega arith))
+
+-- ---- what an answer stands for
+abbrev pub IdAnswers : (s c w : List ℕ) → ℕ → Entry → (d v x : List ℕ) → S.Got Seen → Type 0
+IdAnswers s c w t r d v x a = (seenId t r d v ≡ a) × IdLeft s c w t r d v x × Positive r
+
+abbrev pub FieldAnswers : (s c w : List ℕ) → Field → (d v x : List ℕ) → S.Got EventString → Type 0
+FieldAnswers s c w r d v x a = (seenField r d v ≡ a) × FieldLeft s c w r d v x
 
 -- a test of a definition, under a map
 under : {A B : Type 0} (f : A → B) (b : Bool) (x y : A) → f (pick b x y) ≡ pick b (f x) (f y)
 under f true x y = refl
 under f false x y = refl
-
--- the same without its number
-abbrev unnumberedSeen : S.Got Seen → S.Got Seen
-unnumberedSeen (got b next v) = got (record { text = b .text; number = 0 }) next v
-unnumberedSeen (refused n p) = refused n p
-
-unnumbered-answers : (s : List ℕ) (r : Field) (w : List ℕ) (a : S.Got Seen) → Answers s r w a → Answers s (unnumberedOf r) w (unnumberedSeen a)
-unnumbered-answers s (Got x n h) w a p = (ap unnumberedSeen (p .0), p .1)
-unnumbered-answers s (Refused n q) w a p = (ap unnumberedSeen (p .0), p .1)
 
 -- the octets of a spelled string are judged in `stretchOf`
 judged : {C : Type 0} (s : List ℕ) (k : ℕ) (a : ℕ → ℕ → S.Got C) (f : Number) → number f (λ n next. spelling s k next n (a n next)) ≡ number (stretchOf s k f) a
@@ -200,261 +265,303 @@ judged s k a (Num n c) = by (leb (c .at + n) (length s)) (isText (octetsOf s (st
     by true false = refl
     by false u = refl
 
-abbrev Lies : List ℕ → Number → Type 0
-Lies s (Num n c) = (1 ≤ n) × (c .at + n ≤ length s)
-Lies s (NoNum n p) = Unit {0}
+-- they are the ones that were read, and lie in the document
+module _ (s : List ℕ) (k : ℕ) where
+  abbrev Lies : Number → Number → Type 0
+  Lies r (Num n c) = (r ≡ Num n c) × (c .at + n ≤ length s)
+  Lies r (NoNum n p) = Unit {0}
 
--- so they lie in the document
-module _ (s : List ℕ) (k bit : ℕ) where
-  lies : (f : Number) → f ≡ fieldAt (lengths bit) noTop bit s k → Lies s (stretchOf s k f)
+  lies : (r : Number) → Lies r (stretchOf s k r)
   unfolding stretchOf
-  lies (NoNum n p) e = tt
-  lies (Num n c) e =
-      let g = field-got noTop s k (lengths bit) bit (sym e) in
-      tests (Lies s) (leb (c .at + n) (length s)) _ _
-      (λ t. tests (Lies s) (isText (octetsOf s (stretch (c .at) n))) _ _ (λ u. (g .0, leb-true _ _ t)) (λ u. tt))
+  lies (NoNum n p) = tt
+  lies (Num n c) =
+      tests (Lies (Num n c)) (leb (c .at + n) (length s)) _ _
+      (λ t. tests (Lies (Num n c)) (isText (octetsOf s (stretch (c .at) n))) _ _ (λ u. (refl, leb-true _ _ t)) (λ u. tt))
       (λ t. tt)
 
-  pub stretch-lies : (n : ℕ) (c : Cursor) → Num n c ≡ stretchOf s k (fieldAt (lengths bit) noTop bit s k) → (1 ≤ n) × (c .at + n ≤ length s)
-  stretch-lies n c e = rw (← e) at (lies (fieldAt (lengths bit) noTop bit s k) refl)
+  module _ (r : Number) (n : ℕ) (c : Cursor) (e : Num n c ≡ stretchOf s k r) where
+    pub stretch-within : (r ≡ Num n c) × (c .at + n ≤ length s)
+    stretch-within = rw (← e) at (lies r)
+
+    pub stretch-lies : (bit : ℕ) → r ≡ fieldAt (lengths bit) noTop bit s k → (1 ≤ n) × (c .at + n ≤ length s)
+    stretch-lies bit read = (field-got noTop s k (lengths bit) bit (sym read ∙ stretch-within .0) .0, stretch-within .1)
 
 -- an octet that is not 0 is one of the document's
 pub there-is : (s : List ℕ) (k : ℕ) → 0 < getD s k 0 → k < length s
 there-is s k h = case k (length s) (λ l. l) (λ l. let z = List·getD-eq-default s 0 {n = k} l in absurd (omega arith))
 
--- ---- the code stands at h, and the tables of words w are in order
-module _ (s w : List ℕ) (h : Here) (t : ℕ) (tidy : Tidy s (h .counts) w) (small : t < 8) where
+-- ---- what the index is asked
+module _ (s c w x : List ℕ) (t : ℕ) (tidy : Tidy s c w x) where
+  pub table-small : getD c t 0 ≤ 256
+  table-small = rw (← count-at c (tidy .ten) t) (tidy .counted t)
+
+  pub table-inside : t < 8 → Inside s (entries (stringAt (tableOf t) w) (768 * t) (getD c t 0))
+  table-inside l = rw (← count-at c (tidy .ten) t) (inside-table s (unlisted c) w t l (tidy .inside))
+
+  pub table-indexed : t < 5 → StringsIndexed s w x t (getD c t 0)
+  table-indexed l = rw (← count-at c (tidy .ten) t) (tidy .indexed .ofStrings t (omega arith) (searched-string t l))
+
+-- ---- the code stands at octet k, and the tables are in order
+module _ (s c w x : List ℕ) (t k : ℕ) (tidy : Tidy s c w x) (small : t < 8) where
   abbrev here : Vocabulary Located
-  here = vocabulary (h .counts) w
+  here = vocabulary (unlisted c) w
 
   abbrev table : List Located
-  table = strings (vocabulary (h .counts) w) (tableOf t)
+  table = strings (vocabulary (unlisted c) w) (tableOf t)
+
+  rooms : (length c ≡ 10) × (length w ≡ 7680)
+  rooms = (tidy .ten, tidy .room)
+
+  stays : (at : ℕ) → at ≤ length s → Left s c w at c w x
+  stays at l = record { tidy = tidy; within = l; grown = grown-none c w }
 
   -- a number and the entry behind it
-  abbrev entryOf : ℕ → ℕ → S.Got Seen
-  entryOf n next = pick (leb n (length table)) (got (record { text = eventString (getD table (n - 1) empty); number = n }) next here) (refused 10 (h .at))
+  abbrev numberOf : ℕ → ℕ → S.Got Seen
+  numberOf n next = pick (leb n (length table)) (got (record { text = eventString (getD table (n - 1) empty); number = n }) next here) (refused 10 k)
 
-  -- octets that become an entry
-  abbrev more : ℕ → ℕ → S.Got Seen
-  more n next =
-      pick (ltb (length table) (link .entries))
-      (got (record { text = Stretch next n; number = suc (length table) }) (next + n) (adding here (tableOf t) (stretch next n)))
-      (refused 12 (h .at))
+  abbrev entryOf : ℕ → ℕ → S.Got EventString
+  entryOf n next = pick (leb n (length table)) (got (eventString (getD table (n - 1) empty)) next here) (refused 10 k)
 
-  held-answers : (f : Number) → ((n : ℕ) (c : Cursor) → f ≡ Num n c → (1 ≤ n) × (c .at ≤ length s)) → Answers s (heldOf w h t f) w (number f entryOf)
-  unfolding heldOf
-  held-answers (NoNum n p) g = (refl, tidy .room)
-  held-answers (Num n c) g =
-      let b = g n c refl in
-      let len = length-strings (h .counts) w t small in
-      case (countOf (h .counts) t) n
-      (λ l. rw (len, lt-leb _ _ l) (refl, tidy .room))
-      (λ l. rw (len, le-leb _ _ l, string-nth (h .counts) w t (n - 1) empty small (omega arith)) (refl, (tidy, b .1)))
+  module _ (fs : List Form) (bit : ℕ) (r : Number) (is : r ≡ fieldAt fs top bit s k) where
+    held-number : IdAnswers s c w t (heldOf (countOf (unlisted c) t) k r) c w x (number r numberOf)
+    unfolding heldOf
+    held-number = by r is
+      where
+        by : (f : Number) → f ≡ fieldAt fs top bit s k → IdAnswers s c w t (heldOf (countOf (unlisted c) t) k f) c w x (number f numberOf)
+        by (NoNum n p) e = (refl, rooms, tt)
+        by (Num n i) e =
+            let g = field-got top s k fs bit (sym e) in
+            let len = length-strings (unlisted c) w t small in
+            case (countOf (unlisted c) t) n
+            (λ l. rw (len, lt-leb _ _ l) (refl, rooms, tt))
+            (λ l. rw (len, le-leb _ _ l, string-nth (unlisted c) w t (n - 1) empty small (omega arith), string-there w t n _ (g .0) refl) (refl, (stays (i .at) (g .3), l), g .0))
 
-  added-answers : (n p : ℕ) → 1 ≤ n → p + n ≤ length s → Answers s (addedOf h t p n) (addedWords (h .counts) w t p n) (more n p)
-  unfolding addedOf addedWords link
-  added-answers n p l e =
-      let len = length-strings (h .counts) w t small in
-      case (countOf (h .counts) t) 256
-      (λ r. rw (len, lt-ltb _ _ r, add-one (countOf (h .counts) t), ← is-added s (h .counts) w t p n tidy small r e l) (refl, (tidy-more s (h .counts) w t p n tidy small r e l, e)))
-      (λ r. rw (len, le-ltb _ _ r) (refl, tidy .room))
+    held-string : FieldAnswers s c w (saidOf w t (heldOf (countOf (unlisted c) t) k r)) c w x (number r entryOf)
+    unfolding heldOf saidOf
+    held-string = by r is
+      where
+        by : (f : Number) → f ≡ fieldAt fs top bit s k → FieldAnswers s c w (saidOf w t (heldOf (countOf (unlisted c) t) k f)) c w x (number f entryOf)
+        by (NoNum n p) e = (refl, rooms)
+        by (Num n i) e =
+            let g = field-got top s k fs bit (sym e) in
+            let len = length-strings (unlisted c) w t small in
+            case (countOf (unlisted c) t) n
+            (λ l. rw (len, lt-leb _ _ l) (refl, rooms))
+            (λ l. rw (len, le-leb _ _ l, string-nth (unlisted c) w t (n - 1) empty small (omega arith)) (refl, stays (i .at) (g .3)))
 
   -- ---- C.13
   abbrev asId : ℕ → ℕ → S.Got IdRead
   asId n next =
-      pick (holds (map (octetsOf s) table) (octetsOf s (stretch next n))) (refused 11 (h .at))
+      pick (holds (map (octetsOf s) table) (octetsOf s (stretch next n))) (refused 11 k)
       (pick (ltb (length table) (link .entries))
       (got (record { string = stretch next n; how = spelled true; number = suc (length table) }) (next + n) (adding here (tableOf t) (stretch next n)))
-      (refused 12 (h .at)))
+      (refused 12 k))
 
   abbrev pub byId : S.Got Seen
-  byId = idSeen (idAt link s (tableOf t) (h .at) here)
+  byId = idSeen (idAt link s (tableOf t) k here)
 
-  -- its length was read, and its octets judged: r
-  module _ (low : getD s (h .at) 0 < 0x80) (r : Number) (is : r ≡ stretchOf s (h .at) (fieldAt (lengths 2) noTop 2 s (h .at))) where
-    id-spelled : idAt link s (tableOf t) (h .at) here ≡ number r asId
+  -- its length was read, m, and its octets judged, r
+  module _ (low : getD s k 0 < 0x80) (m : Number) (read : m ≡ fieldAt (lengths 2) noTop 2 s k) (r : Number) (is : r ≡ stretchOf s k m) where
+    id-spelled : idAt link s (tableOf t) k here ≡ number r asId
     unfolding idAt
-    id-spelled = rw (lt-ltb _ _ low, is) (judged s (h .at) asId (fieldAt (lengths 2) noTop 2 s (h .at)))
+    id-spelled = rw (lt-ltb _ _ low, is, read) (judged s k asId (fieldAt (lengths 2) noTop 2 s k))
 
-    pub fresh-not : (n p : ℕ) → r ≡ NoNum n p → (x : Field) → x ≡ refusalOf r → Answers s x w byId
-    fresh-not n p e x q = rw (q, id-spelled, e) (refl, tidy .room)
+    pub fresh-not : (n p : ℕ) → r ≡ NoNum n p → IdAnswers s c w t (NotNumbered n p) c w x byId
+    fresh-not n p e = rw (id-spelled, e) (refl, rooms, tt)
 
-    module _ (n : ℕ) (c : Cursor) (e : r ≡ Num n c) (m f : ℕ) (count : m ≡ countOf (h .counts) t)
-        (found : f ≡ numberIn (map (octetsOf s) (entries (stringAt (tableOf t) w) (768 * t) m)) (octetsOf s (stretch (c .at) n))) where
-      there : holds (map (octetsOf s) table) (octetsOf s (stretch (c .at) n)) ≡ not (eqb f 0)
-      there = rw (strings-are (h .counts) w t small, ← count, found) (holds-number _ _)
+    module _ (n : ℕ) (i : Cursor) (e : r ≡ Num n i) (f : ℕ)
+        (found : f ≡ numberIn (map (octetsOf s) (entries (stringAt (tableOf t) w) (768 * t) (getD c t 0))) (octetsOf s (stretch (i .at) n))) where
+      there : holds (map (octetsOf s) table) (octetsOf s (stretch (i .at) n)) ≡ not (eqb f 0)
+      there = rw (strings-are (unlisted c) w t small, count-at c (tidy .ten) t, found) (holds-number _ _)
 
-      pub fresh-there : (f ≡ 0 → ⊥) → Answers s (Refused 11 (h .at)) w byId
-      fresh-there ne = rw (id-spelled, e, there, ne-eqb _ _ ne) (refl, tidy .room)
+      pub fresh-there : (f ≡ 0 → ⊥) → IdAnswers s c w t (NotNumbered 11 k) c w x byId
+      fresh-there ne = rw (id-spelled, e, there, ne-eqb _ _ ne) (refl, rooms, tt)
 
-      pub fresh-added : f ≡ 0 → (x : Field) (v : List ℕ) → (x ≡ addedOf h t (c .at) n) × (v ≡ addedWords (h .counts) w t (c .at) n) → Answers s x v byId
-      fresh-added z x v q =
-          let b = stretch-lies s (h .at) 2 n c (sym e ∙ is) in
-          rw (q .0, q .1, id-spelled, e, there, z, under idSeen (ltb (length table) (link .entries)) _ _) (added-answers n (c .at) (b .0) (b .1))
+      pub fresh-full : f ≡ 0 → 256 ≤ getD c t 0 → IdAnswers s c w t (NotNumbered 12 k) c w x byId
+      unfolding link
+      fresh-full z l = rw (id-spelled, e, there, z, length-strings (unlisted c) w t small, count-at c (tidy .ten) t, le-ltb _ _ l) (refl, rooms, tt)
 
-  module _ (high : 0x80 ≤ getD s (h .at) 0) (r : Number) (is : r ≡ fieldAt c25 top 2 s (h .at)) where
-    pub id-held : (x : Field) → x ≡ heldOf w h t r → Answers s x w byId
+      fresh-stored : f ≡ 0 → (l : getD c t 0 < 256) (y : List ℕ) → StringEntered s t (getD c t 0) (i .at) n w x (stored w t (getD c t 0) (i .at) n 0) y
+          → IdAnswers s c w t (Numbered (getD c t 0 + 1) (i .at + n)) (set c t (getD c t 0 + 1)) (stored w t (getD c t 0) (i .at) n 0) y byId
+      unfolding link
+      fresh-stored z l y q =
+          let b = stretch-lies s k m n i (sym e ∙ is) 2 read in
+          let more = one-more-words c (tidy .ten) t (omega arith) .here in
+          rw (id-spelled, e, there, z, length-strings (unlisted c) w t small, count-at c (tidy .ten) t, lt-ltb _ _ l, ← add-one (getD c t 0)) (
+            rw (← new-string s c w x t (i .at) n tidy small l (b .1) (b .0), ← is-added s c w x t (i .at) n tidy small l (b .1) (b .0)) refl,
+            (left-entered s c w x t (i .at) n tidy small l (b .1) (b .0) y q, omega arith),
+            omega arith,
+          )
+
+      pub fresh-added : f ≡ 0 → getD c t 0 < 256 → (a b : ℕ) → a ≡ i .at → b ≡ n → (v y : List ℕ) → StringEntered s t (getD c t 0) a b w x v y
+          → IdAnswers s c w t (Numbered (getD c t 0 + 1) (i .at + n)) (set c t (getD c t 0 + 1)) v y byId
+      fresh-added z l a b ea eb v y q =
+          let q : StringEntered s t (getD c t 0) (i .at) n w x v y = rw (ea, eb) at q in
+          rw (q .words) (fresh-stored z l y (rw (q .words) at q))
+
+  module _ (high : 0x80 ≤ getD s k 0) (r : Number) (is : r ≡ fieldAt c25 top 2 s k) where
+    pub id-held : (a : Entry) → a ≡ heldOf (countOf (unlisted c) t) k r → IdAnswers s c w t a c w x byId
     unfolding idAt
-    id-held x q = rw (q, le-ltb _ _ high, ← is, by r) (held-answers r (λ n c e. let g = field-got top s (h .at) c25 2 (sym is ∙ e) in (g .0, g .3)))
+    id-held a q = rw (q, le-ltb _ _ high, ← is, by r) (held-number c25 2 r is)
       where
         by : (r : Number)
-            → idSeen (number r λ n next. pick (leb n (length table)) (got (record { string = getD table (n - 1) empty; how = numbered n; number = n }) next here) (refused 10 (h .at)))
-            ≡ number r entryOf
+            → idSeen (number r λ n next. pick (leb n (length table)) (got (record { string = getD table (n - 1) empty; how = numbered n; number = n }) next here) (refused 10 k))
+            ≡ number r numberOf
         by (NoNum n p) = refl
         by (Num n c) = under idSeen (leb n (length table)) _ _
 
   module _ (there : Bool) where
     abbrev pub byOptional : S.Got Seen
-    byOptional = optionalSeen (optionalAt link there s (tableOf t) (h .at) here)
+    byOptional = optionalSeen (optionalAt link there s (tableOf t) k here)
 
-    pub optional-there : there ≡ true → (x : Field) (v : List ℕ) → Answers s x v byId → Answers s x v byOptional
+    pub optional-there : there ≡ true → (a : Entry) (d v y : List ℕ) → IdAnswers s c w t a d v y byId → (seenId t a d v ≡ byOptional) × IdLeft s c w t a d v y
     unfolding optionalAt
-    optional-there z x v p = rw (z, by (idAt link s (tableOf t) (h .at) here)) p
+    optional-there z a d v y p = rw (z, by (idAt link s (tableOf t) k here)) (p .0, p .1)
       where
         by : (g : S.Got IdRead) → optionalSeen (then g λ i next w. got (record { string = some (i .string); how = some (i .how); number = i .number }) next w) ≡ idSeen g
         by (got b next v) = refl
         by (refused n p) = refl
 
-    pub optional-absent : there ≡ false → h .at ≤ length s → Answers s (Got Absent 0 h) w byOptional
-    unfolding optionalAt
-    optional-absent z l = rw z (refl, (tidy, l))
+    pub optional-absent : there ≡ false → k ≤ length s → (seenId t (Numbered 0 k) c w ≡ byOptional) × IdLeft s c w t (Numbered 0 k) c w x
+    unfolding optionalAt eventStringAt
+    optional-absent z l = rw z (refl, (stays k l, omega arith))
 
   -- ---- C.14, C.15
-  -- a spelled one, whose length was read from a bit and whose octets were judged: r
-  module _ (bit : ℕ) (add : Bool) (r : Number) (is : r ≡ stretchOf s (h .at) (fieldAt (lengths bit) noTop bit s (h .at))) where
-    abbrev asString : ℕ → ℕ → S.Got StringRead
-    asString n next =
+  -- a spelled one, whose length was read from a bit, m, and whose octets were judged, r
+  module _ (bit : ℕ) (add : Bool) (m : Number) (read : m ≡ fieldAt (lengths bit) noTop bit s k) (r : Number) (is : r ≡ stretchOf s k m) where
+    abbrev asString : Bool → ℕ → ℕ → S.Got StringRead
+    asString add n next =
         pick (not add || ltb (length table) (link .entries))
         (got (record { string = stretch next n; how = spelled add }) (next + n) (keeping add here (tableOf t) (stretch next n)))
-        (refused 12 (h .at))
+        (refused 12 k)
 
-    abbrev pub bySpelled : S.Got Seen
-    bySpelled = stringSeen (spelledAt link (lengthFrom bit) s (tableOf t) (h .at) add here)
+    abbrev pub bySpelled : S.Got EventString
+    bySpelled = stringSeen (spelledAt link (lengthFrom bit) s (tableOf t) k add here)
 
-    string-spelled : spelledAt link (lengthFrom bit) s (tableOf t) (h .at) add here ≡ number r asString
+    string-spelled : spelledAt link (lengthFrom bit) s (tableOf t) k add here ≡ number r (asString add)
     unfolding spelledAt
-    string-spelled = rw is (judged s (h .at) asString (fieldAt (lengths bit) noTop bit s (h .at)))
+    string-spelled = rw (is, read) (judged s k (asString add) (fieldAt (lengths bit) noTop bit s k))
 
-    pub spelled-not : (n p : ℕ) → r ≡ NoNum n p → (x : Field) → x ≡ refusalOf r → Answers s x w bySpelled
-    spelled-not n p e x q = rw (q, string-spelled, e) (refl, tidy .room)
+    pub spelled-not : (n p : ℕ) → r ≡ NoNum n p → FieldAnswers s c w (Refused n p) c w x bySpelled
+    spelled-not n p e = rw (string-spelled, e) (refl, rooms)
 
-    module _ (n : ℕ) (c : Cursor) (e : r ≡ Num n c) where
-      pub spelled-plain : add ≡ false → (a b : ℕ) → a ≡ c .at → b ≡ n → Answers s (Got (Stretch a b) 0 (record { at = c .at + n; counts = h .counts })) w bySpelled
-      spelled-plain z a b ea eb = let l = stretch-lies s (h .at) bit n c (sym e ∙ is) in rw (ea, eb, string-spelled, e, z) (refl, (tidy, l .1))
-
-      pub spelled-added : add ≡ true → (f x : Field) (v : List ℕ) → x ≡ unnumberedOf f → (f ≡ addedOf h t (c .at) n) × (v ≡ addedWords (h .counts) w t (c .at) n)
-          → Answers s x v bySpelled
-      spelled-added z f x v ex q =
-          let l = stretch-lies s (h .at) bit n c (sym e ∙ is) in
-          rw (ex, q .0, q .1, string-spelled, e, z, under stringSeen (ltb (length table) (link .entries)) _ _)
-          (rw (under unnumberedSeen (ltb (length table) (link .entries)) _ _) at (unnumbered-answers s (addedOf h t (c .at) n) _ (more n (c .at)) (added-answers n (c .at) (l .0) (l .1))))
+    pub spelled-added : 5 ≤ t → (n : ℕ) (i : Cursor) → r ≡ Num n i → (a : Field) (d v : List ℕ)
+        → (a ≡ addedOf c t k (i .at) n add) × (d ≡ addedCounts c t add) × (v ≡ addedWords c w t (i .at) n add) → FieldAnswers s c w a d v x bySpelled
+    unfolding addedOf addedCounts addedWords link
+    spelled-added l n i e a d v q = rw (q .0, q .1, q .2, string-spelled, e) (by add)
+      where
+        by : (b : Bool) → FieldAnswers s c w (addedOf c t k (i .at) n b) (addedCounts c t b) (addedWords c w t (i .at) n b) x (stringSeen (asString b n (i .at)))
+        by false = let h = stretch-lies s k m n i (sym e ∙ is) bit read in (refl, stays (i .at + n) (h .1))
+        by true =
+            let h = stretch-lies s k m n i (sym e ∙ is) bit read in
+            rw (length-strings (unlisted c) w t small, count-at c (tidy .ten) t)
+            (case (getD c t 0) 256
+            (λ u. rw (lt-ltb _ _ u, ← is-added s c w x t (i .at) n tidy small u (h .1) (h .0)) (refl, left-elsewhere s c w x t (i .at) n tidy small u (h .1) (h .0) l))
+            (λ u. rw (le-ltb _ _ u) (refl, rooms)))
 
   -- which string the first octet says
   module _ (q : Layout) where
     abbrev asNumbered : ℕ → ℕ → S.Got StringRead
-    asNumbered n next = pick (leb n (length table)) (got (record { string = getD table (n - 1) empty; how = numbered n }) next here) (refused 10 (h .at))
+    asNumbered n next = pick (leb n (length table)) (got (record { string = getD table (n - 1) empty; how = numbered n }) next here) (refused 10 k)
 
     abbrev literal : S.Got StringRead
-    literal = literalAt link q s (tableOf t) (h .at) here
+    literal = literalAt link q s (tableOf t) k here
 
     abbrev octet : ℕ
-    octet = getD s (h .at) 0
+    octet = getD s k 0
 
-    literal-plain : octet < q .spelledBits + 2 ^ (9 - q .lengthBit) → literal ≡ spelledAt link q s (tableOf t) (h .at) false here
+    literal-plain : octet < q .spelledBits + 2 ^ (9 - q .lengthBit) → literal ≡ spelledAt link q s (tableOf t) k false here
     unfolding literalAt
     literal-plain l = rw (lt-ltb _ _ l)
 
-    module _ (a : q .spelledBits + 2 ^ (9 - q .lengthBit) ≤ octet) where
-      literal-other : octet < q .spelledBits + q .addBit → literal ≡ refused 8 (h .at)
+    module _ (p : q .spelledBits + 2 ^ (9 - q .lengthBit) ≤ octet) where
+      literal-other : octet < q .spelledBits + q .addBit → literal ≡ refused 8 k
       unfolding literalAt
-      literal-other l = rw (le-ltb _ _ a, lt-ltb _ _ l)
+      literal-other l = rw (le-ltb _ _ p, lt-ltb _ _ l)
 
       module _ (b : q .spelledBits + q .addBit ≤ octet) where
-        literal-added : octet < q .spelledBits + q .addBit + 2 ^ (9 - q .lengthBit) → literal ≡ spelledAt link q s (tableOf t) (h .at) true here
+        literal-added : octet < q .spelledBits + q .addBit + 2 ^ (9 - q .lengthBit) → literal ≡ spelledAt link q s (tableOf t) k true here
         unfolding literalAt
-        literal-added l = rw (le-ltb _ _ a, le-ltb _ _ b, lt-ltb _ _ l)
+        literal-added l = rw (le-ltb _ _ p, le-ltb _ _ b, lt-ltb _ _ l)
 
-        module _ (c : q .spelledBits + q .addBit + 2 ^ (9 - q .lengthBit) ≤ octet) where
-          literal-other-added : octet < q .numberedBits → literal ≡ refused 8 (h .at)
+        module _ (u : q .spelledBits + q .addBit + 2 ^ (9 - q .lengthBit) ≤ octet) where
+          literal-other-added : octet < q .numberedBits → literal ≡ refused 8 k
           unfolding literalAt
-          literal-other-added l = rw (le-ltb _ _ a, le-ltb _ _ b, le-ltb _ _ c, lt-ltb _ _ l)
+          literal-other-added l = rw (le-ltb _ _ p, le-ltb _ _ b, le-ltb _ _ u, lt-ltb _ _ l)
 
-          literal-held : q .numberedBits ≤ octet → (r : Number) → r ≡ fieldAt (q .numberForms) top (numberBit q) s (h .at)
-              → (f x : Field) → f ≡ heldOf w h t r → x ≡ unnumberedOf f → Answers s x w (stringSeen literal)
+          literal-held : q .numberedBits ≤ octet → (r : Number) → r ≡ fieldAt (q .numberForms) top (numberBit q) s k
+              → (a : Entry) (f : Field) → a ≡ heldOf (countOf (unlisted c) t) k r → f ≡ saidOf w t a → FieldAnswers s c w f c w x (stringSeen literal)
           unfolding literalAt
-          literal-held l r is f x ef ex =
-              rw (ex, ef, le-ltb _ _ a, le-ltb _ _ b, le-ltb _ _ c, le-ltb _ _ l, ← is, by r)
-              (unnumbered-answers s (heldOf w h t r) w (number r entryOf)
-              (held-answers r (λ n c e. let g = field-got top s (h .at) (q .numberForms) (numberBit q) (sym is ∙ e) in (g .0, g .3))))
+          literal-held l r is a f ea ef = rw (ef, ea, le-ltb _ _ p, le-ltb _ _ b, le-ltb _ _ u, le-ltb _ _ l, ← is, by r) (held-string (q .numberForms) (numberBit q) r is)
             where
-              by : (r : Number) → stringSeen (number r asNumbered) ≡ unnumberedSeen (number r entryOf)
+              by : (r : Number) → stringSeen (number r asNumbered) ≡ number r entryOf
               by (NoNum n p) = refl
-              by (Num n c) = under stringSeen (leb n (length table)) _ _ ∙ sym (under unnumberedSeen (leb n (length table)) _ _)
+              by (Num n i) = under stringSeen (leb n (length table)) _ _
 
   -- ---- C.14 from bit 1: o is the first octet, b its bit 1, f its bits 3 and 4
-  abbrev pub byValue : S.Got Seen
-  byValue = stringSeen (valueAt link s (tableOf t) (h .at) here)
+  abbrev pub byValue : S.Got EventString
+  byValue = stringSeen (valueAt link s (tableOf t) k here)
 
-  module _ (o : ℕ) (is : o ≡ getD s (h .at) 0) where
-    pub value-empty : o ≡ 0xFF → Answers s (Got Empty 0 (record { at = h .at + 1; counts = h .counts })) w byValue
+  module _ (o : ℕ) (is : o ≡ getD s k 0) where
+    pub value-empty : o ≡ 0xFF → FieldAnswers s c w (Got Empty (k + 1)) c w x byValue
     unfolding valueAt
-    value-empty e = rw (eq-eqb _ _ (sym is ∙ e), add-one (h .at)) (refl, (tidy, there-is s (h .at) (omega arith)))
+    value-empty e = rw (eq-eqb _ _ (sym is ∙ e), add-one k) (refl, stays (suc k) (there-is s k (omega arith)))
 
-    is-literal : (o ≡ 0xFF → ⊥) → valueAt link s (tableOf t) (h .at) here ≡ literalAt link c14 s (tableOf t) (h .at) here
+    is-literal : (o ≡ 0xFF → ⊥) → valueAt link s (tableOf t) k here ≡ literalAt link c14 s (tableOf t) k here
     unfolding valueAt
     is-literal ne = rw (ne-eqb _ _ (λ e. ne (is ∙ e)))
 
     module _ (b : ℕ) (eb : b ≡ o / 128 % 2) where
-      pub value-held : (o ≡ 0xFF → ⊥) → b ≡ 1 → (r : Number) → r ≡ fieldAt c25 top 2 s (h .at) → (g x : Field) → g ≡ heldOf w h t r → x ≡ unnumberedOf g → Answers s x w byValue
+      pub value-held : (o ≡ 0xFF → ⊥) → b ≡ 1 → (r : Number) → r ≡ fieldAt c25 top 2 s k → (a : Entry) (f : Field) → a ≡ heldOf (countOf (unlisted c) t) k r → f ≡ saidOf w t a → FieldAnswers s c w f c w x byValue
       unfolding c14
-      value-held ne one r ir g x eg ex = rw (is-literal ne) (literal-held c14 (omega arith) (omega arith) (omega arith) (omega arith) r ir g x eg ex)
+      value-held ne one r ir a f ea ef = rw (is-literal ne) (literal-held c14 (omega arith) (omega arith) (omega arith) (omega arith) r ir a f ea ef)
 
       module _ (fits : o < 256) (no : b ≡ 1 → ⊥) (f : ℕ) (ef : f ≡ o / 16 % 4) where
         low : o < 0x80
         low = omega arith
 
-        pub value-other : (f ≡ 0 → ⊥) → Answers s (Refused 8 (h .at)) w byValue
+        pub value-other : (f ≡ 0 → ⊥) → FieldAnswers s c w (Refused 8 k) c w x byValue
         unfolding c14
         value-other ne =
-            let e : literalAt link c14 s (tableOf t) (h .at) here ≡ refused 8 (h .at) =
+            let e : literalAt link c14 s (tableOf t) k here ≡ refused 8 k =
             case o 0x40 (λ l. literal-other c14 (omega arith) (omega arith)) (λ l. literal-other-added c14 (omega arith) (omega arith) (omega arith) (omega (arith, low))) in
-            rw (is-literal (omega (arith, low)), e) (refl, tidy .room)
+            rw (is-literal (omega (arith, low)), e) (refl, rooms)
 
-        pub value-spelled : f ≡ 0 → (a : ℕ) → a ≡ o / 64 % 2 → (x : Field) (v : List ℕ)
-            → Answers s x v (stringSeen (spelledAt link (lengthFrom 5) s (tableOf t) (h .at) (eqb a 1) here)) → Answers s x v byValue
+        pub value-spelled : f ≡ 0 → (a : ℕ) → a ≡ o / 64 % 2 → (g : Field) (d v : List ℕ)
+            → FieldAnswers s c w g d v x (stringSeen (spelledAt link (lengthFrom 5) s (tableOf t) k (eqb a 1) here)) → FieldAnswers s c w g d v x byValue
         unfolding c14 spelledAt
-        value-spelled z a ea x v p =
+        value-spelled z a ea g d v p =
             case o 0x40
             (λ l. let e : o / 64 ≡ 0 = omega arith in rw (is-literal (omega (arith, low)), literal-plain c14 (omega arith)) (rw (ea, e) at p))
             (λ l. let e : o / 64 ≡ 1 = omega (arith, low) in
             rw (is-literal (omega (arith, low)), literal-added c14 (omega arith) (omega arith) (omega (arith, low))) (rw (ea, e) at p))
 
   -- ---- C.15 from bit 3: o is the first octet, b its bit 3, f its bits 5 and 6
-  abbrev pub byChunk : S.Got Seen
-  byChunk = stringSeen (literalAt link c15 s (tableOf t) (h .at) here)
+  abbrev pub byChunk : S.Got EventString
+  byChunk = stringSeen (literalAt link c15 s (tableOf t) k here)
 
-  module _ (o : ℕ) (is : o ≡ getD s (h .at) 0) (from : 0x80 ≤ o) (to : o < 0xC0) (b : ℕ) (eb : b ≡ o / 32 % 2) where
-    pub chunk-held : b ≡ 1 → (r : Number) → r ≡ fieldAt (numbers 4) top 4 s (h .at) → (g x : Field) → g ≡ heldOf w h t r → x ≡ unnumberedOf g → Answers s x w byChunk
+  module _ (o : ℕ) (is : o ≡ getD s k 0) (from : 0x80 ≤ o) (to : o < 0xC0) (b : ℕ) (eb : b ≡ o / 32 % 2) where
+    pub chunk-held : b ≡ 1 → (r : Number) → r ≡ fieldAt (numbers 4) top 4 s k → (a : Entry) (f : Field) → a ≡ heldOf (countOf (unlisted c) t) k r → f ≡ saidOf w t a → FieldAnswers s c w f c w x byChunk
     unfolding c15
-    chunk-held one r ir g x eg ex =
+    chunk-held one r ir a f ea ef =
         let l : 0xA0 ≤ o = omega arith in
-        literal-held c15 (omega arith) (omega arith) (omega arith) (omega arith) r ir g x eg ex
+        literal-held c15 (omega arith) (omega arith) (omega arith) (omega arith) r ir a f ea ef
 
     module _ (no : b ≡ 1 → ⊥) (f : ℕ) (ef : f ≡ o / 4 % 4) where
       below : o < 0xA0
       below = omega arith
 
-      pub chunk-other : (f ≡ 0 → ⊥) → Answers s (Refused 8 (h .at)) w byChunk
+      pub chunk-other : (f ≡ 0 → ⊥) → FieldAnswers s c w (Refused 8 k) c w x byChunk
       unfolding c15
       chunk-other ne =
-          let e : literalAt link c15 s (tableOf t) (h .at) here ≡ refused 8 (h .at) =
+          let e : literalAt link c15 s (tableOf t) k here ≡ refused 8 k =
           case o 0x90 (λ l. literal-other c15 (omega arith) (omega arith)) (λ l. literal-other-added c15 (omega arith) (omega arith) (omega arith) (omega (arith, below))) in
-          rw e (refl, tidy .room)
+          rw e (refl, rooms)
 
-      pub chunk-spelled : f ≡ 0 → (a : ℕ) → a ≡ o / 16 % 2 → (x : Field) (v : List ℕ)
-          → Answers s x v (stringSeen (spelledAt link (lengthFrom 7) s (tableOf t) (h .at) (eqb a 1) here)) → Answers s x v byChunk
+      pub chunk-spelled : f ≡ 0 → (a : ℕ) → a ≡ o / 16 % 2 → (g : Field) (d v : List ℕ)
+          → FieldAnswers s c w g d v x (stringSeen (spelledAt link (lengthFrom 7) s (tableOf t) k (eqb a 1) here)) → FieldAnswers s c w g d v x byChunk
       unfolding c15 spelledAt
-      chunk-spelled z a ea x v p =
+      chunk-spelled z a ea g d v p =
           case o 0x90
           (λ l. let e : o / 16 ≡ 8 = omega arith in rw (literal-plain c15 (omega arith)) (rw (ea, e) at p))
           (λ l. let e : o / 16 ≡ 9 = omega (arith, below) in rw (literal-added c15 (omega arith) (omega arith) (omega (arith, below))) (rw (ea, e) at p))

@@ -1,7 +1,8 @@
 -- Contracts of the code, not definitions to be believed. What each function that reads a part of a string answers.
 use Prim.Native.Nat.{ℕ, _+_, _-_, _*_, _≤_}
+use mathlib.Core.Bool.{Bool, true, false}
 use mathlib.Core.List.{[]}
-use lib.ListN.{length}
+use lib.ListN.{length, getD, set}
 use lib.Dec.{ltb, leb}
 use Rattle.format.specs.Octets.{Octets, Words}
 use Rattle.format.specs.Numbers.{pick}
@@ -10,54 +11,54 @@ use Rattle.format.specs.Strings.{Layout}
 use Rattle.format.specs.Refusals.{TRUNCATED, TEXT, INDEX, FULL}
 use Rattle.fields.specs.declared.Number.{Number}
 use Rattle.fields.specs.declared.Number.the-variants.{Got as Num, Refused as NoNum}
-use Rattle.tables.specs.declared.Counts.{Counts}
 use Rattle.tables.specs.Counts.{perTable}
 use Rattle.tables.specs.Located.{stretch, octetsOf}
 use Rattle.tables.specs.Rows.{tableOf, stringAt}
-use Rattle.tables.specs.Kept.{countOf, oneMore, stored}
+use Rattle.tables.specs.Kept.{stored}
 use Rattle.events.specs.declared.EventString.the-variants.{Stretch}
 use Rattle.events.specs.Records.{eventString}
-use Rattle.read_names.specs.declared.Here.{Here}
+use Rattle.read_names.specs.declared.Entry.{Entry}
+use Rattle.read_names.specs.declared.Entry.the-variants.{Got as Numbered, Refused as NotNumbered}
 use Rattle.read_names.specs.declared.Field.{Field}
 use Rattle.read_names.specs.declared.Field.the-variants.{Got, Refused}
 
--- The refusal of a number or a length is the string's.
-abbrev pub refusalOf : Number → Field
-refusalOf (Num n c) = Refused 0 (c .at)
-refusalOf (NoNum n p) = Refused n p
+-- Behind a number or a length that was read is a place of the document, or its end.
+abbrev pub BehindWithin : Octets → Number → Type 0
+BehindWithin s (Num n c) = c .at ≤ length s
+BehindWithin s (NoNum n p) = Unit {0}
 
 -- A string's length that was read at k, where its octets are there (2) and are text (9).
 unfoldable pub stretchOf : Octets → ℕ → Number → Number
 stretchOf s k (Num n c) = pick (leb (c .at + n) (length s)) (pick (isText (octetsOf s (stretch (c .at) n))) (Num n c) (NoNum TEXT k)) (NoNum TRUNCATED k)
 stretchOf s k (NoNum n p) = NoNum n p
 
--- Numbers start from 1.
-abbrev pub Positive : Number → Type 0
-Positive (Num n c) = 1 ≤ n
-Positive (NoNum n p) = Unit {0}
+-- A number that was read at k, in a table of `count` entries, or one beyond them (10).
+unfoldable pub heldOf : (count k : ℕ) → Number → Entry
+heldOf count k (Num n c) = pick (leb n count) (Numbered n (c .at)) (NotNumbered INDEX k)
+heldOf count k (NoNum n p) = NotNumbered n p
 
--- The entry whose number was read, or a number beyond its table (10).
-unfoldable pub heldOf : Words → Here → ℕ → Number → Field
-heldOf w h table (Num n c) =
-    pick (leb n (countOf (h .counts) table))
-    (Got (eventString (stringAt (tableOf table) w (768 * table + 3 * (n - 1)))) n (record { at = c .at; counts = h .counts }))
-    (Refused INDEX (h .at))
-heldOf w h table (NoNum n p) = Refused n p
+-- A number that an entry can have.
+abbrev pub NumberPositive : Entry → Type 0
+NumberPositive (Numbered n at) = (1 ≤ n) × (n ≤ 256)
+NumberPositive (NotNumbered n p) = Unit {0}
 
--- One entry more: the octets at a place; or no room in the table (12). And the words then.
-unfoldable pub addedOf : Here → (table place size : ℕ) → Field
-addedOf h table place size =
-    pick (ltb (countOf (h .counts) table) perTable)
-    (Got (Stretch place size) (countOf (h .counts) table + 1) (record { at = place + size; counts = oneMore (h .counts) table }))
-    (Refused FULL (h .at))
+-- The string of the entry that has the number.
+unfoldable pub saidOf : Words → ℕ → Entry → Field
+saidOf w table (Numbered n at) = Got (eventString (stringAt (tableOf table) w (768 * table + 3 * (n - 1)))) at
+saidOf w table (NotNumbered n p) = Refused n p
 
-unfoldable pub addedWords : Counts → Words → (table place size : ℕ) → Words
-addedWords c w table place size = pick (ltb (countOf c table) perTable) (stored w table (countOf c table) place size 0) w
+-- The octets at a place, one entry more where they are added; or no room in the table (12). And the words of the counts and of the tables then.
+unfoldable pub addedOf : Words → (table k place size : ℕ) → Bool → Field
+addedOf c table k place size true = pick (ltb (getD c table 0) perTable) (Got (Stretch place size) (place + size)) (Refused FULL k)
+addedOf c table k place size false = Got (Stretch place size) (place + size)
 
--- The same string, without its number.
-abbrev pub unnumberedOf : Field → Field
-unnumberedOf (Got x n h) = Got x 0 h
-unnumberedOf (Refused n p) = Refused n p
+unfoldable pub addedCounts : Words → ℕ → Bool → Words
+addedCounts c table true = pick (ltb (getD c table 0) perTable) (set c table (getD c table 0 + 1)) c
+addedCounts c table false = c
+
+unfoldable pub addedWords : (c w : Words) → (table place size : ℕ) → Bool → Words
+addedWords c w table place size true = pick (ltb (getD c table 0) perTable) (stored w table (getD c table 0) place size 0) w
+addedWords c w table place size false = w
 
 -- Where a spelled string's length starts is all that reading it takes from its layout.
 abbrev pub lengthFrom : ℕ → Layout

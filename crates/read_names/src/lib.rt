@@ -1,11 +1,19 @@
-// Strings and names read from a document: each method of `Here` reads one field from where it stands, and the first refusal is handed on.
-// May depend on format, fields, tables and events.
+// Strings and names read from a document: each function reads one field from an octet on, and the first refusal is handed on.
+// May depend on format, fields, tables, index and events.
 mod names;
 mod strings;
 
 use events::EventString;
+pub use names::declared;
+pub use names::in_parts;
+pub use names::name;
+pub use names::numbered;
+pub use names::string_at;
+pub use names::strings_of;
+pub use strings::chunk;
+pub use strings::id;
 pub use strings::octet;
-use tables::Counts;
+pub use strings::value;
 
 // Refusals by number; those of a number or a length are in `fields`.
 pub const FORMAT: u32 = 8;
@@ -20,26 +28,27 @@ pub const FULL: u32 = 12;
 
 pub const STRUCTURE: u32 = 15;
 
-// Where the next field starts, and how many entries the tables have there.
-pub struct Here {
-    pub at: usize,
-    pub counts: Counts,
-}
-
-// A string, its number in its table (0 where it has none), and where the next field starts; or the refusal and its place.
-pub enum Field {
-    Got(EventString, u32, Here),
+// The number of a string or a name in its table, and where the next field starts; or the refusal and its place.
+pub enum Entry {
+    Got(u32, usize),
     Refused(u32, usize),
 }
 
-// A name's strings; those of a declaration, without a local name.
+// A string, and where the next field starts; or the refusal and its place.
+pub enum Field {
+    Got(EventString, usize),
+    Refused(u32, usize),
+}
+
+// The numbers of a declaration's prefix and namespace, 0 where there is none, and where the next field starts; or the refusal and its place.
+pub enum Declaration {
+    Got(u32, u32, usize),
+    Refused(u32, usize),
+}
+
+// A name's strings.
 pub struct Parts {
     pub prefix: EventString,
     pub namespace: EventString,
     pub local: EventString,
-}
-
-pub enum Named {
-    Read(Parts, Here),
-    Faulty(u32, usize),
 }

@@ -1,27 +1,30 @@
-// Names, C.17 and C.18, and namespace declarations, C.12. Each method reads one from where it stands.
+// Names, C.17 and C.18, and namespace declarations, C.12. Each function reads one from octet `at` on.
 ghost use mathlib.Core.Path.{_≡_};
 ghost use mathlib.Core.List.{[], _∷_};
-ghost use Prim.Native.Nat.{_*_, _<_, _≤_};
+ghost use Prim.Native.Nat.{_+_, _-_, _*_, _<_, _≤_};
 ghost use lib.ListN.{length};
+ghost use Rattle.format.specs.Octets.{Octets, Words};
 ghost use Rattle.format.specs.Numbers.{top};
 ghost use Rattle.format.specs.Tables.{link, names};
 ghost use Rattle.fields.specs.Fields.{fieldAt};
 ghost use Rattle.tables.specs.Counts.{tableWords};
 ghost use Rattle.tables.specs.Search.{numberOfTriple};
 ghost use Rattle.tables.specs.Rows.{tripleAt, entries, vocabulary};
-ghost use Rattle.tables.specs.Kept.{nameTableOf, Counted, layoutOf, tripleOf};
+ghost use Rattle.tables.specs.Kept.{nameTableOf, countOf, Counted, unlisted, layoutOf, tripleOf};
+ghost use Rattle.index.specs.Indexed.{NamesIndexed};
 ghost use Rattle.read_names.specs.Names.{nameBit, partsAt, numberedAt, nameAt, declaredAt};
-ghost use Rattle.read_names.specs.Contracts.{Ranged, Tidy, seenName, NameTidy, nameSeen, declaredSeen};
-ghost use Rattle.read_names.specs.NameContracts.{stringFault, numberFault, eventStringAt, eventStringsAt, newName, KeepsTidy};
+ghost use Rattle.read_names.specs.Contracts.{Ranged, Tidy, seenName, IdLeft, Positive, nameSeen, seenDeclared, DeclaredLeft, declaredSeen, eventStringAt, nameStringsAt};
+ghost use Rattle.read_names.specs.NameContracts.{newName, seenNumber, NewRow};
+use crate::Declaration;
+use crate::Entry;
 use crate::FULL;
-use crate::Field;
-use crate::Here;
-use crate::INDEX;
-use crate::Named;
 use crate::Parts;
 use crate::REPEAT;
 use crate::STRUCTURE;
-use crate::strings::text_of;
+use crate::strings::held;
+use crate::strings::id;
+use crate::strings::optional;
+use crate::strings::string_of;
 use events::EventString;
 use fields::CODE;
 use fields::Cursor;
@@ -41,27 +44,8 @@ const LOCAL_NAME: usize = 2;
 
 const ELEMENT_NAME: usize = 8;
 
-// What a string refuses, the name does.
-fn string_fault(r: Field) -> Named
-    ensures { λ a. ⌜ a ≡ stringFault r ⌝ }
-{
-    match r {
-        Field::Got(_, _, next) => Named::Faulty(0, next.at),
-        Field::Refused(number, place) => Named::Faulty(number, place),
-    }
-}
-
-fn number_fault(r: Number) -> Named
-    ensures { λ a. ⌜ a ≡ numberFault r ⌝ }
-{
-    match r {
-        Number::Got(_, next) => Named::Faulty(0, next.at),
-        Number::Refused(number, place) => Named::Faulty(number, place),
-    }
-}
-
 // The octet's part that begins a name in parts: 1111pn, or 11110pn.
-fn in_parts(table: usize) -> u8
+fn parts_bits(table: usize) -> u8
     ensures { λ r. ⌜ r ≡ layoutOf table .inPartsBits ⌝ }
 {
     if table == ELEMENT_NAME {
@@ -76,164 +60,188 @@ fn number(s: &[u8], at: usize, table: usize) -> Number
 {
     let cursor = Cursor { at };
     if table == ELEMENT_NAME {
-        return cursor.number(s, 3);
+        return cursor.number_at_bit_3(s);
     }
     cursor.number_at_bit_2(s)
 }
 
 // The string behind a number of a table; 0 is none.
-fn text(t: &[u32], table: usize, number: u32) -> EventString
+pub fn string_at(t: &[u32], table: usize, number: u32) -> EventString
     requires { ⌜ (length (now t) ≡ tableWords) × (table < 8) × (number ≤ 256) ⌝ }
     ensures { λ r. ⌜ r ≡ eventStringAt (now (t .entry)) table number ⌝ }
 {
     if number == 0 {
         return EventString::Absent;
     }
-    text_of(t, table, number - 1)
+    string_of(t, table, number - 1)
 }
 
-// The strings behind the numbers of a name.
-fn texts(t: &[u32], x: Row) -> Parts
-    requires { ⌜ (length (now t) ≡ tableWords) × (x .a ≤ 256) × (x .b ≤ 256) × (x .c ≤ 256) ⌝ }
-    ensures { λ r. ⌜ r ≡ eventStringsAt (now (t .entry)) (tripleOf x) ⌝ }
+// The strings behind a name's number.
+pub fn strings_of(t: &[u32], table: usize, number: u32) -> Parts
+    requires { ⌜ (length (now t) ≡ tableWords) × (8 ≤ table) × (table < 10) × (1 ≤ number) × (number ≤ 256) × (tripleAt (now t) (768 * table + 3 * (number - 1)) .prefix ≤ 256) × (tripleAt (now t) (768 * table + 3 * (number - 1)) .namespace ≤ 256) × (tripleAt (now t) (768 * table + 3 * (number - 1)) .local ≤ 256) ⌝ }
+    ensures { λ r. ⌜ r ≡ nameStringsAt (now (t .entry)) table number ⌝ }
 {
+    let x = tables::entry(t, table, number - 1);
     Parts {
-        prefix: text(t, PREFIX, x.a),
-        namespace: text(t, NAMESPACE_NAME, x.b),
-        local: text(t, LOCAL_NAME, x.c),
+        prefix: string_at(t, PREFIX, x.a),
+        namespace: string_at(t, NAMESPACE_NAME, x.b),
+        local: string_at(t, LOCAL_NAME, x.c),
     }
 }
 
 // A name's number in its table, 0 if it has none. A local name above `locals` is in no entry, so that it is not searched for.
-fn find_name(t: &[u32], table: usize, n: u32, x: Row, locals: u32) -> u32
-    requires { ⌜ (length (now t) ≡ tableWords) × (table < 10) × (n ≤ 256) × (locals < x .c → 0 ≡ numberOfTriple (entries (tripleAt (now t)) (768 * table) n) (tripleOf x)) ⌝ }
+fn find_name(t: &[u32], index: &[u8], table: usize, n: u32, x: Row, locals: u32) -> u32
+    requires { ⌜ (length (now t) ≡ tableWords) × (length (now index) ≡ 3840) × (table < 10) × (n ≤ 256) × NamesIndexed (now t) (now index) table n × (locals < x .c → 0 ≡ numberOfTriple (entries (tripleAt (now t)) (768 * table) n) (tripleOf x)) ⌝ }
     ensures { λ r. ⌜ r ≡ numberOfTriple (entries (tripleAt (now (t .entry))) (768 * table) n) (tripleOf x) ⌝ }
 {
     if locals < x.c {
         return 0;
     }
-    tables::find_name(t, table, n, x.a, x.b, x.c)
+    index::find_name(t, index, table, n, x.a, x.b, x.c)
 }
 
-impl Here {
-    // A name whose strings end here: its triple is new, and is added. Names that are there have local names up to `locals`.
-    fn triple(
-        mut self,
-        t: &mut [u32],
-        table: usize,
-        place: usize,
-        name: Parts,
-        x: Row,
-        locals: u32,
-    ) -> Named
-        requires { ⌜ (length (now t) ≡ tableWords) × Counted (self .counts) × (8 ≤ table) × (table < 10) × Ranged (self .counts) (tripleOf x ∷ []) × (locals < x .c → 0 ≡ numberOfTriple (names (vocabulary (self .counts) (now t)) (nameTableOf table)) (tripleOf x)) ⌝ }
-        ensures { λ r. ⌜ (seenName r (now (t .exit)) ≡ newName link (nameTableOf table) (tripleOf x) name place (self .at) (vocabulary (self .counts) (now (t .entry)))) × KeepsTidy self (now (t .entry)) r (now (t .exit)) ⌝ }
-    {
-        let n = self.counts.of(table);
-        if find_name(t, table, n, x, locals) != 0 {
-            return Named::Faulty(REPEAT, place);
-        }
-        if Counts::ENTRIES <= n {
-            return Named::Faulty(FULL, place);
-        }
-        tables::add(t, table, n, x.a, x.b, x.c);
-        self.counts = self.counts.more(table);
-        Named::Read(name, self)
+// A name whose strings end before `next`: its triple is new, and is added. Names that are there have local names up to `locals`.
+fn triple(
+    t: &mut [u32],
+    counts: &mut [u32],
+    index: &mut [u8],
+    table: usize,
+    place: usize,
+    next: usize,
+    x: Row,
+    locals: u32,
+) -> Entry
+    requires { ⌜ (length (now t) ≡ tableWords) × (length (now counts) ≡ 10) × (length (now index) ≡ 3840) × (8 ≤ table) × (table < 10) × Counted (unlisted (now counts)) × NamesIndexed (now t) (now index) table (countOf (unlisted (now counts)) table) × Ranged (unlisted (now counts)) (tripleOf x ∷ []) × (locals < x .c → 0 ≡ numberOfTriple (names (vocabulary (unlisted (now counts)) (now t)) (nameTableOf table)) (tripleOf x)) ⌝ }
+    ensures { λ r. ⌜ (seenNumber r (now (counts .exit)) (now (t .exit)) ≡ newName link (nameTableOf table) (tripleOf x) place next (vocabulary (unlisted (now (counts .entry))) (now (t .entry)))) × ((s : Octets) → Tidy s (now (counts .entry)) (now (t .entry)) (now (index .entry)) → next ≤ length s → IdLeft s (now (counts .entry)) (now (t .entry)) table r (now (counts .exit)) (now (t .exit)) (now (index .exit))) × NewRow (now (t .exit)) table (tripleOf x) r ⌝ }
+{
+    let n = counts[table];
+    if find_name(t, index, table, n, x, locals) != 0 {
+        return Entry::Refused(REPEAT, place);
     }
-
-    // A name in parts, its p and n in the octet b; table 8 is the elements', 9 the attributes'.
-    pub fn parts(mut self, s: &[u8], t: &mut [u32], table: usize, b: u8) -> Named
-        requires { ⌜ (Tidy (now s) (self .counts) (now t)) × (self .at < length (now s)) × (8 ≤ table) × (table < 10) ⌝ }
-        ensures { λ r. ⌜ (seenName r (now (t .exit)) ≡ nameSeen (partsAt link (layoutOf table) (now (s .entry)) b (self .at) (vocabulary (self .counts) (now (t .entry))))) × NameTidy (now (s .entry)) r (now (t .exit)) ⌝ }
-    {
-        let place = self.at;
-        let pn = bits(b, 7, 8);
-        if pn == 2 {
-            return Named::Faulty(STRUCTURE, place);
-        }
-        self.at = place + 1;
-        let first = self.optional(2 <= pn, s, t, PREFIX);
-        let Field::Got(prefix, p, behind_prefix) = first else {
-            return string_fault(first);
-        };
-        let second = behind_prefix.optional(bits(b, 8, 8) == 1, s, t, NAMESPACE_NAME);
-        let Field::Got(namespace, n, behind_namespace) = second else {
-            return string_fault(second);
-        };
-        let third = behind_namespace.id(s, t, LOCAL_NAME);
-        let Field::Got(local, l, next) = third else {
-            return string_fault(third);
-        };
-        let name = Parts {
-            prefix,
-            namespace,
-            local,
-        };
-        let locals = behind_namespace.counts.local;
-        next.triple(t, table, place, name, Row { a: p, b: n, c: l }, locals)
+    if Counts::ENTRIES <= n {
+        return Entry::Refused(FULL, place);
     }
+    index::enter_name(t, index, table, n, x.a, x.b, x.c, 0);
+    counts[table] = n + 1;
+    Entry::Got(n + 1, next)
+}
 
-    // A name by number.
-    pub fn numbered(mut self, s: &[u8], t: &[u32], table: usize) -> Named
-        requires { ⌜ (Tidy (now s) (self .counts) (now t)) × (self .at ≤ length (now s)) × (8 ≤ table) × (table < 10) ⌝ }
-        ensures { λ r. ⌜ (seenName r (now (t .entry)) ≡ nameSeen (numberedAt link (layoutOf table) (now (s .entry)) (self .at) (vocabulary (self .counts) (now (t .entry))))) × NameTidy (now (s .entry)) r (now (t .entry)) ⌝ }
-    {
-        let r = number(s, self.at, table);
-        let Number::Got(n, next) = r else {
-            return number_fault(r);
-        };
-        if (self.counts.of(table) as u64) < n {
-            return Named::Faulty(INDEX, self.at);
-        }
-        let x = tables::entry(t, table, (n - 1) as u32);
-        self.at = next.at;
-        Named::Read(texts(t, x), self)
+// A name in parts, its p and n in the octet b; table 8 is the elements', 9 the attributes'.
+pub fn in_parts(
+    s: &[u8],
+    t: &mut [u32],
+    counts: &mut [u32],
+    index: &mut [u8],
+    table: usize,
+    at: usize,
+    b: u8,
+) -> Entry
+    requires { ⌜ (Tidy (now s) (now counts) (now t) (now index)) × (at < length (now s)) × (8 ≤ table) × (table < 10) ⌝ }
+    ensures { λ r. ⌜ (seenName table r (now (counts .exit)) (now (t .exit)) ≡ nameSeen (partsAt link (layoutOf table) (now (s .entry)) b at (vocabulary (unlisted (now (counts .entry))) (now (t .entry))))) × IdLeft (now (s .entry)) (now (counts .entry)) (now (t .entry)) table r (now (counts .exit)) (now (t .exit)) (now (index .exit)) × Positive r ⌝ }
+{
+    let pn = bits(b, 7, 8);
+    if pn == 2 {
+        return Entry::Refused(STRUCTURE, at);
     }
+    let first = optional(2 <= pn, s, t, counts, index, PREFIX, at + 1);
+    let Entry::Got(p, behind_prefix) = first else {
+        return first;
+    };
+    let second = optional(
+        bits(b, 8, 8) == 1,
+        s,
+        t,
+        counts,
+        index,
+        NAMESPACE_NAME,
+        behind_prefix,
+    );
+    let Entry::Got(n, behind_namespace) = second else {
+        return second;
+    };
+    let locals = counts[LOCAL_NAME];
+    let third = id(s, t, counts, index, LOCAL_NAME, behind_namespace);
+    let Entry::Got(l, next) = third else {
+        return third;
+    };
+    triple(
+        t,
+        counts,
+        index,
+        table,
+        at,
+        next,
+        Row { a: p, b: n, c: l },
+        locals,
+    )
+}
 
-    // A name whose part of its first octet is b: by number, or in parts.
-    pub fn name(self, s: &[u8], t: &mut [u32], table: usize, b: u8) -> Named
-        requires { ⌜ (Tidy (now s) (self .counts) (now t)) × (self .at < length (now s)) × (8 ≤ table) × (table < 10) ⌝ }
-        ensures { λ r. ⌜ (seenName r (now (t .exit)) ≡ nameSeen (nameAt link (layoutOf table) (now (s .entry)) b (self .at) (vocabulary (self .counts) (now (t .entry))))) × NameTidy (now (s .entry)) r (now (t .exit)) ⌝ }
-    {
-        if b < in_parts(table) {
-            return self.numbered(s, t, table);
-        }
-        self.parts(s, t, table, b)
+// A name by number.
+pub fn numbered(s: &[u8], counts: &[u32], table: usize, at: usize) -> Entry
+    requires { ⌜ (length (now counts) ≡ 10) × (8 ≤ table) × (table < 10) × (countOf (unlisted (now counts)) table ≤ 256) ⌝ }
+    ensures { λ r. ⌜ ((w : Words) (x : Octets) → Tidy (now (s .entry)) (now (counts .entry)) w x → at ≤ length (now (s .entry)) → (seenName table r (now (counts .entry)) w ≡ nameSeen (numberedAt link (layoutOf table) (now (s .entry)) at (vocabulary (unlisted (now (counts .entry))) w))) × IdLeft (now (s .entry)) (now (counts .entry)) w table r (now (counts .entry)) w x) × Positive r ⌝ }
+{
+    held(counts, table, at, number(s, at, table))
+}
+
+// A name whose part of its first octet is b: by number, or in parts.
+pub fn name(
+    s: &[u8],
+    t: &mut [u32],
+    counts: &mut [u32],
+    index: &mut [u8],
+    table: usize,
+    at: usize,
+    b: u8,
+) -> Entry
+    requires { ⌜ (Tidy (now s) (now counts) (now t) (now index)) × (at < length (now s)) × (8 ≤ table) × (table < 10) ⌝ }
+    ensures { λ r. ⌜ (seenName table r (now (counts .exit)) (now (t .exit)) ≡ nameSeen (nameAt link (layoutOf table) (now (s .entry)) b at (vocabulary (unlisted (now (counts .entry))) (now (t .entry))))) × IdLeft (now (s .entry)) (now (counts .entry)) (now (t .entry)) table r (now (counts .exit)) (now (t .exit)) (now (index .exit)) × Positive r ⌝ }
+{
+    if b < parts_bits(table) {
+        return numbered(s, counts, table, at);
     }
+    in_parts(s, t, counts, index, table, at, b)
+}
 
-    // A namespace declaration, 110011pn. F0 ends a list of them that has no member.
-    pub fn declared(mut self, s: &[u8], t: &mut [u32]) -> Named
-        requires { ⌜ (Tidy (now s) (self .counts) (now t)) × (self .at ≤ length (now s)) ⌝ }
-        ensures { λ r. ⌜ (seenName r (now (t .exit)) ≡ declaredSeen (declaredAt link (now (s .entry)) (self .at) (vocabulary (self .counts) (now (t .entry))))) × NameTidy (now (s .entry)) r (now (t .exit)) ⌝ }
-    {
-        let place = self.at;
-        if s.len() <= place {
-            return Named::Faulty(TRUNCATED, place);
+// A namespace declaration, 110011pn. F0 ends a list of them that has no member.
+pub fn declared(
+    s: &[u8],
+    t: &mut [u32],
+    counts: &mut [u32],
+    index: &mut [u8],
+    at: usize,
+) -> Declaration
+    requires { ⌜ (Tidy (now s) (now counts) (now t) (now index)) × (at ≤ length (now s)) ⌝ }
+    ensures { λ r. ⌜ (seenDeclared r (now (counts .exit)) (now (t .exit)) ≡ declaredSeen (declaredAt link (now (s .entry)) at (vocabulary (unlisted (now (counts .entry))) (now (t .entry))))) × DeclaredLeft (now (s .entry)) (now (counts .entry)) (now (t .entry)) r (now (counts .exit)) (now (t .exit)) (now (index .exit)) ⌝ }
+{
+    if s.len() <= at {
+        return Declaration::Refused(TRUNCATED, at);
+    }
+    let b = s[at];
+    if b == 0xF0 {
+        return Declaration::Refused(STRUCTURE, at);
+    }
+    if 0xF0 < b {
+        return Declaration::Refused(PADDING, at);
+    }
+    if bits(b, 1, 6) != 0x33 {
+        return Declaration::Refused(CODE, at);
+    }
+    match optional(2 <= bits(b, 7, 8), s, t, counts, index, PREFIX, at + 1) {
+        Entry::Refused(k, place) => Declaration::Refused(k, place),
+        Entry::Got(p, behind) => {
+            match optional(
+                bits(b, 8, 8) == 1,
+                s,
+                t,
+                counts,
+                index,
+                NAMESPACE_NAME,
+                behind,
+            ) {
+                Entry::Refused(k, place) => Declaration::Refused(k, place),
+                Entry::Got(n, next) => Declaration::Got(p, n, next),
+            }
         }
-        let b = s[place];
-        if b == 0xF0 {
-            return Named::Faulty(STRUCTURE, place);
-        }
-        if 0xF0 < b {
-            return Named::Faulty(PADDING, place);
-        }
-        if bits(b, 1, 6) != 0x33 {
-            return Named::Faulty(CODE, place);
-        }
-        self.at = place + 1;
-        let first = self.optional(2 <= bits(b, 7, 8), s, t, PREFIX);
-        let Field::Got(prefix, _, behind_prefix) = first else {
-            return string_fault(first);
-        };
-        let second = behind_prefix.optional(bits(b, 8, 8) == 1, s, t, NAMESPACE_NAME);
-        let Field::Got(namespace, _, next) = second else {
-            return string_fault(second);
-        };
-        let strings = Parts {
-            prefix,
-            namespace,
-            local: EventString::Absent,
-        };
-        Named::Read(strings, next)
     }
 }

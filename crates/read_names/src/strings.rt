@@ -1,22 +1,23 @@
-// Strings: C.13, C.14, C.15. Each method reads one string from where it stands.
+// Strings: C.13, C.14, C.15. Each function reads one string from octet `at` on.
 ghost use mathlib.Core.Path.{_≡_};
-ghost use Prim.Native.Nat.{_+_, _*_, _<_, _≤_};
+ghost use Prim.Native.Nat.{ℕ, _+_, _*_, _<_, _≤_};
 ghost use lib.ListN.{length, getD};
+ghost use Rattle.format.specs.Octets.{Octets};
 ghost use Rattle.format.specs.Numbers.{lengths};
 ghost use Rattle.format.specs.Tables.{link, CONTENT-CHARACTER-CHUNK};
 ghost use Rattle.format.specs.Strings.{c15};
 ghost use Rattle.fields.specs.Fields.{fieldAt, noTop};
 ghost use Rattle.tables.specs.Counts.{tableWords};
 ghost use Rattle.tables.specs.Rows.{tableOf, stringAt, vocabulary};
-ghost use Rattle.tables.specs.Kept.{countOf};
+ghost use Rattle.tables.specs.Kept.{countOf, unlisted};
 ghost use Rattle.events.specs.Records.{eventString};
 ghost use Rattle.read_names.specs.Strings.{idAt, optionalAt, spelledAt, literalAt, valueAt};
-ghost use Rattle.read_names.specs.Contracts.{Tidy, seenField, FieldTidy, idSeen, optionalSeen, stringSeen};
-ghost use Rattle.read_names.specs.StringContracts.{refusalOf, stretchOf, Positive, heldOf, addedOf, addedWords, unnumberedOf, lengthFrom};
+ghost use Rattle.read_names.specs.Contracts.{Tidy, seenId, IdLeft, Positive, seenField, FieldLeft, idSeen, optionalSeen, stringSeen};
+ghost use Rattle.read_names.specs.StringContracts.{BehindWithin, stretchOf, NumberPositive, heldOf, saidOf, addedOf, addedCounts, addedWords, lengthFrom};
+use crate::Entry;
 use crate::FORMAT;
 use crate::FULL;
 use crate::Field;
-use crate::Here;
 use crate::INDEX;
 use crate::REPEAT;
 use crate::TEXT;
@@ -47,23 +48,11 @@ fn narrow(x: usize) -> u32
     x as u32
 }
 
-// The refusal of a number or a length is the string's. It is asked of refusals alone.
-fn refusal(r: Number) -> Field
-    ensures { λ a. ⌜ a ≡ refusalOf r ⌝ }
+// A spelled string's length that was read at a place: its octets are there, and are text.
+fn stretch(s: &[u8], at: usize, r: Number) -> Number
+    requires { ⌜ BehindWithin (now s) r ⌝ }
+    ensures { λ a. ⌜ a ≡ stretchOf (now (s .entry)) at r ⌝ }
 {
-    match r {
-        Number::Got(_, next) => Field::Refused(0, next.at),
-        Number::Refused(number, place) => Field::Refused(number, place),
-    }
-}
-
-// How many octets a spelled string has, by the length from bit `bit`, and where they start. They are there, and are text.
-fn stretch(s: &[u8], at: usize, bit: u32) -> Number
-    requires { ⌜ (1 ≤ bit) × (bit ≤ 7) ⌝ }
-    ensures { λ r. ⌜ r ≡ stretchOf (now (s .entry)) at (fieldAt (lengths bit) noTop bit (now (s .entry)) at) ⌝ }
-{
-    let c = Cursor { at };
-    let r = c.length(s, bit);
     let Number::Got(n, first) = r else {
         return r;
     };
@@ -79,7 +68,7 @@ fn stretch(s: &[u8], at: usize, bit: u32) -> Number
 }
 
 // Entry i of a table, from 0. One without octets is built in.
-pub fn text_of(t: &[u32], table: usize, i: u32) -> EventString
+pub fn string_of(t: &[u32], table: usize, i: u32) -> EventString
     requires { ⌜ (length (now t) ≡ tableWords) × (table < 8) × (i < 256) ⌝ }
     ensures { λ r. ⌜ r ≡ eventString (stringAt (tableOf table) (now (t .entry)) (768 * table + 3 * i)) ⌝ }
 {
@@ -94,151 +83,185 @@ pub fn text_of(t: &[u32], table: usize, i: u32) -> EventString
     }
 }
 
-// The same string, without its number.
-fn unnumbered(r: Field) -> Field
-    ensures { λ a. ⌜ a ≡ unnumberedOf r ⌝ }
+// A number that was read at a place is that of an entry.
+pub fn held(counts: &[u32], table: usize, at: usize, r: Number) -> Entry
+    requires { ⌜ (length (now counts) ≡ 10) × (table < 10) × (countOf (unlisted (now counts)) table ≤ 256) ⌝ }
+    ensures { λ a. ⌜ a ≡ heldOf (countOf (unlisted (now (counts .entry))) table) at r ⌝ }
 {
-    let Field::Got(x, _, next) = r else {
-        return r;
-    };
-    Field::Got(x, 0, next)
+    match r {
+        Number::Refused(k, place) => Entry::Refused(k, place),
+        Number::Got(n, next) => {
+            if (counts[table] as u64) < n {
+                return Entry::Refused(INDEX, at);
+            }
+            Entry::Got(n as u32, next.at)
+        }
+    }
 }
 
-impl Here {
-    // The entry behind a number that was read here.
-    fn held(mut self, t: &[u32], table: usize, r: Number) -> Field
-        requires { ⌜ (length (now t) ≡ tableWords) × (table < 8) × (countOf (self .counts) table ≤ 256) × Positive r ⌝ }
-        ensures { λ a. ⌜ a ≡ heldOf (now (t .entry)) self table r ⌝ }
-    {
-        let Number::Got(n, next) = r else {
-            return refusal(r);
-        };
-        if (self.counts.of(table) as u64) < n {
-            return Field::Refused(INDEX, self.at);
+// C.13, spelled: octets that are no entry yet, and become one.
+fn fresh(
+    s: &[u8],
+    t: &mut [u32],
+    counts: &mut [u32],
+    index: &mut [u8],
+    table: usize,
+    at: usize,
+) -> Entry
+    requires { ⌜ (Tidy (now s) (now counts) (now t) (now index)) × (table < 5) × (getD (now s) at 0 < 0x80) ⌝ }
+    ensures { λ r. ⌜ (seenId table r (now (counts .exit)) (now (t .exit)) ≡ idSeen (idAt link (now (s .entry)) (tableOf table) at (vocabulary (unlisted (now (counts .entry))) (now (t .entry))))) × IdLeft (now (s .entry)) (now (counts .entry)) (now (t .entry)) table r (now (counts .exit)) (now (t .exit)) (now (index .exit)) × Positive r ⌝ }
+{
+    let c = Cursor { at };
+    match stretch(s, at, c.length(s, 2)) {
+        Number::Refused(k, place) => Entry::Refused(k, place),
+        Number::Got(n, first) => {
+            let place = first.at;
+            let size = n as usize;
+            let count = counts[table];
+            let h = index::bucket_of(s, place, size);
+            if index::find_in(s, t, index, table, count, place, size, h) != 0 {
+                return Entry::Refused(REPEAT, at);
+            }
+            if Counts::ENTRIES <= count {
+                return Entry::Refused(FULL, at);
+            }
+            index::enter_in(s, t, index, table, count, narrow(place), narrow(size), 0, h);
+            counts[table] = count + 1;
+            Entry::Got(count + 1, place + size)
         }
-        let number = n as u32;
-        self.at = next.at;
-        Field::Got(text_of(t, table, number - 1), number, self)
     }
+}
 
-    // The octets at a place become an entry of their table.
-    fn added(self, t: &mut [u32], table: usize, place: usize, size: usize) -> Field
-        requires { ⌜ (length (now t) ≡ tableWords) × (table < 8) × (place + size ≤ 16384) ⌝ }
-        ensures { λ a. ⌜ (a ≡ addedOf self table place size) × (now (t .exit) ≡ addedWords (self .counts) (now (t .entry)) table place size) ⌝ }
-    {
-        let count = self.counts.of(table);
+// C.13: an identifying string of a table: its number.
+pub fn id(
+    s: &[u8],
+    t: &mut [u32],
+    counts: &mut [u32],
+    index: &mut [u8],
+    table: usize,
+    at: usize,
+) -> Entry
+    requires { ⌜ (Tidy (now s) (now counts) (now t) (now index)) × (at ≤ length (now s)) × (table < 5) ⌝ }
+    ensures { λ r. ⌜ (seenId table r (now (counts .exit)) (now (t .exit)) ≡ idSeen (idAt link (now (s .entry)) (tableOf table) at (vocabulary (unlisted (now (counts .entry))) (now (t .entry))))) × IdLeft (now (s .entry)) (now (counts .entry)) (now (t .entry)) table r (now (counts .exit)) (now (t .exit)) (now (index .exit)) × Positive r ⌝ }
+{
+    if bits(octet(s, at), 1, 1) == 0 {
+        return fresh(s, t, counts, index, table, at);
+    }
+    let c = Cursor { at };
+    held(counts, table, at, c.number_at_bit_2(s))
+}
+
+// One that is there if its presence bit says so; its number is 0 where it is not.
+pub fn optional(
+    there: bool,
+    s: &[u8],
+    t: &mut [u32],
+    counts: &mut [u32],
+    index: &mut [u8],
+    table: usize,
+    at: usize,
+) -> Entry
+    requires { ⌜ (Tidy (now s) (now counts) (now t) (now index)) × (at ≤ length (now s)) × (table < 5) ⌝ }
+    ensures { λ r. ⌜ (seenId table r (now (counts .exit)) (now (t .exit)) ≡ optionalSeen (optionalAt link there (now (s .entry)) (tableOf table) at (vocabulary (unlisted (now (counts .entry))) (now (t .entry))))) × IdLeft (now (s .entry)) (now (counts .entry)) (now (t .entry)) table r (now (counts .exit)) (now (t .exit)) (now (index .exit)) ⌝ }
+{
+    if there {
+        return id(s, t, counts, index, table, at);
+    }
+    Entry::Got(0, at)
+}
+
+// The string behind a number that is that of an entry.
+fn said(t: &[u32], table: usize, r: Entry) -> Field
+    requires { ⌜ (length (now t) ≡ tableWords) × (table < 8) × NumberPositive r ⌝ }
+    ensures { λ a. ⌜ a ≡ saidOf (now (t .entry)) table r ⌝ }
+{
+    match r {
+        Entry::Refused(k, place) => Field::Refused(k, place),
+        Entry::Got(n, next) => Field::Got(string_of(t, table, n - 1), next),
+    }
+}
+
+// The octets at a place, which become an entry of their table where their add bit says so.
+fn added(
+    t: &mut [u32],
+    counts: &mut [u32],
+    table: usize,
+    at: usize,
+    place: usize,
+    size: usize,
+    add: bool,
+) -> Field
+    requires { ⌜ (length (now t) ≡ tableWords) × (length (now counts) ≡ 10) × (table < 8) × (place + size ≤ 16384) ⌝ }
+    ensures { λ a. ⌜ (a ≡ addedOf (now (counts .entry)) table at place size add) × (now (counts .exit) ≡ addedCounts (now (counts .entry)) table add) × (now (t .exit) ≡ addedWords (now (counts .entry)) (now (t .entry)) table place size add) ⌝ }
+{
+    let first = narrow(place);
+    let len = narrow(size);
+    let read = Field::Got(EventString::Stretch(first, len), place + size);
+    if add {
+        let count = counts[table];
         if Counts::ENTRIES <= count {
-            return Field::Refused(FULL, self.at);
+            return Field::Refused(FULL, at);
         }
-        let first = narrow(place);
-        let len = narrow(size);
         tables::add(t, table, count, first, len, 0);
-        Field::Got(
-            EventString::Stretch(first, len),
-            count + 1,
-            Here {
-                at: place + size,
-                counts: self.counts.more(table),
-            },
-        )
+        counts[table] = count + 1;
+        return read;
     }
+    read
+}
 
-    // A spelled string of C.14 or C.15, its length from bit `bit`; it is added where its add bit says so.
-    fn spelled(mut self, s: &[u8], t: &mut [u32], table: usize, bit: u32, add: bool) -> Field
-        requires { ⌜ (Tidy (now s) (self .counts) (now t)) × (table < 8) × (1 ≤ bit) × (bit ≤ 7) ⌝ }
-        ensures { λ r. ⌜ (seenField r (now (t .exit)) ≡ stringSeen (spelledAt link (lengthFrom bit) (now (s .entry)) (tableOf table) (self .at) add (vocabulary (self .counts) (now (t .entry))))) × FieldTidy (now (s .entry)) r (now (t .exit)) ⌝ }
-    {
-        let r = stretch(s, self.at, bit);
-        let Number::Got(n, first) = r else {
-            return refusal(r);
-        };
-        let place = first.at;
-        let size = n as usize;
-        if add {
-            return unnumbered(self.added(t, table, place, size));
-        }
-        self.at = place + size;
-        Field::Got(EventString::Stretch(narrow(place), narrow(size)), 0, self)
+// A spelled string of C.14 or C.15, its length read; it is added where its add bit says so.
+fn spelled(
+    s: &[u8],
+    t: &mut [u32],
+    counts: &mut [u32],
+    table: usize,
+    at: usize,
+    r: Number,
+    add: bool,
+) -> Field
+    requires { ⌜ (length (now t) ≡ tableWords) × (length (now counts) ≡ 10) × (length (now s) ≤ 16384) × (table < 8) × BehindWithin (now s) r ⌝ }
+    ensures { λ a. ⌜ ((x : Octets) (bit : ℕ) → Tidy (now (s .entry)) (now (counts .entry)) (now (t .entry)) x → 5 ≤ table → r ≡ fieldAt (lengths bit) noTop bit (now (s .entry)) at → (seenField a (now (counts .exit)) (now (t .exit)) ≡ stringSeen (spelledAt link (lengthFrom bit) (now (s .entry)) (tableOf table) at add (vocabulary (unlisted (now (counts .entry))) (now (t .entry))))) × FieldLeft (now (s .entry)) (now (counts .entry)) (now (t .entry)) a (now (counts .exit)) (now (t .exit)) x) ⌝ }
+{
+    match stretch(s, at, r) {
+        Number::Refused(k, place) => Field::Refused(k, place),
+        Number::Got(n, first) => added(t, counts, table, at, first.at, n as usize, add),
     }
+}
 
-    // C.13, spelled: octets that are no entry yet, and become one.
-    fn fresh(self, s: &[u8], t: &mut [u32], table: usize) -> Field
-        requires { ⌜ (Tidy (now s) (self .counts) (now t)) × (table < 8) × (getD (now s) (self .at) 0 < 0x80) ⌝ }
-        ensures { λ r. ⌜ (seenField r (now (t .exit)) ≡ idSeen (idAt link (now (s .entry)) (tableOf table) (self .at) (vocabulary (self .counts) (now (t .entry))))) × FieldTidy (now (s .entry)) r (now (t .exit)) ⌝ }
-    {
-        let r = stretch(s, self.at, 2);
-        let Number::Got(n, first) = r else {
-            return refusal(r);
-        };
-        let place = first.at;
-        let size = n as usize;
-        let count = self.counts.of(table);
-        if tables::find(s, t, table, count, place, size) != 0 {
-            return Field::Refused(REPEAT, self.at);
-        }
-        self.added(t, table, place, size)
+// C.14: a value, comment or content. FF is the empty string.
+pub fn value(s: &[u8], t: &mut [u32], counts: &mut [u32], table: usize, at: usize) -> Field
+    requires { ⌜ (length (now t) ≡ tableWords) × (length (now counts) ≡ 10) × (length (now s) ≤ 16384) × (at ≤ length (now s)) × (5 ≤ table) × (table < 8) × (countOf (unlisted (now counts)) table ≤ 256) ⌝ }
+    ensures { λ r. ⌜ ((x : Octets) → Tidy (now (s .entry)) (now (counts .entry)) (now (t .entry)) x → (seenField r (now (counts .exit)) (now (t .exit)) ≡ stringSeen (valueAt link (now (s .entry)) (tableOf table) at (vocabulary (unlisted (now (counts .entry))) (now (t .entry))))) × FieldLeft (now (s .entry)) (now (counts .entry)) (now (t .entry)) r (now (counts .exit)) (now (t .exit)) x) ⌝ }
+{
+    let o = octet(s, at);
+    if o == 0xFF {
+        return Field::Got(EventString::Empty, at + 1);
     }
-
-    // C.13: an identifying string of a table.
-    pub fn id(self, s: &[u8], t: &mut [u32], table: usize) -> Field
-        requires { ⌜ (Tidy (now s) (self .counts) (now t)) × (self .at ≤ length (now s)) × (table < 8) ⌝ }
-        ensures { λ r. ⌜ (seenField r (now (t .exit)) ≡ idSeen (idAt link (now (s .entry)) (tableOf table) (self .at) (vocabulary (self .counts) (now (t .entry))))) × FieldTidy (now (s .entry)) r (now (t .exit)) ⌝ }
-    {
-        let at = self.at;
-        if bits(octet(s, at), 1, 1) == 0 {
-            return self.fresh(s, t, table);
-        }
+    if bits(o, 1, 1) == 1 {
         let c = Cursor { at };
-        self.held(t, table, c.number_at_bit_2(s))
+        return said(t, table, held(counts, table, at, c.number_at_bit_2(s)));
     }
+    // The length's bits count only where the format is utf-8, 00.
+    if bits(o, 3, 4) != 0 {
+        return Field::Refused(FORMAT, at);
+    }
+    let c = Cursor { at };
+    spelled(s, t, counts, table, at, c.length(s, 5), bits(o, 2, 2) == 1)
+}
 
-    // One that is there if its presence bit says so.
-    pub fn optional(self, there: bool, s: &[u8], t: &mut [u32], table: usize) -> Field
-        requires { ⌜ (Tidy (now s) (self .counts) (now t)) × (self .at ≤ length (now s)) × (table < 8) ⌝ }
-        ensures { λ r. ⌜ (seenField r (now (t .exit)) ≡ optionalSeen (optionalAt link there (now (s .entry)) (tableOf table) (self .at) (vocabulary (self .counts) (now (t .entry))))) × FieldTidy (now (s .entry)) r (now (t .exit)) ⌝ }
-    {
-        if there {
-            return self.id(s, t, table);
-        }
-        Field::Got(EventString::Absent, 0, self)
+// C.15: a chunk, whose first octet starts with 10.
+pub fn chunk(s: &[u8], t: &mut [u32], counts: &mut [u32], at: usize) -> Field
+    requires { ⌜ (length (now t) ≡ tableWords) × (length (now counts) ≡ 10) × (length (now s) ≤ 16384) × (at ≤ length (now s)) × (countOf (unlisted (now counts)) 6 ≤ 256) × (0x80 ≤ getD (now s) at 0) × (getD (now s) at 0 < 0xC0) ⌝ }
+    ensures { λ r. ⌜ ((x : Octets) → Tidy (now (s .entry)) (now (counts .entry)) (now (t .entry)) x → (seenField r (now (counts .exit)) (now (t .exit)) ≡ stringSeen (literalAt link c15 (now (s .entry)) CONTENT-CHARACTER-CHUNK at (vocabulary (unlisted (now (counts .entry))) (now (t .entry))))) × FieldLeft (now (s .entry)) (now (counts .entry)) (now (t .entry)) r (now (counts .exit)) (now (t .exit)) x) ⌝ }
+{
+    let o = octet(s, at);
+    if bits(o, 3, 3) == 1 {
+        let c = Cursor { at };
+        return said(t, CHUNKS, held(counts, CHUNKS, at, c.number_at_bit_4(s)));
     }
-
-    // C.14: a value, comment or content. FF is the empty string.
-    pub fn value(mut self, s: &[u8], t: &mut [u32], table: usize) -> Field
-        requires { ⌜ (Tidy (now s) (self .counts) (now t)) × (self .at ≤ length (now s)) × (table < 8) ⌝ }
-        ensures { λ r. ⌜ (seenField r (now (t .exit)) ≡ stringSeen (valueAt link (now (s .entry)) (tableOf table) (self .at) (vocabulary (self .counts) (now (t .entry))))) × FieldTidy (now (s .entry)) r (now (t .exit)) ⌝ }
-    {
-        let at = self.at;
-        let o = octet(s, at);
-        if o == 0xFF {
-            self.at = at + 1;
-            return Field::Got(EventString::Empty, 0, self);
-        }
-        if bits(o, 1, 1) == 1 {
-            let c = Cursor { at };
-            return unnumbered(self.held(t, table, c.number_at_bit_2(s)));
-        }
-        // The length's bits count only where the format is utf-8, 00.
-        if bits(o, 3, 4) != 0 {
-            return Field::Refused(FORMAT, at);
-        }
-        self.spelled(s, t, table, 5, bits(o, 2, 2) == 1)
+    if bits(o, 5, 6) != 0 {
+        return Field::Refused(FORMAT, at);
     }
-
-    // C.15: a chunk, whose first octet starts with 10.
-    pub fn chunk(self, s: &[u8], t: &mut [u32]) -> Field
-        requires { ⌜ (Tidy (now s) (self .counts) (now t)) × (self .at ≤ length (now s)) × (0x80 ≤ getD (now s) (self .at) 0) × (getD (now s) (self .at) 0 < 0xC0) ⌝ }
-        ensures { λ r. ⌜ (seenField r (now (t .exit)) ≡ stringSeen (literalAt link c15 (now (s .entry)) CONTENT-CHARACTER-CHUNK (self .at) (vocabulary (self .counts) (now (t .entry))))) × FieldTidy (now (s .entry)) r (now (t .exit)) ⌝ }
-    {
-        let at = self.at;
-        let o = octet(s, at);
-        if bits(o, 3, 3) == 1 {
-            let c = Cursor { at };
-            return unnumbered(self.held(t, CHUNKS, c.number(s, 4)));
-        }
-        if bits(o, 5, 6) != 0 {
-            return Field::Refused(FORMAT, at);
-        }
-        self.spelled(s, t, CHUNKS, 7, bits(o, 4, 4) == 1)
-    }
+    let c = Cursor { at };
+    spelled(s, t, counts, CHUNKS, at, c.length(s, 7), bits(o, 4, 4) == 1)
 }

@@ -1,4 +1,4 @@
 pub mod RunLaws
+pub mod WordLaws
 pub mod ReadLaws
 pub mod ReadValues
-pub mod WordLaws

@@ -1,4 +1,4 @@
--- Steps up to an event, and the row of records that a run fills: laws on plain values for the lent step and for reading into lent room.
+-- One step by value, and the row of records that a run fills: laws on plain values for the lent step and for reading into lent room.
 -- Assumes nothing.
 use mathlib.Core.Path.{_≡_, refl, sym, ap, _∙_}
 use mathlib.Core.Bool.{Bool, true, false, not}
@@ -11,72 +11,121 @@ use lib.Dec.{eqb}
 use lib.ListN.{length, set, replicate, length-append}
 use lib.Seq.{set-at}
 use Rattle.format.specs.Numbers.{pick}
+use Rattle.format.specs.Events as F
 use Rattle.format.specs.Tables.{link}
 use Rattle.tables.specs.declared.Counts.{Counts}
-use Rattle.tables.specs.Located.{start}
+use Rattle.tables.specs.Located.{Located, start}
 use Rattle.tables.specs.Counts.{tableWords, countsOf}
 use Rattle.tables.specs.Rows.{vocabulary}
-use Rattle.tables.specs.Kept.{Clean}
+use Rattle.tables.specs.Kept.{listed, unlisted, Clean}
 use Rattle.tables.proofs.Laws.{entries-are, counts-are}
+use Rattle.index.specs.Indexed.{slots}
+use Rattle.states.specs.declared.State.{State}
 use Rattle.events.specs.declared.Event.{Event}
-use Rattle.events.specs.Records.{blank}
+use Rattle.events.specs.declared.Kind.the-variants.{Blank}
+use Rattle.events.specs.Records.{blank, recordOf}
+use Rattle.events.specs.Words.{kindNumber}
+use Rattle.events.specs.FromWords.{recordAt}
+use Rattle.events.specs.Kept.{kept}
+use Rattle.events.proofs.FromWords.{record-back}
 use Rattle.reader.specs.declared.Answer.the-variants.{Accepted}
-use Rattle.read_items.specs.declared.State.{State}
 use Rattle.read_items.specs.declared.Step.{Step}
 use Rattle.read_items.specs.declared.Step.the-variants.{More, Quiet, Done, Stop}
 use Rattle.reader.specs.declared.read.Place.{Place}
 use Rattle.reader.specs.declared.read.Next.{Next}
-use Rattle.reader.specs.declared.read.Next.the-variants.{Found, Finished, Refused}
+use Rattle.reader.specs.declared.read.Next.the-variants.{Found, Passed, Finished, Refused}
 use Rattle.read_items.specs.Items as I
 use Rattle.read_items.specs.Items.{Stand}
 use Rattle.read_items.specs.Steps.{step}
 use Rattle.reader.specs.Reading.{Opening, onward, halt, sized, opening, EventRead, recordRead, Result, accepted, refusal, plus, turn, run, origin, fuelOf, told, Outcome, refusing, accepting, outcome, resultFrom, reading, readOf}
-use Rattle.read_items.specs.Contracts.{standOf, seenStep, stepSeen, Good, StepGood}
-use Rattle.reader.specs.ReadContracts.{stateOf, placeOf, first, standAt, Reached, found, ended, fault, reach, nextOf, seenNext, Reaches, finished, Small, settled, admission}
+use Rattle.read_items.specs.Contracts.{Lent, lent, SeenStep, more, quiet, done, stop, seenStep, stepSeen, keptBy, Good, StepGood, Met}
+use Rattle.reader.specs.ReadContracts.{first, lentTo, standAt, Numbered, nextBy, Reached, found, passed, ended, fault, reach, nextOf, seenNext, Reaches, finished, Small, settled, admission}
 use Rattle.read_names.proofs.StringLaws.{tests}
 use Rattle.read_items.proofs.Places.{step-placed}
-use Rattle.reader.proofs.RunLaws.{PlacedSeen, placed-seen, opens, start-is, underway-start}
+use Rattle.reader.proofs.RunLaws.{PlacedSeen, placed-seen, opens, start-is, good-start}
 
--- ---- steps in a document s, from a state with so many steps left and tables v: what follows from here is what follows from there
-pub record Going (s : List ℕ) (all : ℕ) (from : State) (v : List ℕ) (left : ℕ) (st : State) (w : List ℕ) : Type 0 where
-  pub good : Good s st w
-  pub fewer : left ≤ all
-  pub leads : nextOf s left (standOf st w) ≡ nextOf s all (standOf from v)
+-- ---- an event that is kept in a record of its own is found there again
+kinded : (e : F.Event Located) → recordOf e .kind ≡ Blank → ⊥
+unfolding recordOf
+kinded (F.Namespace p n) h = let z : _≡_ {A = ℕ} 1 0 = ap kindNumber h in absurd (omega arith)
+kinded (F.Start x) h = let z : _≡_ {A = ℕ} 2 0 = ap kindNumber h in absurd (omega arith)
+kinded (F.Attribute x y) h = let z : _≡_ {A = ℕ} 3 0 = ap kindNumber h in absurd (omega arith)
+kinded (F.Text y) h = let z : _≡_ {A = ℕ} 4 0 = ap kindNumber h in absurd (omega arith)
+kinded (F.Comment y) h = let z : _≡_ {A = ℕ} 5 0 = ap kindNumber h in absurd (omega arith)
+kinded (F.Instruction x y) h = let z : _≡_ {A = ℕ} 6 0 = ap kindNumber h in absurd (omega arith)
+kinded F.End h = let z : _≡_ {A = ℕ} 7 0 = ap kindNumber h in absurd (omega arith)
 
-module _ (s : List ℕ) (p : Place) (c : Counts) (v : List ℕ) (from : State) (is : from ≡ stateOf p c) (left : ℕ) (st : State) (t : List ℕ) (u : Going s (p .left) from v left st t) where
-  leads-on : nextOf s left (standOf st t) ≡ nextOf s (p .left) (standAt p c v)
-  leads-on = u .leads ∙ ap (λ (k : State). nextOf s (p .left) (standOf k v)) is
+kept-back : (e : F.Event Located) → recordAt (kept (replicate 13 0) 0 (recordOf e)) 0 ≡ recordOf e
+unfolding kept
+kept-back e = record-back (recordOf e) [] (kinded e)
 
-  pub reaches-spent : left ≤ 0 → Reaches s p c v (Refused 2 (st .at / 2)) (st .counts) t
+-- ---- a step by value, from a place p with counts c and tables and index as in a; its record was of zeros
+-- what is reached, by what is seen of the step and what is in its record
+abbrev reachBy : ℕ → Stand → List ℕ → SeenStep → Reached
+reachBy left m w (more p k) = found p (recordAt w 0) k left
+reachBy left m w (quiet k) = passed k left
+reachBy left m w done = ended (m .state .tables)
+reachBy left m w (stop j p) = fault j p
+
+reach-seen : (left : ℕ) (m : Stand) (x : I.Step) → reachBy left m (keptBy (replicate 13 0) 0 x) (stepSeen x) ≡ reach left m x
+reach-seen left m (I.more p i k) = ap (λ (e : Event). found p e k left) (kept-back (i .event))
+reach-seen left m (I.quiet k) = refl
+reach-seen left m I.done = refl
+reach-seen left m (I.stop j p) = refl
+
+-- counts that were words and are a struct
+good-counted : {s : List ℕ} {st : State} {b : Lent} → Good s st b → Good s st (lentTo (unlisted (b .counts)) (b .tables) (b .index))
+good-counted g =
+    let t = g .tidy in
+    record {
+      tidy = record { size = t .size; ten = refl; room = t .room; counted = t .counted; clean = t .clean; inside = t .inside; ranged = t .ranged; indexed = t .indexed };
+      at = g .at;
+      shallow = g .shallow;
+    }
+
+-- and the other way, with a record for the event
+pub good-lent : {s : List ℕ} {st : State} {c : Counts} {w x : List ℕ} → Good s st (lentTo c w x) → (d z : List ℕ) → d ≡ listed c → Good s st (lent w d x z)
+good-lent g d z e = rw e (record { tidy = g .tidy; at = g .at; shallow = g .shallow })
+
+pub reaches-spent : (s : List ℕ) (p : Place) (c : Counts) (w x : List ℕ) → Good s (p .state) (lentTo c w x) → p .left ≡ 0 → Reaches s p c w (Refused 2 (p .state .at / 2)) c w x
+unfolding nextOf
+reaches-spent s p c w x g z = let a = g .at in (rw z, omega arith)
+
+module _ (s : List ℕ) (p : Place) (c : Counts) (w y z : List ℕ) (zeros : z ≡ replicate 13 0) (d : List ℕ) (counts : d ≡ listed c) (h : p .left ≡ 0 → ⊥) (g : Good s (p .state) (lentTo c w y))
+    (r : Step) (b : Lent) (q : Met s (p .state) 0 (lent w d y z) r b (step link s)) where
+  abbrev here : Stand
+  here = standAt p c w
+
+  seen : seenStep r b ≡ stepSeen (step link s here)
+  seen = rw counts at (q .is)
+
+  reached : reachBy (p .left - 1) here (b .records) (seenStep r b) ≡ nextOf s (p .left) here
   unfolding nextOf
-  reaches-spent h =
-      let z : left ≡ 0 = omega arith in
-      let a = u .good .at in
-      (rw z at leads-on, (u .good .tidy .room, omega arith))
+  reached =
+      let l : p .left ≡ suc (p .left - 1) = omega arith in
+      rw (seen, rw (counts, zeros) at (q .keeps)) (reach-seen (p .left - 1) here (step link s here) ∙ sym (ap (λ (k : ℕ). nextOf s k here) l))
 
-  module _ (h : 0 < left) (r : Step) (w : List ℕ) (q : (seenStep r w ≡ stepSeen (step link s (standOf st t))) × StepGood s t r w) where
-    leads-here : reach (λ (n : Stand). nextOf s (left - 1) n) (left - 1) (standOf st t) (seenStep r w) ≡ nextOf s left (standOf st t)
-    unfolding nextOf
-    leads-here = let z : left ≡ suc (left - 1) = omega arith in rw (q .0) (sym (ap (λ (k : ℕ). nextOf s k (standOf st t)) z))
+  placed : PlacedSeen s (seenStep r b)
+  placed = rw seen (placed-seen s (step link s here) (step-placed s link here (g .at)))
 
-    placed-here : PlacedSeen s (seenStep r w)
-    placed-here = rw (q .0) (placed-seen s (step link s (standOf st t)) (step-placed s link (standOf st t) (u .good .at)))
+  pub numbered : Numbered r
+  numbered = by-answer r (q .good)
+    where
+      by-answer : (k : Step) → StepGood s (lent w d y z) k b → Numbered k
+      by-answer (More st n) f = tt
+      by-answer (Quiet st n) f = tt
+      by-answer (Done st n) f = tt
+      by-answer (Stop st n) f = f .1
 
-    pub going-quiet : (st′ : State) → r ≡ Quiet st′ → Going s (p .left) from v (left - 1) st′ w
-    going-quiet st′ e = let f = u .fewer in record { good = rw e at (q .1); fewer = omega arith; leads = rw e at (leads-here ∙ u .leads) }
-
-    pub reaches-found : (place : ℕ) (x : Event) (st′ : State) → r ≡ More st′ place x → (b : Place) → b ≡ placeOf st′ (left - 1) → Reaches s p c v (Found place x b) (st′ .counts) w
-    reaches-found place x st′ e b k = let f = u .fewer in rw k (rw e at (leads-here ∙ leads-on), (rw e at (q .1), rw e at placed-here, omega arith))
-
-    pub reaches-end : r ≡ Done → Reaches s p c v Finished (st .counts) w
-    reaches-end e =
-        let same : w ≡ t = rw e at (q .1) in
-        rw same (rw e at (leads-here ∙ leads-on), u .good .tidy)
-
-    pub reaches-stop : (number place : ℕ) → r ≡ Stop number place → Reaches s p c v (Refused number place) (st .counts) w
-    reaches-stop number place e =
-        let l : (number ≤ 15) × (place ≤ length s) = rw e at placed-here in
-        (rw e at (leads-here ∙ leads-on), (rw e at (q .1), l .1))
+  pub reaches-by : (e : Next) → e ≡ nextBy r (b .records) (p .left - 1) → Reaches s p c w e (unlisted (b .counts)) (b .tables) (b .index)
+  reaches-by e f = rw f (by-answer r reached placed (q .good))
+    where
+      by-answer : (k : Step) → reachBy (p .left - 1) here (b .records) (seenStep k b) ≡ nextOf s (p .left) here → PlacedSeen s (seenStep k b) → StepGood s (lent w d y z) k b
+          → Reaches s p c w (nextBy k (b .records) (p .left - 1)) (unlisted (b .counts)) (b .tables) (b .index)
+      by-answer (More st n) i j f = (i, (good-counted f, j, omega arith))
+      by-answer (Quiet st n) i j f = (i, (good-counted f, omega arith))
+      by-answer (Done st n) i j f = let same : unlisted (b .counts) ≡ c = ap unlisted (f .0 ∙ counts) in (rw (same, f .1) i, rw (same, f .1) (g .tidy .clean))
+      by-answer (Stop st n) i j f = (i, j .1)
 
 -- ---- a run, by the events that steps come to: what it leaves in `room` records, with the events acc before it
 abbrev laid : ℕ → List Event → Result → Outcome
@@ -86,6 +135,7 @@ laid room acc (refusal k p) = refusing k p room tableWords
 -- behind n events in a row of `room` records: no event follows, or it has no record
 abbrev pub Over : (room n : ℕ) → Next → Type 0
 Over room n (Found place e b) = room ≤ n
+Over room n (Passed b) = ⊥
 Over room n Finished = Unit {0}
 Over room n (Refused k place) = Unit {0}
 
@@ -93,6 +143,7 @@ module _ (s : List ℕ) (room body : ℕ) where
   abbrev laidBy : List Event → ℕ → Reached → Outcome
   laidBy acc zero (found p e m k) = refusing 14 p room tableWords
   laidBy acc (suc left) (found p e m k) = laid room (acc ++ (e ∷ [])) (run link s k left m)
+  laidBy acc left (passed m k) = laid room acc (run link s k left m)
   laidBy acc left (ended v) = accepting acc v room
   laidBy acc left (fault k p) = refusing k p room tableWords
 
@@ -103,15 +154,14 @@ module _ (s : List ℕ) (room body : ℕ) where
   laid-run : (acc : List Event) (fuel left : ℕ) (m : Stand) → laid room acc (run link s fuel left m) ≡ laidBy acc left (nextOf s fuel m)
   unfolding run nextOf
   laid-run acc zero left m = refl
-  laid-run acc (suc fuel) left m = turned left (step link s m) (λ n. laid-run acc fuel left n)
+  laid-run acc (suc fuel) left m = turned left (step link s m)
     where
-      turned : (left : ℕ) (x : I.Step) → ((n : Stand) → laid room acc (run link s fuel left n) ≡ laidBy acc left (nextOf s fuel n))
-          → laid room acc (turn (λ (k : ℕ) (n : Stand). run link s fuel k n) left m x) ≡ laidBy acc left (reach (λ (n : Stand). nextOf s fuel n) fuel m (stepSeen x))
-      turned zero (I.more p i n) more = refl
-      turned (suc k) (I.more p i n) more = laid-plus acc _ (run link s fuel k n)
-      turned left (I.quiet n) more = more n
-      turned left I.done more = ap (λ (es : List Event). accepting es (m .state .tables) room) (append-nil acc)
-      turned left (I.stop k p) more = refl
+      turned : (left : ℕ) (x : I.Step) → laid room acc (turn (λ (k : ℕ) (n : Stand). run link s fuel k n) left m x) ≡ laidBy acc left (reach fuel m x)
+      turned zero (I.more p i n) = refl
+      turned (suc k) (I.more p i n) = laid-plus acc _ (run link s fuel k n)
+      turned left (I.quiet n) = refl
+      turned left I.done = ap (λ (es : List Event). accepting es (m .state .tables) room) (append-nil acc)
+      turned left (I.stop k p) = refl
 
   laid-none : (x : Result) → laid room [] x ≡ outcome x room
   laid-none (accepted es m) = refl
@@ -121,33 +171,34 @@ module _ (s : List ℕ) (room body : ℕ) where
   target = outcome (run link s (fuelOf s) room (origin body (start link))) room
 
   -- n events are in the row zs, and blanks behind them; what is left to do leads to the answer
-  pub record Filling (p : Place) (c : Counts) (us : List ℕ) (zs : List Event) (n : ℕ) : Type 0 where
+  pub record Filling (p : Place) (c : Counts) (us xs : List ℕ) (zs : List Event) (n : ℕ) : Type 0 where
     pub events : List Event
     pub counted : length events ≡ n
     pub row : zs ≡ events ++ replicate (room - n) blank
     pub few : n ≤ room
-    pub good : Good s (stateOf p c) us
+    pub good : Good s (p .state) (lentTo c us xs)
     pub spent : n + p .left ≤ 2 * length s + 1
     pub leads : laid room events (run link s (p .left) (room - n) (standAt p c us)) ≡ target
 
-  pub filling-start : body ≤ length s → length s ≤ 16384 → (us : List ℕ) → us ≡ replicate tableWords 0 → (zs : List Event) → zs ≡ replicate room blank → Filling (first body (length s)) (countsOf (start link)) us zs 0
-  filling-start l h us e zs f =
+  pub filling-start : body ≤ length s → length s ≤ 16384 → (us : List ℕ) → us ≡ replicate tableWords 0 → (xs : List ℕ) → xs ≡ replicate slots 0 → (zs : List Event) → zs ≡ replicate room blank
+      → Filling (first body (length s)) (countsOf (start link)) us xs zs 0
+  filling-start l h us e xs i zs f =
       let z : room - 0 ≡ room = omega arith in
       record {
         events = [];
         counted = refl;
         row = rw z f;
         few = omega arith;
-        good = underway-start s [] 0 body l h us e .good;
+        good = good-start s body us (listed (countsOf (start link))) xs e refl i l h [];
         spent = omega arith;
-        leads = rw (z, start-is s [] 0 body us e, add-one) (laid-none (run link s (fuelOf s) room (origin body (start link))));
+        leads = rw (z, start-is s body us (listed (countsOf (start link))) (replicate slots 0) e refl refl [], add-one) (laid-none (run link s (fuelOf s) room (origin body (start link))));
       }
 
-  module _ (p : Place) (c : Counts) (us : List ℕ) (zs : List Event) (n : ℕ) (u : Filling p c us zs n) (d : Counts) (ws : List ℕ) where
+  module _ (p : Place) (c : Counts) (us xs : List ℕ) (zs : List Event) (n : ℕ) (u : Filling p c us xs zs n) (d : Counts) (ws ys : List ℕ) where
     comes : (r : Next) → seenNext r d ws ≡ nextOf s (p .left) (standAt p c us) → laidBy (u .events) (room - n) (seenNext r d ws) ≡ target
     comes r e = rw e (sym (laid-run (u .events) (p .left) (room - n) (standAt p c us)) ∙ u .leads)
 
-    pub filling-found : (place : ℕ) (e : Event) (b : Place) → Reaches s p c us (Found place e b) d ws → n < room → Filling b d ws (set zs n e) (n + 1)
+    pub filling-found : (place : ℕ) (e : Event) (b : Place) → Reaches s p c us (Found place e b) d ws ys → n < room → Filling b d ws ys (set zs n e) (n + 1)
     filling-found place e b it l =
         let z : room - n ≡ suc (room - (n + 1)) = omega arith in
         let f = u .spent in
@@ -163,19 +214,35 @@ module _ (s : List ℕ) (room body : ℕ) where
           leads = rw z at more;
         }
 
-    pub filled : (r : Next) → Reaches s p c us r d ws → Over room n r → settled room tableWords (finished r n d) zs ws ≡ target
+    pub filling-passed : (b : Place) → Reaches s p c us (Passed b) d ws ys → Filling b d ws ys zs n
+    filling-passed b it =
+        let f = u .spent in
+        let k = it .1 .1 in
+        record {
+          events = u .events;
+          counted = u .counted;
+          row = u .row;
+          few = u .few;
+          good = it .1 .0;
+          spent = omega arith;
+          leads = comes (Passed b) (it .0);
+        }
+
+    pub filled : (r : Next) → Reaches s p c us r d ws ys → Over room n r → settled room tableWords (finished r n d) zs ws ≡ target
     unfolding Clean
     filled (Found place e b) it l = let z : room - n ≡ 0 = omega arith in rw z at (comes (Found place e b) (it .0))
+    filled (Passed b) it l = absurd l
     filled Finished it l = rw (u .row) (same ∙ comes Finished (it .0))
       where
         same : _≡_ {A = Outcome} (record { answer = Accepted n d; told = told (Accepted n d); row = u .events ++ replicate (room - n) blank; tables = ws }) (accepting (u .events) (vocabulary d ws) room)
-        same = rw (entries-are (vocabulary d ws), counts-are d ws, it .1 .clean, u .counted)
+        same = rw (entries-are (vocabulary d ws), counts-are d ws, it .1, u .counted)
     filled (Refused k place) it l = comes (Refused k place) (it .0)
 
-    pub small : (r : Next) → Reaches s p c us r d ws → Small r n
+    pub small : (r : Next) → Reaches s p c us r d ws ys → Small r n
     small (Found place e b) it = let k = it .1 .1 in let h = u .good .tidy .size in omega arith
+    small (Passed b) it = let k = it .1 .0 .at in let h = u .good .tidy .size in omega arith
     small Finished it = let f = u .spent in let h = u .good .tidy .size in omega arith
-    small (Refused k place) it = let l = it .1 .1 in let h = u .good .tidy .size in omega arith
+    small (Refused k place) it = let l = it .1 in let h = u .good .tidy .size in omega arith
 
 -- ---- what is admitted, by size and table room
 module _ (s : List ℕ) (room : ℕ) (size : Bool) (is : size ≡ sized link s) where

@@ -30,7 +30,7 @@ use Rattle.reader.proofs.read.Place.Laws as P′
 use Rattle.reader.proofs.read.Next as N
 use Rattle.reader.proofs.read.Next.Laws as N′
 
--- a `&[u8]`, a `&mut [Event]` and a `&mut [u32]`, at a lifetime; and the references in the last two
+-- a `&[u8]` at a lifetime, and the references in a `&mut [Event]`, a `&mut [u32]` and a `&mut [u8]`
 abbrev pub docTy : Lifetime → Ty
 docTy ℓ = sliceTy (tyRef ℓ imm (tyInt w8))
 
@@ -39,6 +39,9 @@ elemTy ℓ = tyRef ℓ mut (pointee (E.the-row .written))
 
 abbrev pub numTy : Lifetime → Ty
 numTy ℓ = tyRef ℓ mut (tyInt w32)
+
+abbrev pub octTy : Lifetime → Ty
+octTy ℓ = tyRef ℓ mut (tyInt w8)
 
 -- a value in memory, and that it is what the machine value says
 abbrev pub valC : Counts → Val

@@ -8,29 +8,33 @@ use native.Mathlib.Omega.{arith}
 use native.Mathlib.Numerals.{add-one}
 use borrow.Author.Tests.{lt-ltb, le-ltb, le-leb, lt-leb, eq-eqb, ne-eqb, leb-true}
 use lib.Dec.{eqb, ltb, leb, lit<}
-use lib.ListN.{length, getD, take, drop, set, replicate, getD-replicate, length-replicate}
+use lib.ListN.{length, getD, take, drop, replicate, getD-replicate, length-replicate}
 use lib.Seq.{drop-cons, sets}
 use Rattle.format.specs.Tables.{NameTable, ELEMENT-NAME, ATTRIBUTE-NAME, names, starting, same, link}
 use Rattle.format.specs.Document.{beginning}
 use Rattle.tables.specs.Located.{start}
 use Rattle.tables.specs.Counts.{tableWords, countsOf}
 use Rattle.tables.specs.Rows.{vocabulary}
+use Rattle.tables.specs.Kept.{listed}
 use Rattle.tables.proofs.Laws.{vocabulary-start, counted-start, clean-start, inside-start}
-use Rattle.events.specs.declared.Event.{Event}
-use Rattle.events.specs.Words.{kindNumber, stringWords, recordWords}
 use Rattle.tables.proofs.Found.{both-true}
-use Rattle.reader.specs.declared.Answer.{Answer}
-use Rattle.reader.specs.declared.Answer.the-variants.{Accepted, Refused}
-use Rattle.read_items.specs.declared.State.{State}
+use Rattle.index.specs.Indexed.{slots}
+use Rattle.index.proofs.Counted.{indexed-start}
+use Rattle.states.specs.declared.State.{State}
+use Rattle.states.specs.States.{modeOf, rootOf, coming, fresh}
+use Rattle.events.specs.Words.{recordWords}
+use Rattle.events.specs.Kept.{kept}
 use Rattle.read_items.specs.declared.Step.{Step}
 use Rattle.read_items.specs.declared.Step.the-variants.{More, Quiet, Done, Stop}
 use Rattle.read_items.specs.Items as I
 use Rattle.read_items.specs.Items.{Stand}
 use Rattle.read_items.specs.Steps.{step}
+use Rattle.read_names.specs.Contracts.{Ranged, searched}
+use Rattle.read_items.specs.Contracts.{Lent, lent, standOf, SeenStep, more, quiet, done, stop, seenStep, stepSeen, keptBy, Good, Met}
+use Rattle.reader.specs.declared.run.Ended.{Ended}
+use Rattle.reader.specs.declared.run.Ended.the-variants.{Accepted, Refused}
 use Rattle.reader.specs.Reading.{Opening, onward, halt, sized, opening, EventRead, recordRead, Result, accepted, refusal, plus, turn, run, origin, fuelOf, reading, numberOf, checkOf}
-use Rattle.read_names.specs.Contracts.{Ranged}
-use Rattle.read_items.specs.Contracts.{standOf, SeenStep, more, quiet, done, stop, seenStep, stepSeen, Good, StepGood}
-use Rattle.reader.specs.RunContracts.{fresh, Ending, ended, faulty, endingOf, seenEnding, eventWords, kept, keptFrom, Small, answerNumber, Ran}
+use Rattle.reader.specs.RunContracts.{Ending, ended, faulty, endingOf, seenEnding, eventWords, keptFrom, Small, answerNumber, Ran}
 use Rattle.read_names.proofs.StringLaws.{tests}
 use Rattle.read_items.proofs.Places.{Placed, step-placed}
 
@@ -103,23 +107,6 @@ module _ (s : List ℕ) where
           unfolding opening link
           open-onward z = rw (← size, le-leb _ _ l, ← e, le-leb _ _ h, z)
 
--- ---- an event's words
-module _ (w : List ℕ) (n : ℕ) (e : Event) where
-  pub kept-not : length w / 13 ≤ n → w ≡ kept w n e
-  unfolding kept
-  kept-not h = rw (le-ltb _ _ h)
-
-  -- the kind, then the four strings, one behind the other
-  pub kept-all : (k : ℕ) (w₁ w₂ w₃ w₄ : List ℕ) → n < length w / 13 → k ≡ kindNumber (e .kind) → w₁ ≡ sets (set w (13 * n) k) (13 * n + 1) (stringWords (e .prefix))
-      → w₂ ≡ sets w₁ (13 * n + 4) (stringWords (e .namespace)) → w₃ ≡ sets w₂ (13 * n + 7) (stringWords (e .name)) → w₄ ≡ sets w₃ (13 * n + 10) (stringWords (e .value)) → w₄ ≡ kept w n e
-  unfolding kept
-  kept-all k w₁ w₂ w₃ w₄ h a b c d f =
-      let z : 13 * n + 1 ≡ suc (13 * n) = add-one (13 * n) in
-      let z₄ : 13 * n + 4 ≡ suc (suc (suc (suc (13 * n)))) = omega arith in
-      let z₇ : 13 * n + 7 ≡ suc (suc (suc (suc (suc (suc (suc (13 * n))))))) = omega arith in
-      let z₁₀ : 13 * n + 10 ≡ suc (suc (suc (suc (suc (suc (suc (suc (suc (suc (13 * n)))))))))) = omega arith in
-      rw (lt-ltb _ _ h, f, d, c, b, a, z, z₄, z₇, z₁₀)
-
 -- what every opening keeps to
 abbrev Opens : List ℕ → Opening → Type 0
 Opens s (onward body v) = (body ≤ length s) × (length s ≤ 16384)
@@ -141,21 +128,22 @@ opens s o e =
     (λ _. omega arith))
     (λ _. omega arith))
 
--- ---- what a turn comes to, by what is seen of its step
+-- ---- what a turn comes to, by what is seen of its step and what it kept
 module _ (go : ℕ → Stand → Result) (m : Stand) (n : ℕ) where
   abbrev endsBy : ℕ → SeenStep → Ending
-  endsBy zero (more p e k) = faulty 14 p
-  endsBy (suc room) (more p e k) = endingOf (n + 1) (go room k)
+  endsBy zero (more p k) = faulty 14 p
+  endsBy (suc room) (more p k) = endingOf (n + 1) (go room k)
   endsBy room (quiet k) = endingOf n (go room k)
   endsBy room done = ended n (m .state .tables)
   endsBy room (stop j p) = faulty j p
 
-  abbrev keptBy : List ℕ → ℕ → SeenStep → List ℕ
-  keptBy w zero (more p e k) = []
-  keptBy w (suc room) (more p e k) = keptFrom (sets w (13 * n) (recordWords e)) (n + 1) (go room k)
-  keptBy w room (quiet k) = keptFrom w n (go room k)
-  keptBy w room done = w
-  keptBy w room (stop j p) = []
+  -- w are the words of records behind the step
+  abbrev leftBy : List ℕ → ℕ → SeenStep → List ℕ
+  leftBy w zero (more p k) = []
+  leftBy w (suc room) (more p k) = keptFrom w (n + 1) (go room k)
+  leftBy w room (quiet k) = keptFrom w n (go room k)
+  leftBy w room done = w
+  leftBy w room (stop j p) = []
 
   plus-ends : (e : EventRead) (x : Result) → endingOf n (plus e x) ≡ endingOf (n + 1) x
   plus-ends e (accepted es k) = ap (λ (j : ℕ). ended j (k .state .tables)) (omega arith)
@@ -165,12 +153,12 @@ module _ (go : ℕ → Stand → Result) (m : Stand) (n : ℕ) where
   sets-append w at [] b = let z : at + 0 ≡ at = omega arith in rw z
   sets-append w at (x ∷ a) b = let z : at + suc (length a) ≡ suc at + length a = omega arith in rw (z, sets-append _ (suc at) a b)
 
-  plus-kept : (w : List ℕ) (e : EventRead) (x : Result) → keptFrom w n (plus e x) ≡ keptFrom (sets w (13 * n) (recordWords (recordRead e))) (n + 1) x
-  unfolding eventWords
-  plus-kept w e (accepted es k) =
+  plus-kept : (w : List ℕ) (e : EventRead) (x : Result) → n < length w / 13 → keptFrom w n (plus e x) ≡ keptFrom (kept w n (recordRead e)) (n + 1) x
+  unfolding eventWords kept
+  plus-kept w e (accepted es k) h =
       let z : 13 * (n + 1) ≡ 13 * n + 13 = omega arith in
-      rw z (sets-append w (13 * n) (recordWords (recordRead e)) (eventWords es))
-  plus-kept w e (refusal j p) = refl
+      rw (lt-ltb _ _ h, z) (sets-append w (13 * n) (recordWords (recordRead e)) (eventWords es))
+  plus-kept w e (refusal j p) h = refl
 
   turn-ends : (room : ℕ) (x : I.Step) → endingOf n (turn go room m x) ≡ endsBy room (stepSeen x)
   turn-ends zero (I.more p i k) = refl
@@ -179,17 +167,17 @@ module _ (go : ℕ → Stand → Result) (m : Stand) (n : ℕ) where
   turn-ends room I.done = let z : n + 0 ≡ n = omega arith in rw z
   turn-ends room (I.stop j p) = refl
 
-  turn-kept : (w : List ℕ) (room : ℕ) (x : I.Step) → keptFrom w n (turn go room m x) ≡ keptBy w room (stepSeen x)
+  turn-kept : (w : List ℕ) (room : ℕ) (x : I.Step) → 13 * (n + room) ≤ length w → keptFrom w n (turn go room m x) ≡ leftBy (keptBy w n x) room (stepSeen x)
   unfolding eventWords
-  turn-kept w zero (I.more p i k) = refl
-  turn-kept w (suc room) (I.more p i k) = plus-kept w _ (go room k)
-  turn-kept w room (I.quiet k) = refl
-  turn-kept w room I.done = refl
-  turn-kept w room (I.stop j p) = refl
+  turn-kept w zero (I.more p i k) h = refl
+  turn-kept w (suc room) (I.more p i k) h = plus-kept w _ (go room k) (omega arith)
+  turn-kept w room (I.quiet k) h = refl
+  turn-kept w room I.done h = refl
+  turn-kept w room (I.stop j p) h = refl
 
 -- the place of an event, or of a refusal, as it is seen
 abbrev pub PlacedSeen : List ℕ → SeenStep → Type 0
-PlacedSeen s (more p e k) = p ≤ length s
+PlacedSeen s (more p k) = p ≤ length s
 PlacedSeen s (quiet k) = Unit {0}
 PlacedSeen s done = Unit {0}
 PlacedSeen s (stop j p) = (j ≤ 15) × (p ≤ length s)
@@ -205,53 +193,63 @@ abbrev whole : List ℕ → (room body : ℕ) → Result
 whole s room body = run link s (fuelOf s) room (origin body (start link))
 
 module _ (s v : List ℕ) (room body : ℕ) where
-  -- there is fuel for `left` steps more, and there were n events; the words of tables and records are t and w
-  pub record Underway (left n : ℕ) (st : State) (t w : List ℕ) : Type 0 where
-    pub good : Good s st t
+  -- there is fuel for `left` steps more, and there were n events; a is what is lent
+  pub record Underway (left n : ℕ) (st : State) (a : Lent) : Type 0 where
+    pub good : Good s st a
     pub fits : n ≤ room
     pub fuel : n + left ≤ 2 * length s + 1
-    pub ends : endingOf n (run link s left (room - n) (standOf st t)) ≡ endingOf 0 (whole s room body)
-    pub keeps : 13 * room ≤ length v → keptFrom w n (run link s left (room - n) (standOf st t)) ≡ keptFrom v 0 (whole s room body)
-    pub same-length : length w ≡ length v
+    pub ends : endingOf n (run link s left (room - n) (standOf st a)) ≡ endingOf 0 (whole s room body)
+    pub keeps : 13 * room ≤ length v → keptFrom (a .records) n (run link s left (room - n) (standOf st a)) ≡ keptFrom v 0 (whole s room body)
+    pub same-length : length (a .records) ≡ length v
 
-  -- before the first item
-  tables-start : (t : List ℕ) → t ≡ replicate tableWords 0 → vocabulary (countsOf (start link)) t ≡ start link
-  tables-start t e = rw e (vocabulary-start (replicate tableWords 0) (getD-replicate {A = ℕ} tableWords 1 0 0 (lit< tt)) (getD-replicate {A = ℕ} tableWords 769 0 0 (lit< tt)))
+-- ---- before the first item: tables of zeros, the counts of the start, an index of zeros
+module _ (s : List ℕ) (body : ℕ) (t c x : List ℕ) (zeros : t ≡ replicate tableWords 0) (counts : c ≡ listed (countsOf (start link))) (clear : x ≡ replicate slots 0) where
+  tables-start : vocabulary (countsOf (start link)) t ≡ start link
+  tables-start = rw zeros (vocabulary-start (replicate tableWords 0) (getD-replicate {A = ℕ} tableWords 1 0 0 (lit< tt)) (getD-replicate {A = ℕ} tableWords 769 0 0 (lit< tt)))
 
-  pub start-is : (t : List ℕ) → t ≡ replicate tableWords 0 → standOf (fresh body) t ≡ origin body (start link)
-  unfolding beginning
-  start-is t e = rw (tables-start t e)
+  pub start-is : (w : List ℕ) → standOf (fresh body) (lent t c x w) ≡ origin body (start link)
+  unfolding beginning modeOf rootOf
+  start-is w = rw (counts, tables-start)
 
-  ranged-start : (t : NameTable) → Ranged (countsOf (start link)) (names (start link) t)
+  ranged-start : (n : NameTable) → Ranged (countsOf (start link)) (names (start link) n)
   unfolding names start starting link
   ranged-start ELEMENT-NAME = tt
   ranged-start ATTRIBUTE-NAME = tt
 
-  pub underway-start : body ≤ length s → length s ≤ 16384 → (t : List ℕ) → t ≡ replicate tableWords 0 → Underway (2 * length s + 1) 0 (fresh body) t v
-  underway-start l h t e =
-      let z : room - 0 ≡ room = omega arith in
-      record {
-        good = record {
-          tidy = record {
-            size = h;
-            room = ap length e ∙ length-replicate {A = ℕ} tableWords 0;
-            counted = counted-start;
-            clean = rw e clean-start;
-            inside = rw (tables-start t e) (inside-start s);
-            ranged = rw (tables-start t e) ranged-start;
-          };
-          at = omega arith;
-          shallow = omega arith;
+  pub good-start : body ≤ length s → length s ≤ 16384 → (w : List ℕ) → Good s (fresh body) (lent t c x w)
+  unfolding coming
+  good-start l h w =
+      rw counts
+      (record {
+        tidy = record {
+          size = h;
+          ten = refl;
+          room = ap length zeros ∙ length-replicate {A = ℕ} tableWords 0;
+          counted = counted-start;
+          clean = rw zeros clean-start;
+          inside = rw tables-start (inside-start s);
+          ranged = rw tables-start ranged-start;
+          indexed = rw zeros (indexed-start searched s (replicate tableWords 0) x (getD-replicate {A = ℕ} tableWords 1 0 0 (lit< tt)) (getD-replicate {A = ℕ} tableWords 769 0 0 (lit< tt)) clear);
         };
+        at = omega arith;
+        shallow = omega arith;
+      })
+
+  pub underway-start : body ≤ length s → length s ≤ 16384 → (v : List ℕ) (room : ℕ) {st : State} → st ≡ fresh body → Underway s v room body (2 * length s + 1) 0 st (lent t c x v)
+  underway-start l h v room e =
+      let z : room - 0 ≡ room = omega arith in
+      rw e
+      (record {
+        good = good-start l h v;
         fits = omega arith;
         fuel = omega arith;
-        ends = rw (z, start-is t e, add-one);
-        keeps = λ _. rw (z, start-is t e, add-one);
+        ends = rw (z, start-is v, add-one);
+        keeps = λ _. rw (z, start-is v, add-one);
         same-length = refl;
-      }
+      })
 
-module _ {s v : List ℕ} {room body left n : ℕ} {st : State} {t w : List ℕ} (u : Underway s v room body left n st t w) where
-  pub ran-spent : left ≤ 0 → Ran room v (Refused 2 (st .at / 2)) t w (whole s room body)
+module _ {s v : List ℕ} {room body left n : ℕ} {st : State} {a : Lent} (u : Underway s v room body left n st a) where
+  pub ran-spent : left ≤ 0 → Ran room v (Refused 2 (st .at / 2)) (a .counts) (a .tables) (a .records) (whole s room body)
   unfolding run
   ran-spent h =
       let z : left ≡ 0 = omega arith in
@@ -259,106 +257,107 @@ module _ {s v : List ℕ} {room body left n : ℕ} {st : State} {t w : List ℕ}
       record { is = rw z at (u .ends); small = omega arith; settled = tt; keeps = λ _. tt }
 
   -- a step, and what is seen of its answer
-  module _ (h : 0 < left) (r : Step) (t′ : List ℕ) (p : (seenStep r t′ ≡ stepSeen (step link s (standOf st t))) × StepGood s t r t′) where
+  module _ (h : 0 < left) {r : Step} {b : Lent} (p : Met s st n a r b (step link s)) where
     abbrev onward-from : ℕ → Stand → Result
     onward-from k m = run link s (left - 1) k m
 
-    one : run link s left (room - n) (standOf st t) ≡ turn onward-from (room - n) (standOf st t) (step link s (standOf st t))
+    one : run link s left (room - n) (standOf st a) ≡ turn onward-from (room - n) (standOf st a) (step link s (standOf st a))
     unfolding run
-    one = let z : left ≡ suc (left - 1) = omega arith in ap (λ (k : ℕ). run link s k (room - n) (standOf st t)) z
+    one = let z : left ≡ suc (left - 1) = omega arith in ap (λ (k : ℕ). run link s k (room - n) (standOf st a)) z
 
-    ends-here : endsBy onward-from (standOf st t) n (room - n) (seenStep r t′) ≡ endingOf 0 (whole s room body)
-    ends-here = rw (p .0) (sym (ap (endingOf n) one ∙ turn-ends onward-from (standOf st t) n (room - n) (step link s (standOf st t))) ∙ u .ends)
+    ends-here : endsBy onward-from (standOf st a) n (room - n) (seenStep r b) ≡ endingOf 0 (whole s room body)
+    ends-here = rw (p .is) (sym (ap (endingOf n) one ∙ turn-ends onward-from (standOf st a) n (room - n) (step link s (standOf st a))) ∙ u .ends)
 
-    kept-here : 13 * room ≤ length v → keptBy onward-from (standOf st t) n w (room - n) (seenStep r t′) ≡ keptFrom v 0 (whole s room body)
-    kept-here k = rw (p .0) (sym (ap (keptFrom w n) one ∙ turn-kept onward-from (standOf st t) n w (room - n) (step link s (standOf st t))) ∙ u .keeps k)
+    kept-here : 13 * room ≤ length v → leftBy onward-from (standOf st a) n (b .records) (room - n) (seenStep r b) ≡ keptFrom v 0 (whole s room body)
+    kept-here k =
+        let f = u .fits in
+        let l = u .same-length in
+        rw (p .is, p .keeps) (sym (ap (keptFrom (a .records) n) one ∙ turn-kept onward-from (standOf st a) n (a .records) (room - n) (step link s (standOf st a)) (omega arith)) ∙ u .keeps k)
 
-    placed-here : PlacedSeen s (seenStep r t′)
-    placed-here = rw (p .0) (placed-seen s (step link s (standOf st t)) (step-placed s link (standOf st t) (u .good .at)))
+    placed-here : PlacedSeen s (seenStep r b)
+    placed-here = rw (p .is) (placed-seen s (step link s (standOf st a)) (step-placed s link (standOf st a) (u .good .at)))
 
-    module _ {st′ : State} (q : r ≡ Quiet st′) where
-      pub underway-quiet : Underway s v room body (left - 1) n st′ t′ w
+    module _ {st′ : State} {k : ℕ} (q : r ≡ Quiet st′ k) (same : length (b .records) ≡ length (a .records)) where
+      pub underway-quiet : Underway s v room body (left - 1) n st′ b
       underway-quiet =
           let f = u .fuel in
           record {
-            good = rw q at (p .1);
+            good = rw q at (p .good);
             fits = u .fits;
             fuel = omega arith;
             ends = rw q at ends-here;
             keeps = λ k. rw q at (kept-here k);
-            same-length = u .same-length;
+            same-length = same ∙ u .same-length;
           }
 
-    module _ {place : ℕ} {e : Event} {st′ : State} (q : r ≡ More st′ place e) where
+    module _ {place : ℕ} {st′ : State} (q : r ≡ More st′ place) where
       pub more-place : place ≤ 16384
       more-place = let l : place ≤ length s = rw q at placed-here in let g = u .good .tidy .size in omega arith
 
-      pub underway-more : (n ≡ room → ⊥) → {w′ : List ℕ} → w′ ≡ kept w n e → length w′ ≡ length w → Underway s v room body (left - 1) (n + 1) st′ t′ w′
-      unfolding kept
-      underway-more l k o =
+      pub underway-more : (n ≡ room → ⊥) → length (b .records) ≡ length (a .records) → Underway s v room body (left - 1) (n + 1) st′ b
+      underway-more l same =
           let f = u .fuel in
           let i = u .fits in
-          let j = u .same-length in
           let z : room - n ≡ suc (room - (n + 1)) = omega arith in
           record {
-            good = rw q at (p .1);
+            good = rw q at (p .good);
             fits = omega arith;
             fuel = omega arith;
             ends = rw (q, z) at ends-here;
-            keeps = λ b. let y : n < length w / 13 = omega arith in rw (k, lt-ltb _ _ y) (rw (q, z) at (kept-here b));
-            same-length = o ∙ u .same-length;
+            keeps = λ k. rw (q, z) at (kept-here k);
+            same-length = same ∙ u .same-length;
           }
 
-      pub ran-full : n ≡ room → Ran room v (Refused 14 place) t′ w (whole s room body)
+      pub ran-full : n ≡ room → Ran room v (Refused 14 place) (b .counts) (b .tables) (b .records) (whole s room body)
       ran-full l =
           let z : room - n ≡ 0 = omega arith in
           record { is = rw (q, z) at ends-here; small = (omega arith, more-place); settled = tt; keeps = λ _. tt }
 
-    module _ (q : r ≡ Done) where
-      pub ran-done : Ran room v (Accepted n (st .counts)) t′ w (whole s room body)
+    module _ {st′ : State} {k : ℕ} (q : r ≡ Done st′ k) where
+      pub ran-done : Ran room v (Accepted n) (b .counts) (b .tables) (b .records) (whole s room body)
       ran-done =
-          let same : t′ ≡ t = rw q at (p .1) in
+          let same : (b .counts ≡ a .counts) × (b .tables ≡ a .tables) = rw q at (p .good) in
           let g = u .good .tidy .size in
           let f = u .fuel in
           record {
-            is = rw same (rw q at ends-here);
+            is = rw (same .0, same .1) (rw q at ends-here);
             small = omega arith;
-            settled = (u .fits, rw same (u .good .tidy .clean));
+            settled = rw (same .0, same .1) (u .fits, u .good .tidy .ten, u .good .tidy .clean);
             keeps = λ k. rw q at (kept-here k);
           }
 
-    module _ {k place : ℕ} (q : r ≡ Stop k place) where
-      pub stop-place : (k ≤ 15) × (place ≤ 16384)
-      stop-place = let l : (k ≤ 15) × (place ≤ length s) = rw q at placed-here in let g = u .good .tidy .size in omega arith
+    module _ {st′ : State} {k : ℕ} (q : r ≡ Stop st′ k) where
+      pub stop-place : (k ≤ 15) × (st′ .at ≤ 16384)
+      stop-place = let l : (k ≤ 15) × (st′ .at ≤ length s) = rw q at placed-here in let g = u .good .tidy .size in omega arith
 
-      pub ran-stop : Ran room v (Refused k place) t′ w (whole s room body)
+      pub ran-stop : Ran room v (Refused k (st′ .at)) (b .counts) (b .tables) (b .records) (whole s room body)
       ran-stop = record { is = rw q at ends-here; small = stop-place; settled = tt; keeps = λ _. tt }
 
 -- ---- a document
-module _ (s : List ℕ) {v : List ℕ} {room : ℕ} {r : Answer} {t w : List ℕ} where
-  pub ran-halt : {k place : ℕ} → halt k place ≡ opening link s → r ≡ Refused k place → Ran room v r t w (reading link s room)
+module _ (s : List ℕ) {v : List ℕ} {room : ℕ} {r : Ended} {c t w : List ℕ} where
+  pub ran-halt : {k place : ℕ} → halt k place ≡ opening link s → r ≡ Refused k place → Ran room v r c t w (reading link s room)
   unfolding reading
   ran-halt e q = let o = opens s _ e in rw (← e, q) (record { is = refl; small = o; settled = tt; keeps = λ _. tt })
 
-  pub ran-onward : {body : ℕ} → onward body (start link) ≡ opening link s → Ran room v r t w (run link s (fuelOf s) room (origin body (start link))) → Ran room v r t w (reading link s room)
+  pub ran-onward : {body : ℕ} → onward body (start link) ≡ opening link s → Ran room v r c t w (run link s (fuelOf s) room (origin body (start link))) → Ran room v r c t w (reading link s room)
   unfolding reading
   ran-onward e p = rw (← e) p
 
-pub small-refused : {r : Answer} {k p : ℕ} → r ≡ Refused k p → Small r → (k ≤ 15) × (p ≤ 16384)
+pub small-refused : {r : Ended} {k p : ℕ} → r ≡ Refused k p → Small r → (k ≤ 15) × (p ≤ 16384)
 small-refused q h = rw q at h
 
 abbrev endingNumber : Ending → ℕ
 endingNumber (ended n x) = 0
 endingNumber (faulty k p) = p * 32 + k
 
-number-seen : (r : Answer) (t : List ℕ) → answerNumber r ≡ endingNumber (seenEnding r t)
-number-seen (Accepted n c) t = refl
-number-seen (Refused k p) t = refl
+number-seen : (r : Ended) (c t : List ℕ) → answerNumber r ≡ endingNumber (seenEnding r c t)
+number-seen (Accepted n) c t = refl
+number-seen (Refused k p) c t = refl
 
 number-ending : (n : ℕ) (x : Result) → endingNumber (endingOf n x) ≡ numberOf x
 number-ending n (accepted es m) = refl
 number-ending n (refusal k p) = refl
 
-pub check-is : (s : List ℕ) {v : List ℕ} {r : Answer} {t w : List ℕ} → Ran 32768 v r t w (reading link s 32768) → answerNumber r ≡ checkOf link s
+pub check-is : (s : List ℕ) {v : List ℕ} {r : Ended} {c t w : List ℕ} → Ran 32768 v r c t w (reading link s 32768) → answerNumber r ≡ checkOf link s
 unfolding checkOf link
-check-is s {r = r} {t} p = number-seen r t ∙ ap endingNumber (p .is) ∙ number-ending 0 (reading link s 32768)
+check-is s {r = r} {c} {t} p = number-seen r c t ∙ ap endingNumber (p .is) ∙ number-ending 0 (reading link s 32768)

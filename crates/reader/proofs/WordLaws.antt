@@ -7,20 +7,20 @@ use Prim.Native.Nat.{ℕ, _+_, _-_, _*_, _/_, _%_, _^_, _≤_}
 use native.Mathlib.Omega.{arith}
 use native.Mathlib.Decide.{ℕ-discrete}
 use borrow.Author.Tests.{eq-eqb, ne-eqb}
-use lib.ListN.{length, drop, replicate, length-append, length-map, length-replicate, replicate-append-replicate}
-use lib.Seq.{drop-at, sets-eq}
+use lib.ListN.{length, drop, drop-of-length-le, replicate, length-append, length-map, length-replicate, replicate-append-replicate}
+use lib.Seq.{drop-at, drop-cons, sets-eq}
 use Rattle.format.specs.Tables.{link}
 use Rattle.tables.specs.declared.Counts.{Counts}
 use Rattle.tables.specs.Counts.{tableWords, countsOf, entryWords, wordsOf}
 use Rattle.tables.specs.Rows.{vocabulary}
-use Rattle.tables.specs.Kept.{listed, Clean}
+use Rattle.tables.specs.Kept.{listed, unlisted, Clean}
 use Rattle.tables.proofs.Laws.{counts-are}
 use Rattle.events.specs.declared.Event.{Event}
 use Rattle.events.specs.Records.{blank}
 use Rattle.events.specs.Words.{recordWords, rowWords}
 use Rattle.events.proofs.BlankWords.{blank-words, blank-all}
-use Rattle.reader.specs.declared.Answer.{Answer}
-use Rattle.reader.specs.declared.Answer.the-variants.{Accepted, Refused}
+use Rattle.reader.specs.declared.run.Ended.{Ended}
+use Rattle.reader.specs.declared.run.Ended.the-variants.{Accepted, Refused}
 use Rattle.reader.specs.Reading.{EventRead, recordRead, Result, accepted, refusal, sized, reading, outcome, readOf}
 use Rattle.reader.specs.Words.{leaving, nothing, inWords, readWords}
 use Rattle.reader.specs.RunContracts.{ended, faulty, endingOf, eventWords, keptFrom, answerNumber, Ran}
@@ -96,6 +96,13 @@ accepted-words r n d w v (accepted es m) e h g k = λ i. leaving (word i) (recor
         k ∙ sets-eq (eventWords es) (replicate r 0) 0 (rw (length-replicate {A = ℕ} r 0) (omega arith)) ∙ ap (λ (q : List ℕ). eventWords es ++ q) (rw y (drop-zeros r (13 * length es) f))
         ∙ sym (filled es r (omega (arith, count₀)))
 
+-- ten words are those of their counts
+ten-words : (l : List ℕ) → length l ≡ 10 → l ≡ listed (unlisted l)
+ten-words l e =
+    let z : length l ≤ 10 = omega arith in
+    drop-cons l 0 0 (omega arith)
+    ∙ rw (drop-cons l 1 0 (omega arith), drop-cons l 2 0 (omega arith), drop-cons l 3 0 (omega arith), drop-cons l 4 0 (omega arith), drop-cons l 5 0 (omega arith), drop-cons l 6 0 (omega arith), drop-cons l 7 0 (omega arith), drop-cons l 8 0 (omega arith), drop-cons l 9 0 (omega arith), drop-of-length-le l z)
+
 -- ---- by cases
 module _ (s : List ℕ) (r t c : ℕ) where
   pub words-size : false ≡ sized link s → nothing 1 r t c ≡ readWords link s r t c
@@ -120,18 +127,18 @@ module _ (s : List ℕ) (r t c : ℕ) where
       fields-first = rw (← size, eq-eqb _ _ a, eq-eqb _ _ b)
 
       -- a run that came out as y
-      module _ {v : List ℕ} {y : Answer} {w′ v′ : List ℕ} (p : Ran (r / 13) v y w′ v′ (reading link s (r / 13))) where
-        pub words-refused : {k place : ℕ} → y ≡ Refused k place → {n : ℕ} → n ≡ answerNumber y → leaving n (replicate r 0) (replicate t 0) (replicate c 0) ≡ readWords link s r t c
-        words-refused {k} {place} q {n} e =
+      module _ {v : List ℕ} {y : Ended} {c′ w′ v′ : List ℕ} (p : Ran (r / 13) v y c′ w′ v′ (reading link s (r / 13))) where
+        pub words-refused : {k place : ℕ} → y ≡ Refused k place → {n : ℕ} → n ≡ answerNumber y → {v₀ w₀ c₀ : List ℕ} → v₀ ≡ replicate r 0 → w₀ ≡ replicate t 0 → c₀ ≡ replicate c 0 → leaving n v₀ w₀ c₀ ≡ readWords link s r t c
+        words-refused {k} {place} q {n} e g h l =
             let f : faulty k place ≡ endingOf 0 (reading link s (r / 13)) = rw q at (p .is) in
             let m : n ≡ place * 32 + k = e ∙ ap answerNumber q in
-            (λ i. leaving (m i) (replicate r 0) (replicate (a i) 0) (replicate (b i) 0)) ∙ refused-words r k place (reading link s (r / 13)) f ∙ fields-first
+            (λ i. leaving (m i) (g i) (h i) (l i)) ∙ (λ i. leaving (place * 32 + k) (replicate r 0) (replicate (a i) 0) (replicate (b i) 0)) ∙ refused-words r k place (reading link s (r / 13)) f ∙ fields-first
 
-        pub words-accepted : {n : ℕ} {d : Counts} → y ≡ Accepted n d → v ≡ replicate r 0 → {u : List ℕ} → u ≡ listed d → leaving (n * 2 ^ 32 % 2 ^ 64) v′ w′ u ≡ readWords link s r t c
-        words-accepted {n} {d} q z l =
-            let f : ended n (vocabulary d w′) ≡ endingOf 0 (reading link s (r / 13)) = rw q at (p .is) in
-            let g : (n ≤ r / 13) × Clean d w′ = rw q at (p .settled) in
+        pub words-accepted : {n : ℕ} → y ≡ Accepted n → v ≡ replicate r 0 → leaving (n * 2 ^ 32 % 2 ^ 64) v′ w′ c′ ≡ readWords link s r t c
+        words-accepted {n} q z =
+            let f : ended n (vocabulary (unlisted c′) w′) ≡ endingOf 0 (reading link s (r / 13)) = rw q at (p .is) in
+            let g : (n ≤ r / 13) × (length c′ ≡ 10) × Clean (unlisted c′) w′ = rw q at (p .settled) in
             let h : n ≤ 32769 = rw q at (p .small) in
             let x : n * 2 ^ 32 % 2 ^ 64 ≡ n * 2 ^ 32 = omega arith in
             let k : v′ ≡ keptFrom (replicate r 0) 0 (reading link s (r / 13)) = rw (q, z) at (p .keeps (rw (z, length-replicate {A = ℕ} r 0) (omega arith))) in
-            rw (x, l) (accepted-words r n d w′ v′ (reading link s (r / 13)) f (g .0) (g .1) k ∙ fields-first)
+            rw x (ap (leaving (n * 2 ^ 32) v′ w′) (ten-words c′ (g .1)) ∙ accepted-words r n (unlisted c′) w′ v′ (reading link s (r / 13)) f (g .0) (g .2) k ∙ fields-first)

@@ -1,5 +1,5 @@
 // Reading a document: octets in, events and tables out, or a refusal and its place.
-// May depend on format, fields, tables, walk, events, read_names and read_items.
+// May depend on format, fields, tables, index, states, walk, events, read_names and read_items.
 pub mod read;
 mod run;
 

@@ -6,32 +6,31 @@ ghost use lib.ListN.{length, replicate};
 ghost use Rattle.format.specs.Tables.{link};
 ghost use Rattle.tables.specs.Located.{start};
 ghost use Rattle.tables.specs.Counts.{tableWords};
+ghost use Rattle.index.specs.Indexed.{slots};
 ghost use Rattle.events.specs.Records.{blank};
 ghost use Rattle.read_items.specs.Contracts.{Good};
 ghost use Rattle.reader.specs.Reading.{run, origin, fuelOf, outcome, Leaves, readOf};
 ghost use Rattle.reader.specs.RunContracts.{openingOf};
-ghost use Rattle.reader.specs.ReadContracts.{first, stateOf, placeOf, Reaches, Small, finished, settled, admission};
+ghost use Rattle.reader.specs.ReadContracts.{first, lentTo, Numbered, nextBy, Reaches, Small, finished, settled, admission};
 use crate::Answer;
 use crate::run;
 use crate::run::Opening;
 use events::Event;
-use read_items::Mode;
-use read_items::State;
+use events::RECORD;
 use read_items::Step;
+use states::State;
 use tables::Counts;
 
-// Where the reader stands, but for the counts, which are lent; and how many steps it may still take.
+// Where the reader stands, and how many steps it may still take.
 pub struct Place {
-    pub at: usize,
-    pub level: u32,
-    pub root: bool,
-    pub mode: Mode,
+    pub state: State,
     pub left: usize,
 }
 
-// An event, its place and where the reader stands behind it; the document's end; a refusal and its place.
+// Behind a step: an event, its place and where the reader stands; where it stands behind an end that is no event; the document's end; a refusal and its place.
 pub enum Next {
     Found(usize, Event, Place),
+    Passed(Place),
     Finished,
     Refused(u32, usize),
 }
@@ -41,90 +40,73 @@ pub struct Turn {
     pub next: Next,
 }
 
-// The place with counts, and without.
-fn resume(p: Place, counts: Counts) -> State
-    ensures { λ r. ⌜ r ≡ stateOf p counts ⌝ }
-{
-    let mode = p.mode;
-    State {
-        at: p.at,
-        level: p.level,
-        root: p.root,
-        mode,
-        counts,
-    }
-}
-
-fn pause(st: State, left: usize) -> Place
-    ensures { λ r. ⌜ r ≡ placeOf st left ⌝ }
-{
-    let mode = st.mode;
-    Place {
-        at: st.at,
-        level: st.level,
-        root: st.root,
-        mode,
-        left,
-    }
-}
-
 // Before the first item of a body. Each step takes a half of an octet, so these suffice.
 fn begin(body: usize, octets: usize) -> Place
     requires { ⌜ (body ≤ octets) × (octets ≤ 16384) ⌝ }
     ensures { λ r. ⌜ r ≡ first body octets ⌝ }
 {
-    pause(run::begin(body), 2 * octets + 1)
+    let state = State::begin(body);
+    Place {
+        state,
+        left: 2 * octets + 1,
+    }
 }
 
-// Steps up to the next event: ends that are none are passed over.
-fn advance(p: Place, c: Counts, s: &[u8], t: &mut [u32]) -> Turn
-    requires { ⌜ Good (now s) (stateOf p c) (now t) ⌝ }
-    ensures { λ r. ⌜ Reaches (now (s .entry)) p c (now (t .entry)) (r .next) (r .counts) (now (t .exit)) ⌝ }
+// A step's answer with the event that is kept in a record, and with the steps that are left.
+fn told(r: Step, words: &[u32], left: usize) -> Next
+    requires { ⌜ (length (now words) ≡ 13) × Numbered r ⌝ }
+    ensures { λ x. ⌜ x ≡ nextBy r (now (words .entry)) left ⌝ }
 {
-    let mut st = resume(p, c);
-    let mut left = p.left;
-    while 0 < left {
-        left -= 1;
-        let counts = st.counts;
-        match st.step(s, t) {
-            Step::More(behind, place, e) => {
-                let counts = behind.counts;
-                return Turn {
-                    counts,
-                    next: Next::Found(place, e, pause(behind, left)),
-                };
-            }
-            Step::Quiet(behind) => st = behind,
-            Step::Done => {
-                return Turn {
-                    counts,
-                    next: Next::Finished,
-                };
-            }
-            Step::Stop(number, place) => {
-                return Turn {
-                    counts,
-                    next: Next::Refused(number, place),
-                };
-            }
+    match r {
+        Step::More(state, place) => {
+            let e = events::from_words(words, 0);
+            Next::Found(place, e, Place { state, left })
         }
+        Step::Quiet(state, _) => Next::Passed(Place { state, left }),
+        Step::Done(_, _) => Next::Finished,
+        Step::Stop(stopped, number) => Next::Refused(number as u32, stopped.at),
     }
-    let counts = st.counts;
+}
+
+// One step, with the counts by value.
+fn advance(p: Place, c: Counts, s: &[u8], t: &mut [u32], index: &mut [u8]) -> Turn
+    requires { ⌜ Good (now s) (p .state) (lentTo c (now t) (now index)) ⌝ }
+    ensures { λ r. ⌜ Reaches (now (s .entry)) p c (now (t .entry)) (r .next) (r .counts) (now (t .exit)) (now (index .exit)) ⌝ }
+{
+    let st = p.state;
+    if p.left == 0 {
+        return Turn {
+            counts: c,
+            next: Next::Refused(fields::TRUNCATED, st.at / 2),
+        };
+    }
+    let mut counts = [0u32; Counts::TABLES];
+    tables::put_counts(&mut counts, c);
+    let mut record = [0u32; RECORD];
+    let r = read_items::items::step(st, s, t, &mut counts, index, &mut record, 0);
+    let next = told(r, &record, p.left - 1);
     Turn {
-        counts,
-        next: Next::Refused(fields::TRUNCATED, st.at / 2),
+        counts: tables::counts_in(&counts),
+        next,
     }
 }
 
 // The same on counts that are lent.
-fn step(p: Place, s: &[u8], tables: &mut [u32], counts: &mut Counts) -> Next
-    requires { ⌜ Good (now s) (stateOf p (now counts)) (now tables) ⌝ }
-    ensures { λ r. ⌜ Reaches (now (s .entry)) p (now (counts .entry)) (now (tables .entry)) r (now (counts .exit)) (now (tables .exit)) ⌝ }
+fn step(p: Place, s: &[u8], tables: &mut [u32], index: &mut [u8], counts: &mut Counts) -> Next
+    requires { ⌜ Good (now s) (p .state) (lentTo (now counts) (now tables) (now index)) ⌝ }
+    ensures { λ r. ⌜ Reaches (now (s .entry)) p (now (counts .entry)) (now (tables .entry)) r (now (counts .exit)) (now (tables .exit)) (now (index .exit)) ⌝ }
 {
     let c = *counts;
-    let t = advance(p, c, s, tables);
+    let t = advance(p, c, s, tables, index);
     *counts = t.counts;
     t.next
+}
+
+fn refused(k: u32, p: usize) -> Answer
+    requires { ⌜ p ≤ 16384 ⌝ }
+    ensures { λ r. ⌜ r ≡ Answer.Refused k p ⌝ }
+{
+    Answer::Refused(k, p as u32)
 }
 
 // What the last answer comes to after n events. Where it is a further event, there was no record for it.
@@ -133,15 +115,16 @@ fn finish(a: Next, n: usize, c: Counts) -> Answer
     ensures { λ r. ⌜ r ≡ finished a n c ⌝ }
 {
     match a {
-        Next::Found(place, _, _) => run::refused(run::ROOM, place),
+        Next::Found(place, _, _) => refused(run::ROOM, place),
+        Next::Passed(p) => refused(fields::TRUNCATED, p.state.at / 2),
         Next::Finished => Answer::Accepted(n as u32, c),
-        Next::Refused(number, place) => run::refused(number, place),
+        Next::Refused(number, place) => refused(number, place),
     }
 }
 
-// A document whose opening is read, into a row and tables that are blank.
-fn fill(s: &[u8], events: &mut [Event], tables: &mut [u32], body: usize) -> Answer
-    requires { ⌜ (body ≤ length (now s)) × (length (now s) ≤ 16384) × (now events ≡ replicate (length (now events)) blank) × (now tables ≡ replicate tableWords 0) ⌝ }
+// A document whose opening is read, into a row and tables that are blank, with an index that is clear.
+fn fill(s: &[u8], events: &mut [Event], tables: &mut [u32], index: &mut [u8], body: usize) -> Answer
+    requires { ⌜ (body ≤ length (now s)) × (length (now s) ≤ 16384) × (now events ≡ replicate (length (now events)) blank) × (now tables ≡ replicate tableWords 0) × (now index ≡ replicate slots 0) ⌝ }
     ensures { λ r. ⌜ settled (length (now (events .entry))) tableWords r (now (events .exit)) (now (tables .exit)) ≡ outcome (run link (now (s .entry)) (fuelOf (now (s .entry))) (length (now (events .entry))) (origin body (start link))) (length (now (events .entry))) ⌝ }
 {
     let mut counts = Counts::start();
@@ -149,16 +132,19 @@ fn fill(s: &[u8], events: &mut [Event], tables: &mut [u32], body: usize) -> Answ
     let mut n = 0;
     let mut a = Next::Finished;
     loop {
-        a = step(p, s, tables, &mut counts);
+        a = step(p, s, tables, index, &mut counts);
         match a {
             Next::Found(_, e, next) => {
                 if n < events.len() {
-                    events[n] = e;
+                    events::store(events, n, e);
                     n += 1;
                     p = next;
                 } else {
                     break;
                 }
+            }
+            Next::Passed(next) => {
+                p = next;
             }
             Next::Finished => {
                 break;
@@ -169,6 +155,15 @@ fn fill(s: &[u8], events: &mut [Event], tables: &mut [u32], body: usize) -> Answ
         }
     }
     finish(a, n, counts)
+}
+
+// The same with an index of its own.
+fn read_body(s: &[u8], events: &mut [Event], tables: &mut [u32], body: usize) -> Answer
+    requires { ⌜ (body ≤ length (now s)) × (length (now s) ≤ 16384) × (now events ≡ replicate (length (now events)) blank) × (now tables ≡ replicate tableWords 0) ⌝ }
+    ensures { λ r. ⌜ settled (length (now (events .entry))) tableWords r (now (events .exit)) (now (tables .exit)) ≡ outcome (run link (now (s .entry)) (fuelOf (now (s .entry))) (length (now (events .entry))) (origin body (start link))) (length (now (events .entry))) ⌝ }
+{
+    let mut index = [0u8; index::SLOTS];
+    fill(s, events, tables, &mut index, body)
 }
 
 // All the room that was lent is made blank.
@@ -199,9 +194,9 @@ pub fn read(octets: &[u8], events: &mut [Event], tables: &mut [u32]) -> Answer
 {
     wipe(events, tables);
     match admitted(octets, tables.len()) {
-        Opening::Halt(number, place) => run::refused(number, place),
+        Opening::Halt(number, place) => refused(number, place),
         Opening::Onward(body) => {
-            let a = fill(octets, events, tables, body);
+            let a = read_body(octets, events, tables, body);
             match a {
                 Answer::Accepted(_, _) => {}
                 Answer::Refused(_, _) => {

@@ -10,7 +10,7 @@ ghost use Rattle.tables.specs.Located.{stretch, octetsOf, start};
 ghost use Rattle.tables.specs.Counts.{countsOf, tableWords};
 ghost use Rattle.tables.specs.Rows.{tableOf, builtIn, stringAt, tripleAt, entries};
 ghost use Rattle.tables.specs.Search.{numberIn, numberOfTriple};
-ghost use Rattle.tables.specs.Kept.{listed, countOf, oneMore, rowAt, stored, Ends, Inside};
+ghost use Rattle.tables.specs.Kept.{listed, unlisted, countOf, oneMore, rowAt, stored, Ends, Inside};
 
 // How many entries each table has, in the required order.
 pub struct Counts {
@@ -102,6 +102,25 @@ pub fn put_counts(w: &mut [u32], c: Counts)
     while i < Counts::TABLES {
         w[i] = c.of(i);
         i += 1;
+    }
+}
+
+// The same from ten words.
+pub fn counts_in(w: &[u32]) -> Counts
+    requires { ⌜ length (now w) ≡ 10 ⌝ }
+    ensures { λ r. ⌜ r ≡ unlisted (now (w .entry)) ⌝ }
+{
+    Counts {
+        prefix: w[0],
+        namespace: w[1],
+        local: w[2],
+        ncname: w[3],
+        uri: w[4],
+        value: w[5],
+        chunk: w[6],
+        other: w[7],
+        element: w[8],
+        attribute: w[9],
     }
 }
 

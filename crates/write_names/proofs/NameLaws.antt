@@ -153,9 +153,9 @@ name-found text w c x {k₁} {k₂} {k₃} is p n l a b d t m e low high em foun
     let triple = triple-is text w c x _ held is a b d in
     (held, triple, rw (layout-table t, names-are c w t low high, ← em, ← triple) found)
 
-pub name-few : (text w : List ℕ) (c : Counts) (t : ℕ) → InOrder text c w → (n m : ℕ) (x : Triple) → 8 ≤ t → t < 10 → m ≡ countOf c t → n ≡ numberOfTriple (entries (tripleAt w) (768 * t) m) x
+pub name-few : (text w ix : List ℕ) (c : Counts) (t : ℕ) → InOrder text c w ix → (n m : ℕ) (x : Triple) → 8 ≤ t → t < 10 → m ≡ countOf c t → n ≡ numberOfTriple (entries (tripleAt w) (768 * t) m) x
     → n ≤ 256
-name-few text w c t order n m x low high em is =
+name-few text w ix c t order n m x low high em is =
     let q : n ≡ numberOfTriple (names (vocabulary c w) (nameTableOf t)) x = rw (names-are c w t low high, ← em) is in
     let l = name-number-within (names (vocabulary c w) (nameTableOf t)) x in
     let f = length-names c w t low high in
@@ -190,13 +190,13 @@ module _ (q : NameLayout) (lead : ℕ) (text : List ℕ) (v : Vocabulary Located
     unfolding writeName pairBehind tripleFor
     parts-words = let z = number-is in rw (z, ← new)
 
-pub name-numbered : (text w : List ℕ) (c : Counts) (t lead : ℕ) (order : InOrder text c w) (x : Parts) (n : ℕ) → n ≡ nameHeldAs (layoutOf t) text (vocabulary c w) (namedOf x) → (n ≡ 0 → ⊥)
+pub name-numbered : (text w ix : List ℕ) (c : Counts) (t lead : ℕ) (order : InOrder text c w ix) (x : Parts) (n : ℕ) → n ≡ nameHeldAs (layoutOf t) text (vocabulary c w) (namedOf x) → (n ≡ 0 → ⊥)
     → {out out′ : List ℕ} {at r : ℕ} → Puts out at r out′ (spell (layoutOf t .numberForms) lead n) × (r ≤ at + 4)
-    → Stands text out at 49168 (record { at = r; counts = c }) out′ w (writeName (layoutOf t) lead text (vocabulary c w) (namedOf x) .octets)
+    → Stands text out at 49168 (record { at = r; counts = c }) out′ w ix (writeName (layoutOf t) lead text (vocabulary c w) (namedOf x) .octets)
     (writeName (layoutOf t) lead text (vocabulary c w) (namedOf x) .tables)
-name-numbered text w c t lead order x n is ne p =
+name-numbered text w ix c t lead order x n is ne p =
     rw (numbered-octets (layoutOf t) lead text (vocabulary c w) (namedOf x) n is ne, numbered-words (layoutOf t) lead text (vocabulary c w) (namedOf x) n is ne)
-    (stands-put text w c order (p .0) (let l = p .1 in omega arith))
+    (stands-put text w ix c order (p .0) (let l = p .1 in omega arith))
 
 -- ---- a prefix and a namespace behind an octet
 module _ (text : List ℕ) (v : Vocabulary Located) (b : ℕ) (p n : Option Located) where
@@ -204,13 +204,13 @@ module _ (text : List ℕ) (v : Vocabulary Located) (b : ℕ) (p n : Option Loca
   unfolding pairBehind tableOf
   pair-full e = within-grown (grows-optional text NAMESPACE-NAME _ n) e
 
-  pub pair-behind : (out : List ℕ) (at : ℕ) {out₁ out₂ w₁ : List ℕ} → out₁ ≡ set out at b → (h : Here)
-      → Stands text out₁ (at + 1) 16389 h out₂ w₁ (writeOptional text (tableOf 0) v p .octets) (writeOptional text (tableOf 0) v p .tables)
-      → (r : W.Wrote) (out₃ w₂ : List ℕ) → Meets text out₂ (h .at) 16389 r out₃ w₂ (writeOptional text (tableOf 1) (vocabulary (h .counts) w₁) n)
-      → Meets text out at 32779 r out₃ w₂ (pairBehind b text v p n)
+  pub pair-behind : (out : List ℕ) (at : ℕ) {out₁ out₂ w₁ i₁ : List ℕ} → out₁ ≡ set out at b → (h : Here)
+      → Stands text out₁ (at + 1) 16389 h out₂ w₁ i₁ (writeOptional text (tableOf 0) v p .octets) (writeOptional text (tableOf 0) v p .tables)
+      → (r : W.Wrote) (out₃ w₂ i₂ : List ℕ) → Meets text out₂ (h .at) 16389 r out₃ w₂ i₂ (writeOptional text (tableOf 1) (vocabulary (h .counts) w₁) n)
+      → Meets text out at 32779 r out₃ w₂ i₂ (pairBehind b text v p n)
   unfolding pairBehind tableOf
-  pair-behind out at e h s Full out₃ w₂ m = rw (s .tables) at m
-  pair-behind out at e h s (Put r) out₃ w₂ m =
+  pair-behind out at e h s Full out₃ w₂ i₂ m = rw (s .tables) at m
+  pair-behind out at e h s (Put r) out₃ w₂ i₂ m =
       let f = s .few in
       let g = m .few in
       let q = rw (s .tables) at m in
@@ -243,30 +243,40 @@ module _ (text : List ℕ) (v : Vocabulary Located) (t lead b : ℕ) (x : Parts)
   pub parts-full : within link (begun b text v x .tables) ≡ false → within link (writeName (layoutOf t) lead text v (namedOf x) .tables) ≡ false
   parts-full e = rw words-are (within-grown (grows-on (grows-id text LOCAL-NAME _ (locatedOf (x .local))) (grows-name _ (nameTableOf t) _)) e)
 
-  module _ {out : List ℕ} {at : ℕ} (h : Here) {out₁ w₁ : List ℕ} (stands : Stands text out at 32779 h out₁ w₁ (begun b text v x .octets) (begun b text v x .tables)) where
+  module _ {out : List ℕ} {at : ℕ} (h : Here) {out₁ w₁ i₁ : List ℕ} (stands : Stands text out at 32779 h out₁ w₁ i₁ (begun b text v x .octets) (begun b text v x .tables)) where
     pub local-full : within link (writeId text (tableOf 2) (vocabulary (h .counts) w₁) (locatedOf (x .local)) .tables) ≡ false
         → within link (writeName (layoutOf t) lead text v (namedOf x) .tables) ≡ false
     unfolding tableOf
     local-full e = rw words-are (within-grown (grows-name _ (nameTableOf t) _) (rw (stands .tables) at e))
 
-    pub parts-behind : b ≡ lead + layoutOf t .inPartsBits + 2 * has (optionalOf (x .prefix)) + has (optionalOf (x .namespace)) → 8 ≤ t → t < 10 → (l : Here) (out₂ w₂ : List ℕ)
-        → Stands text out₁ (h .at) 16389 l out₂ w₂ (writeId text (tableOf 2) (vocabulary (h .counts) w₁) (locatedOf (x .local)) .octets)
+    pub parts-behind : b ≡ lead + layoutOf t .inPartsBits + 2 * has (optionalOf (x .prefix)) + has (optionalOf (x .namespace)) → 8 ≤ t → t < 10 → (l : Here) (out₂ w₂ i₂ : List ℕ)
+        → Stands text out₁ (h .at) 16389 l out₂ w₂ i₂ (writeId text (tableOf 2) (vocabulary (h .counts) w₁) (locatedOf (x .local)) .octets)
         (writeId text (tableOf 2) (vocabulary (h .counts) w₁) (locatedOf (x .local)) .tables)
-        → (y : Row) → tripleOf y ≡ tripleFor text v (namedOf x) → (r : W.Wrote) (w₃ : List ℕ) → Tripled l w₂ t y r w₃
-        → Meets text out at 49168 r out₂ w₃ (writeName (layoutOf t) lead text v (namedOf x))
+        → (y : Row) → tripleOf y ≡ tripleFor text v (namedOf x) → (r : W.Wrote) (w₃ i₃ : List ℕ) → Tripled l w₂ i₂ t y r w₃ i₃
+        → Meets text out at 49168 r out₂ w₃ i₃ (writeName (layoutOf t) lead text v (namedOf x))
     unfolding tableOf
-    parts-behind eb low high l out₂ w₂ s y ey Full w₃ full =
+    parts-behind eb low high l out₂ w₂ i₂ s y ey Full w₃ i₃ full =
         let q = rw (stands .tables) at s in
         let n = length-names (l .counts) w₂ t low high in
         rw (words-are, ← q .tables) (full-name (vocabulary (l .counts) w₂) (nameTableOf t) (tripleFor text v (namedOf x)) (omega arith))
-    parts-behind eb low high l out₂ w₂ s y ey (Put r) w₃ (room, er, ew) =
+    parts-behind eb low high l out₂ w₂ i₂ s y ey (Put r) w₃ i₃ (room, er, e) =
         let q = rw (stands .tables) at s in
         let f = stands .few in
         let g = s .few in
-        rw (parts-octets (layoutOf t) lead text v (namedOf x) new b eb, words-are, ← q .tables, ← ey, er, ew)
+        rw (parts-octets (layoutOf t) lead text v (namedOf x) new b eb, words-are, ← q .tables, ← ey, er)
         (record {
           puts = puts-append (stands .puts) (q .puts);
           few = omega arith;
-          tables = name-more text (l .counts) w₂ t (s .order) room (tripleOf y) low high;
-          order = order-name text (l .counts) w₂ t (s .order) room (tripleOf y) low high;
+          tables = rw (e text .words) (name-more text (l .counts) w₂ i₂ t (s .order) room (tripleOf y) low high);
+          order = order-name text (l .counts) w₂ i₂ t (s .order) room (tripleOf y) low high w₃ i₃ (e text);
         })
+
+    -- the strings leave the names as they are, so the name is new then too
+    pub triple-new : 8 ≤ t → t < 10 → (l : Here) {out₂ w₂ i₂ : List ℕ}
+        → Stands text out₁ (h .at) 16389 l out₂ w₂ i₂ (writeId text (tableOf 2) (vocabulary (h .counts) w₁) (locatedOf (x .local)) .octets)
+        (writeId text (tableOf 2) (vocabulary (h .counts) w₁) (locatedOf (x .local)) .tables)
+        → (y : Row) → tripleOf y ≡ tripleFor text v (namedOf x) → 0 ≡ numberOfTriple (entries (tripleAt w₂) (768 * t) (countOf (l .counts) t)) (tripleOf y)
+    unfolding tableOf pairBehind nameHeldAs
+    triple-new low high l {out₂} {w₂} {i₂} s y ey =
+        let q = rw (stands .tables) at s in
+        rw (ey, ← names-are (l .counts) w₂ t low high, q .tables, names-kept text v (nameTableOf t) (optionalOf (x .prefix)) (optionalOf (x .namespace)) (locatedOf (x .local)), ← layout-table t) new

@@ -22,8 +22,10 @@ use Rattle.tables.proofs.Adding.{extended, adding-is}
 use Rattle.tables.proofs.Laws.{length-strings, length-names, counted-start, counted-more, string-added, name-added, clean-start, clean-string, clean-name, inside-start, inside-string, inside-name, vocabulary-start}
 use Rattle.tables.proofs.Found.{both-true}
 use Rattle.tables.proofs.Rooms.{stored-length}
+use Rattle.index.specs.Indexed.{slots, StringEntered, NameEntered}
+use Rattle.index.proofs.Counted.{indexed-start, counts-more}
 use Rattle.write_names.specs.Choices.{Wrote, writeId, writeOptional, within}
-use Rattle.write_names.specs.Contracts.{Begins, InOrder}
+use Rattle.write_names.specs.Contracts.{Begins, every, InOrder}
 
 -- ---- in order
 begins-extended : (b : Bool) (x y : Located) (l : List Located) → Begins x l → Begins x (extended b l y)
@@ -37,42 +39,48 @@ unfolding addingName
 begins-named p n v ELEMENT-NAME x a b = (a, b)
 begins-named p n v ATTRIBUTE-NAME x a b = (a, b)
 
-module _ (text : List ℕ) (c : Counts) (w : List ℕ) (t : ℕ) (order : InOrder text c w) (room : countOf c t < 256) where
+module _ (text : List ℕ) (c : Counts) (w ix : List ℕ) (t : ℕ) (order : InOrder text c w ix) (room : countOf c t < 256) where
   module _ (p n : ℕ) (small : t < 8) (some : 0 < n) (lies : p + n ≤ length text) where
     pub string-more : vocabulary (oneMore c t) (stored w t (countOf c t) p n 0) ≡ adding (vocabulary c w) (tableOf t) (stretch p n)
     string-more = string-added c w t (order .counted) room (order .room) p n small some
 
-    pub order-string : InOrder text (oneMore c t) (stored w t (countOf c t) p n 0)
-    order-string =
+    pub order-string : (v iv : List ℕ) → StringEntered text t (countOf c t) p n w ix v iv → InOrder text (oneMore c t) v iv
+    order-string v iv e =
+        let i = e .keeps .still every (countOf c) (countOf (oneMore c t)) (counts-more c t (omega arith)) (order .indexed) in
+        let more : vocabulary (oneMore c t) v ≡ adding (vocabulary c w) (tableOf t) (stretch p n) = rw (e .words) string-more in
         record {
           size = order .size;
-          room = stored-length w t (countOf c t) p n 0 ∙ order .room;
+          room = rw (e .words) (stored-length w t (countOf c t) p n 0 ∙ order .room);
           counted = counted-more c t (omega arith) room (order .counted);
-          clean = clean-string c w t (order .counted) room (order .room) p n small some (order .clean);
-          inside = rw string-more (inside-string text (vocabulary c w) (tableOf t) (stretch p n) (order .inside) lies);
-          prefix = rw (string-more, adding-is (vocabulary c w) (tableOf t) (stretch p n)) (begins-extended (eqb (place (tableOf t)) 0) builtInPrefix (stretch p n) (vocabulary c w .prefixes) (order .prefix));
-          namespace = rw (string-more, adding-is (vocabulary c w) (tableOf t) (stretch p n)) (begins-extended (eqb (place (tableOf t)) 1) builtInNamespace (stretch p n) (vocabulary c w .namespaces) (order .namespace));
+          clean = rw (e .words) (clean-string c w t (order .counted) room (order .room) p n small some (order .clean));
+          inside = rw more (inside-string text (vocabulary c w) (tableOf t) (stretch p n) (order .inside) lies);
+          prefix = rw (more, adding-is (vocabulary c w) (tableOf t) (stretch p n)) (begins-extended (eqb (place (tableOf t)) 0) builtInPrefix (stretch p n) (vocabulary c w .prefixes) (order .prefix));
+          namespace = rw (more, adding-is (vocabulary c w) (tableOf t) (stretch p n)) (begins-extended (eqb (place (tableOf t)) 1) builtInNamespace (stretch p n) (vocabulary c w .namespaces) (order .namespace));
+          indexed = i;
         }
 
   module _ (x : Triple) (low : 8 ≤ t) (high : t < 10) where
     pub name-more : vocabulary (oneMore c t) (stored w t (countOf c t) (x .prefix) (x .namespace) (x .local)) ≡ addingName (vocabulary c w) (nameTableOf t) x
     name-more = name-added c w t (order .counted) room (order .room) x low high
 
-    pub order-name : InOrder text (oneMore c t) (stored w t (countOf c t) (x .prefix) (x .namespace) (x .local))
-    order-name =
+    pub order-name : (v iv : List ℕ) → NameEntered text t (countOf c t) x w ix v iv → InOrder text (oneMore c t) v iv
+    order-name v iv e =
+        let i = e .keeps .still every (countOf c) (countOf (oneMore c t)) (counts-more c t high) (order .indexed) in
+        let more : vocabulary (oneMore c t) v ≡ addingName (vocabulary c w) (nameTableOf t) x = rw (e .words) name-more in
         record {
           size = order .size;
-          room = stored-length w t (countOf c t) (x .prefix) (x .namespace) (x .local) ∙ order .room;
+          room = rw (e .words) (stored-length w t (countOf c t) (x .prefix) (x .namespace) (x .local) ∙ order .room);
           counted = counted-more c t high room (order .counted);
-          clean = clean-name c w t (order .counted) room (order .room) x low high (order .clean);
-          inside = rw name-more (inside-name text (vocabulary c w) (nameTableOf t) x (order .inside));
-          prefix = rw name-more (begins-named builtInPrefix builtInNamespace (vocabulary c w) (nameTableOf t) x (order .prefix) (order .namespace) .0);
-          namespace = rw name-more (begins-named builtInPrefix builtInNamespace (vocabulary c w) (nameTableOf t) x (order .prefix) (order .namespace) .1);
+          clean = rw (e .words) (clean-name c w t (order .counted) room (order .room) x low high (order .clean));
+          inside = rw more (inside-name text (vocabulary c w) (nameTableOf t) x (order .inside));
+          prefix = rw more (begins-named builtInPrefix builtInNamespace (vocabulary c w) (nameTableOf t) x (order .prefix) (order .namespace) .0);
+          namespace = rw more (begins-named builtInPrefix builtInNamespace (vocabulary c w) (nameTableOf t) x (order .prefix) (order .namespace) .1);
+          indexed = i;
         }
 
-pub order-start : (text : List ℕ) → length text ≤ 16384 → InOrder text (countsOf (start link)) (replicate 7680 0)
+pub order-start : (text ix : List ℕ) → length text ≤ 16384 → ix ≡ replicate slots 0 → InOrder text (countsOf (start link)) (replicate 7680 0) ix
 unfolding start starting link
-order-start text h =
+order-start text ix h zeros =
     let is = vocabulary-start (replicate 7680 0) refl refl in
     record {
       size = h;
@@ -82,6 +90,7 @@ order-start text h =
       inside = rw is (inside-start text);
       prefix = rw is refl;
       namespace = rw is refl;
+      indexed = indexed-start every text (replicate 7680 0) ix refl refl zeros;
     }
 
 -- ---- growing
@@ -192,9 +201,9 @@ within-grown {v} {w} g e =
     omega arith
 
 -- tables in order are within
-pub within-order : (text : List ℕ) (c : Counts) (w : List ℕ) → InOrder text c w → within link (vocabulary c w) ≡ true
+pub within-order : (text : List ℕ) (c : Counts) (w ix : List ℕ) → InOrder text c w ix → within link (vocabulary c w) ≡ true
 unfolding within link strings tableOf names nameTableOf
-within-order text c w order =
+within-order text c w ix order =
     let l₀ = length-strings c w 0 (omega arith) in
     let l₁ = length-strings c w 1 (omega arith) in
     let l₂ = length-strings c w 2 (omega arith) in

@@ -21,8 +21,9 @@ use Rattle.tables.specs.Located.{Located, stretch, builtInPrefix, builtInNamesp
 use Rattle.tables.specs.Search.{lowest, numberIn}
 use Rattle.tables.proofs.Search.{octets-stretch, length-octets}
 use Rattle.tables.specs.Rows.{tableOf, stringAt, entries, vocabulary}
-use Rattle.tables.specs.Kept.{countOf, oneMore, stored, Inside, layoutOf}
+use Rattle.tables.specs.Kept.{countOf, oneMore, Inside, layoutOf}
 use Rattle.tables.proofs.Laws.{strings-are, length-strings, number-within, inside-table}
+use Rattle.index.specs.Indexed.{slots, StringsIndexed, StringEntered}
 use Rattle.events.specs.declared.EventString.{EventString}
 use Rattle.events.specs.declared.EventString.the-variants.{Absent, Empty, Stretch, XmlPrefix, XmlNamespace}
 use Rattle.events.specs.Records.{locatedOf, optionalOf}
@@ -89,7 +90,7 @@ unfolding numberIn lowest
 first-is text x [] h = absurd h
 first-is text x (y ∷ l) h = rw (h, same-refl (octetsOf text x))
 
-module _ (text w : List ℕ) (c : Counts) (t : ℕ) (order : InOrder text c w) (x : EventString) where
+module _ (text w ix : List ℕ) (c : Counts) (t : ℕ) (order : InOrder text c w ix) (x : EventString) where
   pub held-absent : x ≡ Absent → (0 ≡ heldAs text (tableOf t) (vocabulary c w) x) × (0 ≤ 256)
   unfolding heldAs
   held-absent e = rw e (refl, omega arith)
@@ -122,22 +123,22 @@ module _ (text w : List ℕ) (c : Counts) (t : ℕ) (order : InOrder text c w) (
       (rw (e, z) (first-is text builtInNamespace (vocabulary c w .namespaces) (order .namespace)), omega arith)
 
 -- what `find` asks
-pub find-ready : (text w : List ℕ) (c : Counts) (t : ℕ) → InOrder text c w → t < 8 → (x : EventString) (p n m : ℕ) → x ≡ Stretch p n → Suits text t x → m ≡ countOf c t
-    → (length w ≡ 7680) × (t < 8) × (m ≤ 256) × (p + n ≤ length text) × Inside text (entries (stringAt (tableOf t) w) (768 * t) m)
-find-ready text w c t order small x p n m e s em =
+pub find-ready : (text w ix : List ℕ) (c : Counts) (t : ℕ) → InOrder text c w ix → t < 8 → (x : EventString) (p n m : ℕ) → x ≡ Stretch p n → Suits text t x → m ≡ countOf c t
+    → (length w ≡ 7680) × (length ix ≡ slots) × (t < 8) × (m ≤ 256) × (p + n ≤ length text) × Inside text (entries (stringAt (tableOf t) w) (768 * t) m) × StringsIndexed text w ix t m
+find-ready text w ix c t order small x p n m e s em =
     let q : (0 < n) × (p + n ≤ length text) = rw e at s in
     let k = order .counted t in
-    (order .room, small, omega arith, q .1, rw em (inside-table text c w t small (order .inside)))
+    (order .room, order .indexed .size, small, omega arith, q .1, rw em (inside-table text c w t small (order .inside)), rw em (order .indexed .ofStrings t small refl))
 
 -- a string that has no number is a stretch
-module _ (text w : List ℕ) (c : Counts) (t : ℕ) (order : InOrder text c w) where
+module _ (text w ix : List ℕ) (c : Counts) (t : ℕ) (order : InOrder text c w ix) where
   pub new-stretch : (x : EventString) → Suits text t x → 1 ≤ stringTag x → 0 ≡ heldAs text (tableOf t) (vocabulary c w) x
       → (x ≡ Stretch (stringPlace x) (stringSize x)) × (0 < stringSize x) × (stringPlace x + stringSize x ≤ length text)
   new-stretch Absent s h e = absurd (omega arith)
   new-stretch Empty s h e = absurd s
   new-stretch (Stretch p n) s h e = (refl, s .0, s .1)
-  new-stretch XmlPrefix s h e = let q = held-prefix text w c t order XmlPrefix refl s .0 in absurd (omega arith)
-  new-stretch XmlNamespace s h e = let q = held-namespace text w c t order XmlNamespace refl s .0 in absurd (omega arith)
+  new-stretch XmlPrefix s h e = let q = held-prefix text w ix c t order XmlPrefix refl s .0 in absurd (omega arith)
+  new-stretch XmlNamespace s h e = let q = held-namespace text w ix c t order XmlNamespace refl s .0 in absurd (omega arith)
 
 pub held-is : (text : List ℕ) (t : StringTable) (v : Vocabulary Located) (x : EventString) → 1 ≤ stringTag x → heldAs text t v x ≡ numberIn (map (octetsOf text) (strings v t)) (octetsOf text (locatedOf x))
 unfolding heldAs octetsOf
@@ -159,21 +160,26 @@ puts-spelled n lead text place size h short a b =
     (rw l (puts-append (a .0) c), omega arith)
 
 -- ---- an entry more
-pub added-is : (h : Here) (t n p m : ℕ) (d : Counts) (w v : List ℕ) → d ≡ oneMore (h .counts) t → n ≡ countOf (h .counts) t → v ≡ stored w t n p m 0
-    → (_≡_ {A = Here} (record { at = h .at; counts = d }) (record { at = h .at; counts = oneMore (h .counts) t })) × (v ≡ stored w t (countOf (h .counts) t) p m 0)
-added-is h t n p m d w v ed en ev = (rw ed, rw (ev, en))
+pub added-is : (text : List ℕ) (h : Here) (t n p m : ℕ) (d : Counts) (w ix v iv : List ℕ) → d ≡ oneMore (h .counts) t → n ≡ countOf (h .counts) t → StringEntered text t n p m w ix v iv
+    → (_≡_ {A = Here} (record { at = h .at; counts = d }) (record { at = h .at; counts = oneMore (h .counts) t })) × StringEntered text t (countOf (h .counts) t) p m w ix v iv
+added-is text h t n p m d w ix v iv ed en e = (rw ed, rw (← en) e)
+
+-- what `enter_in` asks: a string that has no number is not in its table
+pub added-new : (text w : List ℕ) (c : Counts) (t n p m : ℕ) → t < 8 → n ≡ countOf c t → 0 ≡ numberIn (map (octetsOf text) (strings (vocabulary c w) (tableOf t))) (octetsOf text (stretch p m))
+    → 0 ≡ numberIn (map (octetsOf text) (entries (stringAt (tableOf t) w) (768 * t) n)) (octetsOf text (stretch p m))
+added-new text w c t n p m small en new = rw (en, ← strings-are c w t small) new
 
 -- ---- what was put stands for the definition
-module _ (text w : List ℕ) (c : Counts) (order : InOrder text c w) {out out′ o : List ℕ} {at r most : ℕ} where
-  pub stands-put : Puts out at r out′ o → r ≤ at + most → Stands text out at most (record { at = r; counts = c }) out′ w o (vocabulary c w)
+module _ (text w ix : List ℕ) (c : Counts) (order : InOrder text c w ix) {out out′ o : List ℕ} {at r most : ℕ} where
+  pub stands-put : Puts out at r out′ o → r ≤ at + most → Stands text out at most (record { at = r; counts = c }) out′ w ix o (vocabulary c w)
   stands-put p h = record { puts = p; few = h; tables = refl; order = order }
 
   -- and the string at a place became an entry
-  pub stands-added : (t p n : ℕ) → t < 8 → countOf c t < 256 → 0 < n → p + n ≤ length text → (h : Here) (v : List ℕ)
-      → (h ≡ record { at = r; counts = oneMore c t }) × (v ≡ stored w t (countOf c t) p n 0) → Puts out at r out′ o → r ≤ at + most
-      → Stands text out at most h out′ v o (adding (vocabulary c w) (tableOf t) (stretch p n))
-  stands-added t p n small room full lies h v e q l =
-      rw (e .0, e .1) (record { puts = q; few = l; tables = string-more text c w t order room p n small full lies; order = order-string text c w t order room p n small full lies })
+  pub stands-added : (t p n : ℕ) → t < 8 → countOf c t < 256 → 0 < n → p + n ≤ length text → (h : Here) (v iv : List ℕ)
+      → (h ≡ record { at = r; counts = oneMore c t }) × StringEntered text t (countOf c t) p n w ix v iv → Puts out at r out′ o → r ≤ at + most
+      → Stands text out at most h out′ v iv o (adding (vocabulary c w) (tableOf t) (stretch p n))
+  stands-added t p n small room full lies h v iv e q l =
+      rw (e .0) (record { puts = q; few = l; tables = rw (e .1 .words) (string-more text c w ix t order room p n small full lies); order = order-string text c w ix t order room p n small full lies v iv (e .1) })
 
 -- ---- an identifying string: k is its number
 module _ (text : List ℕ) (t : StringTable) (v : Vocabulary Located) (x : Located) (k : ℕ) (is : k ≡ numberIn (map (octetsOf text) (strings v t)) (octetsOf text x)) where
@@ -185,14 +191,14 @@ module _ (text : List ℕ) (t : StringTable) (v : Vocabulary Located) (x : Locat
   unfolding writeId
   spelled-is z = rw (← is, z)
 
-module _ (text w : List ℕ) (c : Counts) (t : ℕ) (order : InOrder text c w) (x : EventString) (k : ℕ) (there : 1 ≤ stringTag x) (suits : Suits text t x)
+module _ (text w ix : List ℕ) (c : Counts) (t : ℕ) (order : InOrder text c w ix) (x : EventString) (k : ℕ) (there : 1 ≤ stringTag x) (suits : Suits text t x)
     (held : k ≡ heldAs text (tableOf t) (vocabulary c w) x) where
   held-number : k ≡ numberIn (map (octetsOf text) (strings (vocabulary c w) (tableOf t))) (octetsOf text (locatedOf x))
   held-number = held ∙ held-is text (tableOf t) (vocabulary c w) x there
 
   pub id-numbered : (k ≡ 0 → ⊥) → {out out′ : List ℕ} {at r : ℕ} → Puts out at r out′ (spell c25 0x80 k) × (r ≤ at + 3)
-      → Stands text out at 16389 (record { at = r; counts = c }) out′ w (writeId text (tableOf t) (vocabulary c w) (locatedOf x) .octets) (writeId text (tableOf t) (vocabulary c w) (locatedOf x) .tables)
-  id-numbered n p = rw (numbered-is text (tableOf t) (vocabulary c w) (locatedOf x) k held-number n) (stands-put text w c order (p .0) (let l = p .1 in omega arith))
+      → Stands text out at 16389 (record { at = r; counts = c }) out′ w ix (writeId text (tableOf t) (vocabulary c w) (locatedOf x) .octets) (writeId text (tableOf t) (vocabulary c w) (locatedOf x) .tables)
+  id-numbered n p = rw (numbered-is text (tableOf t) (vocabulary c w) (locatedOf x) k held-number n) (stands-put text w ix c order (p .0) (let l = p .1 in omega arith))
 
   pub id-full : k ≡ 0 → t < 4 → 256 ≤ countOf c t → within link (writeId text (tableOf t) (vocabulary c w) (locatedOf x) .tables) ≡ false
   id-full z small full =
@@ -200,31 +206,37 @@ module _ (text w : List ℕ) (c : Counts) (t : ℕ) (order : InOrder text c w) (
       rw (spelled-is text (tableOf t) (vocabulary c w) (locatedOf x) k held-number z) (full-string (vocabulary c w) t (locatedOf x) small (omega arith))
 
   pub id-stretch : k ≡ 0 → (0 < stringSize x) × (stringPlace x + stringSize x ≤ length text)
-  id-stretch z = let f = new-stretch text w c t order x suits there (sym z ∙ held) in (f .1, f .2)
+  id-stretch z = let f = new-stretch text w ix c t order x suits there (sym z ∙ held) in (f .1, f .2)
 
-  pub id-added : k ≡ 0 → t < 8 → countOf c t < 256 → (p n : ℕ) → p ≡ stringPlace x → n ≡ stringSize x → (h : Here) (v : List ℕ) {out out′ : List ℕ} {at r : ℕ}
-      → (h ≡ record { at = r; counts = oneMore c t }) × (v ≡ stored w t (countOf c t) p n 0)
+  id-located : k ≡ 0 → (p n : ℕ) → p ≡ stringPlace x → n ≡ stringSize x → locatedOf x ≡ stretch p n
+  id-located z p n ep en = ap locatedOf (new-stretch text w ix c t order x suits there (sym z ∙ held) .0) ∙ rw (ep, en)
+
+  pub id-new : k ≡ 0 → (p n : ℕ) → p ≡ stringPlace x → n ≡ stringSize x → 0 ≡ numberIn (map (octetsOf text) (strings (vocabulary c w) (tableOf t))) (octetsOf text (stretch p n))
+  id-new z p n ep en = rw (← id-located z p n ep en) (sym z ∙ held-number)
+
+  pub id-added : k ≡ 0 → t < 8 → countOf c t < 256 → (p n : ℕ) → p ≡ stringPlace x → n ≡ stringSize x → (h : Here) (v iv : List ℕ) {out out′ : List ℕ} {at r : ℕ}
+      → (h ≡ record { at = r; counts = oneMore c t }) × StringEntered text t (countOf c t) p n w ix v iv
       → Puts out at r out′ (withLength (lengths 2) 0 (octetsOf text (stretch p n))) × (r ≤ at + 16389)
-      → Stands text out at 16389 h out′ v (writeId text (tableOf t) (vocabulary c w) (locatedOf x) .octets) (writeId text (tableOf t) (vocabulary c w) (locatedOf x) .tables)
-  id-added z small room p n ep en h v e q =
-      let f = new-stretch text w c t order x suits there (sym z ∙ held) in
-      let y : locatedOf x ≡ stretch p n = ap locatedOf (f .0) ∙ rw (ep, en) in
+      → Stands text out at 16389 h out′ v iv (writeId text (tableOf t) (vocabulary c w) (locatedOf x) .octets) (writeId text (tableOf t) (vocabulary c w) (locatedOf x) .tables)
+  id-added z small room p n ep en h v iv e q =
+      let f = id-stretch z in
+      let y = id-located z p n ep en in
       rw (spelled-is text (tableOf t) (vocabulary c w) (locatedOf x) k held-number z, y)
-      (stands-added text w c order t p n small room (let a = f .1 in omega arith) (let a = f .2 in omega arith) h v e (q .0) (q .1))
+      (stands-added text w ix c order t p n small room (let a = f .0 in omega arith) (let a = f .1 in omega arith) h v iv e (q .0) (q .1))
 
 -- ---- one that may be absent
-module _ (text w : List ℕ) (c : Counts) (t : ℕ) (order : InOrder text c w) (x : EventString) where
+module _ (text w ix : List ℕ) (c : Counts) (t : ℕ) (order : InOrder text c w ix) (x : EventString) where
   pub optional-absent : stringTag x ≡ 0 → (h : Here) (out : List ℕ) → h .counts ≡ c
-      → Stands text out (h .at) 16389 h out w (writeOptional text (tableOf t) (vocabulary c w) (optionalOf x) .octets) (writeOptional text (tableOf t) (vocabulary c w) (optionalOf x) .tables)
+      → Stands text out (h .at) 16389 h out w ix (writeOptional text (tableOf t) (vocabulary c w) (optionalOf x) .octets) (writeOptional text (tableOf t) (vocabulary c w) (optionalOf x) .tables)
   unfolding writeOptional
   optional-absent e h out ec =
       rw (absent x e) (record { puts = puts-nothing refl; few = omega arith; tables = ap (λ (d : Counts). vocabulary d w) ec; order = rw ec order })
 
-  pub optional-there : (stringTag x ≡ 0 → ⊥) → (r : W.Wrote) (out out′ v : List ℕ) (at : ℕ) → Meets text out at 16389 r out′ v (writeId text (tableOf t) (vocabulary c w) (locatedOf x))
-      → Meets text out at 16389 r out′ v (writeOptional text (tableOf t) (vocabulary c w) (optionalOf x))
+  pub optional-there : (stringTag x ≡ 0 → ⊥) → (r : W.Wrote) (out out′ v iv : List ℕ) (at : ℕ) → Meets text out at 16389 r out′ v iv (writeId text (tableOf t) (vocabulary c w) (locatedOf x))
+      → Meets text out at 16389 r out′ v iv (writeOptional text (tableOf t) (vocabulary c w) (optionalOf x))
   unfolding writeOptional
-  optional-there n (Put h) out out′ v at m = rw (there x (omega arith)) m
-  optional-there n Full out out′ v at m = rw (there x (omega arith)) m
+  optional-there n (Put h) out out′ v iv at m = rw (there x (omega arith)) m
+  optional-there n Full out out′ v iv at m = rw (there x (omega arith)) m
 
 -- ---- a value, comment, content or chunk
 pub fills-empty : (text : List ℕ) (x : EventString) → Fills text x → stringSize x ≡ 0 → x ≡ Empty
@@ -255,7 +267,14 @@ spells-stretch text (Stretch p m) f = (refl, f .0, f .1, omega arith)
 spells-stretch text XmlPrefix f = absurd f
 spells-stretch text XmlNamespace f = absurd f
 
-module _ (text w : List ℕ) (c : Counts) (t : ℕ) (order : InOrder text c w) (x : EventString) (spells : Spells text x) (small : t < 8) (bit lead add : ℕ)
+pub literal-new : (text : List ℕ) (t : StringTable) (v : Vocabulary Located) (x : EventString) → Spells text x → (p n : ℕ) → p ≡ stringPlace x → n ≡ stringSize x → 0 ≡ heldAs text t v x
+    → 0 ≡ numberIn (map (octetsOf text) (strings v t)) (octetsOf text (stretch p n))
+literal-new text t v x spells p n ep en new =
+    let f = spells-stretch text x spells in
+    let y : locatedOf x ≡ stretch p n = f .0 ∙ rw (ep, en) in
+    rw (← y) (new ∙ held-is text t v x (f .3))
+
+module _ (text w ix : List ℕ) (c : Counts) (t : ℕ) (order : InOrder text c w ix) (x : EventString) (spells : Spells text x) (small : t < 8) (bit lead add : ℕ)
     (p n : ℕ) (ep : p ≡ stringPlace x) (en : n ≡ stringSize x) where
   located : locatedOf x ≡ stretch p n
   located = spells-stretch text x spells .0 ∙ rw (ep, en)
@@ -277,39 +296,39 @@ module _ (text w : List ℕ) (c : Counts) (t : ℕ) (order : InOrder text c w) (
 
   -- one that is not added
   pub literal-kept : (n ≤ 5 → 256 ≤ countOf c t) → {out out′ : List ℕ} {at r : ℕ} → Puts out at r out′ (withLength (lengths bit) lead (octetsOf text (stretch p n))) × (r ≤ at + 16389)
-      → Stands text out at 16389 (record { at = r; counts = c }) out′ w (spelledOctets bit lead add text (strings (vocabulary c w) (tableOf t)) (locatedOf x)) (spelledTables text (tableOf t) (vocabulary c w) (locatedOf x))
+      → Stands text out at 16389 (record { at = r; counts = c }) out′ w ix (spelledOctets bit lead add text (strings (vocabulary c w) (tableOf t)) (locatedOf x)) (spelledTables text (tableOf t) (vocabulary c w) (locatedOf x))
   unfolding spelledOctets spelledTables
   literal-kept why q =
       let z : lead + add * 0 ≡ lead = omega arith in
-      rw (located, case 5 n worth-long (λ l. worth-full l (why l)), z) (stands-put text w c order (q .0) (q .1))
+      rw (located, case 5 n worth-long (λ l. worth-full l (why l)), z) (stands-put text w ix c order (q .0) (q .1))
 
-  pub literal-added : n ≤ 5 → countOf c t < 256 → (b : ℕ) → b ≡ lead + add → (h : Here) (v : List ℕ) {out out′ : List ℕ} {at r : ℕ}
-      → (h ≡ record { at = r; counts = oneMore c t }) × (v ≡ stored w t (countOf c t) p n 0)
+  pub literal-added : n ≤ 5 → countOf c t < 256 → (b : ℕ) → b ≡ lead + add → (h : Here) (v iv : List ℕ) {out out′ : List ℕ} {at r : ℕ}
+      → (h ≡ record { at = r; counts = oneMore c t }) × StringEntered text t (countOf c t) p n w ix v iv
       → Puts out at r out′ (withLength (lengths bit) b (octetsOf text (stretch p n))) × (r ≤ at + 16389)
-      → Stands text out at 16389 h out′ v (spelledOctets bit lead add text (strings (vocabulary c w) (tableOf t)) (locatedOf x)) (spelledTables text (tableOf t) (vocabulary c w) (locatedOf x))
+      → Stands text out at 16389 h out′ v iv (spelledOctets bit lead add text (strings (vocabulary c w) (tableOf t)) (locatedOf x)) (spelledTables text (tableOf t) (vocabulary c w) (locatedOf x))
   unfolding spelledOctets spelledTables
-  literal-added l room b eb h v e q =
+  literal-added l room b eb h v iv e q =
       let z : lead + add * 1 ≡ b = omega arith in
       let f = spells-stretch text x spells in
       rw (located, worth-more l room, z)
-      (stands-added text w c order t p n small room (let a = f .1 in omega arith) (let a = f .2 in omega arith) h v e (q .0) (q .1))
+      (stands-added text w ix c order t p n small room (let a = f .1 in omega arith) (let a = f .2 in omega arith) h v iv e (q .0) (q .1))
 
 -- k is the number that the table has for it
-module _ (text w : List ℕ) (c : Counts) (t : ℕ) (order : InOrder text c w) (x : EventString) (k : ℕ) (held : k ≡ heldAs text (tableOf t) (vocabulary c w) x) where
+module _ (text w ix : List ℕ) (c : Counts) (t : ℕ) (order : InOrder text c w ix) (x : EventString) (k : ℕ) (held : k ≡ heldAs text (tableOf t) (vocabulary c w) x) where
   module _ (spells : Spells text x) (q : Layout) where
     number-is : k ≡ numberIn (map (octetsOf text) (strings (vocabulary c w) (tableOf t))) (octetsOf text (locatedOf x))
     number-is = held ∙ held-is text (tableOf t) (vocabulary c w) x (spells-stretch text x spells .3)
 
     literal-numbered : (k ≡ 0 → ⊥) → {out out′ : List ℕ} {at r : ℕ} → Puts out at r out′ (spell (q .numberForms) (q .numberedBits) k) → r ≤ at + 16389
-        → Stands text out at 16389 (record { at = r; counts = c }) out′ w (writeLiteral link q text (tableOf t) (vocabulary c w) (locatedOf x) .octets)
+        → Stands text out at 16389 (record { at = r; counts = c }) out′ w ix (writeLiteral link q text (tableOf t) (vocabulary c w) (locatedOf x) .octets)
         (writeLiteral link q text (tableOf t) (vocabulary c w) (locatedOf x) .tables)
     unfolding writeLiteral
-    literal-numbered n p l = rw (← number-is, ne-eqb k 0 n) (stands-put text w c order p l)
+    literal-numbered n p l = rw (← number-is, ne-eqb k 0 n) (stands-put text w ix c order p l)
 
-    literal-spelled : k ≡ 0 → {out out′ v : List ℕ} {at : ℕ} (h : Here)
-        → Stands text out at 16389 h out′ v (spelledOctets (q .lengthBit) (q .spelledBits) (q .addBit) text (strings (vocabulary c w) (tableOf t)) (locatedOf x))
+    literal-spelled : k ≡ 0 → {out out′ v iv : List ℕ} {at : ℕ} (h : Here)
+        → Stands text out at 16389 h out′ v iv (spelledOctets (q .lengthBit) (q .spelledBits) (q .addBit) text (strings (vocabulary c w) (tableOf t)) (locatedOf x))
         (spelledTables text (tableOf t) (vocabulary c w) (locatedOf x))
-        → Stands text out at 16389 h out′ v (writeLiteral link q text (tableOf t) (vocabulary c w) (locatedOf x) .octets) (writeLiteral link q text (tableOf t) (vocabulary c w) (locatedOf x) .tables)
+        → Stands text out at 16389 h out′ v iv (writeLiteral link q text (tableOf t) (vocabulary c w) (locatedOf x) .octets) (writeLiteral link q text (tableOf t) (vocabulary c w) (locatedOf x) .tables)
     unfolding writeLiteral spelledOctets spelledTables
     literal-spelled z h p = rw (← number-is, z) p
 
@@ -322,33 +341,33 @@ module _ (text w : List ℕ) (c : Counts) (t : ℕ) (order : InOrder text c w) (
         rw (f .0, length-octets text (stringPlace x) (stringSize x) (f .2), ne-eqb (stringSize x) 0 n)
 
     pub value-numbered : (stringSize x ≡ 0 → ⊥) → (k ≡ 0 → ⊥) → {out out′ : List ℕ} {at r : ℕ} → Puts out at r out′ (spell c25 0x80 k) × (r ≤ at + 3)
-        → Stands text out at 16389 (record { at = r; counts = c }) out′ w (writeValue link text (tableOf t) (vocabulary c w) (locatedOf x) .octets)
+        → Stands text out at 16389 (record { at = r; counts = c }) out′ w ix (writeValue link text (tableOf t) (vocabulary c w) (locatedOf x) .octets)
         (writeValue link text (tableOf t) (vocabulary c w) (locatedOf x) .tables)
     unfolding c14
     value-numbered n m p = rw (value-is n) (literal-numbered (fills-spells text x fills n) c14 m (p .0) (let l = p .1 in omega arith))
 
-    pub value-spelled : (stringSize x ≡ 0 → ⊥) → k ≡ 0 → {out out′ v : List ℕ} {at : ℕ} (h : Here)
-        → Stands text out at 16389 h out′ v (spelledOctets 5 0 0x40 text (strings (vocabulary c w) (tableOf t)) (locatedOf x)) (spelledTables text (tableOf t) (vocabulary c w) (locatedOf x))
-        → Stands text out at 16389 h out′ v (writeValue link text (tableOf t) (vocabulary c w) (locatedOf x) .octets) (writeValue link text (tableOf t) (vocabulary c w) (locatedOf x) .tables)
+    pub value-spelled : (stringSize x ≡ 0 → ⊥) → k ≡ 0 → {out out′ v iv : List ℕ} {at : ℕ} (h : Here)
+        → Stands text out at 16389 h out′ v iv (spelledOctets 5 0 0x40 text (strings (vocabulary c w) (tableOf t)) (locatedOf x)) (spelledTables text (tableOf t) (vocabulary c w) (locatedOf x))
+        → Stands text out at 16389 h out′ v iv (writeValue link text (tableOf t) (vocabulary c w) (locatedOf x) .octets) (writeValue link text (tableOf t) (vocabulary c w) (locatedOf x) .tables)
     unfolding c14
     value-spelled n z h p = rw (value-is n) (literal-spelled (fills-spells text x fills n) c14 z h p)
 
-pub value-empty : (text w : List ℕ) (c : Counts) (t : ℕ) (order : InOrder text c w) (x : EventString) (fills : Fills text x) → stringSize x ≡ 0 → {out out′ : List ℕ} {at : ℕ} → out′ ≡ set out at 0xFF
-    → Stands text out at 16389 (record { at = at + 1; counts = c }) out′ w (writeValue link text (tableOf t) (vocabulary c w) (locatedOf x) .octets)
+pub value-empty : (text w ix : List ℕ) (c : Counts) (t : ℕ) (order : InOrder text c w ix) (x : EventString) (fills : Fills text x) → stringSize x ≡ 0 → {out out′ : List ℕ} {at : ℕ} → out′ ≡ set out at 0xFF
+    → Stands text out at 16389 (record { at = at + 1; counts = c }) out′ w ix (writeValue link text (tableOf t) (vocabulary c w) (locatedOf x) .octets)
     (writeValue link text (tableOf t) (vocabulary c w) (locatedOf x) .tables)
 unfolding writeValue octetsOf
-value-empty text w c t order x fills z e = rw (fills-empty text x fills z) (stands-put text w c order (puts-one e) (omega arith))
+value-empty text w ix c t order x fills z e = rw (fills-empty text x fills z) (stands-put text w ix c order (puts-one e) (omega arith))
 
-module _ (text w : List ℕ) (c : Counts) (order : InOrder text c w) (x : EventString) (spells : Spells text x) (k : ℕ) (held : k ≡ heldAs text (tableOf 6) (vocabulary c w) x) where
+module _ (text w ix : List ℕ) (c : Counts) (order : InOrder text c w ix) (x : EventString) (spells : Spells text x) (k : ℕ) (held : k ≡ heldAs text (tableOf 6) (vocabulary c w) x) where
   pub chunk-numbered : (k ≡ 0 → ⊥) → {out out′ : List ℕ} {at r : ℕ} → Puts out at r out′ (spell (numbers 4) 0xA0 k) × (r ≤ at + 4)
-      → Stands text out at 16389 (record { at = r; counts = c }) out′ w (writeLiteral link c15 text CONTENT-CHARACTER-CHUNK (vocabulary c w) (locatedOf x) .octets)
+      → Stands text out at 16389 (record { at = r; counts = c }) out′ w ix (writeLiteral link c15 text CONTENT-CHARACTER-CHUNK (vocabulary c w) (locatedOf x) .octets)
       (writeLiteral link c15 text CONTENT-CHARACTER-CHUNK (vocabulary c w) (locatedOf x) .tables)
   unfolding c15 tableOf
-  chunk-numbered n p = literal-numbered text w c 6 order x k held spells c15 n (p .0) (let l = p .1 in omega arith)
+  chunk-numbered n p = literal-numbered text w ix c 6 order x k held spells c15 n (p .0) (let l = p .1 in omega arith)
 
-  pub chunk-spelled : k ≡ 0 → {out out′ v : List ℕ} {at : ℕ} (h : Here)
-      → Stands text out at 16389 h out′ v (spelledOctets 7 0x80 0x10 text (strings (vocabulary c w) (tableOf 6)) (locatedOf x)) (spelledTables text (tableOf 6) (vocabulary c w) (locatedOf x))
-      → Stands text out at 16389 h out′ v (writeLiteral link c15 text CONTENT-CHARACTER-CHUNK (vocabulary c w) (locatedOf x) .octets)
+  pub chunk-spelled : k ≡ 0 → {out out′ v iv : List ℕ} {at : ℕ} (h : Here)
+      → Stands text out at 16389 h out′ v iv (spelledOctets 7 0x80 0x10 text (strings (vocabulary c w) (tableOf 6)) (locatedOf x)) (spelledTables text (tableOf 6) (vocabulary c w) (locatedOf x))
+      → Stands text out at 16389 h out′ v iv (writeLiteral link c15 text CONTENT-CHARACTER-CHUNK (vocabulary c w) (locatedOf x) .octets)
       (writeLiteral link c15 text CONTENT-CHARACTER-CHUNK (vocabulary c w) (locatedOf x) .tables)
   unfolding c15 tableOf
-  chunk-spelled z h p = literal-spelled text w c 6 order x k held spells c15 z h p
+  chunk-spelled z h p = literal-spelled text w ix c 6 order x k held spells c15 z h p

@@ -1,7 +1,7 @@
 -- Contracts of the code, not definitions to be believed. How the code's answers stand for the choices' definition: tables in lent words are the vocabulary that they hold.
 use Prim.Native.Nat.{ℕ, suc, _+_, _*_, _<_, _≤_}
 use mathlib.Core.Path.{_≡_}
-use mathlib.Core.Bool.{false}
+use mathlib.Core.Bool.{Bool, true, false}
 use mathlib.Core.Option.{Option}
 use mathlib.Core.List.{List, [], _∷_, _++_, map}
 use lib.ListN.{length}
@@ -19,7 +19,8 @@ use Rattle.tables.specs.Located.{Located, builtInPrefix, builtInNamespace, octe
 use Rattle.tables.specs.Counts.{tableWords}
 use Rattle.tables.specs.Search.{numberIn, numberOfTriple}
 use Rattle.tables.specs.Rows.{vocabulary}
-use Rattle.tables.specs.Kept.{countOf, oneMore, stored, Counted, Clean, AllInside}
+use Rattle.tables.specs.Kept.{countOf, oneMore, tripleOf, Counted, Clean, AllInside}
+use Rattle.index.specs.Indexed.{Indexed, NameEntered}
 use Rattle.events.specs.declared.EventString.{EventString}
 use Rattle.events.specs.declared.EventString.the-variants.{Absent, Empty, Stretch, XmlPrefix, XmlNamespace}
 use Rattle.events.specs.Records.{locatedOf, optionalOf}
@@ -35,8 +36,12 @@ abbrev pub Begins : Located → List Located → Type 0
 Begins x [] = ⊥
 Begins x (y ∷ ys) = y ≡ x
 
--- The tables of a text area in lent words are in order.
-pub record InOrder (text : Octets) (c : Counts) (w : Words) : Type 0 where
+-- All tables.
+abbrev pub every : ℕ → Bool
+every table = true
+
+-- The tables of a text area in lent words are in order, and indexed.
+pub record InOrder (text : Octets) (c : Counts) (w : Words) (index : Octets) : Type 0 where
   pub size : length text ≤ 16384
   pub room : length w ≡ tableWords
   pub counted : Counted c
@@ -44,6 +49,7 @@ pub record InOrder (text : Octets) (c : Counts) (w : Words) : Type 0 where
   pub inside : AllInside text (vocabulary c w)
   pub prefix : Begins builtInPrefix (vocabulary c w .prefixes)
   pub namespace : Begins builtInNamespace (vocabulary c w .namespaces)
+  pub indexed : Indexed every text (countOf c) w index
 
 -- The string of an event is one that a table of identifying strings may hold: a stretch that is not empty and lies in the text area, or the table's built-in one.
 abbrev pub Suits : Octets → ℕ → EventString → Type 0
@@ -110,11 +116,11 @@ unfoldable pub nameHeldAs : NameLayout → Octets → Vocabulary Located → Nam
 nameHeldAs q text v x = numberOfTriple (names v (q .table)) (tripleFor text v x)
 
 -- A row became an entry of its table; or the table is full.
-abbrev pub Tripled : Here → Words → (table : ℕ) → Row → W.Wrote → Words → Type 0
-Tripled h w table x (Put r) w′ =
+abbrev pub Tripled : Here → Words → (index : Octets) (table : ℕ) → Row → W.Wrote → Words → (index′ : Octets) → Type 0
+Tripled h w index table x (Put r) w′ index′ =
     (countOf (h .counts) table < 256) × (r ≡ record { at = h .at; counts = oneMore (h .counts) table })
-    × (w′ ≡ stored w table (countOf (h .counts) table) (x .a) (x .b) (x .c))
-Tripled h w table x Full w′ = 256 ≤ countOf (h .counts) table
+    × ((text : Octets) → NameEntered text table (countOf (h .counts) table) (tripleOf x) w index w′ index′)
+Tripled h w index table x Full w′ index′ = 256 ≤ countOf (h .counts) table
 
 -- A prefix and a namespace behind the octet `first`; a namespace declaration (C.12) begins with 110011pn.
 unfoldable pub pairBehind : (first : ℕ) → Octets → Vocabulary Located → (prefix namespace : Option Located) → Wrote Choice
@@ -127,13 +133,13 @@ unfoldable pub declaredBy : Octets → Vocabulary Located → (prefix namespace 
 declaredBy text v p n = pairBehind (0xCC + 2 * has p + has n) text v p n
 
 -- What was put from `at` on stands for the definition's octets, and the tables are the definition's; at most `most` octets were put.
-pub record Stands (text out : Octets) (at most : ℕ) (h : Here) (out′ : Octets) (w : Words) (octets : Octets) (v : Vocabulary Located) : Type 0 where
+pub record Stands (text out : Octets) (at most : ℕ) (h : Here) (out′ : Octets) (w : Words) (index octets : Octets) (v : Vocabulary Located) : Type 0 where
   pub puts : Puts out at (h .at) out′ octets
   pub few : h .at ≤ at + most
   pub tables : vocabulary (h .counts) w ≡ v
-  pub order : InOrder text (h .counts) w
+  pub order : InOrder text (h .counts) w index
 
 -- Or a table is full, and the definition's has an entry too many.
-abbrev pub Meets : {H : Type 0} → Octets → Octets → (at most : ℕ) → W.Wrote → Octets → Words → Wrote H → Type 0
-Meets text out at most (Put h) out′ w d = Stands text out at most h out′ w (d .octets) (d .tables)
-Meets text out at most Full out′ w d = within link (d .tables) ≡ false
+abbrev pub Meets : {H : Type 0} → Octets → Octets → (at most : ℕ) → W.Wrote → Octets → Words → (index : Octets) → Wrote H → Type 0
+Meets text out at most (Put h) out′ w index d = Stands text out at most h out′ w index (d .octets) (d .tables)
+Meets text out at most Full out′ w index d = within link (d .tables) ≡ false

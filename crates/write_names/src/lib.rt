@@ -1,8 +1,9 @@
 // Strings and names as octets, by the choices that the requirements fix: by number where the table holds them, else spelled.
-// May depend on format, fields, tables and events.
+// May depend on format, fields, tables, index and events.
 mod naming;
 
 ghost use mathlib.Core.Path.{_≡_};
+ghost use mathlib.Core.List.{map};
 ghost use Prim.Native.Nat.{_+_, _^_, _-_, _<_, _≤_};
 ghost use lib.ListN.{length};
 ghost use Rattle.format.specs.Numbers.{lengths, spell};
@@ -10,10 +11,11 @@ ghost use Rattle.format.specs.Tables.{strings, link, CONTENT-CHARACTER-CHUNK};
 ghost use Rattle.format.specs.Strings.{withLength, c15};
 ghost use Rattle.format.specs.Names.{has};
 ghost use Rattle.fields.specs.PutContracts.{Puts};
-ghost use Rattle.tables.specs.Counts.{tableWords};
 ghost use Rattle.tables.specs.Located.{stretch, octetsOf};
+ghost use Rattle.tables.specs.Search.{numberIn};
 ghost use Rattle.tables.specs.Rows.{tableOf, vocabulary};
-ghost use Rattle.tables.specs.Kept.{countOf, oneMore, stored, layoutOf};
+ghost use Rattle.tables.specs.Kept.{countOf, oneMore, layoutOf};
+ghost use Rattle.index.specs.Indexed.{StringEntered};
 ghost use Rattle.events.specs.Records.{locatedOf, optionalOf};
 ghost use Rattle.events.specs.Words.{stringTag};
 ghost use Rattle.write_names.specs.Choices.{writeId, writeOptional, writeLiteral, writeValue};
@@ -60,16 +62,17 @@ pub struct Parts {
 }
 
 // The number of a string in its table; 0 where it has none, or there is no string.
-fn number_of(text: &[u8], t: &[u32], c: Counts, table: usize, x: EventString) -> u32
-    requires { ⌜ (InOrder (now text) c (now t)) × (table < 8) × Suits (now text) table x ⌝ }
+fn number_of(text: &[u8], t: &[u32], index: &[u8], c: Counts, table: usize, x: EventString) -> u32
+    requires { ⌜ (InOrder (now text) c (now t) (now index)) × (table < 8) × Suits (now text) table x ⌝ }
     ensures { λ r. ⌜ (r ≡ heldAs (now (text .entry)) (tableOf table) (vocabulary c (now (t .entry))) x) × (r ≤ 256) ⌝ }
 {
     match x {
         EventString::Absent => 0,
         EventString::Empty => 0,
-        EventString::Stretch(place, size) => tables::find(
+        EventString::Stretch(place, size) => index::find(
             text,
             t,
+            index,
             table,
             c.of(table),
             place as usize,
@@ -130,12 +133,31 @@ fn put_name_number(out: &mut [u8], at: usize, table: usize, lead: u8, n: u32) ->
 }
 
 impl Here {
-    // The string at a place becomes an entry of its table.
-    fn added(mut self, t: &mut [u32], table: usize, place: u32, size: u32) -> Here
-        requires { ⌜ (length (now t) ≡ tableWords) × (table < 8) × (countOf (self .counts) table < 256) ⌝ }
-        ensures { λ r. ⌜ (r ≡ record { at = self .at; counts = oneMore (self .counts) table }) × (now (t .exit) ≡ stored (now (t .entry)) table (countOf (self .counts) table) place size 0) ⌝ }
+    // The string at a place, which its table does not hold, becomes an entry of it.
+    fn added(
+        mut self,
+        text: &[u8],
+        t: &mut [u32],
+        index: &mut [u8],
+        table: usize,
+        place: u32,
+        size: u32,
+    ) -> Here
+        requires { ⌜ (InOrder (now text) (self .counts) (now t) (now index)) × (table < 8) × (countOf (self .counts) table < 256) × (0 < size) × (place + size ≤ length (now text)) × (0 ≡ numberIn (map (octetsOf (now text)) (strings (vocabulary (self .counts) (now t)) (tableOf table))) (octetsOf (now text) (stretch place size))) ⌝ }
+        ensures { λ r. ⌜ (r ≡ record { at = self .at; counts = oneMore (self .counts) table }) × StringEntered (now (text .entry)) table (countOf (self .counts) table) place size (now (t .entry)) (now (index .entry)) (now (t .exit)) (now (index .exit)) ⌝ }
     {
-        tables::add(t, table, self.counts.of(table), place, size, 0);
+        let h = index::bucket_of(text, place as usize, size as usize);
+        index::enter_in(
+            text,
+            t,
+            index,
+            table,
+            self.counts.of(table),
+            place,
+            size,
+            0,
+            h,
+        );
         self.counts = self.counts.more(table);
         self
     }
@@ -145,13 +167,14 @@ impl Here {
         mut self,
         text: &[u8],
         t: &mut [u32],
+        index: &mut [u8],
         out: &mut [u8],
         table: usize,
         x: EventString,
         k: u32,
     ) -> Wrote
-        requires { ⌜ (InOrder (now text) (self .counts) (now t)) × (self .at ≤ 900000) × (table < 4) × Suits (now text) table x × (1 ≤ stringTag x) × (k ≡ heldAs (now text) (tableOf table) (vocabulary (self .counts) (now t)) x) × (k ≤ 256) ⌝ }
-        ensures { λ r. ⌜ Meets (now (text .entry)) (now (out .entry)) (self .at) 16389 r (now (out .exit)) (now (t .exit)) (writeId (now (text .entry)) (tableOf table) (vocabulary (self .counts) (now (t .entry))) (locatedOf x)) ⌝ }
+        requires { ⌜ (InOrder (now text) (self .counts) (now t) (now index)) × (self .at ≤ 900000) × (table < 4) × Suits (now text) table x × (1 ≤ stringTag x) × (k ≡ heldAs (now text) (tableOf table) (vocabulary (self .counts) (now t)) x) × (k ≤ 256) ⌝ }
+        ensures { λ r. ⌜ Meets (now (text .entry)) (now (out .entry)) (self .at) 16389 r (now (out .exit)) (now (t .exit)) (now (index .exit)) (writeId (now (text .entry)) (tableOf table) (vocabulary (self .counts) (now (t .entry))) (locatedOf x)) ⌝ }
     {
         if k != 0 {
             self.at = put_number_at_bit_2(out, self.at, 0x80, k);
@@ -163,7 +186,7 @@ impl Here {
         let place = x.place();
         let size = x.size();
         self.at = spelled(out, self.at, 2, 0, text, place, size);
-        Wrote::Put(self.added(t, table, place, size))
+        Wrote::Put(self.added(text, t, index, table, place, size))
     }
 
     // One that may be absent.
@@ -171,18 +194,19 @@ impl Here {
         self,
         text: &[u8],
         t: &mut [u32],
+        index: &mut [u8],
         out: &mut [u8],
         table: usize,
         x: EventString,
         k: u32,
     ) -> Wrote
-        requires { ⌜ (InOrder (now text) (self .counts) (now t)) × (self .at ≤ 900000) × (table < 4) × Suits (now text) table x × (k ≡ heldAs (now text) (tableOf table) (vocabulary (self .counts) (now t)) x) × (k ≤ 256) ⌝ }
-        ensures { λ r. ⌜ Meets (now (text .entry)) (now (out .entry)) (self .at) 16389 r (now (out .exit)) (now (t .exit)) (writeOptional (now (text .entry)) (tableOf table) (vocabulary (self .counts) (now (t .entry))) (optionalOf x)) ⌝ }
+        requires { ⌜ (InOrder (now text) (self .counts) (now t) (now index)) × (self .at ≤ 900000) × (table < 4) × Suits (now text) table x × (k ≡ heldAs (now text) (tableOf table) (vocabulary (self .counts) (now t)) x) × (k ≤ 256) ⌝ }
+        ensures { λ r. ⌜ Meets (now (text .entry)) (now (out .entry)) (self .at) 16389 r (now (out .exit)) (now (t .exit)) (now (index .exit)) (writeOptional (now (text .entry)) (tableOf table) (vocabulary (self .counts) (now (t .entry))) (optionalOf x)) ⌝ }
     {
         if x.tag() == 0 {
             return Wrote::Put(self);
         }
-        self.id(text, t, out, table, x, k)
+        self.id(text, t, index, out, table, x, k)
     }
 
     // C.13: one of the table, by its number or spelled.
@@ -190,15 +214,16 @@ impl Here {
         self,
         text: &[u8],
         t: &mut [u32],
+        index: &mut [u8],
         out: &mut [u8],
         table: usize,
         x: EventString,
     ) -> Wrote
-        requires { ⌜ (InOrder (now text) (self .counts) (now t)) × (self .at ≤ 900000) × (table < 4) × Suits (now text) table x × (1 ≤ stringTag x) ⌝ }
-        ensures { λ r. ⌜ Meets (now (text .entry)) (now (out .entry)) (self .at) 16389 r (now (out .exit)) (now (t .exit)) (writeId (now (text .entry)) (tableOf table) (vocabulary (self .counts) (now (t .entry))) (locatedOf x)) ⌝ }
+        requires { ⌜ (InOrder (now text) (self .counts) (now t) (now index)) × (self .at ≤ 900000) × (table < 4) × Suits (now text) table x × (1 ≤ stringTag x) ⌝ }
+        ensures { λ r. ⌜ Meets (now (text .entry)) (now (out .entry)) (self .at) 16389 r (now (out .exit)) (now (t .exit)) (now (index .exit)) (writeId (now (text .entry)) (tableOf table) (vocabulary (self .counts) (now (t .entry))) (locatedOf x)) ⌝ }
     {
-        let k = number_of(text, t, self.counts, table, x);
-        self.id(text, t, out, table, x, k)
+        let k = number_of(text, t, index, self.counts, table, x);
+        self.id(text, t, index, out, table, x, k)
     }
 
     // C.14 or C.15, spelled: a string of 1 to 5 octets is added where its table has room, and its add bit says so.
@@ -206,6 +231,7 @@ impl Here {
         mut self,
         text: &[u8],
         t: &mut [u32],
+        index: &mut [u8],
         out: &mut [u8],
         table: usize,
         bit: u32,
@@ -213,8 +239,8 @@ impl Here {
         add: u8,
         x: EventString,
     ) -> Here
-        requires { ⌜ (InOrder (now text) (self .counts) (now t)) × (self .at ≤ 900000) × (table < 8) × (Spells (now text) x) × (1 ≤ bit) × (bit ≤ 7) × (lead + add + 2 ^ (9 - bit) ≤ 256) ⌝ }
-        ensures { λ r. ⌜ Stands (now (text .entry)) (now (out .entry)) (self .at) 16389 r (now (out .exit)) (now (t .exit)) (spelledOctets bit lead add (now (text .entry)) (strings (vocabulary (self .counts) (now (t .entry))) (tableOf table)) (locatedOf x)) (spelledTables (now (text .entry)) (tableOf table) (vocabulary (self .counts) (now (t .entry))) (locatedOf x)) ⌝ }
+        requires { ⌜ (InOrder (now text) (self .counts) (now t) (now index)) × (self .at ≤ 900000) × (table < 8) × (Spells (now text) x) × (0 ≡ heldAs (now text) (tableOf table) (vocabulary (self .counts) (now t)) x) × (1 ≤ bit) × (bit ≤ 7) × (lead + add + 2 ^ (9 - bit) ≤ 256) ⌝ }
+        ensures { λ r. ⌜ Stands (now (text .entry)) (now (out .entry)) (self .at) 16389 r (now (out .exit)) (now (t .exit)) (now (index .exit)) (spelledOctets bit lead add (now (text .entry)) (strings (vocabulary (self .counts) (now (t .entry))) (tableOf table)) (locatedOf x)) (spelledTables (now (text .entry)) (tableOf table) (vocabulary (self .counts) (now (t .entry))) (locatedOf x)) ⌝ }
     {
         let place = x.place();
         let size = x.size();
@@ -227,7 +253,7 @@ impl Here {
             return self;
         }
         self.at = spelled(out, self.at, bit, lead + add, text, place, size);
-        self.added(t, table, place, size)
+        self.added(text, t, index, table, place, size)
     }
 
     // C.14: a value, comment or content. FF is the empty string.
@@ -235,36 +261,44 @@ impl Here {
         mut self,
         text: &[u8],
         t: &mut [u32],
+        index: &mut [u8],
         out: &mut [u8],
         table: usize,
         x: EventString,
     ) -> Here
-        requires { ⌜ (InOrder (now text) (self .counts) (now t)) × (self .at ≤ 900000) × (table < 8) × (Fills (now text) x) ⌝ }
-        ensures { λ r. ⌜ Stands (now (text .entry)) (now (out .entry)) (self .at) 16389 r (now (out .exit)) (now (t .exit)) (writeValue link (now (text .entry)) (tableOf table) (vocabulary (self .counts) (now (t .entry))) (locatedOf x) .octets) (writeValue link (now (text .entry)) (tableOf table) (vocabulary (self .counts) (now (t .entry))) (locatedOf x) .tables) ⌝ }
+        requires { ⌜ (InOrder (now text) (self .counts) (now t) (now index)) × (self .at ≤ 900000) × (table < 8) × (Fills (now text) x) ⌝ }
+        ensures { λ r. ⌜ Stands (now (text .entry)) (now (out .entry)) (self .at) 16389 r (now (out .exit)) (now (t .exit)) (now (index .exit)) (writeValue link (now (text .entry)) (tableOf table) (vocabulary (self .counts) (now (t .entry))) (locatedOf x) .octets) (writeValue link (now (text .entry)) (tableOf table) (vocabulary (self .counts) (now (t .entry))) (locatedOf x) .tables) ⌝ }
     {
         if x.size() == 0 {
             put(out, self.at, 0xFF);
             self.at += 1;
             return self;
         }
-        let k = number_of(text, t, self.counts, table, x);
+        let k = number_of(text, t, index, self.counts, table, x);
         if k != 0 {
             self.at = put_number_at_bit_2(out, self.at, 0x80, k);
             return self;
         }
-        self.literal(text, t, out, table, 5, 0, 0x40, x)
+        self.literal(text, t, index, out, table, 5, 0, 0x40, x)
     }
 
     // C.15: a chunk.
-    pub fn chunk(mut self, text: &[u8], t: &mut [u32], out: &mut [u8], x: EventString) -> Here
-        requires { ⌜ (InOrder (now text) (self .counts) (now t)) × (self .at ≤ 900000) × (Spells (now text) x) ⌝ }
-        ensures { λ r. ⌜ Stands (now (text .entry)) (now (out .entry)) (self .at) 16389 r (now (out .exit)) (now (t .exit)) (writeLiteral link c15 (now (text .entry)) CONTENT-CHARACTER-CHUNK (vocabulary (self .counts) (now (t .entry))) (locatedOf x) .octets) (writeLiteral link c15 (now (text .entry)) CONTENT-CHARACTER-CHUNK (vocabulary (self .counts) (now (t .entry))) (locatedOf x) .tables) ⌝ }
+    pub fn chunk(
+        mut self,
+        text: &[u8],
+        t: &mut [u32],
+        index: &mut [u8],
+        out: &mut [u8],
+        x: EventString,
+    ) -> Here
+        requires { ⌜ (InOrder (now text) (self .counts) (now t) (now index)) × (self .at ≤ 900000) × (Spells (now text) x) ⌝ }
+        ensures { λ r. ⌜ Stands (now (text .entry)) (now (out .entry)) (self .at) 16389 r (now (out .exit)) (now (t .exit)) (now (index .exit)) (writeLiteral link c15 (now (text .entry)) CONTENT-CHARACTER-CHUNK (vocabulary (self .counts) (now (t .entry))) (locatedOf x) .octets) (writeLiteral link c15 (now (text .entry)) CONTENT-CHARACTER-CHUNK (vocabulary (self .counts) (now (t .entry))) (locatedOf x) .tables) ⌝ }
     {
-        let k = number_of(text, t, self.counts, CHUNKS, x);
+        let k = number_of(text, t, index, self.counts, CHUNKS, x);
         if k != 0 {
             self.at = put_number(out, self.at, 4, 0xA0, k);
             return self;
         }
-        self.literal(text, t, out, CHUNKS, 7, 0x80, 0x10, x)
+        self.literal(text, t, index, out, CHUNKS, 7, 0x80, 0x10, x)
     }
 }

@@ -1,11 +1,13 @@
 // Names and namespace declarations as octets: by number where the table holds them, else in parts.
 ghost use mathlib.Core.Path.{_≡_};
-ghost use Prim.Native.Nat.{_<_, _≤_};
+ghost use Prim.Native.Nat.{_*_, _<_, _≤_};
 ghost use lib.ListN.{length};
 ghost use Rattle.format.specs.Tables.{PREFIX, NAMESPACE-NAME};
 ghost use Rattle.tables.specs.Counts.{tableWords};
-ghost use Rattle.tables.specs.Rows.{vocabulary};
+ghost use Rattle.tables.specs.Search.{numberOfTriple};
+ghost use Rattle.tables.specs.Rows.{tripleAt, entries, vocabulary};
 ghost use Rattle.tables.specs.Kept.{countOf, layoutOf, tripleOf};
+ghost use Rattle.index.specs.Indexed.{slots};
 ghost use Rattle.events.specs.Records.{optionalOf};
 ghost use Rattle.events.specs.Words.{stringTag};
 ghost use Rattle.write_names.specs.Choices.{writeName};
@@ -40,16 +42,16 @@ fn number_then(c: Counts, table: usize, x: EventString, k: u32) -> u32
 }
 
 impl Here {
-    // The name becomes an entry of its table, unless that is full.
-    fn triple(mut self, t: &mut [u32], table: usize, x: Row) -> Wrote
-        requires { ⌜ (length (now t) ≡ tableWords) × (table < 10) ⌝ }
-        ensures { λ r. ⌜ Tripled self (now (t .entry)) table x r (now (t .exit)) ⌝ }
+    // The name, which its table does not hold, becomes an entry of it, unless that is full.
+    fn triple(mut self, t: &mut [u32], index: &mut [u8], table: usize, x: Row) -> Wrote
+        requires { ⌜ (length (now t) ≡ tableWords) × (length (now index) ≡ slots) × (8 ≤ table) × (table < 10) × (0 ≡ numberOfTriple (entries (tripleAt (now t)) (768 * table) (countOf (self .counts) table)) (tripleOf x)) ⌝ }
+        ensures { λ r. ⌜ Tripled self (now (t .entry)) (now (index .entry)) table x r (now (t .exit)) (now (index .exit)) ⌝ }
     {
         let n = self.counts.of(table);
         if Counts::ENTRIES <= n {
             return Wrote::Full;
         }
-        tables::add(t, table, n, x.a, x.b, x.c);
+        index::enter_name(t, index, table, n, x.a, x.b, x.c, 0);
         self.counts = self.counts.more(table);
         Wrote::Put(self)
     }
@@ -59,6 +61,7 @@ impl Here {
         mut self,
         text: &[u8],
         t: &mut [u32],
+        index: &mut [u8],
         out: &mut [u8],
         first: u8,
         prefix: EventString,
@@ -66,15 +69,15 @@ impl Here {
         k: u32,
         n: u32,
     ) -> Wrote
-        requires { ⌜ (InOrder (now text) (self .counts) (now t)) × (self .at ≤ 800000) × Suits (now text) 0 prefix × Suits (now text) 1 namespace × (k ≡ heldAs (now text) PREFIX (vocabulary (self .counts) (now t)) prefix) × (k ≤ 256) × (n ≡ heldAs (now text) NAMESPACE-NAME (vocabulary (self .counts) (now t)) namespace) × (n ≤ 256) ⌝ }
-        ensures { λ r. ⌜ Meets (now (text .entry)) (now (out .entry)) (self .at) 32779 r (now (out .exit)) (now (t .exit)) (pairBehind first (now (text .entry)) (vocabulary (self .counts) (now (t .entry))) (optionalOf prefix) (optionalOf namespace)) ⌝ }
+        requires { ⌜ (InOrder (now text) (self .counts) (now t) (now index)) × (self .at ≤ 800000) × Suits (now text) 0 prefix × Suits (now text) 1 namespace × (k ≡ heldAs (now text) PREFIX (vocabulary (self .counts) (now t)) prefix) × (k ≤ 256) × (n ≡ heldAs (now text) NAMESPACE-NAME (vocabulary (self .counts) (now t)) namespace) × (n ≤ 256) ⌝ }
+        ensures { λ r. ⌜ Meets (now (text .entry)) (now (out .entry)) (self .at) 32779 r (now (out .exit)) (now (t .exit)) (now (index .exit)) (pairBehind first (now (text .entry)) (vocabulary (self .counts) (now (t .entry))) (optionalOf prefix) (optionalOf namespace)) ⌝ }
     {
         put(out, self.at, first);
         self.at += 1;
-        let Wrote::Put(h) = self.optional(text, t, out, PREFIX, prefix, k) else {
+        let Wrote::Put(h) = self.optional(text, t, index, out, PREFIX, prefix, k) else {
             return Wrote::Full;
         };
-        h.optional(text, t, out, NAMESPACE_NAME, namespace, n)
+        h.optional(text, t, index, out, NAMESPACE_NAME, namespace, n)
     }
 
     // A name in parts: k are the numbers that its strings have, 0 where they have none, and x those that they have then.
@@ -82,6 +85,7 @@ impl Here {
         self,
         text: &[u8],
         t: &mut [u32],
+        index: &mut [u8],
         out: &mut [u8],
         table: usize,
         lead: u8,
@@ -89,20 +93,21 @@ impl Here {
         k: Row,
         x: Row,
     ) -> Wrote
-        requires { ⌜ (InOrder (now text) (self .counts) (now t)) × (self .at ≤ 800000) × (8 ≤ table) × (table < 10) × (lead ≤ 0x80) × Suits (now text) 0 (name .prefix) × Suits (now text) 1 (name .namespace) × Suits (now text) 2 (name .local) × (1 ≤ stringTag (name .local)) × Held (now text) (vocabulary (self .counts) (now t)) name k × (tripleOf x ≡ tripleFor (now text) (vocabulary (self .counts) (now t)) (namedOf name)) × (0 ≡ nameHeldAs (layoutOf table) (now text) (vocabulary (self .counts) (now t)) (namedOf name)) ⌝ }
-        ensures { λ r. ⌜ Meets (now (text .entry)) (now (out .entry)) (self .at) 49168 r (now (out .exit)) (now (t .exit)) (writeName (layoutOf table) lead (now (text .entry)) (vocabulary (self .counts) (now (t .entry))) (namedOf name)) ⌝ }
+        requires { ⌜ (InOrder (now text) (self .counts) (now t) (now index)) × (self .at ≤ 800000) × (8 ≤ table) × (table < 10) × (lead ≤ 0x80) × Suits (now text) 0 (name .prefix) × Suits (now text) 1 (name .namespace) × Suits (now text) 2 (name .local) × (1 ≤ stringTag (name .local)) × Held (now text) (vocabulary (self .counts) (now t)) name k × (tripleOf x ≡ tripleFor (now text) (vocabulary (self .counts) (now t)) (namedOf name)) × (0 ≡ nameHeldAs (layoutOf table) (now text) (vocabulary (self .counts) (now t)) (namedOf name)) ⌝ }
+        ensures { λ r. ⌜ Meets (now (text .entry)) (now (out .entry)) (self .at) 49168 r (now (out .exit)) (now (t .exit)) (now (index .exit)) (writeName (layoutOf table) lead (now (text .entry)) (vocabulary (self .counts) (now (t .entry))) (namedOf name)) ⌝ }
     {
         let prefix = name.prefix;
         let namespace = name.namespace;
         let local = name.local;
         let first = lead + in_parts(table) + 2 * has(prefix) + has(namespace);
-        let Wrote::Put(h) = self.pair(text, t, out, first, prefix, namespace, k.a, k.b) else {
+        let Wrote::Put(h) = self.pair(text, t, index, out, first, prefix, namespace, k.a, k.b)
+        else {
             return Wrote::Full;
         };
-        let Wrote::Put(l) = h.id(text, t, out, LOCAL_NAME, local, k.c) else {
+        let Wrote::Put(l) = h.id(text, t, index, out, LOCAL_NAME, local, k.c) else {
             return Wrote::Full;
         };
-        l.triple(t, table, x)
+        l.triple(t, index, table, x)
     }
 
     // A name (C.17, C.18) behind the bits `lead`: by number if its table holds its triple, else in parts, and added.
@@ -110,34 +115,35 @@ impl Here {
         mut self,
         text: &[u8],
         t: &mut [u32],
+        index: &mut [u8],
         out: &mut [u8],
         table: usize,
         lead: u8,
         name: Parts,
     ) -> Wrote
-        requires { ⌜ (InOrder (now text) (self .counts) (now t)) × (self .at ≤ 800000) × (8 ≤ table) × (table < 10) × (lead ≤ 0x80) × Suits (now text) 0 (name .prefix) × Suits (now text) 1 (name .namespace) × Suits (now text) 2 (name .local) × (1 ≤ stringTag (name .local)) ⌝ }
-        ensures { λ r. ⌜ Meets (now (text .entry)) (now (out .entry)) (self .at) 49168 r (now (out .exit)) (now (t .exit)) (writeName (layoutOf table) lead (now (text .entry)) (vocabulary (self .counts) (now (t .entry))) (namedOf name)) ⌝ }
+        requires { ⌜ (InOrder (now text) (self .counts) (now t) (now index)) × (self .at ≤ 800000) × (8 ≤ table) × (table < 10) × (lead ≤ 0x80) × Suits (now text) 0 (name .prefix) × Suits (now text) 1 (name .namespace) × Suits (now text) 2 (name .local) × (1 ≤ stringTag (name .local)) ⌝ }
+        ensures { λ r. ⌜ Meets (now (text .entry)) (now (out .entry)) (self .at) 49168 r (now (out .exit)) (now (t .exit)) (now (index .exit)) (writeName (layoutOf table) lead (now (text .entry)) (vocabulary (self .counts) (now (t .entry))) (namedOf name)) ⌝ }
     {
         let prefix = name.prefix;
         let namespace = name.namespace;
         let local = name.local;
         let c = self.counts;
         let k = Row {
-            a: number_of(text, t, c, PREFIX, prefix),
-            b: number_of(text, t, c, NAMESPACE_NAME, namespace),
-            c: number_of(text, t, c, LOCAL_NAME, local),
+            a: number_of(text, t, index, c, PREFIX, prefix),
+            b: number_of(text, t, index, c, NAMESPACE_NAME, namespace),
+            c: number_of(text, t, index, c, LOCAL_NAME, local),
         };
         let x = Row {
             a: number_then(c, PREFIX, prefix, k.a),
             b: number_then(c, NAMESPACE_NAME, namespace, k.b),
             c: number_then(c, LOCAL_NAME, local, k.c),
         };
-        let n = tables::find_name(t, table, c.of(table), x.a, x.b, x.c);
+        let n = index::find_name(t, index, table, c.of(table), x.a, x.b, x.c);
         if n != 0 {
             self.at = put_name_number(out, self.at, table, lead, n);
             return Wrote::Put(self);
         }
-        self.parts(text, t, out, table, lead, name, k, x)
+        self.parts(text, t, index, out, table, lead, name, k, x)
     }
 
     // A namespace declaration (C.12): 110011pn and the strings that are there.
@@ -145,16 +151,17 @@ impl Here {
         self,
         text: &[u8],
         t: &mut [u32],
+        index: &mut [u8],
         out: &mut [u8],
         prefix: EventString,
         namespace: EventString,
     ) -> Wrote
-        requires { ⌜ (InOrder (now text) (self .counts) (now t)) × (self .at ≤ 800000) × Suits (now text) 0 prefix × Suits (now text) 1 namespace ⌝ }
-        ensures { λ r. ⌜ Meets (now (text .entry)) (now (out .entry)) (self .at) 32779 r (now (out .exit)) (now (t .exit)) (declaredBy (now (text .entry)) (vocabulary (self .counts) (now (t .entry))) (optionalOf prefix) (optionalOf namespace)) ⌝ }
+        requires { ⌜ (InOrder (now text) (self .counts) (now t) (now index)) × (self .at ≤ 800000) × Suits (now text) 0 prefix × Suits (now text) 1 namespace ⌝ }
+        ensures { λ r. ⌜ Meets (now (text .entry)) (now (out .entry)) (self .at) 32779 r (now (out .exit)) (now (t .exit)) (now (index .exit)) (declaredBy (now (text .entry)) (vocabulary (self .counts) (now (t .entry))) (optionalOf prefix) (optionalOf namespace)) ⌝ }
     {
-        let k = number_of(text, t, self.counts, PREFIX, prefix);
-        let n = number_of(text, t, self.counts, NAMESPACE_NAME, namespace);
+        let k = number_of(text, t, index, self.counts, PREFIX, prefix);
+        let n = number_of(text, t, index, self.counts, NAMESPACE_NAME, namespace);
         let first = 0xCC + 2 * has(prefix) + has(namespace);
-        self.pair(text, t, out, first, prefix, namespace, k, n)
+        self.pair(text, t, index, out, first, prefix, namespace, k, n)
     }
 }

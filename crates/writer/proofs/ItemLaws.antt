@@ -124,8 +124,8 @@ module _ (text : List ℕ) (room : ℕ) (st : State) where
   held-fitting h l = rw (← (octet-aligned (st .at)), le-leb _ _ (le-min h l))
 
 -- ---- octets put behind others
-stands-behind : {text out out₁ out′ w xs ys : List ℕ} {v : Vocabulary Located} {at r most : ℕ} {h : Here} (k : ℕ) → Puts out at r out₁ xs → r ≤ at + k
-    → Stands text out₁ r most h out′ w ys v → Stands text out at (k + most) h out′ w (xs ++ ys) v
+stands-behind : {text out out₁ out′ w ix xs ys : List ℕ} {v : Vocabulary Located} {at r most : ℕ} {h : Here} (k : ℕ) → Puts out at r out₁ xs → r ≤ at + k
+    → Stands text out₁ r most h out′ w ix ys v → Stands text out at (k + most) h out′ w ix (xs ++ ys) v
 stands-behind k p l s = let f = s .few in record { puts = puts-append p (s .puts); few = omega arith; tables = s .tables; order = s .order }
 
 -- ---- the state behind an item
@@ -135,23 +135,23 @@ asWrote d = record { octets = d .octets; how = d .choice; number = 0; tables = d
 module _ (text : List ℕ) (a : Bool) (st : State) (out w : List ℕ) (e : E.Event Located) (item : isEnd e ≡ false) (next : State)
     (state : stateOf next (writeItem link text a (known st w) e .state .tables) ≡ writeItem link text a (known st w) e .state)
     (shallow : next .level + coming (next .mode) ≤ 32) where
-  lands : (most : ℕ) (r : W.Wrote) (out′ w′ : List ℕ) → 1 ≤ length (writeItem link text a (known st w) e .octets)
-      → Meets text out (aligned (st .at) / 2) most r out′ w′ (asWrote (writeItem link text a (known st w) e)) → Near r → Lands text a st out w e (landing next r) out′ w′
-  lands most (Put h) out′ w′ some s n =
+  lands : (most : ℕ) (r : W.Wrote) (out′ w′ ix′ : List ℕ) → 1 ≤ length (writeItem link text a (known st w) e .octets)
+      → Meets text out (aligned (st .at) / 2) most r out′ w′ ix′ (asWrote (writeItem link text a (known st w) e)) → Near r → Lands text a st out w e (landing next r) out′ w′ ix′
+  lands most (Put h) out′ w′ ix′ some s n =
       let z : 2 * h .at / 2 ≡ h .at = omega arith in
       record { laid = rw (item, z) (s .puts, refl, some); near = omega arith; state = rw (s .tables) state; order = s .order; shallow = shallow }
-  lands most Full out′ w′ some s n = (refl, s)
+  lands most Full out′ w′ ix′ some s n = (refl, s)
 
   -- octets stand before what was put last
   lands-behind : {H : Type 0} (d : Wrote H) {xs out₁ : List ℕ} {at : ℕ} (most : ℕ) → Puts out (aligned (st .at) / 2) at out₁ xs → at ≤ aligned (st .at) / 2 + 1
-      → writeItem link text a (known st w) e .octets ≡ xs ++ d .octets → writeItem link text a (known st w) e .state .tables ≡ d .tables → (r : W.Wrote) (out′ w′ : List ℕ)
-      → 1 ≤ length (writeItem link text a (known st w) e .octets) → Meets text out₁ at most r out′ w′ d → Near r → Lands text a st out w e (landing next r) out′ w′
-  lands-behind d most p l o s (Put h) out′ w′ some m n = lands (1 + most) (Put h) out′ w′ some (rw (o, s) (stands-behind 1 p l m)) n
-  lands-behind d most p l o s Full out′ w′ some m n = (refl, rw s m)
+      → writeItem link text a (known st w) e .octets ≡ xs ++ d .octets → writeItem link text a (known st w) e .state .tables ≡ d .tables → (r : W.Wrote) (out′ w′ ix′ : List ℕ)
+      → 1 ≤ length (writeItem link text a (known st w) e .octets) → Meets text out₁ at most r out′ w′ ix′ d → Near r → Lands text a st out w e (landing next r) out′ w′ ix′
+  lands-behind d most p l o s (Put h) out′ w′ ix′ some m n = lands (1 + most) (Put h) out′ w′ ix′ some (rw (o, s) (stands-behind 1 p l m)) n
+  lands-behind d most p l o s Full out′ w′ ix′ some m n = (refl, rw s m)
 
-pub meets-near : {H : Type 0} (text out : List ℕ) (at most : ℕ) (r : W.Wrote) (out′ w′ : List ℕ) (d : Wrote H) → at + most ≤ 200000 → Meets text out at most r out′ w′ d → Near r
-meets-near text out at most (Put h) out′ w′ d l s = let f = s .few in omega arith
-meets-near text out at most Full out′ w′ d l s = tt
+pub meets-near : {H : Type 0} (text out : List ℕ) (at most : ℕ) (r : W.Wrote) (out′ w′ ix′ : List ℕ) (d : Wrote H) → at + most ≤ 200000 → Meets text out at most r out′ w′ ix′ d → Near r
+meets-near text out at most (Put h) out′ w′ ix′ d l s = let f = s .few in omega arith
+meets-near text out at most Full out′ w′ ix′ d l s = tt
 
 -- ---- an item has an octet
 sizes-4 : 256 ≤ sizes (numbers 4)
@@ -221,14 +221,14 @@ module _ (text : List ℕ) (t : StringTable) (v : Vocabulary Located) (x : Locat
   value-within : within link (writeValue link text t v x .tables) ≡ within link v
   value-within = value-by _ _ refl refl
 
-value-behind : {text out out₁ out₂ w₁ w₂ xs : List ℕ} {v : Vocabulary Located} {at m : ℕ} {h g : Here} (t : StringTable) (y : Located) → Stands text out at m h out₁ w₁ xs v
-    → Stands text out₁ (h .at) 16389 g out₂ w₂ (writeValue link text t (vocabulary (h .counts) w₁) y .octets) (writeValue link text t (vocabulary (h .counts) w₁) y .tables)
-    → Stands text out at (m + 16389) g out₂ w₂ (xs ++ writeValue link text t v y .octets) (writeValue link text t v y .tables)
+value-behind : {text out out₁ out₂ w₁ i₁ w₂ i₂ xs : List ℕ} {v : Vocabulary Located} {at m : ℕ} {h g : Here} (t : StringTable) (y : Located) → Stands text out at m h out₁ w₁ i₁ xs v
+    → Stands text out₁ (h .at) 16389 g out₂ w₂ i₂ (writeValue link text t (vocabulary (h .counts) w₁) y .octets) (writeValue link text t (vocabulary (h .counts) w₁) y .tables)
+    → Stands text out at (m + 16389) g out₂ w₂ i₂ (xs ++ writeValue link text t v y .octets) (writeValue link text t v y .tables)
 value-behind {m = m} t y s r = stands-behind m (s .puts) (s .few) (rw (s .tables) at r)
 
 -- ---- a kind that was found out
-pub kind-fits : {text w : List ℕ} {st : State} {e : Event} {k : Kind} → e .kind ≡ k → Fit text st w (e .kind) e → Fit text st w k e
-kind-fits {text} {w} {st} {e} q f = subst (λ (x : Kind). Fit text st w x e) q f
+pub kind-fits : {text w ix : List ℕ} {st : State} {e : Event} {k : Kind} → e .kind ≡ k → Fit text st w ix (e .kind) e → Fit text st w ix k e
+kind-fits {text} {w} {ix} {st} {e} q f = subst (λ (x : Kind). Fit text st w ix x e) q f
 
 -- ---- an element more
 element-room : (level : ℕ) (m : Mode) → level + coming m ≤ 32 → (not (isDeclaring (modeOf m)) && leb (link .depth) level) ≡ false → level + 1 ≤ 32
@@ -247,24 +247,24 @@ coming-behind-start false = refl
 
 -- ---- each kind
 module _ (text : List ℕ) (a : Bool) (st : State) (w : List ℕ) (e : Event) where
-  pub chunk-lands : Fit text st w Chunk e → {at : ℕ} → (at ≡ aligned (st .at) / 2) × (at ≤ 16385) → {out out′ w′ : List ℕ} {h : Here}
-      → Stands text out at 16389 h out′ w′ (writeLiteral link c15 text CONTENT-CHARACTER-CHUNK (vocabulary (st .counts) w) (locatedOf (e .value)) .octets)
+  pub chunk-lands : {ix : List ℕ} → Fit text st w ix Chunk e → {at : ℕ} → (at ≡ aligned (st .at) / 2) × (at ≤ 16385) → {out out′ w′ ix′ : List ℕ} {h : Here}
+      → Stands text out at 16389 h out′ w′ ix′ (writeLiteral link c15 text CONTENT-CHARACTER-CHUNK (vocabulary (st .counts) w) (locatedOf (e .value)) .octets)
       (writeLiteral link c15 text CONTENT-CHARACTER-CHUNK (vocabulary (st .counts) w) (locatedOf (e .value)) .tables)
-      → Lands text a st out w (eventOf Chunk e) (landing st (Put h)) out′ w′
+      → Lands text a st out w (eventOf Chunk e) (landing st (Put h)) out′ w′ ix′
   unfolding eventOf writeItem tableOf
-  chunk-lands fit q {out′ = out′} {w′ = w′} {h = h} s =
+  chunk-lands fit q {out′ = out′} {w′ = w′} {ix′ = ix′} {h = h} s =
       let n = length-strings (st .counts) w 6 (omega arith) in
       let c = fit .order .counted 6 in
       let o = chunk-by text (vocabulary (st .counts) w) (locatedOf (e .value)) (spelled-some text (e .value) (stretch-spells text (e .value) (by-kind text e Chunk (fit .made) .2))) (omega arith) _ refl in
-      lands text a st _ w (eventOf Chunk e) refl st refl (fit .shallow) 16389 (Put h) out′ w′ o (rw (← (q .0)) s) (let b = q .1 in let f = s .few in omega arith)
+      lands text a st _ w (eventOf Chunk e) refl st refl (fit .shallow) 16389 (Put h) out′ w′ ix′ o (rw (← (q .0)) s) (let b = q .1 in let f = s .few in omega arith)
 
-  pub comment-lands : Fit text st w Comment e → {at : ℕ} → (at ≡ aligned (st .at) / 2) × (at ≤ 16385) → {out out₁ out′ w′ : List ℕ} {h : Here} → out₁ ≡ set out at 0xE2
-      → Stands text out₁ (at + 1) 16389 h out′ w′ (writeValue link text (tableOf 7) (vocabulary (st .counts) w) (locatedOf (e .value)) .octets)
+  pub comment-lands : {ix : List ℕ} → Fit text st w ix Comment e → {at : ℕ} → (at ≡ aligned (st .at) / 2) × (at ≤ 16385) → {out out₁ out′ w′ ix′ : List ℕ} {h : Here} → out₁ ≡ set out at 0xE2
+      → Stands text out₁ (at + 1) 16389 h out′ w′ ix′ (writeValue link text (tableOf 7) (vocabulary (st .counts) w) (locatedOf (e .value)) .octets)
       (writeValue link text (tableOf 7) (vocabulary (st .counts) w) (locatedOf (e .value)) .tables)
-      → Lands text a st out w (eventOf Comment e) (landing st (Put h)) out′ w′
+      → Lands text a st out w (eventOf Comment e) (landing st (Put h)) out′ w′ ix′
   unfolding eventOf writeItem tableOf
-  comment-lands fit q {out′ = out′} {w′ = w′} {h = h} p s =
-      lands text a st _ w (eventOf Comment e) refl st refl (fit .shallow) 16390 (Put h) out′ w′ (omega arith) (rw (← (q .0)) (stands-behind 1 (puts-one p) (omega arith) s))
+  comment-lands fit q {out′ = out′} {w′ = w′} {ix′ = ix′} {h = h} p s =
+      lands text a st _ w (eventOf Comment e) refl st refl (fit .shallow) 16390 (Put h) out′ w′ ix′ (omega arith) (rw (← (q .0)) (stands-behind 1 (puts-one p) (omega arith) s))
       (let b = q .1 in let f = s .few in omega arith)
 
   pub instruction-full : within link (writeId text (tableOf 3) (vocabulary (st .counts) w) (locatedOf (e .name)) .tables) ≡ false
@@ -272,32 +272,32 @@ module _ (text : List ℕ) (a : Bool) (st : State) (w : List ℕ) (e : Event) wh
   unfolding eventOf writeItem tableOf adding within
   instruction-full f = value-within text OTHER-STRING _ (locatedOf (e .value)) refl ∙ f
 
-  pub instruction-lands : Fit text st w Instruction e → {at : ℕ} → (at ≡ aligned (st .at) / 2) × (at ≤ 16385) → {out out₁ out₂ out′ w₁ w′ : List ℕ} {h g : Here} → out₁ ≡ set out at 0xE1
-      → Stands text out₁ (at + 1) 16389 h out₂ w₁ (writeId text (tableOf 3) (vocabulary (st .counts) w) (locatedOf (e .name)) .octets)
+  pub instruction-lands : {ix : List ℕ} → Fit text st w ix Instruction e → {at : ℕ} → (at ≡ aligned (st .at) / 2) × (at ≤ 16385) → {out out₁ out₂ out′ w₁ i₁ w′ ix′ : List ℕ} {h g : Here} → out₁ ≡ set out at 0xE1
+      → Stands text out₁ (at + 1) 16389 h out₂ w₁ i₁ (writeId text (tableOf 3) (vocabulary (st .counts) w) (locatedOf (e .name)) .octets)
       (writeId text (tableOf 3) (vocabulary (st .counts) w) (locatedOf (e .name)) .tables)
-      → Stands text out₂ (h .at) 16389 g out′ w′ (writeValue link text (tableOf 7) (vocabulary (h .counts) w₁) (locatedOf (e .value)) .octets)
+      → Stands text out₂ (h .at) 16389 g out′ w′ ix′ (writeValue link text (tableOf 7) (vocabulary (h .counts) w₁) (locatedOf (e .value)) .octets)
       (writeValue link text (tableOf 7) (vocabulary (h .counts) w₁) (locatedOf (e .value)) .tables)
-      → Lands text a st out w (eventOf Instruction e) (landing st (Put g)) out′ w′
+      → Lands text a st out w (eventOf Instruction e) (landing st (Put g)) out′ w′ ix′
   unfolding eventOf writeItem tableOf
-  instruction-lands fit q {out′ = out′} {w′ = w′} {g = g} p s r =
-      lands text a st _ w (eventOf Instruction e) refl st refl (fit .shallow) 32779 (Put g) out′ w′ (omega arith)
+  instruction-lands fit q {out′ = out′} {w′ = w′} {ix′ = ix′} {g = g} p s r =
+      lands text a st _ w (eventOf Instruction e) refl st refl (fit .shallow) 32779 (Put g) out′ w′ ix′ (omega arith)
       (rw (← (q .0)) (stands-behind 1 (puts-one p) (omega arith) (value-behind OTHER-STRING _ s r)))
       (let b = q .1 in let f = s .few in let k = r .few in omega arith)
 
-  pub declare-lands : Fit text st w Namespace e → {at₀ at : ℕ} {out out₁ : List ℕ} → (at₀ ≡ aligned (st .at) / 2) × (at₀ ≤ 16385)
-      → Puts out at₀ at out₁ (beforeDeclaration (modeOf (st .mode)) a) × (at ≤ at₀ + 1) → (r : W.Wrote) (out′ w′ : List ℕ)
-      → Meets text out₁ at 32779 r out′ w′ (declaredBy text (vocabulary (st .counts) w) (optionalOf (e .prefix)) (optionalOf (e .namespace)))
-      → Lands text a st out w (eventOf Namespace e) (landing (movedTo st (Declaring a)) r) out′ w′
+  pub declare-lands : {ix : List ℕ} → Fit text st w ix Namespace e → {at₀ at : ℕ} {out out₁ : List ℕ} → (at₀ ≡ aligned (st .at) / 2) × (at₀ ≤ 16385)
+      → Puts out at₀ at out₁ (beforeDeclaration (modeOf (st .mode)) a) × (at ≤ at₀ + 1) → (r : W.Wrote) (out′ w′ ix′ : List ℕ)
+      → Meets text out₁ at 32779 r out′ w′ ix′ (declaredBy text (vocabulary (st .counts) w) (optionalOf (e .prefix)) (optionalOf (e .namespace)))
+      → Lands text a st out w (eventOf Namespace e) (landing (movedTo st (Declaring a)) r) out′ w′ ix′
   unfolding eventOf writeItem declaredBy pairBehind
-  declare-lands fit q p r out′ w′ m =
+  declare-lands fit q p r out′ w′ ix′ m =
       let s = element-room (st .level) (st .mode) (fit .shallow) (fit .roomy) in
       let b = q .1 in
       let l = p .1 in
-      let n = meets-near text _ _ 32779 r out′ w′ _ (omega arith) m in
-      lands-behind text a st _ w (eventOf Namespace e) refl (movedTo st (Declaring a)) refl (omega arith) _ 32779 (rw (q .0) at (p .0)) (rw (q .0) at l) refl refl r out′ w′
+      let n = meets-near text _ _ 32779 r out′ w′ ix′ _ (omega arith) m in
+      lands-behind text a st _ w (eventOf Namespace e) refl (movedTo st (Declaring a)) refl (omega arith) _ 32779 (rw (q .0) at (p .0)) (rw (q .0) at l) refl refl r out′ w′ ix′
       (simp length-append (omega arith)) m n
 
-  module _ (fit : Fit text st w Start e) {at₀ at lead : ℕ} {out out₁ : List ℕ} (q : (at₀ ≡ aligned (st .at) / 2) × (at₀ ≤ 16385))
+  module _ {ix : List ℕ} (fit : Fit text st w ix Start e) {at₀ at lead : ℕ} {out out₁ : List ℕ} (q : (at₀ ≡ aligned (st .at) / 2) × (at₀ ≤ 16385))
       (p : Puts out at₀ at out₁ (beforeName (modeOf (st .mode))) × (at ≤ at₀ + 1)) (lead-is : lead ≡ nameLead (modeOf (st .mode)) a) where
     start-some : 1 ≤ length (writeItem link text a (known st w) (eventOf Start e) .octets)
     unfolding eventOf writeItem layoutOf nameTableOf ofElement
@@ -307,20 +307,20 @@ module _ (text : List ℕ) (a : Bool) (st : State) (w : List ℕ) (e : Event) wh
         let o = name-by (layoutOf 8) (nameLead (modeOf (st .mode)) a) text (vocabulary (st .counts) w) (nameOf e) (wide-name 8) (omega arith) _ refl in
         simp length-append (omega arith)
 
-    pub start-lands : (name : Parts) → name ≡ record { prefix = e .prefix; namespace = e .namespace; local = e .name } → (r : W.Wrote) (out′ w′ : List ℕ)
-        → Meets text out₁ at 49168 r out′ w′ (writeName (layoutOf 8) lead text (vocabulary (st .counts) w) (namedOf name))
-        → Lands text a st out w (eventOf Start e) (landing (openedTo st a) r) out′ w′
+    pub start-lands : (name : Parts) → name ≡ record { prefix = e .prefix; namespace = e .namespace; local = e .name } → (r : W.Wrote) (out′ w′ ix′ : List ℕ)
+        → Meets text out₁ at 49168 r out′ w′ ix′ (writeName (layoutOf 8) lead text (vocabulary (st .counts) w) (namedOf name))
+        → Lands text a st out w (eventOf Start e) (landing (openedTo st a) r) out′ w′ ix′
     unfolding eventOf writeItem layoutOf
-    start-lands name is r out′ w′ m =
+    start-lands name is r out′ w′ ix′ m =
         let s = element-room (st .level) (st .mode) (fit .shallow) (fit .roomy) in
         let b = q .1 in
         let l = p .1 in
-        let n = meets-near text _ _ 49168 r out′ w′ _ (omega arith) m in
+        let n = meets-near text _ _ 49168 r out′ w′ ix′ _ (omega arith) m in
         let k = coming-behind-start a in
-        lands-behind text a st _ w (eventOf Start e) refl (openedTo st a) (opened-is st a _ (vocabulary (st .counts) w)) (omega arith) _ 49168 (rw (q .0) at (p .0)) (rw (q .0) at l) refl refl r out′ w′
+        lands-behind text a st _ w (eventOf Start e) refl (openedTo st a) (opened-is st a _ (vocabulary (st .counts) w)) (omega arith) _ 49168 (rw (q .0) at (p .0)) (rw (q .0) at l) refl refl r out′ w′ ix′
         start-some (rw (lead-is, is) at m) n
 
-  module _ (fit : Fit text st w Attribute e) (name : Parts) (is : name ≡ record { prefix = e .prefix; namespace = e .namespace; local = e .name }) where
+  module _ {ix : List ℕ} (fit : Fit text st w ix Attribute e) (name : Parts) (is : name ≡ record { prefix = e .prefix; namespace = e .namespace; local = e .name }) where
     attribute-some : 1 ≤ length (writeItem link text a (known st w) (eventOf Attribute e) .octets)
     unfolding eventOf writeItem layoutOf nameTableOf ofAttribute
     attribute-some =
@@ -334,22 +334,22 @@ module _ (text : List ℕ) (a : Bool) (st : State) (w : List ℕ) (e : Event) wh
     unfolding eventOf writeItem layoutOf adding within
     attribute-full f = value-within text ATTRIBUTE-VALUE _ (locatedOf (e .value)) refl ∙ rw is at f
 
-    pub attribute-lands : {at : ℕ} → (at ≡ aligned (st .at) / 2) × (at ≤ 16385) → {out out₁ out′ w₁ w′ : List ℕ} {h g : Here}
-        → Stands text out at 49168 h out₁ w₁ (writeName (layoutOf 9) 0 text (vocabulary (st .counts) w) (namedOf name) .octets)
+    pub attribute-lands : {at : ℕ} → (at ≡ aligned (st .at) / 2) × (at ≤ 16385) → {out out₁ out′ w₁ i₁ w′ ix′ : List ℕ} {h g : Here}
+        → Stands text out at 49168 h out₁ w₁ i₁ (writeName (layoutOf 9) 0 text (vocabulary (st .counts) w) (namedOf name) .octets)
         (writeName (layoutOf 9) 0 text (vocabulary (st .counts) w) (namedOf name) .tables)
-        → Stands text out₁ (h .at) 16389 g out′ w′ (writeValue link text (tableOf 5) (vocabulary (h .counts) w₁) (locatedOf (e .value)) .octets)
+        → Stands text out₁ (h .at) 16389 g out′ w′ ix′ (writeValue link text (tableOf 5) (vocabulary (h .counts) w₁) (locatedOf (e .value)) .octets)
         (writeValue link text (tableOf 5) (vocabulary (h .counts) w₁) (locatedOf (e .value)) .tables)
-        → Lands text a st out w (eventOf Attribute e) (landing (movedTo st (Listing true)) (Put g)) out′ w′
+        → Lands text a st out w (eventOf Attribute e) (landing (movedTo st (Listing true)) (Put g)) out′ w′ ix′
     unfolding eventOf writeItem layoutOf tableOf
-    attribute-lands q {out′ = out′} {w′ = w′} {g = g} s r =
+    attribute-lands q {out′ = out′} {w′ = w′} {ix′ = ix′} {g = g} s r =
         let b = q .1 in
         let f = s .few in
         let k = r .few in
         let d = fit .shallow in
-        lands text a st _ w (eventOf Attribute e) refl (movedTo st (Listing true)) refl (omega arith) 65557 (Put g) out′ w′ attribute-some
+        lands text a st _ w (eventOf Attribute e) refl (movedTo st (Listing true)) refl (omega arith) 65557 (Put g) out′ w′ ix′ attribute-some
         (rw (← (q .0)) (value-behind ATTRIBUTE-VALUE _ (rw is at s) r)) (omega arith)
 
-pub end-lands : (text : List ℕ) (a : Bool) (st : State) (w : List ℕ) → InOrder text (st .counts) w → st .at ≤ 32769 → st .level ≤ 32 → {out out′ : List ℕ}
-    → out′ ≡ set out (st .at / 2) (endOctet (st .at)) → Lands text a st out w E.End (On (closedTo st)) out′ w
+pub end-lands : (text : List ℕ) (a : Bool) (st : State) (w ix : List ℕ) → InOrder text (st .counts) w ix → st .at ≤ 32769 → st .level ≤ 32 → {out out′ : List ℕ}
+    → out′ ≡ set out (st .at / 2) (endOctet (st .at)) → Lands text a st out w E.End (On (closedTo st)) out′ w ix
 unfolding writeItem
-end-lands text a st w order l d p = record { laid = (refl, p); near = omega arith; state = refl; order = order; shallow = omega arith }
+end-lands text a st w ix order l d p = record { laid = (refl, p); near = omega arith; state = refl; order = order; shallow = omega arith }

@@ -10,6 +10,7 @@ use lib.Seq.{drop-cons}
 use Rattle.format.specs.Tables.{link}
 use Rattle.format.specs.Document.{header}
 use Rattle.tables.specs.Counts.{tableWords}
+use Rattle.index.specs.Indexed.{slots}
 use Rattle.events.specs.declared.Event.{Event}
 use Rattle.events.specs.Records.{blank}
 use Rattle.writer.specs.declared.Answer.{Answer}
@@ -40,9 +41,9 @@ module _ (es : List Event) (text : List ℕ) (room table : ℕ) where
     going-room n = rw (le-leb _ _ size, ne-eqb _ _ n)
 
     module _ (all : table ≡ tableWords) where
-      pub going-start : {p : State} {out w : List ℕ} → p ≡ fresh → Holds room [] (2 * length (header link)) out → w ≡ replicate tableWords 0 → Going es text room table 0 (Onward p) out w
+      pub going-start : {p : State} {out w ix : List ℕ} → p ≡ fresh → Holds room [] (2 * length (header link)) out → w ≡ replicate tableWords 0 → ix ≡ replicate slots 0 → Going es text room table 0 (Onward p) out w ix
       unfolding link
-      going-start q h e = (size, all, rw q (underway-start text room es size h e))
+      going-start q h e z = (size, all, rw q (underway-start text room es size h e z))
 
       -- what the run leaves is left by the call
       run-is : outcome link (writing link text room es) room ≡ writeOf link es text room table
@@ -55,24 +56,24 @@ bit-chosen Content a i es f h = h
 bit-chosen (Declaring b) a i es f h = f
 bit-chosen (Listing any) a i es f h = h
 
-pub steady-onward : (text : List ℕ) (i : ℕ) (w : List ℕ) {p : Phase} {st : State} → p ≡ Onward st → Steady text i p w → Steady text i (Onward st) w
-steady-onward text i w q h = rw q at h
+pub steady-onward : (text : List ℕ) (i : ℕ) (w ix : List ℕ) {p : Phase} {st : State} → p ≡ Onward st → Steady text i p w ix → Steady text i (Onward st) w ix
+steady-onward text i w ix q h = rw q at h
 
 pub bounded-onward : (i : ℕ) {p : Phase} {st : State} → p ≡ Onward st → Bounded i p → Bounded i (Onward st)
 bounded-onward i q h = rw q at h
 
-module _ (text : List ℕ) (room table i : ℕ) (out w : List ℕ) (e : Event) (a : Bool) (out′ w′ : List ℕ) where
-  module _ (st : State) (p : Phase) (q : p ≡ Onward st) (b : Bool) (f : b ≡ bitOf (st .mode) a) (r : Step) (s : Steps text room b st out w e r out′ w′) where
-    pub turn-on : (next : State) → r ≡ On next → Turns text room table i p out w e a (Onward next) out′ w′
+module _ (text : List ℕ) (room table i : ℕ) (out w ix : List ℕ) (e : Event) (a : Bool) (out′ w′ ix′ : List ℕ) where
+  module _ (st : State) (p : Phase) (q : p ≡ Onward st) (b : Bool) (f : b ≡ bitOf (st .mode) a) (r : Step) (s : Steps text room b st out w e r out′ w′ ix′) where
+    pub turn-on : (next : State) → r ≡ On next → Turns text room table i p out w ix e a (Onward next) out′ w′ ix′
     turn-on next o =
-        rw q (λ es g d c. (g .0, g .1, underway-on (g .2) d (f ∙ bit-chosen (st .mode) a i es (g .2 .bit-known) c) r out′ w′ s o))
+        rw q (λ es g d c. (g .0, g .1, underway-on (g .2) d (f ∙ bit-chosen (st .mode) a i es (g .2 .bit-known) c) r out′ w′ ix′ s o))
 
-    pub turn-stop : (n : ℕ) → r ≡ Stop n → Turns text room table i p out w e a (Halted n i) out′ w′
+    pub turn-stop : (n : ℕ) → r ≡ Stop n → Turns text room table i p out w ix e a (Halted n i) out′ w′ ix′
     unfolding link
     turn-stop n o =
-        rw q (λ es g d c. ap (λ (k : ℕ). refusing n i room k) (g .1) ∙ run-refused (g .2) d (f ∙ bit-chosen (st .mode) a i es (g .2 .bit-known) c) r out′ w′ s o ∙ run-is es text room table (g .0) (g .1))
+        rw q (λ es g d c. ap (λ (k : ℕ). refusing n i room k) (g .1) ∙ run-refused (g .2) d (f ∙ bit-chosen (st .mode) a i es (g .2 .bit-known) c) r out′ w′ ix′ s o ∙ run-is es text room table (g .0) (g .1))
 
-  pub turn-halted : (p : Phase) (k n : ℕ) → p ≡ Halted k n → Turns text room table i p out w e a (Halted k n) out w
+  pub turn-halted : (p : Phase) (k n : ℕ) → p ≡ Halted k n → Turns text room table i p out w ix e a (Halted k n) out w ix
   turn-halted p k n q = rw q (λ es g d c. g)
 
 -- ---- behind the last record
@@ -80,46 +81,46 @@ module _ (room i : ℕ) (out : List ℕ) (r : Answer) (out′ : List ℕ) where
   pub ends-onward : (st : State) (p : Phase) → p ≡ Onward st → Finishes room st out i r out′ → Ends room i p out r out′
   unfolding link
   ends-onward st p q f =
-      rw q (λ es text w g o. ap (λ (k : ℕ). remains room k r out′ w) (g .1) ∙ run-finished (g .2) (ltb-false i (length es) o) r out′ f ∙ run-is es text room (length w) (g .0) (g .1))
+      rw q (λ es text w ix g o. ap (λ (k : ℕ). remains room k r out′ w) (g .1) ∙ run-finished (g .2) (ltb-false i (length es) o) r out′ f ∙ run-is es text room (length w) (g .0) (g .1))
 
   pub ends-halted : (k n : ℕ) (p : Phase) → p ≡ Halted k n → r ≡ Refused k n → Ends room i p out r out′
-  ends-halted k n p q e = rw (q, e) (λ es text w g o. g)
+  ends-halted k n p q e = rw (q, e) (λ es text w ix g o. g)
 
 module _ (room i : ℕ) (p : Phase) (out w : List ℕ) (r : Answer) (out₁ : List ℕ) (h : Ends room i p out r out₁) where
   pub settles-accepted : {n : ℕ} {c : _} → r ≡ Accepted n c → Settles room (length w) i p out w (Accepted n c) out₁ w
-  settles-accepted q es text g o = let e = rw q at (h es text w g o) in (ap (λ o. o .answer) e, ap (λ o. o .told) e, ap (λ o. o .out) e, ap (λ o. o .tables) e)
+  settles-accepted q es text ix g o = let e = rw q at (h es text w ix g o) in (ap (λ o. o .answer) e, ap (λ o. o .told) e, ap (λ o. o .out) e, ap (λ o. o .tables) e)
 
   pub settles-refused : {k n : ℕ} → r ≡ Refused k n → {out′ w′ : List ℕ} → out′ ≡ replicate room 0 → w′ ≡ replicate (length w) 0 → Settles room (length w) i p out w r out′ w′
-  settles-refused q a b es text g o =
-      let e = rw q at (h es text w g o) in
+  settles-refused q a b es text ix g o =
+      let e = rw q at (h es text w ix g o) in
       rw (q, a, b) (ap (λ o. o .answer) e, ap (λ o. o .told) e, ap (λ o. o .out) e, ap (λ o. o .tables) e)
 
 -- ---- the loop
 module _ (es : List Event) (text : List ℕ) (room table i : ℕ) where
-  pub going-steady : (p : Phase) (out w : List ℕ) → Going es text room table i p out w → Steady text i p w
-  going-steady (Onward st) out w g = (g .2 .ready, g .2 .small)
-  going-steady (Halted k n) out w g = tt
+  pub going-steady : (p : Phase) (out w ix : List ℕ) → Going es text room table i p out w ix → Steady text i p w ix
+  going-steady (Onward st) out w ix g = (g .2 .ready, g .2 .small)
+  going-steady (Halted k n) out w ix g = tt
 
-  pub going-bounded : (p : Phase) (out w : List ℕ) → Going es text room table i p out w → Bounded i p
-  going-bounded (Onward st) out w g = (g .2 .ready .at, underway-number (g .2))
-  going-bounded (Halted k n) out w g = tt
+  pub going-bounded : (p : Phase) (out w ix : List ℕ) → Going es text room table i p out w ix → Bounded i p
+  going-bounded (Onward st) out w ix g = (g .2 .ready .at, underway-number (g .2))
+  going-bounded (Halted k n) out w ix g = tt
 
-  pub going-small : (p : Phase) (out w : List ℕ) (n : ℕ) → Going es text room table i p out w → goesOn p i n ≡ true → i ≤ 32768
-  going-small (Onward st) out w n g h = underway-number (g .2)
-  going-small (Halted k at) out w n g h = absurd (true≢false (sym h))
+  pub going-small : (p : Phase) (out w ix : List ℕ) (n : ℕ) → Going es text room table i p out w ix → goesOn p i n ≡ true → i ≤ 32768
+  going-small (Onward st) out w ix n g h = underway-number (g .2)
+  going-small (Halted k at) out w ix n g h = absurd (true≢false (sym h))
 
   -- what the functions answer over lists zs and us as long as the room
-  module _ (p : Phase) (zs us : List ℕ) (g : Going es text room table i p zs us) (long : length zs ≡ room) (long′ : length us ≡ table) where
-    pub going-turned : i < length es → {e : Event} {a : Bool} {n : ℕ} → e ≡ getD es i blank → n ≡ lookFrom p i (length es) → a ≡ announced (drop n es) → (p′ : Phase) (zs′ us′ : List ℕ)
-        → Turns text (length zs) (length us) i p zs us e a p′ zs′ us′ → Going es text room table (i + 1) p′ zs′ us′
-    going-turned l e f b p′ zs′ us′ h = (rw (long, long′) at h) es g (rw e (drop-cons es i blank l)) (b ∙ ap (λ (k : ℕ). announced (drop k es)) f)
+  module _ (p : Phase) (zs us ix : List ℕ) (g : Going es text room table i p zs us ix) (long : length zs ≡ room) (long′ : length us ≡ table) where
+    pub going-turned : i < length es → {e : Event} {a : Bool} {n : ℕ} → e ≡ getD es i blank → n ≡ lookFrom p i (length es) → a ≡ announced (drop n es) → (p′ : Phase) (zs′ us′ ix′ : List ℕ)
+        → Turns text (length zs) (length us) i p zs us ix e a p′ zs′ us′ ix′ → Going es text room table (i + 1) p′ zs′ us′ ix′
+    going-turned l e f b p′ zs′ us′ ix′ h = (rw (long, long′) at h) es g (rw e (drop-cons es i blank l)) (b ∙ ap (λ (k : ℕ). announced (drop k es)) f)
 
     pub going-settled : goesOn p i (length es) ≡ false → (r : Answer) (zs′ us′ : List ℕ) → Settles (length zs) (length us) i p zs us r zs′ us′ → Leaves r zs′ us′ (writeOf link es text room table)
-    going-settled o r zs′ us′ h = (rw (long, long′) at h) es text g o
+    going-settled o r zs′ us′ h = (rw (long, long′) at h) es text ix g o
 
   -- with the room in other words
-  pub going-room-is : (room′ table′ : ℕ) → room ≡ room′ → table ≡ table′ → (p : Phase) (out w : List ℕ) → Going es text room table i p out w → Going es text room′ table′ i p out w
-  going-room-is room′ table′ q q′ p out w g = rw (q, q′) at g
+  pub going-room-is : (room′ table′ : ℕ) → room ≡ room′ → table ≡ table′ → (p : Phase) (out w ix : List ℕ) → Going es text room table i p out w ix → Going es text room′ table′ i p out w ix
+  going-room-is room′ table′ q q′ p out w ix g = rw (q, q′) at g
 
 pub inside : (p : Phase) (i n : ℕ) → goesOn p i n ≡ true → i < n
 inside (Onward st) i n h = ltb-true i n h

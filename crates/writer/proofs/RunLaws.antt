@@ -24,6 +24,7 @@ use Rattle.tables.proofs.Laws.{vocabulary-start, entries-are, counts-are}
 use Rattle.events.specs.declared.Kind.{Kind}
 use Rattle.events.specs.declared.Kind.the-variants.{Blank, Namespace, Start, Attribute, Chunk, Comment, Instruction, End}
 use Rattle.events.specs.declared.Event.{Event}
+use Rattle.index.specs.Indexed.{slots}
 use Rattle.write_names.proofs.Order.{order-start}
 use Rattle.tables.proofs.Found.{both-true}
 use Rattle.writer.specs.declared.Answer.{Answer}
@@ -122,31 +123,31 @@ module _ (text : List ℕ) (room : ℕ) (es : List Event) where
   unfolding beginning
   start-known w e = rw (e, vocabulary-start (replicate tableWords 0) (getD-replicate {A = ℕ} tableWords 1 0 0 (lit< tt)) (getD-replicate {A = ℕ} tableWords 769 0 0 (lit< tt)))
 
-  pub underway-start : length text ≤ 16384 → {out w : List ℕ} → Holds room [] (2 * length (header link)) out → w ≡ replicate tableWords 0 → Underway text room es 0 fresh out w
+  pub underway-start : length text ≤ 16384 → {out w ix : List ℕ} → Holds room [] (2 * length (header link)) out → w ≡ replicate tableWords 0 → ix ≡ replicate slots 0 → Underway text room es 0 fresh out w ix
   unfolding writing
-  underway-start h {out} {w} o e =
+  underway-start h {out} {w} {ix} o e z =
       record {
         hs = [];
         holds = o;
-        ready = record { order = rw e (order-start text h); at = let b = five in omega arith; shallow = omega arith };
+        ready = record { order = rw e (order-start text ix h z); at = let b = five in omega arith; shallow = omega arith };
         bit-known = tt;
         small = omega arith;
         leads = rw (start-known w e) (behind-none (run link text room (2 * length (header link)) (beginning (start link)) 0 es) room);
       }
 
-module _ {text : List ℕ} {room : ℕ} {es : List Event} {i : ℕ} {st : State} {out w : List ℕ} (u : Underway text room es i st out w) where
+module _ {text : List ℕ} {room : ℕ} {es : List Event} {i : ℕ} {st : State} {out w ix : List ℕ} (u : Underway text room es i st out w ix) where
   pub underway-number : i ≤ 32768
   underway-number = let l = u .ready .at in let m = u .small in omega arith
 
   -- a step with the next event
-  module _ {e : Event} (d : drop i es ≡ e ∷ drop (suc i) es) {a : Bool} (b : a ≡ announced (drop i es)) (r : Step) (out′ w′ : List ℕ) (p : Steps text room a st out w e r out′ w′) where
+  module _ {e : Event} (d : drop i es ≡ e ∷ drop (suc i) es) {a : Bool} (b : a ≡ announced (drop i es)) (r : Step) (out′ w′ ix′ : List ℕ) (p : Steps text room a st out w e r out′ w′ ix′) where
     leads-here : behind (u .hs) (run link text room (st .at) (known st w) i (e ∷ drop (suc i) es)) room ≡ outcome link (writing link text room es) room
     leads-here = rw d at (u .leads)
 
-    stepped : Steps text room (announced (e ∷ drop (suc i) es)) st out w e r out′ w′
+    stepped : Steps text room (announced (e ∷ drop (suc i) es)) st out w e r out′ w′ ix′
     stepped = rw (b ∙ ap announced d) at p
 
-    pub underway-on : {next : State} → r ≡ On next → Underway text room es (i + 1) next out′ w′
+    pub underway-on : {next : State} → r ≡ On next → Underway text room es (i + 1) next out′ w′ ix′
     underway-on {next} q =
         let g = rw q at stepped in
         let l = u .small in
@@ -171,7 +172,7 @@ module _ {text : List ℕ} {room : ℕ} {es : List Event} {i : ℕ} {st : State}
   -- the end behind the last event
   pub run-finished : length es ≤ i → (r : Answer) (out′ : List ℕ) → Finishes room st out i r out′ → remains room tableWords r out′ w ≡ outcome link (writing link text room es) room
   unfolding run
-  run-finished l r out′ f = f text w (u .hs) (u .ready) (u .holds) ∙ (rw (drop-of-length-le es l) at (u .leads))
+  run-finished l r out′ f = f text w ix (u .hs) (u .ready) (u .holds) ∙ (rw (drop-of-length-le es l) at (u .leads))
 
 -- ---- the document's end
 module _ (text : List ℕ) (room at : ℕ) where
@@ -193,17 +194,17 @@ module _ (room : ℕ) (st : State) (out : List ℕ) (i : ℕ) where
 
   pub finish-owed : false ≡ complete → Finishes room st out i (Refused 16 i) out
   unfolding finish
-  finish-owed e text w hs g h = rw (← e)
+  finish-owed e text w ix hs g h = rw (← e)
 
   module _ (e : true ≡ complete) where
     pub finish-full : min room 16384 < (st .at + 2) / 2 → Finishes room st out i (Refused 14 i) out
     unfolding finish
-    finish-full l text w hs g h = rw (← e, fits-not text room (st .at) l)
+    finish-full l text w ix hs g h = rw (← e, fits-not text room (st .at) l)
 
     pub finish-written : (st .at + 2) / 2 ≤ min room 16384 → {out′ : List ℕ} → out′ ≡ set out (st .at / 2) (endOctet (st .at))
         → Finishes room st out i (Accepted ((st .at + 2) / 2) (st .counts)) out′
     unfolding finish Clean
-    finish-written l {out′} p text w hs g h =
+    finish-written l {out′} p text w ix hs g h =
         let held = document-end-held h p in
         let n = held-length held ∙ whole-octets (st .at) in
         let k : aligned (aligned (suc (st .at))) / 2 ≤ room = rw (whole-octets (st .at)) (omega arith) in

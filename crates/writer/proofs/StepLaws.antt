@@ -96,7 +96,7 @@ fits-bound text room at f = let l = leb-true (aligned at / 2) (min room 16384) f
 
 -- ---- what a step comes to
 module _ (text : List ℕ) (st : State) (w : List ℕ) (e : Event) where
-  fit-by : (b : Bool) → owes st e ≡ b → Ready text st w → Faultless text (known st w) e → Fit text (listEnded b st) w (e .kind) e
+  fit-by : {ix : List ℕ} (b : Bool) → owes st e ≡ b → Ready text st w ix → Faultless text (known st w) e → Fit text (listEnded b st) w ix (e .kind) e
   unfolding owes
   fit-by true o r f =
       let l = both-true (isListing (modeOf (st .mode))) _ o .0 in
@@ -114,7 +114,7 @@ module _ (text : List ℕ) (st : State) (w : List ℕ) (e : Event) where
       let at = r .at in
       record { order = r .order; at = omega arith; shallow = r .shallow; made = f .made; roomy = f .shallow; inside = end-inside (known st w) _ (f .goes) }
 
-  pub step-fit : Ready text st w → faultOf text (known st w) e ≡ 0 → {next : State} → next ≡ listEnded (owes st e) st → Fit text next w (e .kind) e
+  pub step-fit : {ix : List ℕ} → Ready text st w ix → faultOf text (known st w) e ≡ 0 → {next : State} → next ≡ listEnded (owes st e) st → Fit text next w ix (e .kind) e
   step-fit r f q = rw q (fit-by (owes st e) refl r (fault-none text (known st w) e f))
 
   module _ (a : Bool) where
@@ -131,8 +131,8 @@ module _ (text : List ℕ) (st : State) (w : List ℕ) (e : Event) where
       full-by b o room h = judge-none text (known st w) e room (st .at) _ _ f ∙ rw (← (item-by b o), h)
 
       -- the item is written
-      module _ (b : Bool) (o : owes st e ≡ b) (room : ℕ) (next : State) (out out′ w′ : List ℕ)
-          (landed : Landed text a (listEnded b st) (endPut b out (st .at)) w (eventOf (e .kind) e) next out′ w′) where
+      module _ (b : Bool) (o : owes st e ≡ b) (room : ℕ) (next : State) (out out′ w′ ix′ : List ℕ)
+          (landed : Landed text a (listEnded b st) (endPut b out (st .at)) w (eventOf (e .kind) e) next out′ w′ ix′) where
         laid-by : Laid (isEnd (eventOf (e .kind) e)) (endPut b out (st .at)) (pick b (st .at + 1) (st .at)) (next .at) out′ (itemOf text a (known st w) e .octets)
         laid-by = rw (← (item-by b o), ← (ended-at st b)) (landed .laid)
 
@@ -144,9 +144,9 @@ module _ (text : List ℕ) (st : State) (w : List ℕ) (e : Event) where
         unfolding verdict
         fits-by c q =
             judge-none text (known st w) e room (st .at) _ _ f
-            ∙ rw (← (item-by b o), ← (landed .state), within-order text (next .counts) w′ (landed .order), ← reached, q)
+            ∙ rw (← (item-by b o), ← (landed .state), within-order text (next .counts) w′ ix′ (landed .order), ← reached, q)
 
-        went-by : fits link text room (next .at) ≡ true → Went text room a st out w e next out′ w′
+        went-by : fits link text room (next .at) ≡ true → Went text room a st out w e next out′ w′ ix′
         unfolding halvesFor owes
         went-by q =
             record {
@@ -157,7 +157,7 @@ module _ (text : List ℕ) (st : State) (w : List ℕ) (e : Event) where
               onward = laid-onward text room (st .at) (known st w) (eventOf (e .kind) e) (itemOf text a (known st w) e) out out′ (next .at) b (isEnd (eventOf (e .kind) e)) laid-by;
             }
 
-        steps-by : (c : Bool) → fits link text room (next .at) ≡ c → Steps text room a st out w e (pick c (On next) (Stop 14)) out′ w′
+        steps-by : (c : Bool) → fits link text room (next .at) ≡ c → Steps text room a st out w e (pick c (On next) (Stop 14)) out′ w′ ix′
         steps-by true q = went-by q
         steps-by false q = (fits-by false q, omega arith, omega arith)
 
@@ -166,7 +166,7 @@ module _ (text : List ℕ) (st : State) (w : List ℕ) (e : Event) where
             → (verdict text room a (st .at) (known st w) e ≡ n) × (1 ≤ n) × (n ≤ 16)
         step-full n h = rw (h .0) (full-by (owes st e) refl room (rw (ended .0) at (h .1)), omega arith, omega arith)
 
-        pub step-held : {next : State} {out′ w′ : List ℕ} → Landed text a st₁ out₁ w (eventOf (e .kind) e) next out′ w′ → (r : Step) (n : ℕ) → n ≡ room
-            → r ≡ holding text n next → Steps text room a st out w e r out′ w′
+        pub step-held : {next : State} {out′ w′ ix′ : List ℕ} → Landed text a st₁ out₁ w (eventOf (e .kind) e) next out′ w′ ix′ → (r : Step) (n : ℕ) → n ≡ room
+            → r ≡ holding text n next → Steps text room a st out w e r out′ w′ ix′
         unfolding holding
-        step-held {next} {out′} {w′} landed r n l h = rw (h, l) (steps-by (owes st e) refl room next out out′ w′ (rw (ended .0, ended .1) at landed) _ refl)
+        step-held {next} {out′} {w′} {ix′} landed r n l h = rw (h, l) (steps-by (owes st e) refl room next out out′ w′ ix′ (rw (ended .0, ended .1) at landed) _ refl)

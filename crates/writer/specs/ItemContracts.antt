@@ -43,8 +43,8 @@ endPut true out at = set out (at / 2) (endOctet at)
 endPut false out at = out
 
 -- What an event of this kind is written from: it is well made, and the state is one that its item may follow.
-pub record Fit (text : Octets) (st : State) (w : Words) (k : Kind) (e : Event) : Type 0 where
-  pub order : InOrder text (st .counts) w
+pub record Fit (text : Octets) (st : State) (w : Words) (index : Octets) (k : Kind) (e : Event) : Type 0 where
+  pub order : InOrder text (st .counts) w index
   pub at : st .at ≤ 32769
   pub shallow : st .level + coming (st .mode) ≤ 32
   pub made : wellMade text k e ≡ true
@@ -81,17 +81,17 @@ Laid true out at next out′ os = (next ≡ at + 1) × (out′ ≡ set out (at /
 Laid false out at next out′ os = Puts out (aligned at / 2) (next / 2) out′ os × (next ≡ 2 * (next / 2)) × (1 ≤ length os)
 
 -- The item of the event is in the output, behind the end owed, and the writer stands behind it.
-pub record Landed (text : Octets) (a : Bool) (st : State) (out : Octets) (w : Words) (e : E.Event Located) (next : State) (out′ : Octets) (w′ : Words) : Type 0 where
+pub record Landed (text : Octets) (a : Bool) (st : State) (out : Octets) (w : Words) (e : E.Event Located) (next : State) (out′ : Octets) (w′ : Words) (index′ : Octets) : Type 0 where
   pub laid : Laid (isEnd e) out (st .at) (next .at) out′ (writeItem link text a (known st w) e .octets)
   pub near : next .at ≤ 400000
   pub state : known next w′ ≡ writeItem link text a (known st w) e .state
-  pub order : InOrder text (next .counts) w′
+  pub order : InOrder text (next .counts) w′ index′
   pub shallow : next .level + coming (next .mode) ≤ 32
 
 -- Or a table is full, and the definition's has an entry too many.
-abbrev pub Lands : Octets → Bool → State → Octets → Words → E.Event Located → Step → Octets → Words → Type 0
-Lands text a st out w e (On next) out′ w′ = Landed text a st out w e next out′ w′
-Lands text a st out w e (Stop n) out′ w′ = (n ≡ FULL) × (within link (writeItem link text a (known st w) e .state .tables) ≡ false)
+abbrev pub Lands : Octets → Bool → State → Octets → Words → E.Event Located → Step → Octets → Words → (index′ : Octets) → Type 0
+Lands text a st out w e (On next) out′ w′ index′ = Landed text a st out w e next out′ w′ index′
+Lands text a st out w e (Stop n) out′ w′ index′ = (n ≡ FULL) × (within link (writeItem link text a (known st w) e .state .tables) ≡ false)
 
 -- The state, if what is written up to it fits; else the refusal 14.
 unfoldable pub holding : Octets → (room : ℕ) → State → Step

@@ -44,11 +44,11 @@ abbrev pub remains : (room table : ℕ) → Answer → (out : Octets) (tables : 
 remains room table (Accepted n c) out tables = record { answer = Accepted n c; told = told (Accepted n c); out = out; tables = tables }
 remains room table (Refused n p) out tables = refusing n p room table
 
--- Behind i of the events es; out and w are the output and the table words. Each event took a half.
-pub record Underway (text : Octets) (room : ℕ) (es : List Event) (i : ℕ) (st : State) (out : Octets) (w : Words) : Type 0 where
+-- Behind i of the events es; out and w are the output and the table words, beside the index. Each event took a half.
+pub record Underway (text : Octets) (room : ℕ) (es : List Event) (i : ℕ) (st : State) (out : Octets) (w : Words) (index : Octets) : Type 0 where
   pub hs : Halves
   pub holds : Holds room hs (st .at) out
-  pub ready : Ready text st w
+  pub ready : Ready text st w index
   pub bit-known : Foretold (modeOf (st .mode)) (announced (drop i es))
   pub small : i ≤ st .at
   pub leads : behind hs (run link text room (st .at) (known st w) i (drop i es)) room ≡ outcome link (writing link text room es) room
@@ -56,7 +56,7 @@ pub record Underway (text : Octets) (room : ℕ) (es : List Event) (i : ℕ) (st
 -- The document's end behind i events came out as the definition says; out and out′ are the output before and then.
 abbrev pub Finishes : (room : ℕ) → State → Octets → ℕ → Answer → Octets → Type 0
 Finishes room st out i r out′ =
-    (text : Octets) (w : Words) (hs : Halves) → Ready text st w → Holds room hs (st .at) out → remains room tableWords r out′ w ≡ behind hs (finish link text room (st .at) (known st w) i) room
+    (text : Octets) (w : Words) (index : Octets) (hs : Halves) → Ready text st w index → Holds room hs (st .at) out → remains room tableWords r out′ w ≡ behind hs (finish link text room (st .at) (known st w) i) room
 
 -- ---- phases: where a run stands between two records
 -- There is a further record, number i of n, and it is to be written.
@@ -79,30 +79,30 @@ bitOf Content a = a
 bitOf (Declaring b) a = b
 bitOf (Listing any) a = a
 
--- Behind i of the events es, with `room` octets of output and `table` table words lent, which are out and w.
-abbrev pub Going : List Event → Octets → (room table i : ℕ) → Phase → (out : Octets) (w : Words) → Type 0
-Going es text room table i (Onward st) out w = (length text ≤ link .octets) × (table ≡ tableWords) × Underway text room es i st out w
-Going es text room table i (Halted k p) out w = refusing k p room table ≡ writeOf link es text room table
+-- Behind i of the events es, with `room` octets of output and `table` table words lent, which are out and w, and the index.
+abbrev pub Going : List Event → Octets → (room table i : ℕ) → Phase → (out : Octets) (w : Words) (index : Octets) → Type 0
+Going es text room table i (Onward st) out w index = (length text ≤ link .octets) × (table ≡ tableWords) × Underway text room es i st out w index
+Going es text room table i (Halted k p) out w index = refusing k p room table ≡ writeOf link es text room table
 
 -- What the step with event i asks, and the end behind i events.
-abbrev pub Steady : Octets → ℕ → Phase → Words → Type 0
-Steady text i (Onward st) w = Ready text st w × (i ≤ st .at)
-Steady text i (Halted k p) w = Unit {0}
+abbrev pub Steady : Octets → ℕ → Phase → Words → (index : Octets) → Type 0
+Steady text i (Onward st) w index = Ready text st w index × (i ≤ st .at)
+Steady text i (Halted k p) w index = Unit {0}
 
 abbrev pub Bounded : ℕ → Phase → Type 0
 Bounded i (Onward st) = (st .at ≤ 32768) × (i ≤ 32768)
 Bounded i (Halted k p) = Unit {0}
 
--- The event e, number i, was taken: p, out and w became p′, out′ and w′.
-abbrev pub Turns : Octets → (room table i : ℕ) → Phase → (out : Octets) (w : Words) → Event → Bool → Phase → (out′ : Octets) (w′ : Words) → Type 0
-Turns text room table i p out w e a p′ out′ w′ =
-    (es : List Event) → Going es text room table i p out w → drop i es ≡ e ∷ drop (suc i) es → a ≡ announced (drop (lookFrom p i (length es)) es) → Going es text room table (i + 1) p′ out′ w′
+-- The event e, number i, was taken: p, out, w and the index became p′, out′, w′ and index′.
+abbrev pub Turns : Octets → (room table i : ℕ) → Phase → (out : Octets) (w : Words) (index : Octets) → Event → Bool → Phase → (out′ : Octets) (w′ : Words) (index′ : Octets) → Type 0
+Turns text room table i p out w index e a p′ out′ w′ index′ =
+    (es : List Event) → Going es text room table i p out w index → drop i es ≡ e ∷ drop (suc i) es → a ≡ announced (drop (lookFrom p i (length es)) es) → Going es text room table (i + 1) p′ out′ w′ index′
 
 -- What the records came to, once no further one is to be written; the lent room behind it is blanked after that.
 abbrev pub Ends : (room i : ℕ) → Phase → Octets → Answer → Octets → Type 0
 Ends room i p out r out′ =
-    (es : List Event) (text : Octets) (w : Words) → Going es text room (length w) i p out w → goesOn p i (length es) ≡ false → remains room (length w) r out′ w ≡ writeOf link es text room (length w)
+    (es : List Event) (text : Octets) (w : Words) (index : Octets) → Going es text room (length w) i p out w index → goesOn p i (length es) ≡ false → remains room (length w) r out′ w ≡ writeOf link es text room (length w)
 
 abbrev pub Settles : (room table i : ℕ) → Phase → (out : Octets) (w : Words) → Answer → (out′ : Octets) (w′ : Words) → Type 0
 Settles room table i p out w r out′ w′ =
-    (es : List Event) (text : Octets) → Going es text room table i p out w → goesOn p i (length es) ≡ false → Leaves r out′ w′ (writeOf link es text room table)
+    (es : List Event) (text index : Octets) → Going es text room table i p out w index → goesOn p i (length es) ≡ false → Leaves r out′ w′ (writeOf link es text room table)

@@ -27,8 +27,8 @@ coming (Declaring a) = 1
 coming (Listing any) = 0
 
 -- The writer stands where a document fits its limits, and the tables in lent words are in order.
-pub record Ready (text : Octets) (st : State) (w : Words) : Type 0 where
-  pub order : InOrder text (st .counts) w
+pub record Ready (text : Octets) (st : State) (w : Words) (index : Octets) : Type 0 where
+  pub order : InOrder text (st .counts) w index
   pub at : st .at ≤ 32768
   pub shallow : st .level + coming (st .mode) ≤ 32
 
@@ -46,15 +46,15 @@ halvesFor text room a at v e = halvesOf link text room at v (eventOf (e .kind) e
 unfoldable pub verdict : Octets → (room : ℕ) → Bool → ℕ → F.State Located → Event → ℕ
 verdict text room a at v e = judge link text room at v e (itemOf text a v e) (halvesFor text room a at v e)
 
--- The event is in the output, and the writer stands behind it; out and w were the output and the table words before, out′ and w′ are those then.
-pub record Went (text : Octets) (room : ℕ) (a : Bool) (st : State) (out : Octets) (w : Words) (e : Event) (next : State) (out′ : Octets) (w′ : Words) : Type 0 where
+-- The event is in the output, and the writer stands behind it; out and w were the output and the table words before, out′ and w′ are those then, and the index is index′.
+pub record Went (text : Octets) (room : ℕ) (a : Bool) (st : State) (out : Octets) (w : Words) (e : Event) (next : State) (out′ : Octets) (w′ : Words) (index′ : Octets) : Type 0 where
   pub judged : verdict text room a (st .at) (known st w) e ≡ 0
   pub state : known next w′ ≡ itemOf text a (known st w) e .state
   pub grown : (hs : Halves) → Holds room hs (st .at) out → Grown room hs (halvesFor text room a (st .at) (known st w) e) (st .at) (next .at) out′
-  pub ready : Ready text next w′
+  pub ready : Ready text next w′ index′
   pub onward : st .at < next .at
 
 -- Or it is refused by the definition's number.
-abbrev pub Steps : Octets → (room : ℕ) → Bool → State → Octets → Words → Event → Step → Octets → Words → Type 0
-Steps text room a st out w e (On next) out′ w′ = Went text room a st out w e next out′ w′
-Steps text room a st out w e (Stop n) out′ w′ = (verdict text room a (st .at) (known st w) e ≡ n) × (1 ≤ n) × (n ≤ 16)
+abbrev pub Steps : Octets → (room : ℕ) → Bool → State → Octets → Words → Event → Step → Octets → Words → (index′ : Octets) → Type 0
+Steps text room a st out w e (On next) out′ w′ index′ = Went text room a st out w e next out′ w′ index′
+Steps text room a st out w e (Stop n) out′ w′ index′ = (verdict text room a (st .at) (known st w) e ≡ n) × (1 ≤ n) × (n ≤ 16)

@@ -8,10 +8,14 @@ ghost use Rattle.writer.specs.Writing.{attributeNext, announced};
 ghost use Rattle.writer.specs.AheadContracts.{decided, onward};
 use events::Event;
 use events::Kind;
-use events::from_words;
+use events::is_kind;
 
-// Words of a record.
-const RECORD: usize = 13;
+// Kinds by number.
+const NAMESPACE: u32 = 1;
+
+const START: u32 = 2;
+
+const ATTRIBUTE: u32 = 3;
 
 // How far the look at an element's records got: before its Start, right behind it, or to the answer.
 enum Look {
@@ -88,21 +92,18 @@ fn is_attribute(e: Event) -> bool
     }
 }
 
-// The element whose first record is number i of the words.
+// The element whose first record is number i of the words: no more than a kind is looked at, mostly.
 pub fn announced_words(records: &[u32], i: usize) -> bool
     ensures { λ r. ⌜ r ≡ announced (drop i (recordsOf (now (records .entry)))) ⌝ }
 {
-    let end = records.len() / RECORD;
-    let mut look = Look::Before;
     let mut n = i;
-    while look.goes_on(n, end) {
-        look = look.past(from_words(records, n));
+    while is_kind(records, n, NAMESPACE) {
         n += 1;
     }
-    look.answer()
+    is_kind(records, n, START) && is_kind(records, n + 1, ATTRIBUTE)
 }
 
-// The same of records in a row. What is decided is decided by value, as above.
+// The same of records in a row. What is decided is decided by value.
 pub fn announced(events: &[Event], i: usize) -> bool
     ensures { λ r. ⌜ r ≡ announced (drop i (now (events .entry))) ⌝ }
 {

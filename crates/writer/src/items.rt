@@ -235,7 +235,7 @@ impl State {
     // An element's end.
     fn close(self, out: &mut [u8]) -> Step
         requires { ⌜ (self .at ≤ 32769) × (0 < self .level) × (self .level ≤ 32) ⌝ }
-        ensures { λ r. ⌜ ((text : Octets) (a : Bool) (w : Words) → InOrder text (self .counts) w → Lands text a self (now (out .entry)) w E.End r (now (out .exit)) w) ⌝ }
+        ensures { λ r. ⌜ ((text : Octets) (a : Bool) (w : Words) (index : Octets) → InOrder text (self .counts) w index → Lands text a self (now (out .entry)) w E.End r (now (out .exit)) w index) ⌝ }
     {
         put_end(out, self.at);
         let counts = self.counts;
@@ -248,9 +248,17 @@ impl State {
         })
     }
 
-    fn chunk(self, text: &[u8], t: &mut [u32], out: &mut [u8], e: Event, a: bool) -> Step
-        requires { ⌜ Fit (now text) self (now t) Chunk e ⌝ }
-        ensures { λ r. ⌜ Lands (now (text .entry)) a self (now (out .entry)) (now (t .entry)) (eventOf Chunk e) r (now (out .exit)) (now (t .exit)) ⌝ }
+    fn chunk(
+        self,
+        text: &[u8],
+        t: &mut [u32],
+        index: &mut [u8],
+        out: &mut [u8],
+        e: Event,
+        a: bool,
+    ) -> Step
+        requires { ⌜ Fit (now text) self (now t) (now index) Chunk e ⌝ }
+        ensures { λ r. ⌜ Lands (now (text .entry)) a self (now (out .entry)) (now (t .entry)) (eventOf Chunk e) r (now (out .exit)) (now (t .exit)) (now (index .exit)) ⌝ }
     {
         let counts = self.counts;
         let value = e.value;
@@ -258,26 +266,42 @@ impl State {
             at: self.octet(),
             counts,
         };
-        let h = here.chunk(text, t, out, value);
+        let h = here.chunk(text, t, index, out, value);
         self.landed(Wrote::Put(h))
     }
 
-    fn comment(self, text: &[u8], t: &mut [u32], out: &mut [u8], e: Event, a: bool) -> Step
-        requires { ⌜ Fit (now text) self (now t) Comment e ⌝ }
-        ensures { λ r. ⌜ Lands (now (text .entry)) a self (now (out .entry)) (now (t .entry)) (eventOf Comment e) r (now (out .exit)) (now (t .exit)) ⌝ }
+    fn comment(
+        self,
+        text: &[u8],
+        t: &mut [u32],
+        index: &mut [u8],
+        out: &mut [u8],
+        e: Event,
+        a: bool,
+    ) -> Step
+        requires { ⌜ Fit (now text) self (now t) (now index) Comment e ⌝ }
+        ensures { λ r. ⌜ Lands (now (text .entry)) a self (now (out .entry)) (now (t .entry)) (eventOf Comment e) r (now (out .exit)) (now (t .exit)) (now (index .exit)) ⌝ }
     {
         let counts = self.counts;
         let value = e.value;
         let at = self.octet();
         put(out, at, 0xE2);
         let here = Here { at: at + 1, counts };
-        let h = here.value(text, t, out, OTHERS, value);
+        let h = here.value(text, t, index, out, OTHERS, value);
         self.landed(Wrote::Put(h))
     }
 
-    fn instruction(self, text: &[u8], t: &mut [u32], out: &mut [u8], e: Event, a: bool) -> Step
-        requires { ⌜ Fit (now text) self (now t) Instruction e ⌝ }
-        ensures { λ r. ⌜ Lands (now (text .entry)) a self (now (out .entry)) (now (t .entry)) (eventOf Instruction e) r (now (out .exit)) (now (t .exit)) ⌝ }
+    fn instruction(
+        self,
+        text: &[u8],
+        t: &mut [u32],
+        index: &mut [u8],
+        out: &mut [u8],
+        e: Event,
+        a: bool,
+    ) -> Step
+        requires { ⌜ Fit (now text) self (now t) (now index) Instruction e ⌝ }
+        ensures { λ r. ⌜ Lands (now (text .entry)) a self (now (out .entry)) (now (t .entry)) (eventOf Instruction e) r (now (out .exit)) (now (t .exit)) (now (index .exit)) ⌝ }
     {
         let counts = self.counts;
         let target = e.name;
@@ -285,17 +309,25 @@ impl State {
         let at = self.octet();
         put(out, at, 0xE1);
         let here = Here { at: at + 1, counts };
-        let Wrote::Put(h) = here.identified(text, t, out, NCNAMES, target) else {
+        let Wrote::Put(h) = here.identified(text, t, index, out, NCNAMES, target) else {
             return Step::Stop(FULL);
         };
-        let g = h.value(text, t, out, OTHERS, content);
+        let g = h.value(text, t, index, out, OTHERS, content);
         self.landed(Wrote::Put(g))
     }
 
     // A namespace declaration.
-    fn declare(self, text: &[u8], t: &mut [u32], out: &mut [u8], e: Event, a: bool) -> Step
-        requires { ⌜ Fit (now text) self (now t) Namespace e ⌝ }
-        ensures { λ r. ⌜ Lands (now (text .entry)) a self (now (out .entry)) (now (t .entry)) (eventOf Namespace e) r (now (out .exit)) (now (t .exit)) ⌝ }
+    fn declare(
+        self,
+        text: &[u8],
+        t: &mut [u32],
+        index: &mut [u8],
+        out: &mut [u8],
+        e: Event,
+        a: bool,
+    ) -> Step
+        requires { ⌜ Fit (now text) self (now t) (now index) Namespace e ⌝ }
+        ensures { λ r. ⌜ Lands (now (text .entry)) a self (now (out .entry)) (now (t .entry)) (eventOf Namespace e) r (now (out .exit)) (now (t .exit)) (now (index .exit)) ⌝ }
     {
         let mode = self.mode;
         let counts = self.counts;
@@ -303,26 +335,42 @@ impl State {
         let namespace = e.namespace;
         let at = before_declaration(out, self.octet(), mode, a);
         let here = Here { at, counts };
-        let w = here.declared(text, t, out, prefix, namespace);
+        let w = here.declared(text, t, index, out, prefix, namespace);
         self.moved(Mode::Declaring(a)).landed(w)
     }
 
-    fn start(self, text: &[u8], t: &mut [u32], out: &mut [u8], e: Event, a: bool) -> Step
-        requires { ⌜ Fit (now text) self (now t) Start e ⌝ }
-        ensures { λ r. ⌜ Lands (now (text .entry)) a self (now (out .entry)) (now (t .entry)) (eventOf Start e) r (now (out .exit)) (now (t .exit)) ⌝ }
+    fn start(
+        self,
+        text: &[u8],
+        t: &mut [u32],
+        index: &mut [u8],
+        out: &mut [u8],
+        e: Event,
+        a: bool,
+    ) -> Step
+        requires { ⌜ Fit (now text) self (now t) (now index) Start e ⌝ }
+        ensures { λ r. ⌜ Lands (now (text .entry)) a self (now (out .entry)) (now (t .entry)) (eventOf Start e) r (now (out .exit)) (now (t .exit)) (now (index .exit)) ⌝ }
     {
         let mode = self.mode;
         let counts = self.counts;
         let lead = name_lead(mode, a);
         let at = before_name(out, self.octet(), mode);
         let here = Here { at, counts };
-        let w = here.name(text, t, out, ELEMENTS, lead, name_of(e));
+        let w = here.name(text, t, index, out, ELEMENTS, lead, name_of(e));
         self.opened(a).landed(w)
     }
 
-    fn attribute(self, text: &[u8], t: &mut [u32], out: &mut [u8], e: Event, a: bool) -> Step
-        requires { ⌜ Fit (now text) self (now t) Attribute e ⌝ }
-        ensures { λ r. ⌜ Lands (now (text .entry)) a self (now (out .entry)) (now (t .entry)) (eventOf Attribute e) r (now (out .exit)) (now (t .exit)) ⌝ }
+    fn attribute(
+        self,
+        text: &[u8],
+        t: &mut [u32],
+        index: &mut [u8],
+        out: &mut [u8],
+        e: Event,
+        a: bool,
+    ) -> Step
+        requires { ⌜ Fit (now text) self (now t) (now index) Attribute e ⌝ }
+        ensures { λ r. ⌜ Lands (now (text .entry)) a self (now (out .entry)) (now (t .entry)) (eventOf Attribute e) r (now (out .exit)) (now (t .exit)) (now (index .exit)) ⌝ }
     {
         let counts = self.counts;
         let value = e.value;
@@ -330,42 +378,58 @@ impl State {
             at: self.octet(),
             counts,
         };
-        let Wrote::Put(h) = here.name(text, t, out, ATTRIBUTES, 0, name_of(e)) else {
+        let Wrote::Put(h) = here.name(text, t, index, out, ATTRIBUTES, 0, name_of(e)) else {
             return Step::Stop(FULL);
         };
-        let g = h.value(text, t, out, VALUES, value);
+        let g = h.value(text, t, index, out, VALUES, value);
         self.moved(Mode::Listing(true)).landed(Wrote::Put(g))
     }
 
     // The item of an event, with no end owed before it. A blank record is no event, and none is well made.
-    fn item(self, text: &[u8], t: &mut [u32], out: &mut [u8], e: Event, a: bool) -> Step
-        requires { ⌜ Fit (now text) self (now t) (e .kind) e ⌝ }
-        ensures { λ r. ⌜ Lands (now (text .entry)) a self (now (out .entry)) (now (t .entry)) (eventOf (e .kind) e) r (now (out .exit)) (now (t .exit)) ⌝ }
+    fn item(
+        self,
+        text: &[u8],
+        t: &mut [u32],
+        index: &mut [u8],
+        out: &mut [u8],
+        e: Event,
+        a: bool,
+    ) -> Step
+        requires { ⌜ Fit (now text) self (now t) (now index) (e .kind) e ⌝ }
+        ensures { λ r. ⌜ Lands (now (text .entry)) a self (now (out .entry)) (now (t .entry)) (eventOf (e .kind) e) r (now (out .exit)) (now (t .exit)) (now (index .exit)) ⌝ }
     {
         let kind = e.kind;
         match kind {
             Kind::Blank => self.close(out),
-            Kind::Namespace => self.declare(text, t, out, e, a),
-            Kind::Start => self.start(text, t, out, e, a),
-            Kind::Attribute => self.attribute(text, t, out, e, a),
-            Kind::Chunk => self.chunk(text, t, out, e, a),
-            Kind::Comment => self.comment(text, t, out, e, a),
-            Kind::Instruction => self.instruction(text, t, out, e, a),
+            Kind::Namespace => self.declare(text, t, index, out, e, a),
+            Kind::Start => self.start(text, t, index, out, e, a),
+            Kind::Attribute => self.attribute(text, t, index, out, e, a),
+            Kind::Chunk => self.chunk(text, t, index, out, e, a),
+            Kind::Comment => self.comment(text, t, index, out, e, a),
+            Kind::Instruction => self.instruction(text, t, index, out, e, a),
             Kind::End => self.close(out),
         }
     }
 
     // One event: judged, then written behind the end that an attribute list owes, then held against the room.
-    pub fn step(self, text: &[u8], t: &mut [u32], out: &mut [u8], e: Event, a: bool) -> Step
-        requires { ⌜ Ready (now text) self (now t) ⌝ }
-        ensures { λ r. ⌜ Steps (now (text .entry)) (length (now (out .entry))) a self (now (out .entry)) (now (t .entry)) e r (now (out .exit)) (now (t .exit)) ⌝ }
+    pub fn step(
+        self,
+        text: &[u8],
+        t: &mut [u32],
+        index: &mut [u8],
+        out: &mut [u8],
+        e: Event,
+        a: bool,
+    ) -> Step
+        requires { ⌜ Ready (now text) self (now t) (now index) ⌝ }
+        ensures { λ r. ⌜ Steps (now (text .entry)) (length (now (out .entry))) a self (now (out .entry)) (now (t .entry)) e r (now (out .exit)) (now (t .exit)) (now (index .exit)) ⌝ }
     {
         let fault = self.fault(text, e);
         if fault != 0 {
             return Step::Stop(fault);
         }
         let st = self.settle(out, e);
-        let r = st.item(text, t, out, e, a);
+        let r = st.item(text, t, index, out, e, a);
         match r {
             Step::On(next) => next.held(out.len()),
             Step::Stop(n) => Step::Stop(n),

@@ -1,5 +1,5 @@
 // Writing a document: events and a text area in, octets and tables out, or a refusal and the event's number.
-// May depend on format, fields, tables, walk, events and write_names.
+// May depend on format, fields, tables, index, walk, events and write_names.
 mod ahead;
 mod items;
 mod output;

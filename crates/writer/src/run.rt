@@ -5,8 +5,10 @@ ghost use mathlib.Core.Bool.{_&&_};
 ghost use mathlib.Core.List.{List};
 ghost use Prim.Native.Nat.{_≤_};
 ghost use lib.Dec.{eqb};
-ghost use lib.ListN.{length};
+ghost use lib.ListN.{length, replicate};
+ghost use Rattle.format.specs.Octets.{Octets};
 ghost use Rattle.format.specs.Tables.{link};
+ghost use Rattle.index.specs.Indexed.{slots};
 ghost use Rattle.events.specs.declared.Event.{Event};
 ghost use Rattle.events.specs.FromWords.{recordsOf};
 ghost use Rattle.writer.specs.Events.{isContent};
@@ -88,7 +90,7 @@ impl State {
 
 // SIZE, then the table room, then the header, into room that is cleared.
 pub fn prepared(text: &[u8], out: &mut [u8], t: &mut [u32]) -> Phase
-    ensures { λ r. ⌜ ((es : List Event) → Going es (now (text .entry)) (length (now (out .entry))) (length (now (t .entry))) 0 r (now (out .exit)) (now (t .exit))) ⌝ }
+    ensures { λ r. ⌜ ((es : List Event) (index : Octets) → index ≡ replicate slots 0 → Going es (now (text .entry)) (length (now (out .entry))) (length (now (t .entry))) 0 r (now (out .exit)) (now (t .exit)) index) ⌝ }
 {
     if fields::OCTETS < text.len() {
         return Phase::Halted(SIZE, 0);
@@ -155,17 +157,18 @@ impl Phase {
         text: &[u8],
         out: &mut [u8],
         t: &mut [u32],
+        index: &mut [u8],
         e: Event,
         a: bool,
         i: usize,
     ) -> Phase
-        requires { ⌜ Steady (now text) i self (now t) ⌝ }
-        ensures { λ r. ⌜ Turns (now (text .entry)) (length (now (out .entry))) (length (now (t .entry))) i self (now (out .entry)) (now (t .entry)) e a r (now (out .exit)) (now (t .exit)) ⌝ }
+        requires { ⌜ Steady (now text) i self (now t) (now index) ⌝ }
+        ensures { λ r. ⌜ Turns (now (text .entry)) (length (now (out .entry))) (length (now (t .entry))) i self (now (out .entry)) (now (t .entry)) (now (index .entry)) e a r (now (out .exit)) (now (t .exit)) (now (index .exit)) ⌝ }
     {
         match self {
             Phase::Onward(st) => {
                 let mode = st.mode;
-                match st.step(text, t, out, e, mode.bit(a)) {
+                match st.step(text, t, index, out, e, mode.bit(a)) {
                     Step::On(next) => Phase::Onward(next),
                     Step::Stop(number) => Phase::Halted(number, i as u32),
                 }
@@ -204,11 +207,20 @@ impl Phase {
 fn written(records: &[u32], text: &[u8], out: &mut [u8], t: &mut [u32]) -> Answer
     ensures { λ r. ⌜ Leaves r (now (out .exit)) (now (t .exit)) (writeOf link (recordsOf (now (records .entry))) (now (text .entry)) (length (now (out .entry))) (length (now (t .entry)))) ⌝ }
 {
+    let mut index = [0u8; index::SLOTS];
     let mut p = prepared(text, out, t);
     let mut i = 0;
     while p.goes_on(i, records.len() / RECORD) {
         let a = ahead::announced_words(records, p.look_from(i, records.len() / RECORD));
-        p = p.turn(text, out, t, events::from_words(records, i), a, i);
+        p = p.turn(
+            text,
+            out,
+            t,
+            &mut index,
+            events::from_words(records, i),
+            a,
+            i,
+        );
         i += 1;
     }
     p.settle(out, t, i)

@@ -3,7 +3,7 @@
 use borrow.Author.Needs.{needs}
 use native.Mathlib.Omega.{arith}
 use mathlib.Core.Path.{_∙_}
-use Rattle.index.proofs.Hash.{bucket-few, bucket-four, bucket-middle, bucket-long}
+use Rattle.index.proofs.Hash.{bucket-few, bucket-four, bucket-middle, bucket-long, bucket-far}
 use Rattle.index.proofs.bucket_of.Statement.{statement}
 use Rattle.index.proofs.bucket_of.Tie as tie
 
@@ -101,7 +101,16 @@ spread-requires-4 : tie.Need-spread-requires-4
 spread-requires-4 c κs = search needs
 
 returns-4 : tie.Need-returns-4
-returns-4 c = (c .spread4 .ensures .0 ∙ rw (c .before .roll .ensures .0, c .before .before .before .eight .ensures .0) (bucket-long _ _ _ (omega arith) (omega arith)), c .spread4 .ensures .1)
+returns-4 c = (c .spread4 .ensures .0 ∙ rw (c .before .roll .ensures .0, c .before .before .before .before .eight .ensures .0) (bucket-long _ _ _ (omega arith) (omega arith) (omega arith)), c .spread4 .ensures .1)
+
+roll-requires-2 : tie.Need-roll-requires-2
+roll-requires-2 c κs = search needs
+
+spread-requires-5 : tie.Need-spread-requires-5
+spread-requires-5 c κs = search needs
+
+returns-5 : tie.Need-returns-5
+returns-5 c = (c .spread5 .ensures .0 ∙ rw (c .before .roll2 .ensures .0, c .before .before .before .before .eight .ensures .0) (bucket-far _ _ _ (omega arith) (omega arith)), c .spread5 .ensures .1)
 
 pub bucket-of-spec : {M : Type 1} → statement M
 bucket-of-spec =
@@ -138,4 +147,7 @@ bucket-of-spec =
     returns-3
     roll-requires
     spread-requires-4
-    returns-4)
+    returns-4
+    roll-requires-2
+    spread-requires-5
+    returns-5)

@@ -26,7 +26,7 @@ cast-find-2 : tie.Need-cast-find-2
 cast-find-2 c = search needs
 
 find-requires : tie.Need-find-requires
-find-requires c κs = find-ready _ _ _ _ (c .before .before .before .before .before .before .pre .0) (c .before .before .before .before .before .before .pre .1) _ _ _ _ (c .before .before .x .given .1) (c .before .before .before .before .before .before .pre .2) (c .of .ensures)
+find-requires c κs = find-ready _ _ _ _ _ (c .before .before .before .before .before .before .before .pre .0) (c .before .before .before .before .before .before .before .pre .1) _ _ _ _ (c .before .before .x .given .1) (c .before .before .before .before .before .before .before .pre .2) (c .of .ensures)
 
 enum-told-3 : tie.Need-enum-told-3
 enum-told-3 c = search needs
@@ -35,19 +35,19 @@ enum-told-4 : tie.Need-enum-told-4
 enum-told-4 c = search needs
 
 returns : tie.Need-returns
-returns c = held-absent _ _ _ _ (c .before .before .before .before .pre .0) _ (c .enum-told .given .1)
+returns c = held-absent _ _ _ _ _ (c .before .before .before .before .before .pre .0) _ (c .enum-told .given .1)
 
 returns-2 : tie.Need-returns-2
-returns-2 c = held-empty _ _ _ _ (c .before .before .before .before .pre .0) _ (c .enum-told2 .given .1) (c .before .before .before .before .pre .2)
+returns-2 c = held-empty _ _ _ _ _ (c .before .before .before .before .before .pre .0) _ (c .enum-told2 .given .1) (c .before .before .before .before .before .pre .2)
 
 returns-3 : tie.Need-returns-3
-returns-3 c = held-stretch _ _ _ _ (c .before .before .before .before .before .before .before .pre .0) _ _ _ _ _ _ _ (c .before .before .before .x .given .1) refl refl (c .before .of .ensures) (omega arith) (c .find .ensures)
+returns-3 c = held-stretch _ _ _ _ _ (c .before .before .before .before .before .before .before .before .pre .0) _ _ _ _ _ _ _ (c .before .before .before .x .given .1) refl refl (c .before .of .ensures) (omega arith) (c .find .ensures)
 
 returns-4 : tie.Need-returns-4
-returns-4 c = held-prefix _ _ _ _ (c .before .before .before .before .pre .0) _ (c .enum-told3 .given .1) (c .before .before .before .before .pre .2)
+returns-4 c = held-prefix _ _ _ _ _ (c .before .before .before .before .before .pre .0) _ (c .enum-told3 .given .1) (c .before .before .before .before .before .pre .2)
 
 returns-5 : tie.Need-returns-5
-returns-5 c = held-namespace _ _ _ _ (c .before .before .before .before .pre .0) _ (c .enum-told4 .given .1) (c .before .before .before .before .pre .2)
+returns-5 c = held-namespace _ _ _ _ _ (c .before .before .before .before .before .pre .0) _ (c .enum-told4 .given .1) (c .before .before .before .before .before .pre .2)
 
 pub number-of-spec : {M : Type 1} → statement M
 number-of-spec =

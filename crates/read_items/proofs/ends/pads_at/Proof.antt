@@ -1,11 +1,11 @@
 -- `pads_at` meets its contract: an even half, or 0000.
 -- Assumes nothing.
-use mathlib.Core.Path.{ap, _∙_}
-use Prim.Native.Nat.{ℕ}
 use native.Mathlib.Omega.{arith}
 use borrow.Author.Needs.{needs}
+use mathlib.Core.Path.{ap, _∙_}
+use Prim.Native.Nat.{ℕ}
 use lib.Dec.{eqb}
-use Rattle.read_items.proofs.ItemLaws.{pads-even, pads-odd}
+use Rattle.read_items.proofs.EndLaws.{pads-even, pads-odd}
 use Rattle.read_items.proofs.ends.pads_at.Statement.{statement}
 use Rattle.read_items.proofs.ends.pads_at.Tie as tie
 

@@ -5,7 +5,7 @@ use Rattle.read_names.proofs.names.find_name.Statement.{statement}
 use Rattle.read_names.proofs.names.find_name.Tie as tie
 
 returns : tie.Need-returns
-returns c = c .before .before .before .pre .3 (c .if1 .taken)
+returns c = c .before .before .before .before .pre .5 (c .if1 .taken)
 
 find-name-requires : tie.Need-find-name-requires
 find-name-requires c κs = search needs

@@ -1,15 +1,10 @@
 -- `stretch` meets its contract: each way out is a case of the definition.
 -- Assumes nothing.
-use mathlib.Core.Path.{sym, _∙_}
 use native.Mathlib.Omega.{arith}
 use borrow.Author.Needs.{needs}
-use Rattle.fields.proofs.Bounds.{field-got}
-use Rattle.read_names.proofs.StringLaws.{stretch-not, stretch-past, stretch-bad, stretch-text}
+use Rattle.read_names.proofs.StringLaws.{starts-within, stretch-not, stretch-past, stretch-bad, stretch-text}
 use Rattle.read_names.proofs.strings.stretch.Statement.{statement}
 use Rattle.read_names.proofs.strings.stretch.Tie as tie
-
-length-requires : tie.Need-length-requires
-length-requires c κs = search needs
 
 enum-known-r : tie.Need-enum-known-r
 enum-known-r c = search needs
@@ -18,39 +13,38 @@ enum-told : tie.Need-enum-told
 enum-told c = search needs
 
 returns : tie.Need-returns
-returns c = stretch-not _ _ _ _ (c .before .before .length .ensures) _ _ (c .enum-told .given .1)
+returns c = stretch-not _ _ _ _ _ (c .enum-told .given .1)
 
 sub-if1 : tie.Need-sub-if1
-sub-if1 c = field-got _ _ _ _ _ (sym (c .before .before .before .length .ensures) ∙ c .before .r .given .1) .3
+sub-if1 c = starts-within _ _ _ _ (c .before .r .given .1) (c .before .before .before .before .pre)
 
 returns-2 : tie.Need-returns-2
 returns-2 c =
-    let g = field-got _ _ _ _ _ (sym (c .before .before .before .before .length .ensures) ∙ c .before .before .r .given .1) in
-    stretch-past _ _ _ _ (c .before .before .before .before .length .ensures) _ _ (c .before .before .r .given .1) (omega arith)
+    let w = starts-within _ _ _ _ (c .before .before .r .given .1) (c .before .before .before .before .before .pre) in
+    stretch-past _ _ _ _ _ (c .before .before .r .given .1) (omega arith)
 
 add-is-text : tie.Need-add-is-text
 add-is-text c = search needs
 
 is-text-requires : tie.Need-is-text-requires
 is-text-requires c κs =
-    let g = field-got _ _ _ _ _ (sym (c .before .before .before .before .length .ensures) ∙ c .before .before .r .given .1) in
+    let w = starts-within _ _ _ _ (c .before .before .r .given .1) (c .before .before .before .before .before .pre) in
     omega arith
 
 returns-3 : tie.Need-returns-3
 returns-3 c =
-    let g = field-got _ _ _ _ _ (sym (c .before .before .before .before .before .before .length .ensures) ∙ c .before .before .before .before .r .given .1) in
-    stretch-text _ _ _ _ (c .before .before .before .before .before .before .length .ensures) _ _ (c .before .before .before .before .r .given .1) _ _ (omega arith) (omega arith) (c .before .is-text .ensures) (c .if2 .taken)
+    let w = starts-within _ _ _ _ (c .before .before .before .before .r .given .1) (c .before .before .before .before .before .before .before .pre) in
+    stretch-text _ _ _ _ _ (c .before .before .before .before .r .given .1) _ _ (omega arith) (omega arith) (c .before .is-text .ensures) (c .if2 .taken)
 
 returns-4 : tie.Need-returns-4
 returns-4 c =
-    let g = field-got _ _ _ _ _ (sym (c .before .before .before .before .before .before .length .ensures) ∙ c .before .before .before .before .r .given .1) in
-    stretch-bad _ _ _ _ (c .before .before .before .before .before .before .length .ensures) _ _ (c .before .before .before .before .r .given .1) _ _ (omega arith) (omega arith) (c .before .is-text .ensures) (c .if2 .left)
+    let w = starts-within _ _ _ _ (c .before .before .before .before .r .given .1) (c .before .before .before .before .before .before .before .pre) in
+    stretch-bad _ _ _ _ _ (c .before .before .before .before .r .given .1) _ _ (omega arith) (omega arith) (c .before .is-text .ensures) (c .if2 .left)
 
 pub stretch-spec : {M : Type 1} → statement M
 stretch-spec =
     tie.close
     (tie.spec
-    length-requires
     enum-known-r
     enum-told
     returns

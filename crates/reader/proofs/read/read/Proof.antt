@@ -1,5 +1,5 @@
--- `read::read` meets its contract: a walk of its MIR, by hand. The room is wiped and the opening is asked for; where it is read, `fill` is called with the document and both slices lent again, and on a refusal the room is wiped again.
---     wipe-lends, wipe-back    what is had of the two slices makes what a call of `wipe` asks, and comes back of what it leaves, blank. `fill-lends`, `fill-back`: of `fill`
+-- `read::read` meets its contract: a walk of its MIR, by hand. The room is wiped and the opening is asked for; where it is read, `read_body` is called with the document and both slices lent again, and on a refusal the room is wiped again.
+--     wipe-lends, wipe-back    what is had of the two slices makes what a call of `wipe` asks, and comes back of what it leaves, blank. `body-lends`, `body-back`: of `read_body`
 --     exits, leaves            what is had at exit; the rest of the body after the outer match
 --     settles, matched         the inner match and what follows it, by cases on the answer; the outer match, by cases on the opening
 -- Assumes nothing.
@@ -64,10 +64,10 @@ use Rattle.reader.proofs.Answer as R
 use Rattle.reader.proofs.Answer.Laws as R′
 use Rattle.reader.proofs.run.Opening as O
 use Rattle.reader.proofs.run.Opening.Laws as O′
-use Rattle.reader.proofs.run.refused as refused′
-use Rattle.reader.proofs.run.refused.Symbol as refused-def
-use Rattle.reader.proofs.run.refused.Symbol.{name as #reader·run·refused}
-use Rattle.reader.proofs.run.refused.Met as refused-thm
+use Rattle.reader.proofs.read.refused as refused′
+use Rattle.reader.proofs.read.refused.Symbol as refused-def
+use Rattle.reader.proofs.read.refused.Symbol.{name as #reader·read·refused}
+use Rattle.reader.proofs.read.refused.Met as refused-thm
 use Rattle.reader.proofs.read.wipe as wipe′
 use Rattle.reader.proofs.read.wipe.Symbol as wipe-def
 use Rattle.reader.proofs.read.wipe.Symbol.{name as #reader·read·wipe}
@@ -76,10 +76,10 @@ use Rattle.reader.proofs.read.admitted as admitted′
 use Rattle.reader.proofs.read.admitted.Symbol as admitted-def
 use Rattle.reader.proofs.read.admitted.Symbol.{name as #reader·read·admitted}
 use Rattle.reader.proofs.read.admitted.Met as admitted-thm
-use Rattle.reader.proofs.read.fill as fill′
-use Rattle.reader.proofs.read.fill.Symbol as fill-def
-use Rattle.reader.proofs.read.fill.Symbol.{name as #reader·read·fill}
-use Rattle.reader.proofs.read.fill.Met as fill-thm
+use Rattle.reader.proofs.read.read_body as body′
+use Rattle.reader.proofs.read.read_body.Symbol as body-def
+use Rattle.reader.proofs.read.read_body.Symbol.{name as #reader·read·read-body}
+use Rattle.reader.proofs.read.read_body.Met as body-thm
 use Rattle.reader.proofs.read.read.Key.{name as #reader·read·read}
 use Rattle.reader.proofs.read.read as read′
 use Rattle.reader.proofs.read.read.Statement as stated
@@ -107,8 +107,8 @@ module _ {M : Type 1} (𝓤 : URA M) (H : Heap 𝓤) (A : Atoms 𝓤) (at-mem : 
   abbrev Refuse : Contract 𝓤
   Refuse = tripleOf 𝓤 H A refused′.signature (refused′.spec 𝓤 H A at-mem run)
 
-  abbrev Fill : Contract 𝓤
-  Fill = tripleOf 𝓤 H A fill′.signature (fill′.spec 𝓤 H A at-mem run)
+  abbrev ReadBody : Contract 𝓤
+  ReadBody = tripleOf 𝓤 H A body′.signature (body′.spec 𝓤 H A at-mem run)
 
   refused-of : (k p : ℕ) (w : Answer) → ent 𝓤 (ensured 𝓤 H A refused′.ended (refused′.clauses 𝓤 H A at-mem run) tt (k, (p, tt)) tt w) (fact 𝓤 (w ≡ Refused k p))
   refused-of k p w = exE 𝓤 _ (λ ws. snd∗ 𝓤 (sem 𝓤 H A (lasts refused′.ended tt (k, (p, tt)) ws)) (fact 𝓤 (w ≡ Refused k p)))
@@ -289,13 +289,13 @@ module _ {M : Type 1} (𝓤 : URA M) (H : Heap 𝓤) (A : Atoms 𝓤) (W : Given
   goes-refused k p isk isp l =
       qed W [] ∵ says ! l $ nothing ! $ owned ! usize (Is usize) (uint-makes 𝓤 H A W w64) p _ isp $ fjoin ! $ owned ! u32 (Is u32) (uint-makes 𝓤 H A W w32) k _ isk $ fjoin ! $ nothing ! $ join ! $ done !
 
-  -- ---- fill, of the blank row and the tables that are 0
+  -- ---- read_body, of the blank row and the tables that are 0
   module _ (body : ℕ) (isb : Is usize body (vint w64 body ∷ [])) (ready : (length ts ≡ tableWords) × (body ≤ length ss) × (length ss ≤ 16384)) (comes : outcome (Reading.run link ss (fuelOf ss) (length ys) (origin body (start link))) (length ys) ≡ target) where
-    abbrev fill-args : Loans → RefT (List ℕ) × (RefT (List Event) × (RefT (List ℕ) × (ℕ × Unit {0})))
-    fill-args g = (doc, (x (g .0 .1) blanks, (tab (g .1 .1) zeros, (body, tt))))
+    abbrev body-args : Loans → RefT (List ℕ) × (RefT (List Event) × (RefT (List ℕ) × (ℕ × Unit {0})))
+    body-args g = (doc, (x (g .0 .1) blanks, (tab (g .1 .1) zeros, (body, tt))))
 
-    abbrev to-fill : Loans → Fill 𝓤 H A at-mem run .Ghost
-    to-fill g = (((κ₀, (g .0 .0 ∷ [], (g .1 .0 ∷ [], tt))), (q₀, (fullShare, (fullShare, tt))), tt, fill-args g, (s₁ ∷ [], (s₂ ∷ [], (s₃ ∷ [], (vint w64 body ∷ [], tt))))), tt)
+    abbrev to-body : Loans → ReadBody 𝓤 H A at-mem run .Ghost
+    to-body g = (((κ₀, (g .0 .0 ∷ [], (g .1 .0 ∷ [], tt))), (q₀, (fullShare, (fullShare, tt))), tt, body-args g, (s₁ ∷ [], (s₂ ∷ [], (s₃ ∷ [], (vint w64 body ∷ [], tt))))), tt)
 
     abbrev lent-row : ℕ × GName → Fml
     lent-row = Lends E.the-row κ₁ q₁ γ b o (named 1) (named 1) (length ys) blanks
@@ -315,17 +315,17 @@ module _ {M : Type 1} (𝓤 : URA M) (H : Heap 𝓤) (A : Atoms 𝓤) (W : Given
     abbrev Held : Loans → Item 𝓤
     Held g = ‵ (kept-row (g .0)) ⊛ ‵ (kept-tab (g .1))
 
-    goes-fill : (g : Loans)
-        → ent 𝓤 (sep 𝓤 (sep 𝓤 (A .lft κ₀ q₀) (sep 𝓤 (A .lft (g .0 .0 ∷ []) fullShare) (A .lft (g .1 .0 ∷ []) fullShare))) (sep 𝓤 (sem 𝓤 H A own-doc) (sep 𝓤 (sem 𝓤 H A (lent-row (g .0))) (sem 𝓤 H A (lent-tab (g .1)))))) (Fill 𝓤 H A at-mem run .pre (to-fill g))
-    goes-fill g =
+    goes-body : (g : Loans)
+        → ent 𝓤 (sep 𝓤 (sep 𝓤 (A .lft κ₀ q₀) (sep 𝓤 (A .lft (g .0 .0 ∷ []) fullShare) (A .lft (g .1 .0 ∷ []) fullShare))) (sep 𝓤 (sem 𝓤 H A own-doc) (sep 𝓤 (sem 𝓤 H A (lent-row (g .0))) (sem 𝓤 H A (lent-tab (g .1)))))) (ReadBody 𝓤 H A at-mem run .pre (to-body g))
+    goes-body g =
         qed W ((‵ (flft κ₀ q₀) ⊛ ‵ (flft (g .0 .0 ∷ []) fullShare) ⊛ ‵ (flft (g .1 .0 ∷ []) fullShare)) ∷ ‵ own-doc ∷ (‵ (lent-row (g .0)) ⊛ ‵ (lent-tab (g .1))) ∷ []) ∵
         says ! (ready .1, ready .2, ap (λ (k : ℕ). replicate k blank) (sym long-blanks), ap (λ (k : ℕ). replicate k 0) (ready .0)) $ split ! $ move ! (1 ∷ []) $ split ! $ move ! (4 ∷ []) $ split ! $
         -- [the row; the tables; the row's token; the tables'; the document's; the document]
         nothing ! $ owned ! usize (Is usize) (uint-makes 𝓤 H A W w64) body _ isb $ fjoin ! $ move ! (2 ∷ 0 ∷ []) $ fjoin ! $ move ! (1 ∷ 0 ∷ []) $ fjoin ! $ move ! (4 ∷ 0 ∷ []) $ fjoin ! $
         nothing ! $ move ! (3 ∷ 0 ∷ []) $ join ! $ move ! (2 ∷ 0 ∷ []) $ join ! $ move ! (2 ∷ 0 ∷ []) $ join ! $ join ! $ done !
 
-    fill-lends : ent 𝓤 (sep 𝓤 doc-of (sep 𝓤 (row-of blanks) (tab-of zeros))) (H .⇛ (ex 𝓤 (λ (g : Loans). sep 𝓤 (Fill 𝓤 H A at-mem run .pre (to-fill g)) (held-of g))))
-    fill-lends =
+    body-lends : ent 𝓤 (sep 𝓤 doc-of (sep 𝓤 (row-of blanks) (tab-of zeros))) (H .⇛ (ex 𝓤 (λ (g : Loans). sep 𝓤 (ReadBody 𝓤 H A at-mem run .pre (to-body g)) (held-of g))))
+    body-lends =
         qed W (Doc ∷ Row blanks ∷ Tab zeros ∷ []) ∵ updating ! $ move ! (1 ∷ []) $ split ! $
         use2 W (later (some (λ (g : ℕ × GName). ‵ (flft (g .0 ∷ []) fullShare) ⊛ (‵ (lent-row g) ⊛ ‵ (kept-row g))))) (lends-call E.the-row κ₁ q₁ γ b o (named 1) (named 1) (length ys) 𝓤 H A W blanks long-blanks) $ await ! tt $ pick ! (λ g. split ! $ move ! (1 ∷ []) $ split ! $
         move ! (4 ∷ []) $ split ! $
@@ -333,8 +333,8 @@ module _ {M : Type 1} (𝓤 : URA M) (H : Heap 𝓤) (A : Atoms 𝓤) (W : Given
         -- [the lent tables; what is kept of them; their token; the lent row; what is kept of it; its token; the document and its token]
         move ! (5 ∷ 2 ∷ []) $ join ! $ move ! (5 ∷ []) $ split ! $ move ! (1 ∷ 2 ∷ []) $ join ! $ move ! (4 ∷ 2 ∷ []) $ join ! $
         -- [the two that are lent; the tokens; the document; what is kept of the tables; of the row]
-        move ! (1 ∷ 2 ∷ 0 ∷ []) $ use3 W (raw (Fill 𝓤 H A at-mem run .pre (to-fill (g, h)))) (goes-fill (g, h)) $
-        at-once ! $ show ! (λ (j : Loans). sep 𝓤 (Fill 𝓤 H A at-mem run .pre (to-fill j)) (held-of j)) (g, h) $ frame ! $ move ! (1 ∷ []) $ frame ! $ done !))
+        move ! (1 ∷ 2 ∷ 0 ∷ []) $ use3 W (raw (ReadBody 𝓤 H A at-mem run .pre (to-body (g, h)))) (goes-body (g, h)) $
+        at-once ! $ show ! (λ (j : Loans). sep 𝓤 (ReadBody 𝓤 H A at-mem run .pre (to-body j)) (held-of j)) (g, h) $ frame ! $ move ! (1 ∷ []) $ frame ! $ done !))
 
     -- the answer, and the row and the tables that it leaves; what is learned of them
     abbrev Came : Type 0
@@ -358,11 +358,11 @@ module _ {M : Type 1} (𝓤 : URA M) (H : Heap 𝓤) (A : Atoms 𝓤) (W : Given
         ∙ subst (λ (n : ℕ). settled n tableWords w (ws .1 .0) (ws .1 .1 .0) ≡ outcome (Reading.run link ss (fuelOf ss) n (origin body (start link))) n) long-blanks e
         ∙ comes
 
-    fill-back : (g : Loans) (v : Val) → ent 𝓤 (sep 𝓤 (Fill 𝓤 H A at-mem run .post (to-fill g) v) (held-of g)) (H .⇛ (ex 𝓤 (came-of v)))
-    fill-back g v =
-        qed W (raw (Fill 𝓤 H A at-mem run .post (to-fill g) v) ∷ ‵ (kept-row (g .0)) ∷ ‵ (kept-tab (g .1)) ∷ []) ∵ updating ! $
-        use1 W (later (some (λ (w : Answer). ((‵ (flft κ₀ q₀) ⊛ ‵ (flft (g .0 .0 ∷ []) fullShare) ⊛ ‵ (flft (g .1 .0 ∷ []) fullShare) ⊛ ‵ ftrue) ⊛ ‵ (R.the-row .own w (v ∷ []))) ⊛ raw (ensured 𝓤 H A fill′.ended (fill′.clauses 𝓤 H A at-mem run) (κ₀, (g .0 .0 ∷ [], (g .1 .0 ∷ [], tt))) (fill-args g) tt w)))) (id⊢ 𝓤 _) $ await ! tt $ pick ! (λ w.
-        split ! $ move ! (1 ∷ []) $ use1 W (some (λ (ws : Lasts). ‵ (lasts fill′.ended (κ₀, (g .0 .0 ∷ [], (g .1 .0 ∷ [], tt))) (fill-args g) ws) ⊛ raw (fact 𝓤 (Filled w ws)))) (id⊢ 𝓤 _) $ pick ! (λ ws.
+    body-back : (g : Loans) (v : Val) → ent 𝓤 (sep 𝓤 (ReadBody 𝓤 H A at-mem run .post (to-body g) v) (held-of g)) (H .⇛ (ex 𝓤 (came-of v)))
+    body-back g v =
+        qed W (raw (ReadBody 𝓤 H A at-mem run .post (to-body g) v) ∷ ‵ (kept-row (g .0)) ∷ ‵ (kept-tab (g .1)) ∷ []) ∵ updating ! $
+        use1 W (later (some (λ (w : Answer). ((‵ (flft κ₀ q₀) ⊛ ‵ (flft (g .0 .0 ∷ []) fullShare) ⊛ ‵ (flft (g .1 .0 ∷ []) fullShare) ⊛ ‵ ftrue) ⊛ ‵ (R.the-row .own w (v ∷ []))) ⊛ raw (ensured 𝓤 H A body′.ended (body′.clauses 𝓤 H A at-mem run) (κ₀, (g .0 .0 ∷ [], (g .1 .0 ∷ [], tt))) (body-args g) tt w)))) (id⊢ 𝓤 _) $ await ! tt $ pick ! (λ w.
+        split ! $ move ! (1 ∷ []) $ use1 W (some (λ (ws : Lasts). ‵ (lasts body′.ended (κ₀, (g .0 .0 ∷ [], (g .1 .0 ∷ [], tt))) (body-args g) ws) ⊛ raw (fact 𝓤 (Filled w ws)))) (id⊢ 𝓤 _) $ pick ! (λ ws.
         split ! $ move ! (1 ∷ []) $ heard ! (Filled w ws) (λ did. fsplit ! $ drop ! $ fsplit ! $ fsplit ! $ move ! (1 ∷ []) $ feqL ! (λ same. move ! (1 ∷ []) $ fsplit ! $ fsplit ! $ move ! (1 ∷ []) $ feqL ! (λ same′.
         -- [the last tables; true; the last row; the tokens and the result; what is kept of the row; of the tables]
         move ! (3 ∷ []) $ split ! $ move ! (1 ∷ []) $ facts ! R.the-row (Is R.the-row) (shows 𝓤 H A R.the-row) w (v ∷ []) (λ isw. split ! $ move ! (1 ∷ []) $ split ! $ move ! (1 ∷ []) $ split ! $
@@ -373,7 +373,7 @@ module _ {M : Type 1} (𝓤 : URA M) (H : Heap 𝓤) (A : Atoms 𝓤) (W : Given
         at-once ! $ show ! (came-of v) (w, (ws .1 .0, ws .1 .1 .0)) $ check ! (isw, same ∙ long-blanks, same′ ∙ long-zeros, settles-so w ws did) $ keep ! (3 ∷ 1 ∷ 0 ∷ []) $ frame ! $ frame ! $ done !))))))
 
   module _ (C : Calls 𝓤 H) (Λ : Loops 𝓤 H) (fm : FmC 𝓤 H (W .laws) C) (known-wipe : Triple 𝓤 (C #reader·read·wipe) (Wipe 𝓤 H A at-mem run)) (known-admitted : Triple 𝓤 (C #reader·read·admitted) (Admitted 𝓤 H A at-mem run))
-      (known-refused : Triple 𝓤 (C #reader·run·refused) (Refuse 𝓤 H A at-mem run)) (known-fill : Triple 𝓤 (C #reader·read·fill) (Fill 𝓤 H A at-mem run)) where
+      (known-refused : Triple 𝓤 (C #reader·read·refused) (Refuse 𝓤 H A at-mem run)) (known-body : Triple 𝓤 (C #reader·read·read-body) (ReadBody 𝓤 H A at-mem run)) where
     module _ (l₀ l₁ l₂ l₃ l₄ l₅ lᵦ l₆ l₇ l₈ l₉ l₁₀ l₁₁ l₁₂ l₁₃ l₁₄ l₁₅ l₁₆ l₁₇ l₁₈ l₁₉ l₂₀ l₂₁ l₂₂ l₂₃ : ℕ) where
       abbrev En : Env 𝓤 H
       En = (R′.mir, l₀) ∷ (docTy (named 0), l₁) ∷ (sliceTy (elemTy (named 1)), l₂) ∷ (sliceTy (numTy (named 2)), l₃) ∷ (tyInt w32, l₄) ∷ (tyInt w64, l₅) ∷ (tyInt w64, lᵦ) ∷ (R′.mir, l₆) ∷ (tyUnit, l₇) ∷ (elemTy erased, l₈) ∷ (sliceTy (elemTy erased), l₉) ∷ (numTy erased, l₁₀) ∷ (sliceTy (numTy erased), l₁₁)
@@ -449,10 +449,10 @@ module _ {M : Type 1} (𝓤 : URA M) (H : Heap 𝓤) (A : Atoms 𝓤) (W : Given
           assigns ! (agg ! (and-then ! (load ! (from ! (stop !)) (look ! 19 refl)) (and-then ! (load ! (from ! (fld ! refl (stop !))) (look-in ! 47 (sub ! 1 refl (whole !)))) (no-more !)))) (from ! (stop !)) (init ! 17 refl (tt, (tt, (record { fits = room-e .0 }, tt)))) $
           assigns ! (addr ! (from ! (fld ! refl (hop ! (look-in ! 45 (sub ! 0 refl (whole !))) (stop !))))) (from ! (stop !)) (init ! 15 refl (tt, tt)) $
           assigns ! (agg ! (and-then ! (load ! (from ! (stop !)) (look ! 15 refl)) (and-then ! (load ! (from ! (fld ! refl (stop !))) (look-in ! 45 (sub ! 1 refl (whole !)))) (no-more !)))) (from ! (stop !)) (init ! 13 refl (tt, (tt, (record { fits = room-t .0 }, tt)))) $
-          use3 W (later (some (λ (g : Loans). raw (Fill 𝓤 H A at-mem run .pre (to-fill body isb ready comes g)) ⊛ Held body isb ready comes g))) (fill-lends body isb ready comes) $ await ! tt $ pick ! (λ g. split ! $
+          use3 W (later (some (λ (g : Loans). raw (ReadBody 𝓤 H A at-mem run .pre (to-body body isb ready comes g)) ⊛ Held body isb ready comes g))) (body-lends body isb ready comes) $ await ! tt $ pick ! (λ g. split ! $
           -- [the `pre`; what is kept; _23 2; …; _18 12; …; _16 16; …; _1 48; …]
-          calls-at ! fm (Fill 𝓤 H A at-mem run) known-fill (to-fill body isb ready comes g) (and-then ! (load ! (from ! (stop !)) (look ! 48 refl)) (and-then ! (load ! (from ! (stop !)) (look ! 16 refl)) (and-then ! (load ! (from ! (stop !)) (look ! 12 refl)) (and-then ! (load ! (from ! (stop !)) (look ! 38 refl)) (no-more !))))) (λ v.
-          use2 W (later (some (λ (k : Came body isb ready comes). given (Learns body isb ready comes v k) (‵ (flft κ₀ q₀) ⊛ (Row (k .1 .0) ⊛ Tab (k .1 .1)))))) (fill-back body isb ready comes g v) $ await ! tt $ pick ! (λ k. learn ! (λ it. split ! $ move ! (1 ∷ []) $ split ! $ move ! (2 ∷ 0 ∷ 1 ∷ []) $
+          calls-at ! fm (ReadBody 𝓤 H A at-mem run) known-body (to-body body isb ready comes g) (and-then ! (load ! (from ! (stop !)) (look ! 48 refl)) (and-then ! (load ! (from ! (stop !)) (look ! 16 refl)) (and-then ! (load ! (from ! (stop !)) (look ! 12 refl)) (and-then ! (load ! (from ! (stop !)) (look ! 38 refl)) (no-more !))))) (λ v.
+          use2 W (later (some (λ (k : Came body isb ready comes). given (Learns body isb ready comes v k) (‵ (flft κ₀ q₀) ⊛ (Row (k .1 .0) ⊛ Tab (k .1 .1)))))) (body-back body isb ready comes g v) $ await ! tt $ pick ! (λ k. learn ! (λ it. split ! $ move ! (1 ∷ []) $ split ! $ move ! (2 ∷ 0 ∷ 1 ∷ []) $
           land ! (from ! (stop !)) (init ! 37 refl (LE.lawful R.the-type R′.the-laws 𝓤 H A W tt .typed (k .0) _ (it .0) .0)) $ rewrite ! 37 (λ (u : Val). ‵ (fat fullShare R′.mir l₆ 0 u)) (ap only (LE.tells R.the-type R′.the-laws (k .0) _ (it .0))) refl $
           forget ! 13 refl $ forget ! 15 refl $ forget ! 17 refl $ forget ! 19 refl $ forget ! 39 refl $
           settles (k .1 .0) (k .1 .1) (valO (Onward body)) (it .1) (it .2) (k .0) (subst (Is R.the-row (k .0)) (LE.tells R.the-type R′.the-laws (k .0) _ (it .0)) (it .0)) (it .3)))))
@@ -506,5 +506,5 @@ read-spec 𝓤 H 𝓜 𝓖 𝓡 =
     (a .1 .1 .0 .ptr .0) (a .1 .1 .0 .ptr .1) (a .1 .1 .0 .name) (a .1 .1 .0 .now) (are .0 .0 .1) (are .1 .0 .0 .1) (are .1 .1 .0 .0 .1) _ _ (fmOf 𝓤 H (W .laws) (tablesOf 𝓤 H 𝓜 (tables 𝓤 H 𝓜 𝓡 code.env)))
     (cited 𝓤 H (Wipe 𝓤 H (𝓖 .A) (𝓜 .mem) (𝓡 .run)) 𝓜 𝓡 code.env #reader·read·wipe wipe-def.routine code.calls-reader·read·wipe (wipe-thm.met 𝓤 H 𝓜 𝓖 𝓡))
     (cited 𝓤 H (Admitted 𝓤 H (𝓖 .A) (𝓜 .mem) (𝓡 .run)) 𝓜 𝓡 code.env #reader·read·admitted admitted-def.routine code.calls-reader·read·admitted (admitted-thm.met 𝓤 H 𝓜 𝓖 𝓡))
-    (cited 𝓤 H (Refuse 𝓤 H (𝓖 .A) (𝓜 .mem) (𝓡 .run)) 𝓜 𝓡 code.env #reader·run·refused refused-def.routine code.calls-reader·run·refused (refused-thm.met 𝓤 H 𝓜 𝓖 𝓡))
-    (cited 𝓤 H (Fill 𝓤 H (𝓖 .A) (𝓜 .mem) (𝓡 .run)) 𝓜 𝓡 code.env #reader·read·fill fill-def.routine code.calls-reader·read·fill (fill-thm.met 𝓤 H 𝓜 𝓖 𝓡))))
+    (cited 𝓤 H (Refuse 𝓤 H (𝓖 .A) (𝓜 .mem) (𝓡 .run)) 𝓜 𝓡 code.env #reader·read·refused refused-def.routine code.calls-reader·read·refused (refused-thm.met 𝓤 H 𝓜 𝓖 𝓡))
+    (cited 𝓤 H (ReadBody 𝓤 H (𝓖 .A) (𝓜 .mem) (𝓡 .run)) 𝓜 𝓡 code.env #reader·read·read-body body-def.routine code.calls-reader·read·read-body (body-thm.met 𝓤 H 𝓜 𝓖 𝓡))))

@@ -1,12 +1,12 @@
 -- `read_words` meets its contract: a law for each way out.
 -- Assumes nothing.
 use mathlib.Core.Path.{sym, _∙_}
-use native.Mathlib.Omega.{arith}
-use borrow.Author.Needs.{needs}
 use borrow.Author.Tests.{not-true, not-false}
 use lib.ListN.{length}
 use Rattle.tables.proofs.Zeros.{zeroed}
 use Rattle.reader.proofs.WordLaws.{words-size, words-tables, words-counts, words-refused, words-accepted}
+use borrow.Author.Needs.{needs}
+use native.Mathlib.Omega.{arith}
 use Rattle.reader.proofs.run.read_words.Statement.{statement}
 use Rattle.reader.proofs.run.read_words.Tie as tie
 
@@ -35,7 +35,11 @@ same-length-3 : tie.Need-same-length-3
 same-length-3 c = search needs
 
 returns : tie.Need-returns
-returns c = rw (c .before .before .before .before .before .before .before .before .before .before .before .before .clear .ensures, c .before .before .before .before .before .before .before .before .clear2 .ensures, c .before .before .before .before .clear3 .ensures) (words-size _ _ _ _ (sym (not-true _ (c .if1 .taken)) ∙ c .before .sized .ensures))
+returns c =
+    let clear = c .before .before .before .before .before .before .before .before .before .before .before .before .clear in
+    let clear2 = c .before .before .before .before .before .before .before .before .clear2 in
+    let clear3 = c .before .before .before .before .clear3 in
+    rw (clear .ensures, clear2 .ensures, clear3 .ensures) (words-size _ _ _ _ (sym (not-true _ (c .if1 .taken)) ∙ c .before .sized .ensures))
 
 cast-result-2 : tie.Need-cast-result-2
 cast-result-2 c = search needs
@@ -50,7 +54,11 @@ same-length-6 : tie.Need-same-length-6
 same-length-6 c = search needs
 
 returns-2 : tie.Need-returns-2
-returns-2 c = rw (c .before .before .before .before .before .before .before .before .before .before .before .before .before .clear .ensures, c .before .before .before .before .before .before .before .before .before .clear2 .ensures, c .before .before .before .before .before .clear3 .ensures) (words-tables _ _ _ _ (sym (not-false _ (c .before .if1 .left)) ∙ c .before .before .sized .ensures) (omega arith))
+returns-2 c =
+    let clear = c .before .before .before .before .before .before .before .before .before .before .before .before .before .clear in
+    let clear2 = c .before .before .before .before .before .before .before .before .before .clear2 in
+    let clear3 = c .before .before .before .before .before .clear3 in
+    rw (clear .ensures, clear2 .ensures, clear3 .ensures) (words-tables _ _ _ _ (sym (not-false _ (c .before .if1 .left)) ∙ c .before .before .sized .ensures) (omega arith))
 
 cast-result-3 : tie.Need-cast-result-3
 cast-result-3 c = search needs
@@ -65,10 +73,17 @@ same-length-9 : tie.Need-same-length-9
 same-length-9 c = search needs
 
 returns-3 : tie.Need-returns-3
-returns-3 c = rw (c .before .before .before .before .before .before .before .before .before .before .before .before .before .before .clear .ensures, c .before .before .before .before .before .before .before .before .before .before .clear2 .ensures, c .before .before .before .before .before .before .clear3 .ensures) (words-counts _ _ _ _ (sym (not-false _ (c .before .before .if1 .left)) ∙ c .before .before .before .sized .ensures) (omega arith))
+returns-3 c =
+    let clear = c .before .before .before .before .before .before .before .before .before .before .before .before .before .before .clear in
+    let clear2 = c .before .before .before .before .before .before .before .before .before .before .clear2 in
+    let clear3 = c .before .before .before .before .before .before .clear3 in
+    rw (clear .ensures, clear2 .ensures, clear3 .ensures) (words-counts _ _ _ _ (sym (not-false _ (c .before .before .if1 .left)) ∙ c .before .before .before .sized .ensures) (omega arith))
 
 reading-requires : tie.Need-reading-requires
-reading-requires c κs = zeroed _ (length (c .before .before .before .before .before .before .before .before .before .before .before .before .before .before .before .before .before .before .before .before .before .before .args .tables .now)) 7680 (c .before .before .before .before .before .before .before .before .before .before .before .before .clear2 .ensures) (omega arith)
+reading-requires c κs =
+    let args = c .before .before .before .before .before .before .before .before .before .before .before .before .before .before .before .before .before .before .before .before .before .before .before .args in
+    let clear2 = c .before .before .before .before .before .before .before .before .before .before .before .before .before .clear2 in
+    (zeroed _ (length (args .tables .now)) 7680 (clear2 .ensures) (omega arith), omega arith)
 
 enum-known-a : tie.Need-enum-known-a
 enum-known-a c = search needs
@@ -82,8 +97,13 @@ clear-requires-4 c κs = search needs
 clear-requires-5 : tie.Need-clear-requires-5
 clear-requires-5 c κs = search needs
 
+clear-requires-6 : tie.Need-clear-requires-6
+clear-requires-6 c κs = search needs
+
 number-requires : tie.Need-number-requires
-number-requires c κs = search needs
+number-requires c κs =
+    let reading = c .before .before .before .before .before .before .before .before .before .before .before .before .before .before .before .before .before .before .before .before .reading in
+    reading .ensures .small
 
 cast-result-4 : tie.Need-cast-result-4
 cast-result-4 c = search needs
@@ -98,10 +118,22 @@ same-length-12 : tie.Need-same-length-12
 same-length-12 c = search needs
 
 returns-4 : tie.Need-returns-4
-returns-4 c = rw (zeroed _ (length (c .before .before .before .before .before .before .before .before .before .before .before .before .before .before .before .reading .last .1 .1 .0)) (length (c .before .before .before .before .before .before .before .before .before .before .before .before .before .before .before .before .before .before .before .before .before .before .before .before .before .before .before .before .before .before .before .before .before .before .before .before .before .before .args .records .now)) (c .before .before .before .before .before .before .before .clear4 .ensures) (omega arith), zeroed _ (length (c .before .before .before .before .before .before .before .before .before .before .before .before .before .before .before .reading .last .1 .0)) (length (c .before .before .before .before .before .before .before .before .before .before .before .before .before .before .before .before .before .before .before .before .before .before .before .before .before .before .before .before .before .before .before .before .before .before .before .before .before .before .args .tables .now)) (c .before .before .before .clear5 .ensures) (omega arith), c .before .before .before .before .before .before .before .before .before .before .before .before .before .before .before .before .before .before .before .before .before .before .before .before .clear3 .ensures) (words-refused _ _ _ _ (sym (not-false _ (c .before .before .before .before .before .before .before .before .before .before .before .before .before .before .before .before .before .before .before .before .if1 .left)) ∙ c .before .before .before .before .before .before .before .before .before .before .before .before .before .before .before .before .before .before .before .before .before .sized .ensures) (omega arith) (omega arith) (c .before .before .before .before .before .before .before .before .before .before .before .before .before .before .before .reading .ensures) (c .before .before .before .before .before .before .before .before .before .enum-told .given .1) (c .number .ensures))
-
-put-counts-requires : tie.Need-put-counts-requires
-put-counts-requires c κs = search needs
+returns-4 c =
+    let args = c .before .before .before .before .before .before .before .before .before .before .before .before .before .before .before .before .before .before .before .before .before .before .before .before .before .before .before .before .before .before .before .before .before .before .before .before .before .before .before .before .before .before .before .before .before .args in
+    let if1 = c .before .before .before .before .before .before .before .before .before .before .before .before .before .before .before .before .before .before .before .before .before .before .before .before .before .before .before .if1 in
+    let if2 = c .before .before .before .before .before .before .before .before .before .before .before .before .before .before .before .before .before .before .before .before .before .before .before .before .before .before .if2 .left in
+    let if3 = c .before .before .before .before .before .before .before .before .before .before .before .before .before .before .before .before .before .before .before .before .before .before .before .before .before .if3 .left in
+    let sized = c .before .before .before .before .before .before .before .before .before .before .before .before .before .before .before .before .before .before .before .before .before .before .before .before .before .before .before .before .sized in
+    let reading = c .before .before .before .before .before .before .before .before .before .before .before .before .before .before .before .before .before .before .before .before .before .reading in
+    let records = c .before .before .before .before .before .before .before .before .before .before .before .before .before .before .before .before .before .before .before .before .before .before .before .before .before .before .before .before .before .before .before .before .before .before .before .before .before .before .records .given in
+    let tables = c .before .before .before .before .before .before .before .before .before .before .before .before .before .before .before .before .before .before .before .before .before .before .before .before .before .before .before .before .before .before .before .before .before .before .tables .given in
+    let counts = c .before .before .before .before .before .before .before .before .before .before .before .before .before .before .before .before .before .before .before .before .before .before .before .before .before .before .before .before .before .before .counts .given in
+    let enum-told = c .before .before .before .before .before .before .before .before .before .before .before .before .before .enum-told in
+    let clear4 = c .before .before .before .before .before .before .before .before .before .before .before .clear4 in
+    words-refused _ (length (args .records .now)) (length (args .tables .now)) (length (args .counts .now)) (sym (not-false _ (if1 .left)) ∙ sized .ensures) (omega (arith, tables, if2)) (omega (arith, counts, if3)) (reading .ensures) (enum-told .given .1) (c .number .ensures)
+    (zeroed _ (length (reading .last .1 .1 .1 .0)) (length (args .records .now)) (clear4 .ensures) (omega (arith, records)))
+    (zeroed _ (length (reading .last .1 .0)) (length (args .tables .now)) (c .before .before .before .before .before .before .before .clear5 .ensures) (omega (arith, tables)))
+    (zeroed _ (length (reading .last .1 .1 .0)) (length (args .counts .now)) (c .before .before .before .clear6 .ensures) (omega (arith, counts)))
 
 cast-result-5 : tie.Need-cast-result-5
 cast-result-5 c = search needs
@@ -116,7 +148,12 @@ same-length-15 : tie.Need-same-length-15
 same-length-15 c = search needs
 
 returns-5 : tie.Need-returns-5
-returns-5 c = words-accepted _ _ _ _ (sym (not-false _ (c .before .before .before .before .before .before .before .before .before .before .before .before .before .before .before .before .if1 .left)) ∙ c .before .before .before .before .before .before .before .before .before .before .before .before .before .before .before .before .before .sized .ensures) (omega arith) (omega arith) (c .before .before .before .before .before .before .before .before .before .before .before .reading .ensures) (c .before .before .before .before .before .a .given .1) (c .before .before .before .before .before .before .before .before .before .before .before .before .before .before .before .before .before .before .before .before .before .before .before .before .before .before .before .before .clear .ensures) (c .before .before .put-counts .ensures)
+returns-5 c =
+    let if1 = c .before .before .before .before .before .before .before .before .before .before .before .before .before .before .before .if1 in
+    let sized = c .before .before .before .before .before .before .before .before .before .before .before .before .before .before .before .before .sized in
+    let reading = c .before .before .before .before .before .before .before .before .before .reading in
+    let clear = c .before .before .before .before .before .before .before .before .before .before .before .before .before .before .before .before .before .before .before .before .before .before .before .before .before .before .before .clear in
+    words-accepted _ _ _ _ (sym (not-false _ (if1 .left)) ∙ sized .ensures) (omega arith) (omega arith) (reading .ensures) (c .before .a .given .1) (clear .ensures)
 
 pub read-words-spec : {M : Type 1} → statement M
 read-words-spec =
@@ -146,13 +183,13 @@ read-words-spec =
     enum-told
     clear-requires-4
     clear-requires-5
+    clear-requires-6
     number-requires
     cast-result-4
     same-length-10
     same-length-11
     same-length-12
     returns-4
-    put-counts-requires
     cast-result-5
     same-length-13
     same-length-14

@@ -37,10 +37,13 @@ same-length c = search needs
 same-length-2 : tie.Need-same-length-2
 same-length-2 c = search needs
 
+same-length-3 : tie.Need-same-length-3
+same-length-3 c = search needs
+
 returns : tie.Need-returns
 returns c =
-    let at-pair = c .before .before .before .before in
-    let at-has2 = at-pair .before .before .before in
+    let at-pair = c .before .before .before .before .before .before in
+    let at-has2 = at-pair .before .before .before .before in
     let at-has = at-has2 .before in
     rw (declared-is _ _ _ _ (at-has .has .ensures .0) (at-has2 .has2 .ensures .0)) (at-pair .pair .ensures)
 
@@ -58,4 +61,5 @@ declared-spec =
     pair-requires
     same-length
     same-length-2
+    same-length-3
     returns)

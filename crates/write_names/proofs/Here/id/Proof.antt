@@ -2,7 +2,7 @@
 -- Assumes nothing.
 use borrow.Author.Needs.{needs}
 use native.Mathlib.Omega.{arith}
-use Rattle.write_names.proofs.StringLaws.{id-numbered, id-full, id-stretch, id-added}
+use Rattle.write_names.proofs.StringLaws.{id-numbered, id-full, id-stretch, id-new, id-added}
 use Rattle.write_names.proofs.Here.id.Statement.{statement}
 use Rattle.write_names.proofs.Here.id.Tie as tie
 
@@ -14,18 +14,18 @@ same-length c = search needs
 
 returns : tie.Need-returns
 returns c =
-    let pre = c .before .before .before .before .before .before .before .before .pre in
-    let a = c .before .before .before .before .before .before .before .before .args in
-    id-numbered _ _ _ _ (pre .0) (a .x) (a .k) (pre .4) (pre .3) (pre .5) (omega arith) (c .before .before .put-number-at-bit-2 .ensures)
+    let pre = c .before .before .before .before .before .before .before .before .before .pre in
+    let a = c .before .before .before .before .before .before .before .before .before .args in
+    id-numbered _ _ _ _ _ (pre .0) (a .x) (a .k) (pre .4) (pre .3) (pre .5) (omega arith) (c .before .before .put-number-at-bit-2 .ensures)
 
 of-requires : tie.Need-of-requires
 of-requires c κs = search needs
 
 returns-2 : tie.Need-returns-2
 returns-2 c =
-    let pre = c .before .before .before .before .before .before .pre in
-    let a = c .before .before .before .before .before .before .args in
-    id-full _ _ _ _ (pre .0) (a .x) (a .k) (pre .4) (pre .3) (pre .5) (omega arith) (omega arith) (omega arith)
+    let pre = c .before .before .before .before .before .before .before .pre in
+    let a = c .before .before .before .before .before .before .before .args in
+    id-full _ _ _ _ _ (pre .0) (a .x) (a .k) (pre .4) (pre .3) (pre .5) (omega arith) (omega arith) (omega arith)
 
 place-requires : tie.Need-place-requires
 place-requires c κs = search needs
@@ -35,12 +35,18 @@ size-requires c κs = search needs
 
 spelled-requires : tie.Need-spelled-requires
 spelled-requires c κs =
-    let pre = c .before .before .before .before .before .before .before .before .before .pre in
-    let a = c .before .before .before .before .before .before .before .before .before .args in
-    omega (arith, id-stretch _ _ _ _ (pre .0) (a .x) (a .k) (pre .4) (pre .3) (pre .5) (omega arith), pre .0 .size)
+    let pre = c .before .before .before .before .before .before .before .before .before .before .pre in
+    let a = c .before .before .before .before .before .before .before .before .before .before .args in
+    omega (arith, id-stretch _ _ _ _ _ (pre .0) (a .x) (a .k) (pre .4) (pre .3) (pre .5) (omega arith), pre .0 .size)
 
 added-requires : tie.Need-added-requires
-added-requires c κs = search needs
+added-requires c κs =
+    let pre = c .before .before .before .before .before .before .before .before .before .before .before .before .before .before .before .pre in
+    let a = c .before .before .before .before .before .before .before .before .before .before .before .before .before .before .before .args in
+    let place = c .before .before .before .before .before .before .before .place .ensures in
+    let size = c .before .before .before .before .before .before .size .ensures in
+    let lies = id-stretch _ _ _ _ _ (pre .0) (a .x) (a .k) (pre .4) (pre .3) (pre .5) (omega arith) in
+    (pre .0, omega arith, omega arith, omega arith, omega arith, id-new _ _ _ _ _ (pre .0) (a .x) (a .k) (pre .4) (pre .3) (pre .5) (omega arith) _ _ place size)
 
 same-length-2 : tie.Need-same-length-2
 same-length-2 c = search needs
@@ -48,14 +54,21 @@ same-length-2 c = search needs
 same-length-3 : tie.Need-same-length-3
 same-length-3 c = search needs
 
+same-length-4 : tie.Need-same-length-4
+same-length-4 c = search needs
+
 returns-3 : tie.Need-returns-3
 returns-3 c =
-    let pre = c .before .before .before .before .before .before .before .before .before .before .before .before .before .before .before .before .pre in
-    let a = c .before .before .before .before .before .before .before .before .before .before .before .before .before .before .before .before .args in
-    let place = c .before .before .before .before .before .before .before .before .before .place in
-    let size = c .before .before .before .before .before .before .before .before .size in
-    let spelled = c .before .before .before .before .before .before .spelled in
-    id-added _ _ _ _ (pre .0) (a .x) (a .k) (pre .4) (pre .3) (pre .5) (omega arith) (omega arith) (omega arith) _ _ (place .ensures) (size .ensures) _ _ (c .before .before .added .ensures) (spelled .ensures)
+    let pre = c .before .before .before .before .before .before .before .before .before .before .before .before .before .before .before .before .before .before .before .before .pre in
+    let a = c .before .before .before .before .before .before .before .before .before .before .before .before .before .before .before .before .before .before .before .before .args in
+    let place = c .before .before .before .before .before .before .before .before .before .before .before .before .place in
+    let size = c .before .before .before .before .before .before .before .before .before .before .before .size in
+    let spelled = c .before .before .before .before .before .before .before .before .before .spelled in
+    let none = c .before .before .before .before .before .before .before .before .before .before .before .before .before .before .before .if1 .left in
+    let small = pre .2 in
+    let room = c .before .before .before .before .before .before .before .before .before .before .before .before .before .if2 .left in
+    let n = c .before .before .before .before .before .before .before .before .before .before .before .before .before .before .of .ensures in
+    id-added _ _ _ _ _ (pre .0) (a .x) (a .k) (pre .4) (pre .3) (pre .5) (omega (arith, none)) (omega (arith, small)) (omega (arith, room, n)) _ _ (place .ensures) (size .ensures) _ _ _ (c .before .before .before .before .added .ensures) (spelled .ensures)
 
 pub id-spec : {M : Type 1} → statement M
 id-spec =
@@ -72,4 +85,5 @@ id-spec =
     added-requires
     same-length-2
     same-length-3
+    same-length-4
     returns-3)

@@ -11,8 +11,11 @@ of-requires c κs = search needs
 returns : tie.Need-returns
 returns c = search needs
 
-add-requires : tie.Need-add-requires
-add-requires c κs = search needs
+enter-name-requires : tie.Need-enter-name-requires
+enter-name-requires c κs =
+    let pre = c .before .before .before .before .before .before .pre in
+    let n = c .before .before .before .of .ensures in
+    (pre .0, pre .1, pre .2, pre .3, omega arith, rw n (pre .4))
 
 more-requires : tie.Need-more-requires
 more-requires c κs = search needs
@@ -20,13 +23,22 @@ more-requires c κs = search needs
 same-length : tie.Need-same-length
 same-length c = search needs
 
+same-length-2 : tie.Need-same-length-2
+same-length-2 c = search needs
+
 returns-2 : tie.Need-returns-2
 returns-2 c =
-    let at-add = c .before .before .before in
-    let at-of = at-add .before .before .before in
-    let n = at-of .of .ensures in
-    (omega arith, rw (c .more .ensures), rw n at (at-add .add .ensures))
+    let n = c .before .before .before .before .before .before .before .before .before .of .ensures in
+    (omega arith, rw (c .more .ensures), rw n at (c .before .before .before .before .before .enter-name .ensures))
 
 pub triple-spec : {M : Type 1} → statement M
 triple-spec =
-    tie.close (tie.spec of-requires returns add-requires more-requires same-length returns-2)
+    tie.close
+    (tie.spec
+    of-requires
+    returns
+    enter-name-requires
+    more-requires
+    same-length
+    same-length-2
+    returns-2)

@@ -20,14 +20,14 @@ same-length c = search needs
 
 returns : tie.Need-returns
 returns c =
-    let pre = c .before .before .before .before .before .before .before .before .before .before .pre in
-    let a = c .before .before .before .before .before .before .before .before .before .before .args in
-    value-empty _ _ _ _ (pre .0) (a .x) (pre .3) (omega arith) (c .before .before .before .put .ensures)
+    let pre = c .before .before .before .before .before .before .before .before .before .before .before .pre in
+    let a = c .before .before .before .before .before .before .before .before .before .before .before .args in
+    value-empty _ _ _ _ _ (pre .0) (a .x) (pre .3) (omega arith) (c .before .before .before .put .ensures)
 
 number-of-requires : tie.Need-number-of-requires
 number-of-requires c κs =
-    let pre = c .before .before .before .before .before .before .pre in
-    let a = c .before .before .before .before .before .before .args in
+    let pre = c .before .before .before .before .before .before .before .before .pre in
+    let a = c .before .before .before .before .before .before .before .before .args in
     (pre .0, pre .2, spells-suits (a .text .now) (a .table) (a .x) (fills-spells (a .text .now) (a .x) (pre .3) (omega arith)))
 
 put-number-at-bit-2-requires : tie.Need-put-number-at-bit-2-requires
@@ -39,30 +39,37 @@ same-length-2 c = search needs
 same-length-3 : tie.Need-same-length-3
 same-length-3 c = search needs
 
+same-length-4 : tie.Need-same-length-4
+same-length-4 c = search needs
+
 returns-2 : tie.Need-returns-2
 returns-2 c =
-    let pre = c .before .before .before .before .before .before .before .before .before .before .before .before .pre in
-    let a = c .before .before .before .before .before .before .before .before .before .before .before .before .args in
-    value-numbered _ _ _ _ (pre .0) (a .x) _ (c .before .before .before .before .before .number-of .ensures .0) (pre .3) (omega arith) (omega arith) (c .before .before .put-number-at-bit-2 .ensures)
+    let pre = c .before .before .before .before .before .before .before .before .before .before .before .before .before .before .pre in
+    let a = c .before .before .before .before .before .before .before .before .before .before .before .before .before .before .args in
+    value-numbered _ _ _ _ _ (pre .0) (a .x) _ (c .before .before .before .before .before .number-of .ensures .0) (pre .3) (omega arith) (omega arith) (c .before .before .put-number-at-bit-2 .ensures)
 
 literal-requires : tie.Need-literal-requires
 literal-requires c κs =
-    let pre = c .before .before .before .before .before .before .before .before .before .before .pre in
-    let a = c .before .before .before .before .before .before .before .before .before .before .args in
-    (pre .0, omega arith, omega arith, (fills-spells (a .text .now) (a .x) (pre .3) (omega arith)), omega arith, omega arith, omega arith)
-
-same-length-4 : tie.Need-same-length-4
-same-length-4 c = search needs
+    let pre = c .before .before .before .before .before .before .before .before .before .before .before .before .before .pre in
+    let a = c .before .before .before .before .before .before .before .before .before .before .before .before .before .args in
+    let held = c .before .before .before .before .number-of .ensures .0 in
+    (pre .0, omega arith, omega arith, fills-spells (a .text .now) (a .x) (pre .3) (omega arith), omega arith, omega arith, omega arith, omega arith)
 
 same-length-5 : tie.Need-same-length-5
 same-length-5 c = search needs
 
+same-length-6 : tie.Need-same-length-6
+same-length-6 c = search needs
+
+same-length-7 : tie.Need-same-length-7
+same-length-7 c = search needs
+
 returns-3 : tie.Need-returns-3
 returns-3 c =
-    let pre = c .before .before .before .before .before .before .before .before .before .before .before .before .before .before .before .pre in
-    let a = c .before .before .before .before .before .before .before .before .before .before .before .before .before .before .before .args in
-    let number-of = c .before .before .before .before .before .before .before .before .number-of in
-    value-spelled _ _ _ _ (pre .0) (a .x) _ (number-of .ensures .0) (pre .3) (omega arith) (omega arith) _ (c .before .before .before .before .literal .ensures)
+    let pre = c .before .before .before .before .before .before .before .before .before .before .before .before .before .before .before .before .before .before .before .before .pre in
+    let a = c .before .before .before .before .before .before .before .before .before .before .before .before .before .before .before .before .before .before .before .before .args in
+    let number-of = c .before .before .before .before .before .before .before .before .before .before .before .number-of in
+    value-spelled _ _ _ _ _ (pre .0) (a .x) _ (number-of .ensures .0) (pre .3) (omega arith) (omega arith) _ (c .before .before .before .before .before .before .literal .ensures)
 
 pub value-spec : {M : Type 1} → statement M
 value-spec =
@@ -77,8 +84,10 @@ value-spec =
     put-number-at-bit-2-requires
     same-length-2
     same-length-3
+    same-length-4
     returns-2
     literal-requires
-    same-length-4
     same-length-5
+    same-length-6
+    same-length-7
     returns-3)

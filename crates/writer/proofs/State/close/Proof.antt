@@ -19,7 +19,7 @@ same-length : tie.Need-same-length
 same-length c = search needs
 
 returns : tie.Need-returns
-returns c = λ text a w order. end-lands text a _ w order (omega arith) (omega arith) (c .before .before .before .before .before .put-end .ensures)
+returns c = λ text a w ix order. end-lands text a _ w ix order (omega arith) (omega arith) (c .before .before .before .before .before .put-end .ensures)
 
 pub close-spec : {M : Type 1} → statement M
 close-spec = tie.close (tie.spec put-end-requires add-t7 sub-t8 same-length returns)

@@ -13,57 +13,57 @@ enum-told : tie.Need-enum-told
 enum-told c = search needs
 
 close-requires : tie.Need-close-requires
-close-requires c κs = absurd (by-kind _ _ Blank (rw (c .before .enum-told .given .1) at (c .before .before .before .before .before .before .pre .made)))
+close-requires c κs = absurd (by-kind _ _ Blank (rw (c .before .enum-told .given .1) at (c .before .before .before .before .before .before .before .pre .made)))
 
 enum-told-2 : tie.Need-enum-told-2
 enum-told-2 c = search needs
 
 declare-requires : tie.Need-declare-requires
-declare-requires c κs = kind-fits (c .before .before .enum-told2 .given .1) (c .before .before .before .before .before .before .before .pre)
+declare-requires c κs = kind-fits (c .before .before .before .enum-told2 .given .1) (c .before .before .before .before .before .before .before .before .before .pre)
 
 enum-told-3 : tie.Need-enum-told-3
 enum-told-3 c = search needs
 
 start-requires : tie.Need-start-requires
-start-requires c κs = kind-fits (c .before .before .enum-told3 .given .1) (c .before .before .before .before .before .before .before .pre)
+start-requires c κs = kind-fits (c .before .before .before .enum-told3 .given .1) (c .before .before .before .before .before .before .before .before .before .pre)
 
 enum-told-4 : tie.Need-enum-told-4
 enum-told-4 c = search needs
 
 attribute-requires : tie.Need-attribute-requires
-attribute-requires c κs = kind-fits (c .before .before .enum-told4 .given .1) (c .before .before .before .before .before .before .before .pre)
+attribute-requires c κs = kind-fits (c .before .before .before .enum-told4 .given .1) (c .before .before .before .before .before .before .before .before .before .pre)
 
 enum-told-5 : tie.Need-enum-told-5
 enum-told-5 c = search needs
 
 chunk-requires : tie.Need-chunk-requires
-chunk-requires c κs = kind-fits (c .before .before .enum-told5 .given .1) (c .before .before .before .before .before .before .before .pre)
+chunk-requires c κs = kind-fits (c .before .before .before .enum-told5 .given .1) (c .before .before .before .before .before .before .before .before .before .pre)
 
 enum-told-6 : tie.Need-enum-told-6
 enum-told-6 c = search needs
 
 comment-requires : tie.Need-comment-requires
-comment-requires c κs = kind-fits (c .before .before .enum-told6 .given .1) (c .before .before .before .before .before .before .before .pre)
+comment-requires c κs = kind-fits (c .before .before .before .enum-told6 .given .1) (c .before .before .before .before .before .before .before .before .before .pre)
 
 enum-told-7 : tie.Need-enum-told-7
 enum-told-7 c = search needs
 
 instruction-requires : tie.Need-instruction-requires
-instruction-requires c κs = kind-fits (c .before .before .enum-told7 .given .1) (c .before .before .before .before .before .before .before .pre)
+instruction-requires c κs = kind-fits (c .before .before .before .enum-told7 .given .1) (c .before .before .before .before .before .before .before .before .before .pre)
 
 enum-told-8 : tie.Need-enum-told-8
 enum-told-8 c = search needs
 
 close-requires-2 : tie.Need-close-requires-2
 unfolding eventOf
-close-requires-2 c κs = let shallow = c .before .before .before .before .before .before .pre .shallow in (c .before .before .before .before .before .before .pre .at, c .before .before .before .before .before .before .pre .inside (rw (c .before .enum-told8 .given .1)), omega arith)
+close-requires-2 c κs = let shallow = c .before .before .before .before .before .before .before .pre .shallow in (c .before .before .before .before .before .before .before .pre .at, c .before .before .before .before .before .before .before .pre .inside (rw (c .before .enum-told8 .given .1)), omega arith)
 
 same-length : tie.Need-same-length
 same-length c = search needs
 
 returns : tie.Need-returns
 unfolding eventOf
-returns c = absurd (by-kind _ _ Blank (rw (c .before .before .before .before .enum-told .given .1) at (c .before .before .before .before .before .before .before .before .before .pre .made)))
+returns c = absurd (by-kind _ _ Blank (rw (c .before .before .before .before .enum-told .given .1) at (c .before .before .before .before .before .before .before .before .before .before .pre .made)))
 
 same-length-2 : tie.Need-same-length-2
 same-length-2 c = search needs
@@ -71,19 +71,15 @@ same-length-2 c = search needs
 same-length-3 : tie.Need-same-length-3
 same-length-3 c = search needs
 
-returns-2 : tie.Need-returns-2
-unfolding eventOf
-returns-2 c = rw (c .before .before .before .before .before .before .before .enum-told2 .given .1) (c .before .before .before .before .declare .ensures)
-
 same-length-4 : tie.Need-same-length-4
 same-length-4 c = search needs
 
+returns-2 : tie.Need-returns-2
+unfolding eventOf
+returns-2 c = rw (c .before .before .before .before .before .before .before .before .before .before .enum-told2 .given .1) (c .before .before .before .before .before .before .declare .ensures)
+
 same-length-5 : tie.Need-same-length-5
 same-length-5 c = search needs
-
-returns-3 : tie.Need-returns-3
-unfolding eventOf
-returns-3 c = rw (c .before .before .before .before .before .before .before .enum-told3 .given .1) (c .before .before .before .before .start .ensures)
 
 same-length-6 : tie.Need-same-length-6
 same-length-6 c = search needs
@@ -91,9 +87,9 @@ same-length-6 c = search needs
 same-length-7 : tie.Need-same-length-7
 same-length-7 c = search needs
 
-returns-4 : tie.Need-returns-4
+returns-3 : tie.Need-returns-3
 unfolding eventOf
-returns-4 c = rw (c .before .before .before .before .before .before .before .enum-told4 .given .1) (c .before .before .before .before .attribute .ensures)
+returns-3 c = rw (c .before .before .before .before .before .before .before .before .before .before .enum-told3 .given .1) (c .before .before .before .before .before .before .start .ensures)
 
 same-length-8 : tie.Need-same-length-8
 same-length-8 c = search needs
@@ -101,19 +97,15 @@ same-length-8 c = search needs
 same-length-9 : tie.Need-same-length-9
 same-length-9 c = search needs
 
-returns-5 : tie.Need-returns-5
-unfolding eventOf
-returns-5 c = rw (c .before .before .before .before .before .before .before .enum-told5 .given .1) (c .before .before .before .before .chunk .ensures)
-
 same-length-10 : tie.Need-same-length-10
 same-length-10 c = search needs
 
+returns-4 : tie.Need-returns-4
+unfolding eventOf
+returns-4 c = rw (c .before .before .before .before .before .before .before .before .before .before .enum-told4 .given .1) (c .before .before .before .before .before .before .attribute .ensures)
+
 same-length-11 : tie.Need-same-length-11
 same-length-11 c = search needs
-
-returns-6 : tie.Need-returns-6
-unfolding eventOf
-returns-6 c = rw (c .before .before .before .before .before .before .before .enum-told6 .given .1) (c .before .before .before .before .comment .ensures)
 
 same-length-12 : tie.Need-same-length-12
 same-length-12 c = search needs
@@ -121,16 +113,42 @@ same-length-12 c = search needs
 same-length-13 : tie.Need-same-length-13
 same-length-13 c = search needs
 
-returns-7 : tie.Need-returns-7
+returns-5 : tie.Need-returns-5
 unfolding eventOf
-returns-7 c = rw (c .before .before .before .before .before .before .before .enum-told7 .given .1) (c .before .before .before .before .instruction .ensures)
+returns-5 c = rw (c .before .before .before .before .before .before .before .before .before .before .enum-told5 .given .1) (c .before .before .before .before .before .before .chunk .ensures)
 
 same-length-14 : tie.Need-same-length-14
 same-length-14 c = search needs
 
+same-length-15 : tie.Need-same-length-15
+same-length-15 c = search needs
+
+same-length-16 : tie.Need-same-length-16
+same-length-16 c = search needs
+
+returns-6 : tie.Need-returns-6
+unfolding eventOf
+returns-6 c = rw (c .before .before .before .before .before .before .before .before .before .before .enum-told6 .given .1) (c .before .before .before .before .before .before .comment .ensures)
+
+same-length-17 : tie.Need-same-length-17
+same-length-17 c = search needs
+
+same-length-18 : tie.Need-same-length-18
+same-length-18 c = search needs
+
+same-length-19 : tie.Need-same-length-19
+same-length-19 c = search needs
+
+returns-7 : tie.Need-returns-7
+unfolding eventOf
+returns-7 c = rw (c .before .before .before .before .before .before .before .before .before .before .enum-told7 .given .1) (c .before .before .before .before .before .before .instruction .ensures)
+
+same-length-20 : tie.Need-same-length-20
+same-length-20 c = search needs
+
 returns-8 : tie.Need-returns-8
 unfolding eventOf
-returns-8 c = rw (c .before .before .before .before .enum-told8 .given .1) (c .before .before .close2 .ensures _ _ _ (c .before .before .before .before .before .before .before .before .before .pre .order))
+returns-8 c = rw (c .before .before .before .before .enum-told8 .given .1) (c .before .before .close2 .ensures _ _ _ _ (c .before .before .before .before .before .before .before .before .before .before .pre .order))
 
 pub item-spec : {M : Type 1} → statement M
 item-spec =
@@ -156,21 +174,27 @@ item-spec =
     returns
     same-length-2
     same-length-3
-    returns-2
     same-length-4
+    returns-2
     same-length-5
-    returns-3
     same-length-6
     same-length-7
-    returns-4
+    returns-3
     same-length-8
     same-length-9
-    returns-5
     same-length-10
+    returns-4
     same-length-11
-    returns-6
     same-length-12
     same-length-13
-    returns-7
+    returns-5
     same-length-14
+    same-length-15
+    same-length-16
+    returns-6
+    same-length-17
+    same-length-18
+    same-length-19
+    returns-7
+    same-length-20
     returns-8)

@@ -22,8 +22,8 @@ name-of-requires c κs = search needs
 
 name-requires : tie.Need-name-requires
 name-requires c κs =
-    let a = c .before .before .before .before .before .before .before .before .before .before .before .before .before .args in
-    let pre = c .before .before .before .before .before .before .before .before .before .before .before .before .before .pre in
+    let a = c .before .before .before .before .before .before .before .before .before .before .before .before .before .before .before .args in
+    let pre = c .before .before .before .before .before .before .before .before .before .before .before .before .before .before .before .pre in
     let n = name-ready (a .text .now) (a .e) _ (c .name-of .ensures) (by-kind (a .text .now) (a .e) Start (pre .made) .0) in (pre .order, omega arith, omega arith, omega arith, omega arith, n .0, n .1, n .2, n .3)
 
 opened-requires : tie.Need-opened-requires
@@ -31,10 +31,10 @@ opened-requires c κs = search needs
 
 landed-requires : tie.Need-landed-requires
 landed-requires c κs =
-    let octet = c .before .before .before .before .before .before .before .before .before .before .before .before .octet in
-    let before-name = c .before .before .before .before .before .before .before .before .before .before .before .before-name in
-    let name = c .before .before .before .before .before .name in
-    meets-near _ _ (before-name .result) 49168 (name .result) _ _ _ (omega (arith, octet .ensures .1, before-name .ensures .1)) (name .ensures)
+    let octet = c .before .before .before .before .before .before .before .before .before .before .before .before .before .before .before .octet in
+    let before-name = c .before .before .before .before .before .before .before .before .before .before .before .before .before .before .before-name in
+    let name = c .before .before .before .before .before .before .before .name in
+    meets-near _ _ (before-name .result) 49168 (name .result) _ _ _ _ (omega (arith, octet .ensures .1, before-name .ensures .1)) (name .ensures)
 
 same-length : tie.Need-same-length
 same-length c = search needs
@@ -42,15 +42,18 @@ same-length c = search needs
 same-length-2 : tie.Need-same-length-2
 same-length-2 c = search needs
 
+same-length-3 : tie.Need-same-length-3
+same-length-3 c = search needs
+
 returns : tie.Need-returns
 returns c =
-    let pre = c .before .before .before .before .before .before .before .before .before .before .before .before .before .before .before .before .before .before .before .before .pre in
-    let name-lead = c .before .before .before .before .before .before .before .before .before .before .before .before .before .before .before .name-lead in
-    let octet = c .before .before .before .before .before .before .before .before .before .before .before .before .before .octet in
-    let before-name = c .before .before .before .before .before .before .before .before .before .before .before .before .before-name in
-    let name-of = c .before .before .before .before .before .before .before .name-of in
-    let name = c .before .before .before .before .before .before .name in
-    rw (c .landed .ensures, c .before .opened .ensures) (start-lands _ _ _ _ _ pre (octet .ensures) (before-name .ensures) (name-lead .ensures .0) _ (name-of .ensures) (name .result) _ _ (name .ensures))
+    let pre = c .before .before .before .before .before .before .before .before .before .before .before .before .before .before .before .before .before .before .before .before .before .before .before .before .pre in
+    let name-lead = c .before .before .before .before .before .before .before .before .before .before .before .before .before .before .before .before .before .before .name-lead in
+    let octet = c .before .before .before .before .before .before .before .before .before .before .before .before .before .before .before .before .octet in
+    let before-name = c .before .before .before .before .before .before .before .before .before .before .before .before .before .before .before .before-name in
+    let name-of = c .before .before .before .before .before .before .before .before .before .name-of in
+    let name = c .before .before .before .before .before .before .before .before .name in
+    rw (c .landed .ensures, c .before .opened .ensures) (start-lands _ _ _ _ _ pre (octet .ensures) (before-name .ensures) (name-lead .ensures .0) _ (name-of .ensures) (name .result) _ _ _ (name .ensures))
 
 pub start-spec : {M : Type 1} → statement M
 start-spec =
@@ -65,4 +68,5 @@ start-spec =
     landed-requires
     same-length
     same-length-2
+    same-length-3
     returns)

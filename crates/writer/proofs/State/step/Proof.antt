@@ -11,19 +11,19 @@ fault-requires : tie.Need-fault-requires
 fault-requires c κs = search needs
 
 returns : tie.Need-returns
-returns c = step-fault (c .before .before .before .before .before .args .text .now) _ (c .before .before .before .before .before .args .a) (c .before .before .before .before .before .args .self) (c .before .before .before .before .before .args .t .now) (c .before .before .before .before .before .args .e) _ (c .before .fault .ensures _) (omega arith)
+returns c = step-fault (c .before .before .before .before .before .before .args .text .now) _ (c .before .before .before .before .before .before .args .a) (c .before .before .before .before .before .before .args .self) (c .before .before .before .before .before .before .args .t .now) (c .before .before .before .before .before .before .args .e) _ (c .before .fault .ensures _) (omega arith)
 
 settle-requires : tie.Need-settle-requires
 settle-requires c κs = search needs
 
 item-requires : tie.Need-item-requires
-item-requires c κs = step-fit (c .before .before .before .before .before .before .before .before .before .before .before .args .text .now) (c .before .before .before .before .before .before .before .before .before .before .before .args .self) (c .before .before .before .before .before .before .before .before .before .before .before .args .t .now) (c .before .before .before .before .before .before .before .before .before .before .before .args .e) (c .before .before .before .before .before .before .before .before .before .before .before .pre) (sym (c .before .before .before .before .before .before .before .fault .ensures _) ∙ omega arith) (c .before .before .before .before .settle .ensures .0)
+item-requires c κs = step-fit (c .before .before .before .before .before .before .before .before .before .before .before .before .before .args .text .now) (c .before .before .before .before .before .before .before .before .before .before .before .before .before .args .self) (c .before .before .before .before .before .before .before .before .before .before .before .before .before .args .t .now) (c .before .before .before .before .before .before .before .before .before .before .before .before .before .args .e) (c .before .before .before .before .before .before .before .before .before .before .before .before .before .pre) (sym (c .before .before .before .before .before .before .before .before .fault .ensures _) ∙ omega arith) (c .before .before .before .before .before .settle .ensures .0)
 
 enum-known-r : tie.Need-enum-known-r
 enum-known-r c = search needs
 
 held-requires : tie.Need-held-requires
-held-requires c κs = let landed = rw (c .before .r .given .1) at (c .before .before .before .before .before .before .before .item .ensures) in landed .near
+held-requires c κs = let landed = rw (c .before .r .given .1) at (c .before .before .before .before .before .before .before .before .before .item .ensures) in landed .near
 
 enum-known-r-2 : tie.Need-enum-known-r-2
 enum-known-r-2 c = search needs
@@ -34,17 +34,23 @@ same-length c = search needs
 same-length-2 : tie.Need-same-length-2
 same-length-2 c = search needs
 
-returns-2 : tie.Need-returns-2
-returns-2 c = let landed = rw (c .before .before .r .given .1) at (c .before .before .before .before .before .before .before .before .item .ensures) in step-held (c .before .before .before .before .before .before .before .before .before .before .before .before .before .before .before .before .before .before .before .before .args .text .now) (c .before .before .before .before .before .before .before .before .before .before .before .before .before .before .before .before .before .before .before .before .args .self) (c .before .before .before .before .before .before .before .before .before .before .before .before .before .before .before .before .before .before .before .before .args .t .now) (c .before .before .before .before .before .before .before .before .before .before .before .before .before .before .before .before .before .before .before .before .args .e) (c .before .before .before .before .before .before .before .before .before .before .before .before .before .before .before .before .before .before .before .before .args .a) (sym (c .before .before .before .before .before .before .before .before .before .before .before .before .before .before .before .before .fault .ensures _) ∙ omega arith) _ _ (c .before .before .before .before .before .before .before .before .before .before .before .before .before .before .before .before .before .before .before .before .args .out .now) _ (c .before .before .before .before .before .before .before .before .before .before .before .before .before .settle .ensures) landed _ _ (omega arith) (c .held .ensures _)
-
 same-length-3 : tie.Need-same-length-3
 same-length-3 c = search needs
+
+returns-2 : tie.Need-returns-2
+returns-2 c = let landed = rw (c .before .before .r .given .1) at (c .before .before .before .before .before .before .before .before .before .before .item .ensures) in step-held (c .before .before .before .before .before .before .before .before .before .before .before .before .before .before .before .before .before .before .before .before .before .before .before .before .args .text .now) (c .before .before .before .before .before .before .before .before .before .before .before .before .before .before .before .before .before .before .before .before .before .before .before .before .args .self) (c .before .before .before .before .before .before .before .before .before .before .before .before .before .before .before .before .before .before .before .before .before .before .before .before .args .t .now) (c .before .before .before .before .before .before .before .before .before .before .before .before .before .before .before .before .before .before .before .before .before .before .before .before .args .e) (c .before .before .before .before .before .before .before .before .before .before .before .before .before .before .before .before .before .before .before .before .before .before .before .before .args .a) (sym (c .before .before .before .before .before .before .before .before .before .before .before .before .before .before .before .before .before .before .before .fault .ensures _) ∙ omega arith) _ _ (c .before .before .before .before .before .before .before .before .before .before .before .before .before .before .before .before .before .before .before .before .before .before .before .before .args .out .now) _ (c .before .before .before .before .before .before .before .before .before .before .before .before .before .before .before .before .settle .ensures) landed _ _ (omega arith) (c .held .ensures _)
 
 same-length-4 : tie.Need-same-length-4
 same-length-4 c = search needs
 
+same-length-5 : tie.Need-same-length-5
+same-length-5 c = search needs
+
+same-length-6 : tie.Need-same-length-6
+same-length-6 c = search needs
+
 returns-3 : tie.Need-returns-3
-returns-3 c = step-full (c .before .before .before .before .before .before .before .before .before .before .before .before .before .before .before .before .before .before .before .args .text .now) (c .before .before .before .before .before .before .before .before .before .before .before .before .before .before .before .before .before .before .before .args .self) (c .before .before .before .before .before .before .before .before .before .before .before .before .before .before .before .before .before .before .before .args .t .now) (c .before .before .before .before .before .before .before .before .before .before .before .before .before .before .before .before .before .before .before .args .e) (c .before .before .before .before .before .before .before .before .before .before .before .before .before .before .before .before .before .before .before .args .a) (sym (c .before .before .before .before .before .before .before .before .before .before .before .before .before .before .before .fault .ensures _) ∙ omega arith) _ _ (c .before .before .before .before .before .before .before .before .before .before .before .before .before .before .before .before .before .before .before .args .out .now) _ (c .before .before .before .before .before .before .before .before .before .before .before .before .settle .ensures) _ (rw (c .before .r2 .given .1) at (c .before .before .before .before .before .before .before .item .ensures))
+returns-3 c = step-full (c .before .before .before .before .before .before .before .before .before .before .before .before .before .before .before .before .before .before .before .before .before .before .before .args .text .now) (c .before .before .before .before .before .before .before .before .before .before .before .before .before .before .before .before .before .before .before .before .before .before .before .args .self) (c .before .before .before .before .before .before .before .before .before .before .before .before .before .before .before .before .before .before .before .before .before .before .before .args .t .now) (c .before .before .before .before .before .before .before .before .before .before .before .before .before .before .before .before .before .before .before .before .before .before .before .args .e) (c .before .before .before .before .before .before .before .before .before .before .before .before .before .before .before .before .before .before .before .before .before .before .before .args .a) (sym (c .before .before .before .before .before .before .before .before .before .before .before .before .before .before .before .before .before .before .fault .ensures _) ∙ omega arith) _ _ (c .before .before .before .before .before .before .before .before .before .before .before .before .before .before .before .before .before .before .before .before .before .before .before .args .out .now) _ (c .before .before .before .before .before .before .before .before .before .before .before .before .before .before .before .settle .ensures) _ (rw (c .before .r2 .given .1) at (c .before .before .before .before .before .before .before .before .before .item .ensures))
 
 pub step-spec : {M : Type 1} → statement M
 step-spec =
@@ -59,7 +65,9 @@ step-spec =
     enum-known-r-2
     same-length
     same-length-2
-    returns-2
     same-length-3
+    returns-2
     same-length-4
+    same-length-5
+    same-length-6
     returns-3)

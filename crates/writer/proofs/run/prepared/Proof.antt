@@ -10,10 +10,10 @@ use Rattle.writer.proofs.run.prepared.Statement.{statement}
 use Rattle.writer.proofs.run.prepared.Tie as tie
 
 returns : tie.Need-returns
-returns c = λ es. going-size es _ _ _ (omega arith)
+returns c = λ es ix z. going-size es _ _ _ (omega arith)
 
 returns-2 : tie.Need-returns-2
-returns-2 c = λ es. going-room es _ _ _ (omega arith) (omega arith)
+returns-2 c = λ es ix z. going-room es _ _ _ (omega arith) (omega arith)
 
 clear-requires : tie.Need-clear-requires
 clear-requires c κs = search needs
@@ -40,7 +40,7 @@ returns-3 : tie.Need-returns-3
 returns-3 c =
     let a = c .before .before .before .before .before .before .before .before .before .before .before .before .before .before .before .before .before .before .args in
     let clear2 = c .before .before .before .before .before .before .before .clear2 in
-    λ es. going-start es _ _ _ (omega arith) (omega arith) (c .begin .ensures) (held-room (omega arith) (c .before .before .before .put-header .ensures)) (zeroed _ (length (a .t .now)) 7680 (clear2 .ensures) (omega arith))
+    λ es ix z. going-start es _ _ _ (omega arith) (omega arith) (c .begin .ensures) (held-room (omega arith) (c .before .before .before .put-header .ensures)) (zeroed _ (length (a .t .now)) 7680 (clear2 .ensures) (omega arith)) z
 
 pub prepared-spec : {M : Type 1} → statement M
 prepared-spec =

@@ -1,0 +1,48 @@
+-- `Cursor::number_at_bit_3` meets its contract: the octet alone, or a longer number.
+-- Assumes nothing.
+use mathlib.Core.Path.{refl, _∙_}
+use native.Mathlib.Omega.{arith}
+use borrow.Author.Needs.{needs}
+use Rattle.format.specs.Numbers.{numbers}
+use Rattle.fields.proofs.Cases.{field-missing}
+use Rattle.fields.proofs.FirstOctet.{at-least}
+use Rattle.fields.proofs.Cursor.number_at_bit_3.Statement.{statement}
+use Rattle.fields.proofs.Cursor.number_at_bit_3.Tie as tie
+
+returns : tie.Need-returns
+returns c = field-missing _ _ _ _ _ (omega arith)
+
+shared-slice-read-o : tie.Need-shared-slice-read-o
+shared-slice-read-o c = search needs
+
+bits-requires : tie.Need-bits-requires
+bits-requires c κs = search needs
+
+bits-requires-2 : tie.Need-bits-requires-2
+bits-requires-2 c κs = search needs
+
+behind-requires : tie.Need-behind-requires
+behind-requires c κs = search needs
+
+returns-2 : tie.Need-returns-2
+unfolding numbers
+returns-2 c = c .behind .ensures ∙ at-least _ _ _ (omega arith) 3 _ _ (omega arith) (omega arith) (omega arith) (omega arith) refl
+
+longer-number-requires : tie.Need-longer-number-requires
+longer-number-requires c κs = search needs
+
+returns-3 : tie.Need-returns-3
+returns-3 c = c .longer-number .ensures
+
+pub number-at-bit-3-spec : {M : Type 1} → statement M
+number-at-bit-3-spec =
+    tie.close
+    (tie.spec
+    returns
+    shared-slice-read-o
+    bits-requires
+    bits-requires-2
+    behind-requires
+    returns-2
+    longer-number-requires
+    returns-3)

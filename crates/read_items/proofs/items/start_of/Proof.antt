@@ -1,0 +1,63 @@
+-- `start_of` meets its contract, by the name's answer and the level.
+-- Assumes nothing.
+use native.Mathlib.Omega.{arith}
+use borrow.Author.Needs.{needs}
+use mathlib.Core.Path.{ap}
+use Rattle.read_items.specs.declared.Step.the-variants.{More}
+use Rattle.read_items.proofs.StepLaws.{start-refused, start-deep, start-opened}
+use Rattle.read_items.proofs.items.start_of.Statement.{statement}
+use Rattle.read_items.proofs.items.start_of.Tie as tie
+
+enum-known-r : tie.Need-enum-known-r
+enum-known-r c = search needs
+
+stop-requires : tie.Need-stop-requires
+stop-requires c κs = search needs
+
+enum-known-r-2 : tie.Need-enum-known-r-2
+enum-known-r-2 c = search needs
+
+stop-requires-2 : tie.Need-stop-requires-2
+stop-requires-2 c κs = search needs
+
+returns : tie.Need-returns
+returns c = start-deep _ _ _ _ _ _ (c .before .before .before .before .r2 .given .1) (omega arith) (c .stop2 .ensures .0)
+
+keep-named-requires : tie.Need-keep-named-requires
+keep-named-requires c κs =
+    let at-start = c .before .before .before .before .before .before .before .before in
+    let named = rw (c .before .before .before .before .r2 .given .1) at (at-start .pre) in named .0
+
+opened-requires : tie.Need-opened-requires
+opened-requires c κs =
+    let at-r2 = c .before .before .before .before .before .before .before in
+    let at-start = at-r2 .before .before .before .before in
+    let named = rw (at-r2 .r2 .given .1) at (at-start .pre) in (named .1, omega arith)
+
+returns-2 : tie.Need-returns-2
+returns-2 c = start-refused _ _ _ _ _ _ (c .before .before .r .given .1) (c .stop .ensures .1) (c .stop .ensures .0)
+
+same-length : tie.Need-same-length
+same-length c = search needs
+
+returns-3 : tie.Need-returns-3
+returns-3 c =
+    let at-r2 = c .before .before .before .before .before .before .before .before in
+    let at-start = at-r2 .before .before .before .before in
+    start-opened _ _ _ _ _ _ (at-r2 .r2 .given .1) (omega arith) (ap (λ x. More x (at-start .args .k)) (c .opened .ensures))
+    (c .before .before .before .keep-named .ensures)
+
+pub start-of-spec : {M : Type 1} → statement M
+start-of-spec =
+    tie.close
+    (tie.spec
+    enum-known-r
+    stop-requires
+    enum-known-r-2
+    stop-requires-2
+    returns
+    keep-named-requires
+    opened-requires
+    returns-2
+    same-length
+    returns-3)

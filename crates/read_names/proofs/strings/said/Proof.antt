@@ -1,0 +1,33 @@
+-- `said` meets its contract: entry n - 1 is behind the number n.
+-- Assumes nothing.
+use native.Mathlib.Omega.{arith}
+use borrow.Author.Needs.{needs}
+use Rattle.read_names.proofs.StringLaws.{said-number, said-not, said-entry}
+use Rattle.read_names.proofs.strings.said.Statement.{statement}
+use Rattle.read_names.proofs.strings.said.Tie as tie
+
+enum-known-r : tie.Need-enum-known-r
+enum-known-r c = search needs
+
+enum-known-r-2 : tie.Need-enum-known-r-2
+enum-known-r-2 c = search needs
+
+sub-string-of : tie.Need-sub-string-of
+sub-string-of c = said-number _ _ _ (c .before .r2 .given .1) (c .before .before .before .before .pre .2) .0
+
+string-of-requires : tie.Need-string-of-requires
+string-of-requires c κs =
+    let at-start = c .before .before .before .before in
+    let b = said-number _ _ _ (c .before .r2 .given .1) (at-start .pre .2) in
+    (at-start .pre .0, at-start .pre .1, omega arith)
+
+returns : tie.Need-returns
+returns c = said-not _ _ _ _ _ (c .before .r .given .1)
+
+returns-2 : tie.Need-returns-2
+returns-2 c = said-entry _ _ _ _ _ _ (c .before .before .r2 .given .1) (c .string-of .ensures)
+
+pub said-spec : {M : Type 1} → statement M
+said-spec =
+    tie.close
+    (tie.spec enum-known-r enum-known-r-2 sub-string-of string-of-requires returns returns-2)
