@@ -19,14 +19,6 @@ pub const BODY: usize = HEADER.len();
 
 pub const OCTETS: usize = 16384;
 
-pub const TRUNCATED: u32 = 2;
-
-pub const CODE: u32 = 5;
-
-pub const PADDING: u32 = 6;
-
-pub const RANGE: u32 = 7;
-
 // The highest number.
 pub const TOP: u64 = 1048576;
 
@@ -53,6 +45,11 @@ pub fn bits(o: u8, first: u32, last: u32) -> u8
 }
 
 // How many values k bits have.
+use format::refusals::CODE;
+use format::refusals::PADDING;
+use format::refusals::RANGE;
+use format::refusals::TRUNCATED;
+
 fn values(k: u32) -> u64
     requires { ⌜ k ≤ 32 ⌝ }
     ensures { λ r. ⌜ (r ≡ 2 ^ k) × (r ≤ 2 ^ 32) ⌝ }

@@ -8,9 +8,9 @@ ghost use Rattle.read_items.specs.Steps.{halfAt, endsAt, padsAt, documen
 ghost use Rattle.read_items.specs.ItemContracts.{Keeps, Ended};
 use crate::Step;
 use crate::items::stop;
-use fields::PADDING;
 use fields::bits;
-use read_names::STRUCTURE;
+use format::refusals::PADDING;
+use format::refusals::STRUCTURE;
 use states::State;
 
 // The half at a place counted in halves, 16 behind the last.

@@ -12,39 +12,31 @@ ghost use Rattle.read_items.specs.Contracts.{lent, Good, Meets, Met};
 ghost use Rattle.read_items.specs.ItemContracts.{Named, NameThere, StartsBy, Stopped, namedRecord, otherStep};
 ghost use Rattle.events.specs.Kept.{kept};
 ghost use Rattle.read_names.specs.Contracts.{nameStringsAt};
-use crate::DEPTH;
 use crate::Step;
 use crate::ends;
 use events::Event;
 use events::EventString;
 use events::Kind;
-use fields::CODE;
-use fields::PADDING;
-use fields::TRUNCATED;
 use fields::bits;
+use format::refusals::CODE;
+use format::refusals::DEPTH;
+use format::refusals::FORMAT;
+use format::refusals::PADDING;
+use format::refusals::STRUCTURE;
+use format::refusals::TRUNCATED;
+use format::table::ATTRIBUTE_NAME;
+use format::table::ATTRIBUTE_VALUE;
+use format::table::ELEMENT_NAME;
+use format::table::NAMESPACE_NAME;
+use format::table::OTHER_NCNAME;
+use format::table::OTHER_STRING;
+use format::table::PREFIX;
 use read_names::Declaration;
 use read_names::Entry;
-use read_names::FORMAT;
 use read_names::Field;
-use read_names::STRUCTURE;
 use read_names::octet;
 use read_names::value;
 use states::State;
-
-// Tables by number.
-const PREFIX: usize = 0;
-
-const NAMESPACE_NAME: usize = 1;
-
-const TARGETS: usize = 3;
-
-const ATTRIBUTE_VALUES: usize = 5;
-
-const OTHER_STRINGS: usize = 7;
-
-const ELEMENTS: usize = 8;
-
-const ATTRIBUTES: usize = 9;
 
 // A refusal at an octet.
 pub fn stop(number: u32, place: usize) -> Step
@@ -149,7 +141,7 @@ fn start_of(
                 t,
                 records,
                 n,
-                ELEMENTS,
+                ELEMENT_NAME,
                 number,
                 Kind::Start,
                 EventString::Absent,
@@ -197,7 +189,7 @@ fn comment_at(
     requires { ⌜ (Good (now s) st (lent (now t) (now counts) (now index) (now records))) × (k < length (now s)) ⌝ }
     ensures { λ r. ⌜ Meets (now (s .entry)) st n (lent (now (t .entry)) (now (counts .entry)) (now (index .entry)) (now (records .entry))) r (lent (now (t .exit)) (now (counts .exit)) (now (index .exit)) (now (records .exit))) (commentAt link (now (s .entry)) k) ⌝ }
 {
-    match value(s, t, counts, OTHER_STRINGS, k + 1) {
+    match value(s, t, counts, OTHER_STRING, k + 1) {
         Field::Refused(number, place) => stop(number, place),
         Field::Got(x, next) => {
             let e = events::comment(x);
@@ -221,12 +213,15 @@ fn instruction_at(
     requires { ⌜ (Good (now s) st (lent (now t) (now counts) (now index) (now records))) × (k < length (now s)) ⌝ }
     ensures { λ r. ⌜ Meets (now (s .entry)) st n (lent (now (t .entry)) (now (counts .entry)) (now (index .entry)) (now (records .entry))) r (lent (now (t .exit)) (now (counts .exit)) (now (index .exit)) (now (records .exit))) (instructionAt link (now (s .entry)) k) ⌝ }
 {
-    match read_names::id(s, t, counts, index, TARGETS, k + 1) {
+    match read_names::id(s, t, counts, index, OTHER_NCNAME, k + 1) {
         Entry::Refused(number, place) => stop(number, place),
-        Entry::Got(target, behind) => match value(s, t, counts, OTHER_STRINGS, behind) {
+        Entry::Got(target, behind) => match value(s, t, counts, OTHER_STRING, behind) {
             Field::Refused(number, place) => stop(number, place),
             Field::Got(content, next) => {
-                let e = events::instruction(read_names::string_at(t, TARGETS, target), content);
+                let e = events::instruction(
+                    read_names::string_at(t, OTHER_NCNAME, target),
+                    content,
+                );
                 events::keep(records, n, e);
                 Step::More(st.moved(next, st.mode), k)
             }
@@ -285,7 +280,7 @@ fn element_at(
         return stop(STRUCTURE, k);
     }
     if b < 0x38 {
-        let r = read_names::numbered(s, counts, ELEMENTS, k);
+        let r = read_names::numbered(s, counts, ELEMENT_NAME, k);
         return start_of(st, t, records, n, k, a, r);
     }
     // A prefix without a namespace.
@@ -298,7 +293,7 @@ fn element_at(
     if b == 0x38 {
         return namespace_at(st, s, t, counts, index, records, n, k + 1, a);
     }
-    let r = read_names::in_parts(s, t, counts, index, ELEMENTS, k, b);
+    let r = read_names::in_parts(s, t, counts, index, ELEMENT_NAME, k, b);
     start_of(st, t, records, n, k, a, r)
 }
 
@@ -330,7 +325,7 @@ fn named_at(
     if name_padding(o) {
         return stop(PADDING, k);
     }
-    let r = read_names::name(s, t, counts, index, ELEMENTS, k, o);
+    let r = read_names::name(s, t, counts, index, ELEMENT_NAME, k, o);
     start_of(st, t, records, n, k, a, r)
 }
 
@@ -358,12 +353,12 @@ fn attribute_at(
     if bits(o, 2, 6) == 31 {
         return stop(PADDING, k);
     }
-    match read_names::name(s, t, counts, index, ATTRIBUTES, k, o) {
+    match read_names::name(s, t, counts, index, ATTRIBUTE_NAME, k, o) {
         Entry::Refused(number, place) => stop(number, place),
-        Entry::Got(name, behind) => match value(s, t, counts, ATTRIBUTE_VALUES, behind) {
+        Entry::Got(name, behind) => match value(s, t, counts, ATTRIBUTE_VALUE, behind) {
             Field::Refused(number, place) => stop(number, place),
             Field::Got(x, next) => {
-                keep_named(t, records, n, ATTRIBUTES, name, Kind::Attribute, x);
+                keep_named(t, records, n, ATTRIBUTE_NAME, name, Kind::Attribute, x);
                 Step::More(st.moved(next, State::LISTED), k)
             }
         },

@@ -5,9 +5,6 @@ pub mod items;
 
 use states::State;
 
-// The refusal of an element too deep; others are in `read_names` and `fields`.
-pub const DEPTH: u32 = 13;
-
 // Where the reader stands behind an event, and the event's place; behind an end that is no event; at the document's end; a refusal's number, and a state
 // whose `at` is the refusal's octet. All variants have one layout, so that an answer is moved whole.
 pub enum Step {

@@ -15,19 +15,6 @@ pub use strings::id;
 pub use strings::octet;
 pub use strings::value;
 
-// Refusals by number; those of a number or a length are in `fields`.
-pub const FORMAT: u32 = 8;
-
-pub const TEXT: u32 = 9;
-
-pub const INDEX: u32 = 10;
-
-pub const REPEAT: u32 = 11;
-
-pub const FULL: u32 = 12;
-
-pub const STRUCTURE: u32 = 15;
-
 // The number of a string or a name in its table, and where the next field starts; or the refusal and its place.
 pub enum Entry {
     Got(u32, usize),

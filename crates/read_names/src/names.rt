@@ -17,32 +17,27 @@ ghost use Rattle.read_names.specs.Contracts.{Ranged, Tidy, seenName, IdL
 ghost use Rattle.read_names.specs.NameContracts.{newName, seenNumber, NewRow};
 use crate::Declaration;
 use crate::Entry;
-use crate::FULL;
 use crate::Parts;
-use crate::REPEAT;
-use crate::STRUCTURE;
 use crate::strings::held;
 use crate::strings::id;
 use crate::strings::optional;
 use crate::strings::string_of;
 use events::EventString;
-use fields::CODE;
 use fields::Cursor;
 use fields::Number;
-use fields::PADDING;
-use fields::TRUNCATED;
 use fields::bits;
+use format::refusals::CODE;
+use format::refusals::FULL;
+use format::refusals::PADDING;
+use format::refusals::REPEAT;
+use format::refusals::STRUCTURE;
+use format::refusals::TRUNCATED;
+use format::table::ELEMENT_NAME;
+use format::table::LOCAL_NAME;
+use format::table::NAMESPACE_NAME;
+use format::table::PREFIX;
 use tables::Counts;
 use tables::Row;
-
-// Tables by number.
-const PREFIX: usize = 0;
-
-const NAMESPACE_NAME: usize = 1;
-
-const LOCAL_NAME: usize = 2;
-
-const ELEMENT_NAME: usize = 8;
 
 // The octet's part that begins a name in parts: 1111pn, or 11110pn.
 fn parts_bits(table: usize) -> u8

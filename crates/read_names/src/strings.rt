@@ -15,20 +15,19 @@ ghost use Rattle.read_names.specs.Strings.{idAt, optionalAt, spelledAt, 
 ghost use Rattle.read_names.specs.Contracts.{Tidy, seenId, IdLeft, Positive, seenField, FieldLeft, idSeen, optionalSeen, stringSeen};
 ghost use Rattle.read_names.specs.StringContracts.{BehindWithin, stretchOf, NumberPositive, heldOf, saidOf, addedOf, addedCounts, addedWords, lengthFrom};
 use crate::Entry;
-use crate::FORMAT;
-use crate::FULL;
 use crate::Field;
-use crate::INDEX;
-use crate::REPEAT;
-use crate::TEXT;
 use events::EventString;
 use fields::Cursor;
 use fields::Number;
 use fields::bits;
+use format::refusals::FORMAT;
+use format::refusals::FULL;
+use format::refusals::INDEX;
+use format::refusals::REPEAT;
+use format::refusals::TEXT;
+use format::refusals::TRUNCATED;
+use format::table::CONTENT_CHARACTER_CHUNK;
 use tables::Counts;
-
-// The number of the table CONTENT CHARACTER CHUNK.
-const CHUNKS: usize = 6;
 
 // The octet at a place, 0 behind the last.
 pub fn octet(s: &[u8], at: usize) -> u8
@@ -59,7 +58,7 @@ fn stretch(s: &[u8], at: usize, r: Number) -> Number
     let place = first.at;
     let size = n as usize;
     if s.len() - place < size {
-        return Number::Refused(fields::TRUNCATED, at);
+        return Number::Refused(TRUNCATED, at);
     }
     if fields::is_text(s, place, place + size) {
         return r;
@@ -257,11 +256,23 @@ pub fn chunk(s: &[u8], t: &mut [u32], counts: &mut [u32], at: usize) -> Field
     let o = octet(s, at);
     if bits(o, 3, 3) == 1 {
         let c = Cursor { at };
-        return said(t, CHUNKS, held(counts, CHUNKS, at, c.number_at_bit_4(s)));
+        return said(
+            t,
+            CONTENT_CHARACTER_CHUNK,
+            held(counts, CONTENT_CHARACTER_CHUNK, at, c.number_at_bit_4(s)),
+        );
     }
     if bits(o, 5, 6) != 0 {
         return Field::Refused(FORMAT, at);
     }
     let c = Cursor { at };
-    spelled(s, t, counts, CHUNKS, at, c.length(s, 7), bits(o, 4, 4) == 1)
+    spelled(
+        s,
+        t,
+        counts,
+        CONTENT_CHARACTER_CHUNK,
+        at,
+        c.length(s, 7),
+        bits(o, 4, 4) == 1,
+    )
 }

@@ -17,6 +17,9 @@ use crate::run;
 use crate::run::Opening;
 use events::Event;
 use events::RECORD;
+use format::refusals::ROOM;
+use format::refusals::SIZE;
+use format::refusals::TRUNCATED;
 use read_items::Step;
 use states::State;
 use tables::Counts;
@@ -77,7 +80,7 @@ fn advance(p: Place, c: Counts, s: &[u8], t: &mut [u32], index: &mut [u8]) -> Tu
     if p.left == 0 {
         return Turn {
             counts: c,
-            next: Next::Refused(fields::TRUNCATED, st.at / 2),
+            next: Next::Refused(TRUNCATED, st.at / 2),
         };
     }
     let mut counts = [0u32; Counts::TABLES];
@@ -115,8 +118,8 @@ fn finish(a: Next, n: usize, c: Counts) -> Answer
     ensures { λ r. ⌜ r ≡ finished a n c ⌝ }
 {
     match a {
-        Next::Found(place, _, _) => refused(run::ROOM, place),
-        Next::Passed(p) => refused(fields::TRUNCATED, p.state.at / 2),
+        Next::Found(place, _, _) => refused(ROOM, place),
+        Next::Passed(p) => refused(TRUNCATED, p.state.at / 2),
         Next::Finished => Answer::Accepted(n as u32, c),
         Next::Refused(number, place) => refused(number, place),
     }
@@ -179,10 +182,10 @@ fn admitted(s: &[u8], room: usize) -> Opening
     ensures { λ r. ⌜ openingOf r ≡ admission (now (s .entry)) room ⌝ }
 {
     if !run::sized(s) {
-        return Opening::Halt(run::SIZE, 0);
+        return Opening::Halt(SIZE, 0);
     }
     if room != Counts::WORDS {
-        return Opening::Halt(run::ROOM, 0);
+        return Opening::Halt(ROOM, 0);
     }
     run::opened(s)
 }

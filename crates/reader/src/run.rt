@@ -9,18 +9,15 @@ ghost use Rattle.reader.specs.Reading.{sized, opening, run, origin, fuel
 ghost use Rattle.reader.specs.RunContracts.{openingOf, Ran, Small, answerNumber};
 ghost use Rattle.reader.specs.Words.{leaving, readWords};
 use events::RECORD;
+use format::refusals::HEADER;
+use format::refusals::OPTIONAL_PART;
+use format::refusals::PADDING;
+use format::refusals::ROOM;
+use format::refusals::SIZE;
+use format::refusals::TRUNCATED;
 use read_items::Step;
 use states::State;
 use tables::Counts;
-
-// The refusals that a run has of its own.
-pub const SIZE: u32 = 1;
-
-const HEADER: u32 = 3;
-
-const OPTIONAL: u32 = 4;
-
-pub const ROOM: u32 = 14;
 
 // Event records that the check counts: one for each half of the longest document.
 const CHECKED: usize = 2 * fields::OCTETS;
@@ -71,20 +68,20 @@ pub fn opened(s: &[u8]) -> Opening
         return Opening::Halt(SIZE, 0);
     }
     if s.len() < FIRST {
-        return Opening::Halt(fields::TRUNCATED, 0);
+        return Opening::Halt(TRUNCATED, 0);
     }
     if !headed(s) {
         return Opening::Halt(HEADER, 0);
     }
     if s.len() < fields::BODY {
-        return Opening::Halt(fields::TRUNCATED, FIRST);
+        return Opening::Halt(TRUNCATED, FIRST);
     }
     let o = s[FIRST];
     if 0x80 <= o {
-        return Opening::Halt(fields::PADDING, FIRST);
+        return Opening::Halt(PADDING, FIRST);
     }
     if o != 0 {
-        return Opening::Halt(OPTIONAL, FIRST);
+        return Opening::Halt(OPTIONAL_PART, FIRST);
     }
     Opening::Onward(fields::BODY)
 }
@@ -134,7 +131,7 @@ fn steps(
             }
         }
     }
-    refused(fields::TRUNCATED, st.at / 2)
+    refused(TRUNCATED, st.at / 2)
 }
 
 // A document, with tables that are clear.

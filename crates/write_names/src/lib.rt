@@ -26,18 +26,9 @@ use fields::put::put_length;
 use fields::put::put_number;
 use fields::put::put_number_at_bit_2;
 use fields::put::put_part;
+use format::table::CONTENT_CHARACTER_CHUNK;
+use format::table::ELEMENT_NAME;
 use tables::Counts;
-
-// Tables by number.
-const PREFIX: usize = 0;
-
-const NAMESPACE_NAME: usize = 1;
-
-const LOCAL_NAME: usize = 2;
-
-const CHUNKS: usize = 6;
-
-const ELEMENT_NAME: usize = 8;
 
 // A value, comment, content or chunk that is not longer is added to its table.
 const SHORT: u32 = 5;
@@ -294,11 +285,21 @@ impl Here {
         requires { ⌜ (InOrder (now text) (self .counts) (now t) (now index)) × (self .at ≤ 900000) × (Spells (now text) x) ⌝ }
         ensures { λ r. ⌜ Stands (now (text .entry)) (now (out .entry)) (self .at) 16389 r (now (out .exit)) (now (t .exit)) (now (index .exit)) (writeLiteral link c15 (now (text .entry)) CONTENT-CHARACTER-CHUNK (vocabulary (self .counts) (now (t .entry))) (locatedOf x) .octets) (writeLiteral link c15 (now (text .entry)) CONTENT-CHARACTER-CHUNK (vocabulary (self .counts) (now (t .entry))) (locatedOf x) .tables) ⌝ }
     {
-        let k = number_of(text, t, index, self.counts, CHUNKS, x);
+        let k = number_of(text, t, index, self.counts, CONTENT_CHARACTER_CHUNK, x);
         if k != 0 {
             self.at = put_number(out, self.at, 4, 0xA0, k);
             return self;
         }
-        self.literal(text, t, index, out, CHUNKS, 7, 0x80, 0x10, x)
+        self.literal(
+            text,
+            t,
+            index,
+            out,
+            CONTENT_CHARACTER_CHUNK,
+            7,
+            0x80,
+            0x10,
+            x,
+        )
     }
 }

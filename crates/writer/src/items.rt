@@ -24,28 +24,19 @@ use crate::output::put_end;
 use events::Event;
 use events::Kind;
 use fields::put::put;
+use format::refusals::FULL;
+use format::refusals::ROOM;
+use format::table::ATTRIBUTE_NAME;
+use format::table::ATTRIBUTE_VALUE;
+use format::table::ELEMENT_NAME;
+use format::table::OTHER_NCNAME;
+use format::table::OTHER_STRING;
 use write_names::Here;
 use write_names::Parts;
 use write_names::Wrote;
 
-// Refusals.
-const FULL: u32 = 12;
-
-const ROOM: u32 = 14;
-
 // Octets of a document, at most.
 const LONGEST: usize = fields::OCTETS;
-
-// Tables by number.
-const NCNAMES: usize = 3;
-
-const VALUES: usize = 5;
-
-const OTHERS: usize = 7;
-
-const ELEMENTS: usize = 8;
-
-const ATTRIBUTES: usize = 9;
 
 fn is_attribute(kind: Kind) -> bool
     ensures { λ r. ⌜ ((e : Event) → r ≡ isAttribute (eventOf kind e)) ⌝ }
@@ -287,7 +278,7 @@ impl State {
         let at = self.octet();
         put(out, at, 0xE2);
         let here = Here { at: at + 1, counts };
-        let h = here.value(text, t, index, out, OTHERS, value);
+        let h = here.value(text, t, index, out, OTHER_STRING, value);
         self.landed(Wrote::Put(h))
     }
 
@@ -309,10 +300,10 @@ impl State {
         let at = self.octet();
         put(out, at, 0xE1);
         let here = Here { at: at + 1, counts };
-        let Wrote::Put(h) = here.identified(text, t, index, out, NCNAMES, target) else {
+        let Wrote::Put(h) = here.identified(text, t, index, out, OTHER_NCNAME, target) else {
             return Step::Stop(FULL);
         };
-        let g = h.value(text, t, index, out, OTHERS, content);
+        let g = h.value(text, t, index, out, OTHER_STRING, content);
         self.landed(Wrote::Put(g))
     }
 
@@ -356,7 +347,7 @@ impl State {
         let lead = name_lead(mode, a);
         let at = before_name(out, self.octet(), mode);
         let here = Here { at, counts };
-        let w = here.name(text, t, index, out, ELEMENTS, lead, name_of(e));
+        let w = here.name(text, t, index, out, ELEMENT_NAME, lead, name_of(e));
         self.opened(a).landed(w)
     }
 
@@ -378,10 +369,10 @@ impl State {
             at: self.octet(),
             counts,
         };
-        let Wrote::Put(h) = here.name(text, t, index, out, ATTRIBUTES, 0, name_of(e)) else {
+        let Wrote::Put(h) = here.name(text, t, index, out, ATTRIBUTE_NAME, 0, name_of(e)) else {
             return Step::Stop(FULL);
         };
-        let g = h.value(text, t, index, out, VALUES, value);
+        let g = h.value(text, t, index, out, ATTRIBUTE_VALUE, value);
         self.moved(Mode::Listing(true)).landed(Wrote::Put(g))
     }
 

@@ -19,13 +19,9 @@ use events::Event;
 use events::EventString;
 use events::Kind;
 use fields::is_text;
-
-// Refusals.
-const TEXT: u32 = 9;
-
-const DEPTH: u32 = 13;
-
-const EVENT: u32 = 16;
+use format::refusals::DEPTH;
+use format::refusals::EVENT;
+use format::refusals::TEXT;
 
 // The tags of strings.
 const ABSENT: u32 = 0;

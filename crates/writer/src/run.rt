@@ -23,14 +23,10 @@ use crate::Step;
 use crate::ahead;
 use crate::output;
 use events::Event;
+use format::refusals::EVENT;
+use format::refusals::ROOM;
+use format::refusals::SIZE;
 use tables::Counts;
-
-// The refusals that a run has of its own.
-const SIZE: u32 = 1;
-
-const ROOM: u32 = 14;
-
-const EVENT: u32 = 16;
 
 // Words of a record.
 const RECORD: usize = 13;
