@@ -1,4 +1,2 @@
 pub mod RunLaws
 pub mod WordLaws
-pub mod ReadLaws
-pub mod ReadValues

@@ -1,5 +1,4 @@
--- The reading definition of a document: read Reading, then Words. RunContracts and ReadContracts are contracts of the code: how its answers stand for the definition.
+-- The reading definition of a document: read Reading, then Words. RunContracts are contracts of the code: how its answers stand for the definition.
 pub mod Reading
 pub mod Words
 pub mod RunContracts
-pub mod ReadContracts

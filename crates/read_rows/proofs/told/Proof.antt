@@ -1,0 +1,57 @@
+-- `read::told` meets its contract: by cases on the step's answer.
+-- Assumes nothing.
+use Prim.Native.Nat.{_<_}
+use mathlib.Core.Path.{ap}
+use native.Mathlib.Omega.{arith}
+use Rattle.events.specs.declared.Event.{Event}
+use Rattle.read_rows.specs.declared.Next.the-variants.{Found}
+use borrow.Author.Needs.{needs}
+use Rattle.read_rows.proofs.told.Statement.{statement}
+use Rattle.read_rows.proofs.told.Tie as tie
+
+enum-known-r : tie.Need-enum-known-r
+enum-known-r c = search needs
+
+from-words-requires : tie.Need-from-words-requires
+from-words-requires c κs = omega arith
+
+enum-known-r-2 : tie.Need-enum-known-r-2
+enum-known-r-2 c = search needs
+
+enum-told : tie.Need-enum-told
+enum-told c = search needs
+
+enum-known-r-3 : tie.Need-enum-known-r-3
+enum-known-r-3 c = search needs
+
+cast-t13 : tie.Need-cast-t13
+cast-t13 c = let l : c .before .r3 .given .0 .1 .0 < 0x1_0000_0000 = rw (c .before .r3 .given .1) at (c .before .before .before .before .pre .1) in record { fits = omega arith }
+
+returns : tie.Need-returns
+returns c =
+    let r = c .before .before .r .given in
+    rw (r .1) (ap (λ (e : Event). Found (r .0 .1 .0) e (record { state = r .0 .0; left = c .before .before .before .before .before .args .left })) (c .from-words .ensures))
+
+returns-2 : tie.Need-returns-2
+returns-2 c = rw (c .before .r2 .given .1)
+
+returns-3 : tie.Need-returns-3
+returns-3 c = rw (c .enum-told .given .1)
+
+returns-4 : tie.Need-returns-4
+returns-4 c = rw (c .before .r3 .given .1)
+
+pub told-spec : {M : Type 1} → statement M
+told-spec =
+    tie.close
+    (tie.spec
+    enum-known-r
+    from-words-requires
+    enum-known-r-2
+    enum-told
+    enum-known-r-3
+    cast-t13
+    returns
+    returns-2
+    returns-3
+    returns-4)
