@@ -22,8 +22,8 @@ use Rattle.tables.specs.Located.{Located}
 use Rattle.tables.specs.Rows.{vocabulary}
 use Rattle.tables.specs.Kept.{unlisted}
 use Rattle.states.specs.declared.State.{State}
-use Rattle.states.specs.States.{modeOf, rootOf, coming, movedTo, afterStart, declaringMode}
-use Rattle.states.proofs.Modes.{mode-content, mode-listing, mode-listed, mode-declaring}
+use Rattle.states.specs.States.{modeOf, coming, movedTo, declaringMode}
+use Rattle.states.proofs.Modes.{mode-content, mode-listing, mode-listed, mode-declaring, after-mode, after-coming, declaring-coming, root-one}
 use Rattle.events.specs.declared.EventString.{EventString}
 use Rattle.events.specs.declared.EventString.the-variants.{Absent}
 use Rattle.events.specs.declared.Kind.the-variants as K
@@ -154,11 +154,6 @@ unfolding namePadding
 padding-lone b l o x = let p : b / 8 ≡ 7 = omega arith in let q : b / 4 ≡ 14 = omega arith in rw (p, q, x)
 
 -- ---- declarations
-declaring-coming : (l : Bool) → coming (declaringMode l) ≡ 1
-unfolding coming
-declaring-coming true = refl
-declaring-coming false = refl
-
 module _ {s : Octets} {st : State} {n : ℕ} {a b : Lent} (k : ℕ) (l : Bool) {r : Declaration}
     (y : seenDeclared r (b .counts) (b .tables) ≡ declaredSeen (declaredAt link s k (standOf st a .state .tables)))
     (z : DeclaredLeft s (a .counts) (a .tables) r (b .counts) (b .tables) (b .index)) where
@@ -179,19 +174,6 @@ module _ {s : Octets} {st : State} {n : ℕ} {a b : Lent} (k : ℕ) (l : Bool) {
       (into-got _ (i .is) ∙ rw (mode-declaring l))
 
 -- ---- a Start
-after-mode : (l : Bool) → modeOf (afterStart l) ≡ F.afterStart l
-after-mode true = mode-listing
-after-mode false = mode-content
-
-after-coming : (l : Bool) → coming (afterStart l) ≡ 0
-unfolding coming
-after-coming true = refl
-after-coming false = refl
-
-root-one : rootOf 1 ≡ true
-unfolding rootOf
-root-one = refl
-
 -- A Start whose name is read: depth (13) behind the name's own faults.
 unfoldable pub startBy : ℕ → Bool → F.State Located → S.Got NameRead → I.Step
 startBy k l v g = I.into g λ x next w. pick (ltb (v .level) (link .depth)) (I.more k (Start (x .name) by forStart (x .how)) (I.octet next (F.opened v w l))) (I.stop 13 k)

@@ -42,9 +42,9 @@ impl State {
         }
     }
 
-    // At the octet `next`.
+    // At the octet `next`, which for a writer may lie behind what a document has room for.
     pub fn moved(self, next: usize, mode: usize) -> State
-        requires { ⌜ next ≤ 16384 ⌝ }
+        requires { ⌜ next ≤ 200000 ⌝ }
         ensures { λ r. ⌜ r ≡ movedTo self next mode ⌝ }
     {
         State {
@@ -57,7 +57,7 @@ impl State {
 
     // An element more, whose attribute bit is a.
     pub fn opened(self, next: usize, a: bool) -> State
-        requires { ⌜ (next ≤ 16384) × (self .level < 32) ⌝ }
+        requires { ⌜ (next ≤ 200000) × (self .level < 32) ⌝ }
         ensures { λ r. ⌜ r ≡ openedAt self next a ⌝ }
     {
         State {
@@ -70,7 +70,7 @@ impl State {
 
     // Behind an end, among children at a level.
     pub fn behind_end(self, level: usize) -> State
-        requires { ⌜ self .at ≤ 32768 ⌝ }
+        requires { ⌜ self .at ≤ 400000 ⌝ }
         ensures { λ r. ⌜ r ≡ afterEnd self level ⌝ }
     {
         State {

@@ -3,7 +3,7 @@
 use mathlib.Core.Path.{_≡_, refl, subst, _∙_}
 use mathlib.Core.Bool.{Bool, true, false, not, _&&_}
 use mathlib.Core.List.{List, _++_, map}
-use Prim.Native.Nat.{ℕ, _+_, _*_, _/_, _≤_, _<_, min}
+use Prim.Native.Nat.{ℕ, _+_, _-_, _*_, _/_, _≤_, _<_, min}
 use native.Mathlib.Nat.{le-min}
 use native.Mathlib.Numerals.{add-one}
 use native.Mathlib.Omega.{arith}
@@ -23,12 +23,16 @@ use Rattle.fields.proofs.Forms.{Ordered}
 use Rattle.fields.proofs.Numbers.{numbers-ordered, c25-ordered}
 use Rattle.fields.proofs.Puts.{puts-one, puts-append}
 use Rattle.fields.proofs.RoundTrip.{some-first}
+use Rattle.tables.specs.declared.Counts.{Counts}
 use Rattle.tables.specs.Located.{Located, octetsOf}
 use Rattle.tables.specs.Search.{numberIn, numberOfTriple}
 use Rattle.tables.proofs.Search.{length-octets}
 use Rattle.tables.specs.Rows.{tableOf, vocabulary}
 use Rattle.tables.specs.Kept.{nameTableOf, layoutOf}
 use Rattle.tables.proofs.Laws.{length-strings, length-names, number-within, name-number-within}
+use Rattle.states.specs.declared.State.{State}
+use Rattle.states.specs.States.{modeOf, stateOf, coming, movedTo, openedAt, afterEnd, declaringMode}
+use Rattle.states.proofs.Modes.{mode-content, mode-listed, mode-declaring, after-mode, after-coming, coming-low, declaring-coming, root-one}
 use Rattle.events.specs.declared.EventString.{EventString}
 use Rattle.events.specs.declared.EventString.the-variants.{Absent, Empty, Stretch, XmlPrefix, XmlNamespace}
 use Rattle.events.specs.declared.Kind.{Kind}
@@ -45,18 +49,15 @@ use Rattle.write_names.specs.Contracts.{InOrder, Suits, Fills, Spells, namedOf,
 use Rattle.write_names.proofs.NameLaws.{names-kept}
 use Rattle.write_names.proofs.StringLaws.{spells-suits, spells-stretch}
 use Rattle.tables.proofs.Found.{clash}
-use Rattle.writer.specs.declared.Mode.{Mode}
-use Rattle.writer.specs.declared.Mode.the-variants.{Content, Declaring, Listing}
-use Rattle.writer.specs.declared.State.{State}
 use Rattle.writer.specs.declared.Step.the-variants.{On, Stop}
 use Rattle.writer.specs.Events.{isStretch, isPrefix, isNamespace, isValue, nameOf, eventOf, isDeclaring, isListing}
 use Rattle.writer.specs.Items.{WroteItem, beforeDeclaration, beforeName, nameLead, writeItem}
 use Rattle.writer.specs.Writing.{isAttribute, isEnd, fits}
 use Rattle.writer.specs.OutputContracts.{endOctet}
-use Rattle.writer.specs.Contracts.{modeOf, stateOf}
-use Rattle.writer.specs.StepContracts.{coming, known}
-use Rattle.writer.specs.ItemContracts.{owes, listEnded, endPut, Fit, movedTo, modeBehindStart, openedTo, closedTo, landing, Near, Lands, holding}
+use Rattle.writer.specs.StepContracts.{known}
+use Rattle.writer.specs.ItemContracts.{owes, listEnded, endPut, Fit, landing, Near, Lands, holding}
 use Rattle.writer.proofs.WellMade.{stretch-lies, Named, by-kind}
+use Rattle.writer.proofs.ModeLaws.{declares}
 
 -- ---- the strings of a record that is well made
 module _ (text : List ℕ) where
@@ -114,12 +115,12 @@ pub octet-aligned : (at : ℕ) → (at + 1) / 2 ≡ aligned at / 2
 unfolding aligned
 octet-aligned at = omega arith
 
-module _ (text : List ℕ) (room : ℕ) (st : State) where
-  pub held-over : min room 16384 < (st .at + 1) / 2 → Stop 14 ≡ holding text room st
+module _ (text : List ℕ) (room : ℕ) (st : State) (cs : Counts) where
+  pub held-over : min room 16384 < (st .at + 1) / 2 → Stop 14 ≡ holding text room st cs
   unfolding holding fits link
   held-over h = rw (← (octet-aligned (st .at)), lt-leb _ _ h)
 
-  pub held-fitting : (st .at + 1) / 2 ≤ room → (st .at + 1) / 2 ≤ 16384 → On st ≡ holding text room st
+  pub held-fitting : (st .at + 1) / 2 ≤ room → (st .at + 1) / 2 ≤ 16384 → On st cs ≡ holding text room st cs
   unfolding holding fits link
   held-fitting h l = rw (← (octet-aligned (st .at)), le-leb _ _ (le-min h l))
 
@@ -132,20 +133,26 @@ stands-behind k p l s = let f = s .few in record { puts = puts-append p (s .puts
 abbrev asWrote : WroteItem → Wrote Choice
 asWrote d = record { octets = d .octets; how = d .choice; number = 0; tables = d .state .tables }
 
-module _ (text : List ℕ) (a : Bool) (st : State) (out w : List ℕ) (e : E.Event Located) (item : isEnd e ≡ false) (next : State)
-    (state : stateOf next (writeItem link text a (known st w) e .state .tables) ≡ writeItem link text a (known st w) e .state)
-    (shallow : next .level + coming (next .mode) ≤ 32) where
-  lands : (most : ℕ) (r : W.Wrote) (out′ w′ ix′ : List ℕ) → 1 ≤ length (writeItem link text a (known st w) e .octets)
-      → Meets text out (aligned (st .at) / 2) most r out′ w′ ix′ (asWrote (writeItem link text a (known st w) e)) → Near r → Lands text a st out w e (landing next r) out′ w′ ix′
+module _ (text : List ℕ) (a : Bool) (st : State) (cs : Counts) (out w : List ℕ) (e : E.Event Located) (item : isEnd e ≡ false) (next : ℕ → State) (even : (k : ℕ) → next k .at ≡ 2 * k)
+    (state : (k : ℕ) → stateOf (next k) (writeItem link text a (known st cs w) e .state .tables) ≡ writeItem link text a (known st cs w) e .state)
+    (shallow : (k : ℕ) → next k .level + coming (next k .mode) ≤ 32) where
+  lands : (most : ℕ) (r : W.Wrote) (out′ w′ ix′ : List ℕ) → 1 ≤ length (writeItem link text a (known st cs w) e .octets)
+      → Meets text out (aligned (st .at) / 2) most r out′ w′ ix′ (asWrote (writeItem link text a (known st cs w) e)) → Near r → Lands text a st cs out w e (landing next r) out′ w′ ix′
   lands most (Put h) out′ w′ ix′ some s n =
       let z : 2 * h .at / 2 ≡ h .at = omega arith in
-      record { laid = rw (item, z) (s .puts, refl, some); near = omega arith; state = rw (s .tables) state; order = s .order; shallow = shallow }
+      record {
+        laid = rw (item, even (h .at), z) (s .puts, refl, some);
+        near = let d = even (h .at) in omega arith;
+        state = rw (s .tables) (state (h .at));
+        order = s .order;
+        shallow = shallow (h .at);
+      }
   lands most Full out′ w′ ix′ some s n = (refl, s)
 
   -- octets stand before what was put last
   lands-behind : {H : Type 0} (d : Wrote H) {xs out₁ : List ℕ} {at : ℕ} (most : ℕ) → Puts out (aligned (st .at) / 2) at out₁ xs → at ≤ aligned (st .at) / 2 + 1
-      → writeItem link text a (known st w) e .octets ≡ xs ++ d .octets → writeItem link text a (known st w) e .state .tables ≡ d .tables → (r : W.Wrote) (out′ w′ ix′ : List ℕ)
-      → 1 ≤ length (writeItem link text a (known st w) e .octets) → Meets text out₁ at most r out′ w′ ix′ d → Near r → Lands text a st out w e (landing next r) out′ w′ ix′
+      → writeItem link text a (known st cs w) e .octets ≡ xs ++ d .octets → writeItem link text a (known st cs w) e .state .tables ≡ d .tables → (r : W.Wrote) (out′ w′ ix′ : List ℕ)
+      → 1 ≤ length (writeItem link text a (known st cs w) e .octets) → Meets text out₁ at most r out′ w′ ix′ d → Near r → Lands text a st cs out w e (landing next r) out′ w′ ix′
   lands-behind d most p l o s (Put h) out′ w′ ix′ some m n = lands (1 + most) (Put h) out′ w′ ix′ some (rw (o, s) (stands-behind 1 p l m)) n
   lands-behind d most p l o s Full out′ w′ ix′ some m n = (refl, rw s m)
 
@@ -227,129 +234,131 @@ value-behind : {text out out₁ out₂ w₁ i₁ w₂ i₂ xs : List ℕ} {v : V
 value-behind {m = m} t y s r = stands-behind m (s .puts) (s .few) (rw (s .tables) at r)
 
 -- ---- a kind that was found out
-pub kind-fits : {text w ix : List ℕ} {st : State} {e : Event} {k : Kind} → e .kind ≡ k → Fit text st w ix (e .kind) e → Fit text st w ix k e
-kind-fits {text} {w} {ix} {st} {e} q f = subst (λ (x : Kind). Fit text st w ix x e) q f
+pub kind-fits : {text w ix : List ℕ} {st : State} {cs : Counts} {e : Event} {k : Kind} → e .kind ≡ k → Fit text st cs w ix (e .kind) e → Fit text st cs w ix k e
+kind-fits {text} {w} {ix} {st} {cs} {e} q f = subst (λ (x : Kind). Fit text st cs w ix x e) q f
 
 -- ---- an element more
-element-room : (level : ℕ) (m : Mode) → level + coming m ≤ 32 → (not (isDeclaring (modeOf m)) && leb (link .depth) level) ≡ false → level + 1 ≤ 32
+room-by : (level : ℕ) (b : Bool) → level + pick b 1 0 ≤ 32 → (not b && leb (link .depth) level) ≡ false → level < 32
 unfolding link
-element-room level Content s r = let l = leb-false 32 level r in omega arith
-element-room level (Declaring a) s r = s
-element-room level (Listing any) s r = let l = leb-false 32 level r in omega arith
+room-by level true s r = omega arith
+room-by level false s r = leb-false 32 level r
 
-opened-is : (st : State) (a : Bool) (v u : Vocabulary Located) → stateOf (openedTo st a) v ≡ F.opened (stateOf st u) v a
-opened-is st true v u = rw (add-one (st .level))
-opened-is st false v u = rw (add-one (st .level))
+element-room : (level m : ℕ) → level + coming m ≤ 32 → (not (isDeclaring (modeOf m)) && leb (link .depth) level) ≡ false → level < 32
+unfolding coming
+element-room level m s r = room-by level (leb 3 m) s (rw (declares m) at r)
 
-coming-behind-start : (a : Bool) → coming (modeBehindStart a) ≡ 0
-coming-behind-start true = refl
-coming-behind-start false = refl
+pub start-room : {text w ix : List ℕ} {st : State} {cs : Counts} {e : Event} → Fit text st cs w ix Start e → st .level < 32
+unfolding eventOf
+start-room {st = st} fit = element-room (st .level) (st .mode) (fit .shallow) (fit .roomy)
 
 -- ---- each kind
-module _ (text : List ℕ) (a : Bool) (st : State) (w : List ℕ) (e : Event) where
-  pub chunk-lands : {ix : List ℕ} → Fit text st w ix Chunk e → {at : ℕ} → (at ≡ aligned (st .at) / 2) × (at ≤ 16385) → {out out′ w′ ix′ : List ℕ} {h : Here}
-      → Stands text out at 16389 h out′ w′ ix′ (writeLiteral link c15 text CONTENT-CHARACTER-CHUNK (vocabulary (st .counts) w) (locatedOf (e .value)) .octets)
-      (writeLiteral link c15 text CONTENT-CHARACTER-CHUNK (vocabulary (st .counts) w) (locatedOf (e .value)) .tables)
-      → Lands text a st out w (eventOf Chunk e) (landing st (Put h)) out′ w′ ix′
+module _ (text : List ℕ) (a : Bool) (st : State) (cs : Counts) (w : List ℕ) (e : Event) where
+  pub chunk-lands : {ix : List ℕ} → Fit text st cs w ix Chunk e → {at : ℕ} → (at ≡ aligned (st .at) / 2) × (at ≤ 16385) → {out out′ w′ ix′ : List ℕ} {h : Here}
+      → Stands text out at 16389 h out′ w′ ix′ (writeLiteral link c15 text CONTENT-CHARACTER-CHUNK (vocabulary cs w) (locatedOf (e .value)) .octets)
+      (writeLiteral link c15 text CONTENT-CHARACTER-CHUNK (vocabulary cs w) (locatedOf (e .value)) .tables)
+      → Lands text a st cs out w (eventOf Chunk e) (landing (λ k. movedTo st k (st .mode)) (Put h)) out′ w′ ix′
   unfolding eventOf writeItem tableOf
   chunk-lands fit q {out′ = out′} {w′ = w′} {ix′ = ix′} {h = h} s =
-      let n = length-strings (st .counts) w 6 (omega arith) in
+      let n = length-strings cs w 6 (omega arith) in
       let c = fit .order .counted 6 in
-      let o = chunk-by text (vocabulary (st .counts) w) (locatedOf (e .value)) (spelled-some text (e .value) (stretch-spells text (e .value) (by-kind text e Chunk (fit .made) .2))) (omega arith) _ refl in
-      lands text a st _ w (eventOf Chunk e) refl st refl (fit .shallow) 16389 (Put h) out′ w′ ix′ o (rw (← (q .0)) s) (let b = q .1 in let f = s .few in omega arith)
+      let o = chunk-by text (vocabulary cs w) (locatedOf (e .value)) (spelled-some text (e .value) (stretch-spells text (e .value) (by-kind text e Chunk (fit .made) .2))) (omega arith) _ refl in
+      lands text a st cs _ w (eventOf Chunk e) refl (λ k. movedTo st k (st .mode)) (λ k. refl) (λ k. refl) (λ k. fit .shallow) 16389 (Put h) out′ w′ ix′ o (rw (← (q .0)) s) (let b = q .1 in let f = s .few in omega arith)
 
-  pub comment-lands : {ix : List ℕ} → Fit text st w ix Comment e → {at : ℕ} → (at ≡ aligned (st .at) / 2) × (at ≤ 16385) → {out out₁ out′ w′ ix′ : List ℕ} {h : Here} → out₁ ≡ set out at 0xE2
-      → Stands text out₁ (at + 1) 16389 h out′ w′ ix′ (writeValue link text (tableOf 7) (vocabulary (st .counts) w) (locatedOf (e .value)) .octets)
-      (writeValue link text (tableOf 7) (vocabulary (st .counts) w) (locatedOf (e .value)) .tables)
-      → Lands text a st out w (eventOf Comment e) (landing st (Put h)) out′ w′ ix′
+  pub comment-lands : {ix : List ℕ} → Fit text st cs w ix Comment e → {at : ℕ} → (at ≡ aligned (st .at) / 2) × (at ≤ 16385) → {out out₁ out′ w′ ix′ : List ℕ} {h : Here} → out₁ ≡ set out at 0xE2
+      → Stands text out₁ (at + 1) 16389 h out′ w′ ix′ (writeValue link text (tableOf 7) (vocabulary cs w) (locatedOf (e .value)) .octets)
+      (writeValue link text (tableOf 7) (vocabulary cs w) (locatedOf (e .value)) .tables)
+      → Lands text a st cs out w (eventOf Comment e) (landing (λ k. movedTo st k (st .mode)) (Put h)) out′ w′ ix′
   unfolding eventOf writeItem tableOf
   comment-lands fit q {out′ = out′} {w′ = w′} {ix′ = ix′} {h = h} p s =
-      lands text a st _ w (eventOf Comment e) refl st refl (fit .shallow) 16390 (Put h) out′ w′ ix′ (omega arith) (rw (← (q .0)) (stands-behind 1 (puts-one p) (omega arith) s))
+      lands text a st cs _ w (eventOf Comment e) refl (λ k. movedTo st k (st .mode)) (λ k. refl) (λ k. refl) (λ k. fit .shallow) 16390 (Put h) out′ w′ ix′ (omega arith) (rw (← (q .0)) (stands-behind 1 (puts-one p) (omega arith) s))
       (let b = q .1 in let f = s .few in omega arith)
 
-  pub instruction-full : within link (writeId text (tableOf 3) (vocabulary (st .counts) w) (locatedOf (e .name)) .tables) ≡ false
-      → within link (writeItem link text a (known st w) (eventOf Instruction e) .state .tables) ≡ false
+  pub instruction-full : within link (writeId text (tableOf 3) (vocabulary cs w) (locatedOf (e .name)) .tables) ≡ false
+      → within link (writeItem link text a (known st cs w) (eventOf Instruction e) .state .tables) ≡ false
   unfolding eventOf writeItem tableOf adding within
   instruction-full f = value-within text OTHER-STRING _ (locatedOf (e .value)) refl ∙ f
 
-  pub instruction-lands : {ix : List ℕ} → Fit text st w ix Instruction e → {at : ℕ} → (at ≡ aligned (st .at) / 2) × (at ≤ 16385) → {out out₁ out₂ out′ w₁ i₁ w′ ix′ : List ℕ} {h g : Here} → out₁ ≡ set out at 0xE1
-      → Stands text out₁ (at + 1) 16389 h out₂ w₁ i₁ (writeId text (tableOf 3) (vocabulary (st .counts) w) (locatedOf (e .name)) .octets)
-      (writeId text (tableOf 3) (vocabulary (st .counts) w) (locatedOf (e .name)) .tables)
+  pub instruction-lands : {ix : List ℕ} → Fit text st cs w ix Instruction e → {at : ℕ} → (at ≡ aligned (st .at) / 2) × (at ≤ 16385) → {out out₁ out₂ out′ w₁ i₁ w′ ix′ : List ℕ} {h g : Here} → out₁ ≡ set out at 0xE1
+      → Stands text out₁ (at + 1) 16389 h out₂ w₁ i₁ (writeId text (tableOf 3) (vocabulary cs w) (locatedOf (e .name)) .octets)
+      (writeId text (tableOf 3) (vocabulary cs w) (locatedOf (e .name)) .tables)
       → Stands text out₂ (h .at) 16389 g out′ w′ ix′ (writeValue link text (tableOf 7) (vocabulary (h .counts) w₁) (locatedOf (e .value)) .octets)
       (writeValue link text (tableOf 7) (vocabulary (h .counts) w₁) (locatedOf (e .value)) .tables)
-      → Lands text a st out w (eventOf Instruction e) (landing st (Put g)) out′ w′ ix′
+      → Lands text a st cs out w (eventOf Instruction e) (landing (λ k. movedTo st k (st .mode)) (Put g)) out′ w′ ix′
   unfolding eventOf writeItem tableOf
   instruction-lands fit q {out′ = out′} {w′ = w′} {ix′ = ix′} {g = g} p s r =
-      lands text a st _ w (eventOf Instruction e) refl st refl (fit .shallow) 32779 (Put g) out′ w′ ix′ (omega arith)
+      lands text a st cs _ w (eventOf Instruction e) refl (λ k. movedTo st k (st .mode)) (λ k. refl) (λ k. refl) (λ k. fit .shallow) 32779 (Put g) out′ w′ ix′ (omega arith)
       (rw (← (q .0)) (stands-behind 1 (puts-one p) (omega arith) (value-behind OTHER-STRING _ s r)))
       (let b = q .1 in let f = s .few in let k = r .few in omega arith)
 
-  pub declare-lands : {ix : List ℕ} → Fit text st w ix Namespace e → {at₀ at : ℕ} {out out₁ : List ℕ} → (at₀ ≡ aligned (st .at) / 2) × (at₀ ≤ 16385)
+  pub declare-lands : {ix : List ℕ} → Fit text st cs w ix Namespace e → {at₀ at : ℕ} {out out₁ : List ℕ} → (at₀ ≡ aligned (st .at) / 2) × (at₀ ≤ 16385)
       → Puts out at₀ at out₁ (beforeDeclaration (modeOf (st .mode)) a) × (at ≤ at₀ + 1) → (r : W.Wrote) (out′ w′ ix′ : List ℕ)
-      → Meets text out₁ at 32779 r out′ w′ ix′ (declaredBy text (vocabulary (st .counts) w) (optionalOf (e .prefix)) (optionalOf (e .namespace)))
-      → Lands text a st out w (eventOf Namespace e) (landing (movedTo st (Declaring a)) r) out′ w′ ix′
+      → Meets text out₁ at 32779 r out′ w′ ix′ (declaredBy text (vocabulary cs w) (optionalOf (e .prefix)) (optionalOf (e .namespace)))
+      → Lands text a st cs out w (eventOf Namespace e) (landing (λ k. movedTo st k (declaringMode a)) r) out′ w′ ix′
   unfolding eventOf writeItem declaredBy pairBehind
   declare-lands fit q p r out′ w′ ix′ m =
       let s = element-room (st .level) (st .mode) (fit .shallow) (fit .roomy) in
       let b = q .1 in
       let l = p .1 in
       let n = meets-near text _ _ 32779 r out′ w′ ix′ _ (omega arith) m in
-      lands-behind text a st _ w (eventOf Namespace e) refl (movedTo st (Declaring a)) refl (omega arith) _ 32779 (rw (q .0) at (p .0)) (rw (q .0) at l) refl refl r out′ w′ ix′
+      let c = declaring-coming a in
+      lands-behind text a st cs _ w (eventOf Namespace e) refl (λ k. movedTo st k (declaringMode a)) (λ k. refl) (λ k. rw (mode-declaring a)) (λ k. omega arith) _ 32779 (rw (q .0) at (p .0)) (rw (q .0) at l) refl refl r out′ w′ ix′
       (simp length-append (omega arith)) m n
 
-  module _ {ix : List ℕ} (fit : Fit text st w ix Start e) {at₀ at lead : ℕ} {out out₁ : List ℕ} (q : (at₀ ≡ aligned (st .at) / 2) × (at₀ ≤ 16385))
+  module _ {ix : List ℕ} (fit : Fit text st cs w ix Start e) {at₀ at lead : ℕ} {out out₁ : List ℕ} (q : (at₀ ≡ aligned (st .at) / 2) × (at₀ ≤ 16385))
       (p : Puts out at₀ at out₁ (beforeName (modeOf (st .mode))) × (at ≤ at₀ + 1)) (lead-is : lead ≡ nameLead (modeOf (st .mode)) a) where
-    start-some : 1 ≤ length (writeItem link text a (known st w) (eventOf Start e) .octets)
+    start-some : 1 ≤ length (writeItem link text a (known st cs w) (eventOf Start e) .octets)
     unfolding eventOf writeItem layoutOf nameTableOf ofElement
     start-some =
-        let n = length-names (st .counts) w 8 (omega arith) (omega arith) in
+        let n = length-names cs w 8 (omega arith) (omega arith) in
         let c = fit .order .counted 8 in
-        let o = name-by (layoutOf 8) (nameLead (modeOf (st .mode)) a) text (vocabulary (st .counts) w) (nameOf e) (wide-name 8) (omega arith) _ refl in
+        let o = name-by (layoutOf 8) (nameLead (modeOf (st .mode)) a) text (vocabulary cs w) (nameOf e) (wide-name 8) (omega arith) _ refl in
         simp length-append (omega arith)
 
     pub start-lands : (name : Parts) → name ≡ record { prefix = e .prefix; namespace = e .namespace; local = e .name } → (r : W.Wrote) (out′ w′ ix′ : List ℕ)
-        → Meets text out₁ at 49168 r out′ w′ ix′ (writeName (layoutOf 8) lead text (vocabulary (st .counts) w) (namedOf name))
-        → Lands text a st out w (eventOf Start e) (landing (openedTo st a) r) out′ w′ ix′
+        → Meets text out₁ at 49168 r out′ w′ ix′ (writeName (layoutOf 8) lead text (vocabulary cs w) (namedOf name))
+        → Lands text a st cs out w (eventOf Start e) (landing (λ k. openedAt st k a) r) out′ w′ ix′
     unfolding eventOf writeItem layoutOf
     start-lands name is r out′ w′ ix′ m =
-        let s = element-room (st .level) (st .mode) (fit .shallow) (fit .roomy) in
+        let s = start-room fit in
         let b = q .1 in
         let l = p .1 in
         let n = meets-near text _ _ 49168 r out′ w′ ix′ _ (omega arith) m in
-        let k = coming-behind-start a in
-        lands-behind text a st _ w (eventOf Start e) refl (openedTo st a) (opened-is st a _ (vocabulary (st .counts) w)) (omega arith) _ 49168 (rw (q .0) at (p .0)) (rw (q .0) at l) refl refl r out′ w′ ix′
+        let c = after-coming a in
+        lands-behind text a st cs _ w (eventOf Start e) refl (λ k. openedAt st k a) (λ k. refl) (λ k. rw (root-one, after-mode a, add-one)) (λ k. omega arith) _ 49168 (rw (q .0) at (p .0)) (rw (q .0) at l) refl refl r out′ w′ ix′
         start-some (rw (lead-is, is) at m) n
 
-  module _ {ix : List ℕ} (fit : Fit text st w ix Attribute e) (name : Parts) (is : name ≡ record { prefix = e .prefix; namespace = e .namespace; local = e .name }) where
-    attribute-some : 1 ≤ length (writeItem link text a (known st w) (eventOf Attribute e) .octets)
+  module _ {ix : List ℕ} (fit : Fit text st cs w ix Attribute e) (name : Parts) (is : name ≡ record { prefix = e .prefix; namespace = e .namespace; local = e .name }) where
+    attribute-some : 1 ≤ length (writeItem link text a (known st cs w) (eventOf Attribute e) .octets)
     unfolding eventOf writeItem layoutOf nameTableOf ofAttribute
     attribute-some =
-        let n = length-names (st .counts) w 9 (omega arith) (omega arith) in
+        let n = length-names cs w 9 (omega arith) (omega arith) in
         let c = fit .order .counted 9 in
-        let o = name-by (layoutOf 9) 0 text (vocabulary (st .counts) w) (nameOf e) (wide-name 9) (omega arith) _ refl in
+        let o = name-by (layoutOf 9) 0 text (vocabulary cs w) (nameOf e) (wide-name 9) (omega arith) _ refl in
         simp length-append (omega arith)
 
-    pub attribute-full : within link (writeName (layoutOf 9) 0 text (vocabulary (st .counts) w) (namedOf name) .tables) ≡ false
-        → within link (writeItem link text a (known st w) (eventOf Attribute e) .state .tables) ≡ false
+    pub attribute-full : within link (writeName (layoutOf 9) 0 text (vocabulary cs w) (namedOf name) .tables) ≡ false
+        → within link (writeItem link text a (known st cs w) (eventOf Attribute e) .state .tables) ≡ false
     unfolding eventOf writeItem layoutOf adding within
     attribute-full f = value-within text ATTRIBUTE-VALUE _ (locatedOf (e .value)) refl ∙ rw is at f
 
     pub attribute-lands : {at : ℕ} → (at ≡ aligned (st .at) / 2) × (at ≤ 16385) → {out out₁ out′ w₁ i₁ w′ ix′ : List ℕ} {h g : Here}
-        → Stands text out at 49168 h out₁ w₁ i₁ (writeName (layoutOf 9) 0 text (vocabulary (st .counts) w) (namedOf name) .octets)
-        (writeName (layoutOf 9) 0 text (vocabulary (st .counts) w) (namedOf name) .tables)
+        → Stands text out at 49168 h out₁ w₁ i₁ (writeName (layoutOf 9) 0 text (vocabulary cs w) (namedOf name) .octets)
+        (writeName (layoutOf 9) 0 text (vocabulary cs w) (namedOf name) .tables)
         → Stands text out₁ (h .at) 16389 g out′ w′ ix′ (writeValue link text (tableOf 5) (vocabulary (h .counts) w₁) (locatedOf (e .value)) .octets)
         (writeValue link text (tableOf 5) (vocabulary (h .counts) w₁) (locatedOf (e .value)) .tables)
-        → Lands text a st out w (eventOf Attribute e) (landing (movedTo st (Listing true)) (Put g)) out′ w′ ix′
+        → Lands text a st cs out w (eventOf Attribute e) (landing (λ k. movedTo st k 2) (Put g)) out′ w′ ix′
     unfolding eventOf writeItem layoutOf tableOf
     attribute-lands q {out′ = out′} {w′ = w′} {ix′ = ix′} {g = g} s r =
         let b = q .1 in
         let f = s .few in
         let k = r .few in
         let d = fit .shallow in
-        lands text a st _ w (eventOf Attribute e) refl (movedTo st (Listing true)) refl (omega arith) 65557 (Put g) out′ w′ ix′ attribute-some
+        let c = coming-low 2 (omega arith) in
+        lands text a st cs _ w (eventOf Attribute e) refl (λ k. movedTo st k 2) (λ k. refl) (λ k. rw mode-listed) (λ k. omega arith) 65557 (Put g) out′ w′ ix′ attribute-some
         (rw (← (q .0)) (value-behind ATTRIBUTE-VALUE _ (rw is at s) r)) (omega arith)
 
-pub end-lands : (text : List ℕ) (a : Bool) (st : State) (w ix : List ℕ) → InOrder text (st .counts) w ix → st .at ≤ 32769 → st .level ≤ 32 → {out out′ : List ℕ}
-    → out′ ≡ set out (st .at / 2) (endOctet (st .at)) → Lands text a st out w E.End (On (closedTo st)) out′ w ix
+pub end-lands : (text : List ℕ) (a : Bool) (st : State) (cs : Counts) (w ix : List ℕ) → InOrder text cs w ix → st .at ≤ 32769 → st .level ≤ 32 → {out out′ : List ℕ}
+    → out′ ≡ set out (st .at / 2) (endOctet (st .at)) → Lands text a st cs out w E.End (On (afterEnd st (st .level - 1)) cs) out′ w ix
 unfolding writeItem
-end-lands text a st w ix order l d p = record { laid = (refl, p); near = omega arith; state = refl; order = order; shallow = omega arith }
+end-lands text a st cs w ix order l d p =
+    record { laid = (refl, p); near = omega arith; state = rw mode-content; order = order; shallow = let c = coming-low 0 (omega arith) in omega arith }

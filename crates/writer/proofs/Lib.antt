@@ -1,6 +1,7 @@
 pub mod RecordLaws
 pub mod WellMade
 pub mod Faults
+pub mod ModeLaws
 pub mod OutputLaws
 pub mod AheadLaws
 pub mod ItemLaws

@@ -8,26 +8,27 @@ use borrow.Author.Tests.{eq-eqb, ne-eqb, le-leb, lt-leb, ltb-true, ltb-false}
 use lib.ListN.{length, getD, drop, replicate}
 use lib.Seq.{drop-cons}
 use Rattle.format.specs.Tables.{link}
+use Rattle.format.specs.Items.{Mode, content, declaring, listing}
 use Rattle.format.specs.Document.{header}
-use Rattle.tables.specs.Counts.{tableWords}
+use Rattle.tables.specs.declared.Counts.{Counts}
+use Rattle.tables.specs.Located.{start}
+use Rattle.tables.specs.Counts.{countsOf, tableWords}
 use Rattle.index.specs.Indexed.{slots}
+use Rattle.states.specs.declared.State.{State}
+use Rattle.states.specs.States.{modeOf, fresh}
 use Rattle.events.specs.declared.Event.{Event}
 use Rattle.events.specs.Records.{blank}
 use Rattle.writer.specs.declared.Answer.{Answer}
 use Rattle.writer.specs.declared.Answer.the-variants.{Accepted, Refused}
-use Rattle.writer.specs.declared.Mode.{Mode}
-use Rattle.writer.specs.declared.Mode.the-variants.{Content, Declaring, Listing}
-use Rattle.writer.specs.declared.State.{State}
 use Rattle.writer.specs.declared.Step.{Step}
 use Rattle.writer.specs.declared.Step.the-variants.{On, Stop}
 use Rattle.writer.specs.declared.run.Phase.{Phase}
 use Rattle.writer.specs.declared.run.Phase.the-variants.{Onward, Halted}
 use Rattle.writer.specs.Writing.{announced, writing, outcome, refusing, Leaves, writeOf}
 use Rattle.writer.specs.OutputContracts.{Holds}
-use Rattle.writer.specs.Contracts.{modeOf}
 use Rattle.writer.specs.StepContracts.{Steps}
-use Rattle.writer.specs.RunContracts.{fresh, Foretold, remains, Finishes, goesOn, fromMode, lookFrom, bitOf, Going, Steady, Bounded, Turns, Ends, Settles}
-use Rattle.writer.proofs.RunLaws.{underway-start, underway-number, underway-on, run-refused, run-finished}
+use Rattle.writer.specs.RunContracts.{Foretold, remains, Finishes, goesOn, fromMode, lookFrom, bitOf, Going, Steady, Bounded, Turns, Ends, Settles}
+use Rattle.writer.proofs.RunLaws.{five, underway-start, underway-number, underway-on, run-refused, run-finished}
 
 -- ---- before the first record
 module _ (es : List Event) (text : List ℕ) (room table : ℕ) where
@@ -41,9 +42,9 @@ module _ (es : List Event) (text : List ℕ) (room table : ℕ) where
     going-room n = rw (le-leb _ _ size, ne-eqb _ _ n)
 
     module _ (all : table ≡ tableWords) where
-      pub going-start : {p : State} {out w ix : List ℕ} → p ≡ fresh → Holds room [] (2 * length (header link)) out → w ≡ replicate tableWords 0 → ix ≡ replicate slots 0 → Going es text room table 0 (Onward p) out w ix
+      pub going-start : {st : State} {cs : Counts} {out w ix : List ℕ} → st ≡ fresh 5 → cs ≡ countsOf (start link) → Holds room [] (2 * length (header link)) out → w ≡ replicate tableWords 0 → ix ≡ replicate slots 0 → Going es text room table 0 (Onward st cs) out w ix
       unfolding link
-      going-start q h e z = (size, all, rw q (underway-start text room es size h e z))
+      going-start p q h e z = (size, all, rw (p ∙ ap fresh (sym five), q) (underway-start text room es size h e z))
 
       -- what the run leaves is left by the call
       run-is : outcome link (writing link text room es) room ≡ writeOf link es text room table
@@ -51,36 +52,36 @@ module _ (es : List Event) (text : List ℕ) (room table : ℕ) where
       run-is = rw (le-leb _ _ size, eq-eqb _ _ all)
 
 -- ---- a turn
-bit-chosen : (m : Mode) (a : Bool) (i : ℕ) (es : List Event) → Foretold (modeOf m) (announced (drop i es)) → a ≡ announced (drop (fromMode m i (length es)) es) → bitOf m a ≡ announced (drop i es)
-bit-chosen Content a i es f h = h
-bit-chosen (Declaring b) a i es f h = f
-bit-chosen (Listing any) a i es f h = h
+bit-chosen : (m : Mode) (a : Bool) (i : ℕ) (es : List Event) → Foretold m (announced (drop i es)) → a ≡ announced (drop (fromMode m i (length es)) es) → bitOf m a ≡ announced (drop i es)
+bit-chosen content a i es f h = h
+bit-chosen (declaring b) a i es f h = f
+bit-chosen (listing any) a i es f h = h
 
-pub steady-onward : (text : List ℕ) (i : ℕ) (w ix : List ℕ) {p : Phase} {st : State} → p ≡ Onward st → Steady text i p w ix → Steady text i (Onward st) w ix
+pub steady-onward : (text : List ℕ) (i : ℕ) (w ix : List ℕ) {p : Phase} {st : State} {cs : Counts} → p ≡ Onward st cs → Steady text i p w ix → Steady text i (Onward st cs) w ix
 steady-onward text i w ix q h = rw q at h
 
-pub bounded-onward : (i : ℕ) {p : Phase} {st : State} → p ≡ Onward st → Bounded i p → Bounded i (Onward st)
+pub bounded-onward : (i : ℕ) {p : Phase} {st : State} {cs : Counts} → p ≡ Onward st cs → Bounded i p → Bounded i (Onward st cs)
 bounded-onward i q h = rw q at h
 
 module _ (text : List ℕ) (room table i : ℕ) (out w ix : List ℕ) (e : Event) (a : Bool) (out′ w′ ix′ : List ℕ) where
-  module _ (st : State) (p : Phase) (q : p ≡ Onward st) (b : Bool) (f : b ≡ bitOf (st .mode) a) (r : Step) (s : Steps text room b st out w e r out′ w′ ix′) where
-    pub turn-on : (next : State) → r ≡ On next → Turns text room table i p out w ix e a (Onward next) out′ w′ ix′
-    turn-on next o =
-        rw q (λ es g d c. (g .0, g .1, underway-on (g .2) d (f ∙ bit-chosen (st .mode) a i es (g .2 .bit-known) c) r out′ w′ ix′ s o))
+  module _ (st : State) (cs : Counts) (p : Phase) (q : p ≡ Onward st cs) (b : Bool) (f : b ≡ bitOf (modeOf (st .mode)) a) (r : Step) (s : Steps text room b st cs out w e r out′ w′ ix′) where
+    pub turn-on : (next : State) (cs′ : Counts) → r ≡ On next cs′ → Turns text room table i p out w ix e a (Onward next cs′) out′ w′ ix′
+    turn-on next cs′ o =
+        rw q (λ es g d c. (g .0, g .1, underway-on (g .2) d (f ∙ bit-chosen (modeOf (st .mode)) a i es (g .2 .bit-known) c) r out′ w′ ix′ s o))
 
     pub turn-stop : (n : ℕ) → r ≡ Stop n → Turns text room table i p out w ix e a (Halted n i) out′ w′ ix′
     unfolding link
     turn-stop n o =
-        rw q (λ es g d c. ap (λ (k : ℕ). refusing n i room k) (g .1) ∙ run-refused (g .2) d (f ∙ bit-chosen (st .mode) a i es (g .2 .bit-known) c) r out′ w′ ix′ s o ∙ run-is es text room table (g .0) (g .1))
+        rw q (λ es g d c. ap (λ (k : ℕ). refusing n i room k) (g .1) ∙ run-refused (g .2) d (f ∙ bit-chosen (modeOf (st .mode)) a i es (g .2 .bit-known) c) r out′ w′ ix′ s o ∙ run-is es text room table (g .0) (g .1))
 
   pub turn-halted : (p : Phase) (k n : ℕ) → p ≡ Halted k n → Turns text room table i p out w ix e a (Halted k n) out w ix
   turn-halted p k n q = rw q (λ es g d c. g)
 
 -- ---- behind the last record
 module _ (room i : ℕ) (out : List ℕ) (r : Answer) (out′ : List ℕ) where
-  pub ends-onward : (st : State) (p : Phase) → p ≡ Onward st → Finishes room st out i r out′ → Ends room i p out r out′
+  pub ends-onward : (st : State) (cs : Counts) (p : Phase) → p ≡ Onward st cs → Finishes room st cs out i r out′ → Ends room i p out r out′
   unfolding link
-  ends-onward st p q f =
+  ends-onward st cs p q f =
       rw q (λ es text w ix g o. ap (λ (k : ℕ). remains room k r out′ w) (g .1) ∙ run-finished (g .2) (ltb-false i (length es) o) r out′ f ∙ run-is es text room (length w) (g .0) (g .1))
 
   pub ends-halted : (k n : ℕ) (p : Phase) → p ≡ Halted k n → r ≡ Refused k n → Ends room i p out r out′
@@ -98,15 +99,15 @@ module _ (room i : ℕ) (p : Phase) (out w : List ℕ) (r : Answer) (out₁ : Li
 -- ---- the loop
 module _ (es : List Event) (text : List ℕ) (room table i : ℕ) where
   pub going-steady : (p : Phase) (out w ix : List ℕ) → Going es text room table i p out w ix → Steady text i p w ix
-  going-steady (Onward st) out w ix g = (g .2 .ready, g .2 .small)
+  going-steady (Onward st cs) out w ix g = (g .2 .ready, g .2 .small)
   going-steady (Halted k n) out w ix g = tt
 
   pub going-bounded : (p : Phase) (out w ix : List ℕ) → Going es text room table i p out w ix → Bounded i p
-  going-bounded (Onward st) out w ix g = (g .2 .ready .at, underway-number (g .2))
+  going-bounded (Onward st cs) out w ix g = (g .2 .ready .at, underway-number (g .2))
   going-bounded (Halted k n) out w ix g = tt
 
   pub going-small : (p : Phase) (out w ix : List ℕ) (n : ℕ) → Going es text room table i p out w ix → goesOn p i n ≡ true → i ≤ 32768
-  going-small (Onward st) out w ix n g h = underway-number (g .2)
+  going-small (Onward st cs) out w ix n g h = underway-number (g .2)
   going-small (Halted k at) out w ix n g h = absurd (true≢false (sym h))
 
   -- what the functions answer over lists zs and us as long as the room
@@ -123,5 +124,5 @@ module _ (es : List Event) (text : List ℕ) (room table i : ℕ) where
   going-room-is room′ table′ q q′ p out w ix g = rw (q, q′) at g
 
 pub inside : (p : Phase) (i n : ℕ) → goesOn p i n ≡ true → i < n
-inside (Onward st) i n h = ltb-true i n h
+inside (Onward st cs) i n h = ltb-true i n h
 inside (Halted k p) i n h = absurd (true≢false (sym h))

@@ -15,12 +15,16 @@ use Rattle.format.specs.Events as E
 use Rattle.format.specs.Events.{Item, _by_}
 use Rattle.format.specs.Items as F
 use Rattle.format.specs.Document.{aligned, header, beginning}
+use Rattle.tables.specs.declared.Counts.{Counts}
 use Rattle.tables.specs.Located.{Located, start}
-use Rattle.tables.specs.Counts.{tableWords}
+use Rattle.tables.specs.Counts.{countsOf, tableWords}
 use Rattle.tables.specs.Rows.{vocabulary}
 use Rattle.tables.specs.Kept.{listed, Clean}
 use Rattle.tables.specs.Told.{toldAccepted}
 use Rattle.tables.proofs.Laws.{vocabulary-start, entries-are, counts-are}
+use Rattle.states.specs.declared.State.{State}
+use Rattle.states.specs.States.{modeOf, rootOf, fresh}
+use Rattle.states.proofs.Modes.{mode-content, coming-low}
 use Rattle.events.specs.declared.Kind.{Kind}
 use Rattle.events.specs.declared.Kind.the-variants.{Blank, Namespace, Start, Attribute, Chunk, Comment, Instruction, End}
 use Rattle.events.specs.declared.Event.{Event}
@@ -29,16 +33,14 @@ use Rattle.write_names.proofs.Order.{order-start}
 use Rattle.tables.proofs.Found.{both-true}
 use Rattle.writer.specs.declared.Answer.{Answer}
 use Rattle.writer.specs.declared.Answer.the-variants.{Accepted, Refused}
-use Rattle.writer.specs.declared.State.{State}
 use Rattle.writer.specs.declared.Step.{Step}
 use Rattle.writer.specs.declared.Step.the-variants.{On, Stop}
 use Rattle.writer.specs.Events.{eventOf, isContent, amongChildren, goesOn, wellMade}
 use Rattle.writer.specs.Items.{writeItem}
 use Rattle.writer.specs.Writing.{announced, isAttribute, Result, written, refusal, plus, fits, judge, settled, finish, run, writing, outcome, refusing}
 use Rattle.writer.specs.OutputContracts.{Holds, endOctet}
-use Rattle.writer.specs.Contracts.{modeOf}
 use Rattle.writer.specs.StepContracts.{known, itemOf, halvesFor, verdict, Steps}
-use Rattle.writer.specs.RunContracts.{fresh, Foretold, behind, remains, Underway, Finishes}
+use Rattle.writer.specs.RunContracts.{Foretold, behind, remains, Underway, Finishes}
 use Rattle.writer.proofs.OutputLaws.{held-length, held-whole, document-end-held}
 use Rattle.writer.proofs.AheadLaws.{announced-on}
 
@@ -109,7 +111,7 @@ behind-none (written is hs z) room = refl
 behind-none (refusal n p) room = refl
 
 -- ---- where the body starts
-five : length (header link) ≡ 5
+pub five : length (header link) ≡ 5
 unfolding header link
 five = refl
 
@@ -119,58 +121,58 @@ held-room q h = rw q at h
 
 -- ---- a run of the events es, with `room` octets of output
 module _ (text : List ℕ) (room : ℕ) (es : List Event) where
-  start-known : (w : List ℕ) → w ≡ replicate tableWords 0 → known fresh w ≡ beginning (start link)
-  unfolding beginning
+  start-known : (w : List ℕ) → w ≡ replicate tableWords 0 → known (fresh (length (header link))) (countsOf (start link)) w ≡ beginning (start link)
+  unfolding beginning modeOf rootOf
   start-known w e = rw (e, vocabulary-start (replicate tableWords 0) (getD-replicate {A = ℕ} tableWords 1 0 0 (lit< tt)) (getD-replicate {A = ℕ} tableWords 769 0 0 (lit< tt)))
 
-  pub underway-start : length text ≤ 16384 → {out w ix : List ℕ} → Holds room [] (2 * length (header link)) out → w ≡ replicate tableWords 0 → ix ≡ replicate slots 0 → Underway text room es 0 fresh out w ix
+  pub underway-start : length text ≤ 16384 → {out w ix : List ℕ} → Holds room [] (2 * length (header link)) out → w ≡ replicate tableWords 0 → ix ≡ replicate slots 0 → Underway text room es 0 (fresh (length (header link))) (countsOf (start link)) out w ix
   unfolding writing
   underway-start h {out} {w} {ix} o e z =
       record {
         hs = [];
         holds = o;
-        ready = record { order = rw e (order-start text ix h z); at = let b = five in omega arith; shallow = omega arith };
-        bit-known = tt;
+        ready = record { order = rw e (order-start text ix h z); at = let b = five in omega arith; shallow = let c = coming-low 0 (omega arith) in omega arith };
+        bit-known = rw mode-content tt;
         small = omega arith;
         leads = rw (start-known w e) (behind-none (run link text room (2 * length (header link)) (beginning (start link)) 0 es) room);
       }
 
-module _ {text : List ℕ} {room : ℕ} {es : List Event} {i : ℕ} {st : State} {out w ix : List ℕ} (u : Underway text room es i st out w ix) where
+module _ {text : List ℕ} {room : ℕ} {es : List Event} {i : ℕ} {st : State} {cs : Counts} {out w ix : List ℕ} (u : Underway text room es i st cs out w ix) where
   pub underway-number : i ≤ 32768
   underway-number = let l = u .ready .at in let m = u .small in omega arith
 
   -- a step with the next event
-  module _ {e : Event} (d : drop i es ≡ e ∷ drop (suc i) es) {a : Bool} (b : a ≡ announced (drop i es)) (r : Step) (out′ w′ ix′ : List ℕ) (p : Steps text room a st out w e r out′ w′ ix′) where
-    leads-here : behind (u .hs) (run link text room (st .at) (known st w) i (e ∷ drop (suc i) es)) room ≡ outcome link (writing link text room es) room
+  module _ {e : Event} (d : drop i es ≡ e ∷ drop (suc i) es) {a : Bool} (b : a ≡ announced (drop i es)) (r : Step) (out′ w′ ix′ : List ℕ) (p : Steps text room a st cs out w e r out′ w′ ix′) where
+    leads-here : behind (u .hs) (run link text room (st .at) (known st cs w) i (e ∷ drop (suc i) es)) room ≡ outcome link (writing link text room es) room
     leads-here = rw d at (u .leads)
 
-    stepped : Steps text room (announced (e ∷ drop (suc i) es)) st out w e r out′ w′ ix′
+    stepped : Steps text room (announced (e ∷ drop (suc i) es)) st cs out w e r out′ w′ ix′
     stepped = rw (b ∙ ap announced d) at p
 
-    pub underway-on : {next : State} → r ≡ On next → Underway text room es (i + 1) next out′ w′ ix′
-    underway-on {next} q =
+    pub underway-on : {next : State} {cs′ : Counts} → r ≡ On next cs′ → Underway text room es (i + 1) next cs′ out′ w′ ix′
+    underway-on {next} {cs′} q =
         let g = rw q at stepped in
         let l = u .small in
         let o = g .onward in
-        let k = halvesFor text room (announced (e ∷ drop (suc i) es)) (st .at) (known st w) e in
+        let k = halvesFor text room (announced (e ∷ drop (suc i) es)) (st .at) (known st cs w) e in
         let grown = g .grown (u .hs) (u .holds) in
-        let m : modeOf (next .mode) ≡ itemOf text (announced (e ∷ drop (suc i) es)) (known st w) e .state .mode = ap (λ (v : F.State Located). v .mode) (g .state) in
+        let m : modeOf (next .mode) ≡ itemOf text (announced (e ∷ drop (suc i) es)) (known st cs w) e .state .mode = ap (λ (v : F.State Located). v .mode) (g .state) in
         record {
           hs = u .hs ++ k;
           holds = rw (grown .place) (grown .holds);
           ready = g .ready;
-          bit-known = rw (m, add-one i) (bit-next text room (st .at) (known st w) e (drop (suc i) es) (g .judged));
+          bit-known = rw (m, add-one i) (bit-next text room (st .at) (known st cs w) e (drop (suc i) es) (g .judged));
           small = omega arith;
-          leads = rw (g .state, grown .place, add-one i) (sym (behind-on text room (st .at) (known st w) e (drop (suc i) es) i (u .hs) (g .judged)) ∙ leads-here);
+          leads = rw (g .state, grown .place, add-one i) (sym (behind-on text room (st .at) (known st cs w) e (drop (suc i) es) i (u .hs) (g .judged)) ∙ leads-here);
         }
 
     pub run-refused : {n : ℕ} → r ≡ Stop n → refusing n i room tableWords ≡ outcome link (writing link text room es) room
     run-refused {n} q =
         let g = rw q at stepped in
-        sym (ap (λ (x : Result). behind (u .hs) x room) (run-stop text room (st .at) (known st w) e (drop (suc i) es) i n (g .0) (g .1))) ∙ leads-here
+        sym (ap (λ (x : Result). behind (u .hs) x room) (run-stop text room (st .at) (known st cs w) e (drop (suc i) es) i n (g .0) (g .1))) ∙ leads-here
 
   -- the end behind the last event
-  pub run-finished : length es ≤ i → (r : Answer) (out′ : List ℕ) → Finishes room st out i r out′ → remains room tableWords r out′ w ≡ outcome link (writing link text room es) room
+  pub run-finished : length es ≤ i → (r : Answer) (out′ : List ℕ) → Finishes room st cs out i r out′ → remains room tableWords r out′ w ≡ outcome link (writing link text room es) room
   unfolding run
   run-finished l r out′ f = f text w ix (u .hs) (u .ready) (u .holds) ∙ (rw (drop-of-length-le es l) at (u .leads))
 
@@ -188,27 +190,27 @@ whole-octets : (at : ℕ) → aligned (aligned (suc at)) / 2 ≡ (at + 2) / 2
 unfolding aligned
 whole-octets at = omega arith
 
-module _ (room : ℕ) (st : State) (out : List ℕ) (i : ℕ) where
+module _ (room : ℕ) (st : State) (cs : Counts) (out : List ℕ) (i : ℕ) where
   abbrev complete : Bool
-  complete = isContent (modeOf (st .mode)) && (eqb (st .level) 0 && st .root)
+  complete = isContent (modeOf (st .mode)) && (eqb (st .level) 0 && rootOf (st .root))
 
-  pub finish-owed : false ≡ complete → Finishes room st out i (Refused 16 i) out
+  pub finish-owed : false ≡ complete → Finishes room st cs out i (Refused 16 i) out
   unfolding finish
   finish-owed e text w ix hs g h = rw (← e)
 
   module _ (e : true ≡ complete) where
-    pub finish-full : min room 16384 < (st .at + 2) / 2 → Finishes room st out i (Refused 14 i) out
+    pub finish-full : min room 16384 < (st .at + 2) / 2 → Finishes room st cs out i (Refused 14 i) out
     unfolding finish
     finish-full l text w ix hs g h = rw (← e, fits-not text room (st .at) l)
 
     pub finish-written : (st .at + 2) / 2 ≤ min room 16384 → {out′ : List ℕ} → out′ ≡ set out (st .at / 2) (endOctet (st .at))
-        → Finishes room st out i (Accepted ((st .at + 2) / 2) (st .counts)) out′
+        → Finishes room st cs out i (Accepted ((st .at + 2) / 2) cs) out′
     unfolding finish Clean
     finish-written l {out′} p text w ix hs g h =
         let held = document-end-held h p in
         let n = held-length held ∙ whole-octets (st .at) in
         let k : aligned (aligned (suc (st .at))) / 2 ≤ room = rw (whole-octets (st .at)) (omega arith) in
         let o = held-whole held k in
-        let c = counts-are (st .counts) w in
-        let t = sym (entries-are (vocabulary (st .counts) w) ∙ ap listed c) in
+        let c = counts-are cs w in
+        let t = sym (entries-are (vocabulary cs w) ∙ ap listed c) in
         rw (← e, fits-so text room (st .at) l) (λ j. record { answer = Accepted (sym n j) (sym c j); told = toldAccepted (sym n j) (t j); out = o j; tables = sym (g .order .clean) j })

@@ -1,31 +1,19 @@
--- Contracts of the code, not definitions to be believed. How the code's state stands for the writer's definition, and what it judges of an event before anything is written.
+-- Contracts of the code, not definitions to be believed. What the code judges of an event before anything is written.
 use Prim.Native.Nat.{ℕ, _+_, _<_, _≤_}
 use mathlib.Core.Bool.{_&&_}
 use lib.ListN.{length}
 use lib.Dec.{leb}
 use Rattle.format.specs.Octets.{Octets}
 use Rattle.format.specs.Numbers.{pick}
-use Rattle.format.specs.Tables.{Vocabulary, link}
+use Rattle.format.specs.Tables.{link}
 use Rattle.format.specs.Items as F
 use Rattle.format.specs.Refusals.{TEXT, DEPTH, EVENT}
 use Rattle.tables.specs.Located.{Located}
 use Rattle.events.specs.declared.EventString.{EventString}
 use Rattle.events.specs.declared.EventString.the-variants.{Absent, Empty, Stretch, XmlPrefix, XmlNamespace}
 use Rattle.events.specs.declared.Event.{Event}
-use Rattle.writer.specs.declared.Mode.{Mode}
-use Rattle.writer.specs.declared.Mode.the-variants.{Content, Declaring, Listing}
-use Rattle.writer.specs.declared.State.{State}
 use Rattle.writer.specs.Events.{wellMade, eventOf, goesOn, allText}
 use Rattle.writer.specs.Writing.{opens}
-
-abbrev pub modeOf : Mode → F.Mode
-modeOf Content = F.content
-modeOf (Declaring a) = F.declaring a
-modeOf (Listing any) = F.listing any
-
--- The state holds how many entries the tables have; the tables themselves are in lent words, which the code that judges does not look at.
-abbrev pub stateOf : State → Vocabulary Located → F.State Located
-stateOf st v = record { tables = v; level = st .level; root = st .root; mode = modeOf (st .mode) }
 
 -- A string that is a stretch is not empty and lies in the text area.
 abbrev pub Lies : Octets → EventString → Type 0

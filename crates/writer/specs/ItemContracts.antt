@@ -1,5 +1,5 @@
 -- Contracts of the code, not definitions to be believed. What each function of a step writes: the end that an attribute list owes, the item behind it, and whether all of it fits.
-use Prim.Native.Nat.{ℕ, _+_, _-_, _*_, _/_, _<_, _≤_}
+use Prim.Native.Nat.{ℕ, _+_, _*_, _/_, _<_, _≤_}
 use mathlib.Core.Path.{_≡_}
 use mathlib.Core.Bool.{Bool, true, false, not, _&&_}
 use lib.ListN.{length, set}
@@ -11,31 +11,30 @@ use Rattle.format.specs.Tables.{link}
 use Rattle.format.specs.Document.{aligned}
 use Rattle.format.specs.Refusals.{FULL, ROOM}
 use Rattle.fields.specs.PutContracts.{Puts}
+use Rattle.tables.specs.declared.Counts.{Counts}
 use Rattle.tables.specs.Located.{Located}
+use Rattle.states.specs.declared.State.{State}
+use Rattle.states.specs.States.{modeOf, coming, afterEnd}
 use Rattle.events.specs.declared.Kind.{Kind}
 use Rattle.events.specs.declared.Event.{Event}
 use Rattle.write_names.specs.declared.Wrote.{Wrote}
 use Rattle.write_names.specs.declared.Wrote.the-variants.{Put, Full}
 use Rattle.write_names.specs.Choices.{within}
 use Rattle.write_names.specs.Contracts.{InOrder}
-use Rattle.writer.specs.declared.Mode.{Mode}
-use Rattle.writer.specs.declared.Mode.the-variants.{Content, Listing}
-use Rattle.writer.specs.declared.State.{State}
 use Rattle.writer.specs.declared.Step.{Step}
 use Rattle.writer.specs.declared.Step.the-variants.{On, Stop}
 use Rattle.writer.specs.Events.{wellMade, eventOf, isListing}
 use Rattle.writer.specs.Items.{writeItem}
 use Rattle.writer.specs.Writing.{isAttribute, isEnd, opens, fits}
 use Rattle.writer.specs.OutputContracts.{endOctet}
-use Rattle.writer.specs.Contracts.{modeOf}
-use Rattle.writer.specs.StepContracts.{coming, known}
+use Rattle.writer.specs.StepContracts.{known}
 
 -- The end of an attribute list is owed; the state and the output behind it, where it is.
 unfoldable pub owes : State → Event → Bool
 owes st e = isListing (modeOf (st .mode)) && not (isAttribute (eventOf (e .kind) e))
 
 abbrev pub listEnded : Bool → State → State
-listEnded true st = record { at = st .at + 1; level = st .level; root = st .root; mode = Content; counts = st .counts }
+listEnded true st = afterEnd st (st .level)
 listEnded false st = st
 
 abbrev pub endPut : Bool → (out : Octets) (at : ℕ) → Octets
@@ -43,32 +42,18 @@ endPut true out at = set out (at / 2) (endOctet at)
 endPut false out at = out
 
 -- What an event of this kind is written from: it is well made, and the state is one that its item may follow.
-pub record Fit (text : Octets) (st : State) (w : Words) (index : Octets) (k : Kind) (e : Event) : Type 0 where
-  pub order : InOrder text (st .counts) w index
+pub record Fit (text : Octets) (st : State) (cs : Counts) (w : Words) (index : Octets) (k : Kind) (e : Event) : Type 0 where
+  pub order : InOrder text cs w index
   pub at : st .at ≤ 32769
   pub shallow : st .level + coming (st .mode) ≤ 32
   pub made : wellMade text k e ≡ true
   pub roomy : (opens (modeOf (st .mode)) (eventOf k e) && leb (link .depth) (st .level)) ≡ false
   pub inside : isEnd (eventOf k e) ≡ true → 0 < st .level
 
--- Another place; an element more; an element less.
-abbrev pub movedTo : State → Mode → State
-movedTo st m = record { at = st .at; level = st .level; root = st .root; mode = m; counts = st .counts }
-
-abbrev pub modeBehindStart : Bool → Mode
-modeBehindStart true = Listing false
-modeBehindStart false = Content
-
-abbrev pub openedTo : State → Bool → State
-openedTo st a = record { at = st .at; level = st .level + 1; root = true; mode = modeBehindStart a; counts = st .counts }
-
-abbrev pub closedTo : State → State
-closedTo st = record { at = st .at + 1; level = st .level - 1; root = st .root; mode = Content; counts = st .counts }
-
--- The state behind octets that were put; a table that is full is the refusal 12.
-abbrev pub landing : State → Wrote → Step
-landing st (Put h) = On (record { at = 2 * h .at; level = st .level; root = st .root; mode = st .mode; counts = h .counts })
-landing st Full = Stop FULL
+-- The state that is had at the octet behind those that were put; a table that is full is the refusal 12.
+abbrev pub landing : (ℕ → State) → Wrote → Step
+landing next (Put h) = On (next (h .at)) (h .counts)
+landing next Full = Stop FULL
 
 -- The place behind what was put is no large number.
 abbrev pub Near : Wrote → Type 0
@@ -81,18 +66,18 @@ Laid true out at next out′ os = (next ≡ at + 1) × (out′ ≡ set out (at /
 Laid false out at next out′ os = Puts out (aligned at / 2) (next / 2) out′ os × (next ≡ 2 * (next / 2)) × (1 ≤ length os)
 
 -- The item of the event is in the output, behind the end owed, and the writer stands behind it.
-pub record Landed (text : Octets) (a : Bool) (st : State) (out : Octets) (w : Words) (e : E.Event Located) (next : State) (out′ : Octets) (w′ : Words) (index′ : Octets) : Type 0 where
-  pub laid : Laid (isEnd e) out (st .at) (next .at) out′ (writeItem link text a (known st w) e .octets)
+pub record Landed (text : Octets) (a : Bool) (st : State) (cs : Counts) (out : Octets) (w : Words) (e : E.Event Located) (next : State) (cs′ : Counts) (out′ : Octets) (w′ : Words) (index′ : Octets) : Type 0 where
+  pub laid : Laid (isEnd e) out (st .at) (next .at) out′ (writeItem link text a (known st cs w) e .octets)
   pub near : next .at ≤ 400000
-  pub state : known next w′ ≡ writeItem link text a (known st w) e .state
-  pub order : InOrder text (next .counts) w′ index′
+  pub state : known next cs′ w′ ≡ writeItem link text a (known st cs w) e .state
+  pub order : InOrder text cs′ w′ index′
   pub shallow : next .level + coming (next .mode) ≤ 32
 
 -- Or a table is full, and the definition's has an entry too many.
-abbrev pub Lands : Octets → Bool → State → Octets → Words → E.Event Located → Step → Octets → Words → (index′ : Octets) → Type 0
-Lands text a st out w e (On next) out′ w′ index′ = Landed text a st out w e next out′ w′ index′
-Lands text a st out w e (Stop n) out′ w′ index′ = (n ≡ FULL) × (within link (writeItem link text a (known st w) e .state .tables) ≡ false)
+abbrev pub Lands : Octets → Bool → State → Counts → Octets → Words → E.Event Located → Step → Octets → Words → (index′ : Octets) → Type 0
+Lands text a st cs out w e (On next cs′) out′ w′ index′ = Landed text a st cs out w e next cs′ out′ w′ index′
+Lands text a st cs out w e (Stop n) out′ w′ index′ = (n ≡ FULL) × (within link (writeItem link text a (known st cs w) e .state .tables) ≡ false)
 
 -- The state, if what is written up to it fits; else the refusal 14.
-unfoldable pub holding : Octets → (room : ℕ) → State → Step
-holding text room st = pick (fits link text room (st .at)) (On st) (Stop ROOM)
+unfoldable pub holding : Octets → (room : ℕ) → State → Counts → Step
+holding text room st cs = pick (fits link text room (st .at)) (On st cs) (Stop ROOM)

@@ -1,32 +1,28 @@
 -- Contracts of the code, not definitions to be believed. How a run of the writer stands for its definition: what is still to be written, behind what is, leaves what the definition says; and the phases of a run.
-use Prim.Native.Nat.{ℕ, suc, _+_, _*_, _≤_}
+use Prim.Native.Nat.{ℕ, suc, _+_, _≤_}
 use mathlib.Core.Path.{_≡_}
 use mathlib.Core.Bool.{Bool, false}
 use mathlib.Core.List.{List, _∷_, _++_}
 use lib.ListN.{length, drop}
 use lib.Dec.{ltb}
 use Rattle.format.specs.Octets.{Octets, Halves, Words}
+use Rattle.format.specs.Numbers.{pick}
 use Rattle.format.specs.Tables.{link}
 use Rattle.format.specs.Items.{Mode, content, declaring, listing}
 use Rattle.format.specs.Document.{header}
-use Rattle.tables.specs.Located.{start}
-use Rattle.tables.specs.Counts.{countsOf, tableWords}
+use Rattle.tables.specs.declared.Counts.{Counts}
+use Rattle.tables.specs.Counts.{tableWords}
+use Rattle.states.specs.declared.State.{State}
+use Rattle.states.specs.States.{modeOf}
 use Rattle.events.specs.declared.Event.{Event}
 use Rattle.writer.specs.declared.Answer.{Answer}
 use Rattle.writer.specs.declared.Answer.the-variants.{Accepted, Refused}
-use Rattle.writer.specs.declared.Mode as M
-use Rattle.writer.specs.declared.Mode.the-variants.{Content, Declaring, Listing}
-use Rattle.writer.specs.declared.State.{State}
 use Rattle.writer.specs.declared.run.Phase.{Phase}
 use Rattle.writer.specs.declared.run.Phase.the-variants.{Onward, Halted}
+use Rattle.writer.specs.Events.{isDeclaring}
 use Rattle.writer.specs.Writing.{announced, Result, written, refusal, finish, run, joined, told, Outcome, refusing, accepting, outcome, writing, Leaves, writeOf}
 use Rattle.writer.specs.OutputContracts.{Holds}
-use Rattle.writer.specs.Contracts.{modeOf}
 use Rattle.writer.specs.StepContracts.{Ready, known}
-
--- The writer before the first event.
-abbrev pub fresh : State
-fresh = record { at = 2 * length (header link); level = 0; root = false; mode = Content; counts = countsOf (start link) }
 
 -- The attribute bit in front of an element's declarations is b.
 abbrev pub Foretold : Mode → Bool → Type 0
@@ -45,52 +41,50 @@ remains room table (Accepted n c) out tables = record { answer = Accepted n c; t
 remains room table (Refused n p) out tables = refusing n p room table
 
 -- Behind i of the events es; out and w are the output and the table words, beside the index. Each event took a half.
-pub record Underway (text : Octets) (room : ℕ) (es : List Event) (i : ℕ) (st : State) (out : Octets) (w : Words) (index : Octets) : Type 0 where
+pub record Underway (text : Octets) (room : ℕ) (es : List Event) (i : ℕ) (st : State) (cs : Counts) (out : Octets) (w : Words) (index : Octets) : Type 0 where
   pub hs : Halves
   pub holds : Holds room hs (st .at) out
-  pub ready : Ready text st w index
+  pub ready : Ready text st cs w index
   pub bit-known : Foretold (modeOf (st .mode)) (announced (drop i es))
   pub small : i ≤ st .at
-  pub leads : behind hs (run link text room (st .at) (known st w) i (drop i es)) room ≡ outcome link (writing link text room es) room
+  pub leads : behind hs (run link text room (st .at) (known st cs w) i (drop i es)) room ≡ outcome link (writing link text room es) room
 
 -- The document's end behind i events came out as the definition says; out and out′ are the output before and then.
-abbrev pub Finishes : (room : ℕ) → State → Octets → ℕ → Answer → Octets → Type 0
-Finishes room st out i r out′ =
-    (text : Octets) (w : Words) (index : Octets) (hs : Halves) → Ready text st w index → Holds room hs (st .at) out → remains room tableWords r out′ w ≡ behind hs (finish link text room (st .at) (known st w) i) room
+abbrev pub Finishes : (room : ℕ) → State → Counts → Octets → ℕ → Answer → Octets → Type 0
+Finishes room st cs out i r out′ =
+    (text : Octets) (w : Words) (index : Octets) (hs : Halves) → Ready text st cs w index → Holds room hs (st .at) out → remains room tableWords r out′ w ≡ behind hs (finish link text room (st .at) (known st cs w) i) room
 
 -- ---- phases: where a run stands between two records
 -- There is a further record, number i of n, and it is to be written.
 abbrev pub goesOn : Phase → (i n : ℕ) → Bool
-goesOn (Onward st) i n = ltb i n
+goesOn (Onward st cs) i n = ltb i n
 goesOn (Halted k p) i n = false
 
 -- The record from which the attribute bit is looked for: none among declarations, in front of which it stands; and the bit, if this was found there.
-abbrev pub fromMode : M.Mode → (i n : ℕ) → ℕ
-fromMode Content i n = i
-fromMode (Declaring b) i n = n
-fromMode (Listing any) i n = i
+abbrev pub fromMode : Mode → (i n : ℕ) → ℕ
+fromMode m i n = pick (isDeclaring m) n i
 
 abbrev pub lookFrom : Phase → (i n : ℕ) → ℕ
-lookFrom (Onward st) i n = fromMode (st .mode) i n
+lookFrom (Onward st cs) i n = fromMode (modeOf (st .mode)) i n
 lookFrom (Halted k p) i n = n
 
-abbrev pub bitOf : M.Mode → Bool → Bool
-bitOf Content a = a
-bitOf (Declaring b) a = b
-bitOf (Listing any) a = a
+abbrev pub bitOf : Mode → Bool → Bool
+bitOf content a = a
+bitOf (declaring b) a = b
+bitOf (listing any) a = a
 
 -- Behind i of the events es, with `room` octets of output and `table` table words lent, which are out and w, and the index.
 abbrev pub Going : List Event → Octets → (room table i : ℕ) → Phase → (out : Octets) (w : Words) (index : Octets) → Type 0
-Going es text room table i (Onward st) out w index = (length text ≤ link .octets) × (table ≡ tableWords) × Underway text room es i st out w index
+Going es text room table i (Onward st cs) out w index = (length text ≤ link .octets) × (table ≡ tableWords) × Underway text room es i st cs out w index
 Going es text room table i (Halted k p) out w index = refusing k p room table ≡ writeOf link es text room table
 
 -- What the step with event i asks, and the end behind i events.
 abbrev pub Steady : Octets → ℕ → Phase → Words → (index : Octets) → Type 0
-Steady text i (Onward st) w index = Ready text st w index × (i ≤ st .at)
+Steady text i (Onward st cs) w index = Ready text st cs w index × (i ≤ st .at)
 Steady text i (Halted k p) w index = Unit {0}
 
 abbrev pub Bounded : ℕ → Phase → Type 0
-Bounded i (Onward st) = (st .at ≤ 32768) × (i ≤ 32768)
+Bounded i (Onward st cs) = (st .at ≤ 32768) × (i ≤ 32768)
 Bounded i (Halted k p) = Unit {0}
 
 -- The event e, number i, was taken: p, out, w and the index became p′, out′, w′ and index′.

@@ -12,9 +12,8 @@ ghost use Rattle.events.specs.declared.Event.{Event};
 ghost use Rattle.writer.specs.Events.{isAbsent, isStretch, isPrefix, isNamespace, isValue, isName, noName, wellMade, locatedOf, nameOf, eventOf, amongChildren, isDeclaring, isListing, goesOn, nameText, allText};
 ghost use Rattle.writer.specs.RecordContracts.{isOne};
 ghost use Rattle.writer.specs.Writing.{opens};
-ghost use Rattle.writer.specs.Contracts.{modeOf, stateOf, Lies, Placed, faultOf};
-use crate::Mode;
-use crate::State;
+ghost use Rattle.states.specs.States.{modeOf, stateOf};
+ghost use Rattle.writer.specs.Contracts.{Lies, Placed, faultOf};
 use events::Event;
 use events::EventString;
 use events::Kind;
@@ -22,6 +21,7 @@ use fields::is_text;
 use format::refusals::DEPTH;
 use format::refusals::EVENT;
 use format::refusals::TEXT;
+use states::State;
 
 // The tags of strings.
 const ABSENT: u32 = 0;
@@ -33,9 +33,6 @@ const STRETCH: u32 = 2;
 const XML_PREFIX: u32 = 3;
 
 const XML_NAMESPACE: u32 = 4;
-
-// Open elements, at most.
-const DEEPEST: u32 = 32;
 
 fn is_absent(x: EventString) -> bool
     ensures { λ r. ⌜ r ≡ isAbsent x ⌝ }
@@ -180,114 +177,94 @@ fn all_text(text: &[u8], e: Event) -> bool
     }
 }
 
-impl Mode {
-    // A child may stand here, also behind a list of attributes that has a member.
-    fn among_children(self) -> bool
-        ensures { λ r. ⌜ r ≡ amongChildren (modeOf self) ⌝ }
-    {
-        match self {
-            Mode::Content => true,
-            Mode::Declaring(_) => false,
-            Mode::Listing(any) => any,
-        }
-    }
+// A child may stand here, also behind a list of attributes that has a member.
+fn among_children(mode: usize) -> bool
+    ensures { λ r. ⌜ r ≡ amongChildren (modeOf mode) ⌝ }
+{
+    mode == State::CONTENT || mode == State::LISTED
+}
 
-    fn is_declaring(self) -> bool
-        ensures { λ r. ⌜ r ≡ isDeclaring (modeOf self) ⌝ }
-    {
-        match self {
-            Mode::Content => false,
-            Mode::Declaring(_) => true,
-            Mode::Listing(_) => false,
-        }
-    }
+fn is_declaring(mode: usize) -> bool
+    ensures { λ r. ⌜ r ≡ isDeclaring (modeOf mode) ⌝ }
+{
+    State::DECLARING <= mode
+}
 
-    pub fn is_listing(self) -> bool
-        ensures { λ r. ⌜ r ≡ isListing (modeOf self) ⌝ }
-    {
-        match self {
-            Mode::Content => false,
-            Mode::Declaring(_) => false,
-            Mode::Listing(_) => true,
-        }
-    }
+pub fn is_listing(mode: usize) -> bool
+    ensures { λ r. ⌜ r ≡ isListing (modeOf mode) ⌝ }
+{
+    mode == State::LISTING || mode == State::LISTED
+}
 
-    // The record is the first of an element.
-    fn opens(self, kind: Kind) -> bool
-        ensures { λ r. ⌜ ((e : Event) → r ≡ opens (modeOf self) (eventOf kind e)) ⌝ }
-    {
-        match kind {
-            Kind::Blank => false,
-            Kind::Namespace => !self.is_declaring(),
-            Kind::Start => !self.is_declaring(),
-            Kind::Attribute => false,
-            Kind::Chunk => false,
-            Kind::Comment => false,
-            Kind::Instruction => false,
-            Kind::End => false,
-        }
+// The record is the first of an element.
+fn opens(mode: usize, kind: Kind) -> bool
+    ensures { λ r. ⌜ ((e : Event) → r ≡ opens (modeOf mode) (eventOf kind e)) ⌝ }
+{
+    match kind {
+        Kind::Blank => false,
+        Kind::Namespace => !is_declaring(mode),
+        Kind::Start => !is_declaring(mode),
+        Kind::Attribute => false,
+        Kind::Chunk => false,
+        Kind::Comment => false,
+        Kind::Instruction => false,
+        Kind::End => false,
     }
 }
 
-impl State {
-    // An element may start here, or one that started goes on.
-    fn takes_element(self) -> bool
-        ensures { λ r. ⌜ ((v : Vocabulary Located) → r ≡ (isDeclaring (modeOf (self .mode)) || (amongChildren (modeOf (self .mode)) && mayStart (stateOf self v)))) ⌝ }
-    {
-        let mode = self.mode;
-        mode.is_declaring() || (mode.among_children() && (0 < self.level || !self.root))
-    }
+// An element may start here, or one that started goes on.
+fn takes_element(st: State) -> bool
+    ensures { λ r. ⌜ ((v : Vocabulary Located) → r ≡ (isDeclaring (modeOf (st .mode)) || (amongChildren (modeOf (st .mode)) && mayStart (stateOf st v)))) ⌝ }
+{
+    is_declaring(st.mode) || (among_children(st.mode) && st.may_start())
+}
 
-    // Among the children of an element, where a chunk or the element's end may stand.
-    fn in_element(self) -> bool
-        ensures { λ r. ⌜ r ≡ (amongChildren (modeOf (self .mode)) && ltb 0 (self .level)) ⌝ }
-    {
-        let mode = self.mode;
-        mode.among_children() && 0 < self.level
-    }
+// Among the children of an element, where a chunk or the element's end may stand.
+fn in_element(st: State) -> bool
+    ensures { λ r. ⌜ r ≡ (amongChildren (modeOf (st .mode)) && ltb 0 (st .level)) ⌝ }
+{
+    among_children(st.mode) && 0 < st.level
+}
 
-    // A document goes on with a record of this kind. What is said of a blank one does not matter: none is well made.
-    fn goes_on(self, kind: Kind) -> bool
-        ensures { λ r. ⌜ ((v : Vocabulary Located) (e : Event) → r ≡ goesOn (stateOf self v) (eventOf kind e)) ⌝ }
-    {
-        let mode = self.mode;
-        match kind {
-            Kind::Blank => self.in_element(),
-            Kind::Namespace => self.takes_element(),
-            Kind::Start => self.takes_element(),
-            Kind::Attribute => mode.is_listing(),
-            Kind::Chunk => self.in_element(),
-            Kind::Comment => mode.among_children(),
-            Kind::Instruction => mode.among_children(),
-            Kind::End => self.in_element(),
-        }
+// A document goes on with a record of this kind. What is said of a blank one does not matter: none is well made.
+fn goes_on(st: State, kind: Kind) -> bool
+    ensures { λ r. ⌜ ((v : Vocabulary Located) (e : Event) → r ≡ goesOn (stateOf st v) (eventOf kind e)) ⌝ }
+{
+    match kind {
+        Kind::Blank => in_element(st),
+        Kind::Namespace => takes_element(st),
+        Kind::Start => takes_element(st),
+        Kind::Attribute => is_listing(st.mode),
+        Kind::Chunk => in_element(st),
+        Kind::Comment => among_children(st.mode),
+        Kind::Instruction => among_children(st.mode),
+        Kind::End => in_element(st),
     }
+}
 
-    // A record of this kind opens an element, and no more may be open.
-    fn too_deep(self, kind: Kind) -> bool
-        ensures { λ r. ⌜ ((e : Event) → r ≡ (opens (modeOf (self .mode)) (eventOf kind e) && leb (link .depth) (self .level))) ⌝ }
-    {
-        let mode = self.mode;
-        mode.opens(kind) && DEEPEST <= self.level
-    }
+// A record of this kind opens an element, and no more may be open.
+fn too_deep(st: State, kind: Kind) -> bool
+    ensures { λ r. ⌜ ((e : Event) → r ≡ (opens (modeOf (st .mode)) (eventOf kind e) && leb (link .depth) (st .level))) ⌝ }
+{
+    opens(st.mode, kind) && State::LEVELS <= st.level
+}
 
-    // What is wrong with a record before anything is written; 0 if nothing is.
-    pub fn fault(self, text: &[u8], e: Event) -> u32
-        ensures { λ r. ⌜ ((v : Vocabulary Located) → r ≡ faultOf (now (text .entry)) (stateOf self v) e) ⌝ }
-    {
-        let kind = e.kind;
-        if !well_made(text, e) {
-            return EVENT;
-        }
-        if !self.goes_on(kind) {
-            return EVENT;
-        }
-        if !all_text(text, e) {
-            return TEXT;
-        }
-        if self.too_deep(kind) {
-            return DEPTH;
-        }
-        0
+// What is wrong with a record before anything is written; 0 if nothing is.
+pub fn fault(st: State, text: &[u8], e: Event) -> u32
+    ensures { λ r. ⌜ ((v : Vocabulary Located) → r ≡ faultOf (now (text .entry)) (stateOf st v) e) ⌝ }
+{
+    let kind = e.kind;
+    if !well_made(text, e) {
+        return EVENT;
     }
+    if !goes_on(st, kind) {
+        return EVENT;
+    }
+    if !all_text(text, e) {
+        return TEXT;
+    }
+    if too_deep(st, kind) {
+        return DEPTH;
+    }
+    0
 }

@@ -9,79 +9,56 @@ ghost use lib.ListN.{length, replicate};
 ghost use Rattle.format.specs.Octets.{Octets};
 ghost use Rattle.format.specs.Tables.{link};
 ghost use Rattle.index.specs.Indexed.{slots};
+ghost use Rattle.states.specs.States.{modeOf, rootOf};
 ghost use Rattle.events.specs.declared.Event.{Event};
 ghost use Rattle.events.specs.FromWords.{recordsOf};
 ghost use Rattle.writer.specs.Events.{isContent};
 ghost use Rattle.writer.specs.Writing.{Leaves, writeOf};
 ghost use Rattle.writer.specs.Words.{answerWord, leaving, writeWords};
-ghost use Rattle.writer.specs.Contracts.{modeOf};
-ghost use Rattle.writer.specs.RunContracts.{fresh, Finishes, goesOn, fromMode, lookFrom, bitOf, Going, Steady, Bounded, Turns, Ends, Settles};
+ghost use Rattle.writer.specs.RunContracts.{Finishes, goesOn, fromMode, lookFrom, bitOf, Going, Steady, Bounded, Turns, Ends, Settles};
 use crate::Answer;
-use crate::Mode;
-use crate::State;
 use crate::Step;
 use crate::ahead;
+use crate::items::step;
 use crate::output;
 use events::Event;
+use events::RECORD;
 use format::refusals::EVENT;
 use format::refusals::ROOM;
 use format::refusals::SIZE;
+use states::State;
 use tables::Counts;
 
-// Words of a record.
-const RECORD: usize = 13;
-
-// Between two records: where the writer stands, or the refusal and the event's number.
+// Between two records: where the writer stands and the tables' counts there, or the refusal and the event's number.
 pub enum Phase {
-    Onward(State),
+    Onward(State, Counts),
     Halted(u32, u32),
 }
 
-// Before the first event.
-fn begin() -> State
-    ensures { λ r. ⌜ r ≡ fresh ⌝ }
+// Behind the root, where the document may end.
+fn complete(st: State) -> bool
+    ensures { λ r. ⌜ r ≡ (isContent (modeOf (st .mode)) && (eqb (st .level) 0 && rootOf (st .root))) ⌝ }
 {
-    State {
-        at: 2 * fields::BODY,
-        level: 0,
-        root: false,
-        mode: Mode::Content,
-        counts: Counts::start(),
-    }
+    st.mode == State::CONTENT && (st.level == 0 && st.root != 0)
 }
 
-impl State {
-    // Behind the root, where the document may end.
-    fn complete(self) -> bool
-        ensures { λ r. ⌜ r ≡ (isContent (modeOf (self .mode)) && (eqb (self .level) 0 && self .root)) ⌝ }
-    {
-        let mode = self.mode;
-        match mode {
-            Mode::Content => self.level == 0 && self.root,
-            Mode::Declaring(_) => false,
-            Mode::Listing(_) => false,
-        }
+// The document's end behind i events: owed too soon, no room, or written.
+fn finish(st: State, counts: Counts, out: &mut [u8], i: usize) -> Answer
+    requires { ⌜ (st .at ≤ 32768) × (i ≤ 32768) ⌝ }
+    ensures { λ r. ⌜ Finishes (length (now (out .entry))) st counts (now (out .entry)) i r (now (out .exit)) ⌝ }
+{
+    if !complete(st) {
+        return Answer::Refused(EVENT, i as u32);
     }
-
-    // The document's end behind i events: owed too soon, no room, or written.
-    fn finish(self, out: &mut [u8], i: usize) -> Answer
-        requires { ⌜ (self .at ≤ 32768) × (i ≤ 32768) ⌝ }
-        ensures { λ r. ⌜ Finishes (length (now (out .entry))) self (now (out .entry)) i r (now (out .exit)) ⌝ }
-    {
-        if !self.complete() {
-            return Answer::Refused(EVENT, i as u32);
-        }
-        let octets = (self.at + 2) / 2;
-        if fields::OCTETS < octets {
-            return Answer::Refused(ROOM, i as u32);
-        }
-        if out.len() < octets {
-            return Answer::Refused(ROOM, i as u32);
-        }
-        output::put_end(out, self.at);
-        let counts = self.counts;
-        Answer::Accepted(octets as u32, counts)
+    let octets = (st.at + 2) / 2;
+    if fields::OCTETS < octets {
+        return Answer::Refused(ROOM, i as u32);
     }
+    if out.len() < octets {
+        return Answer::Refused(ROOM, i as u32);
+    }
+    output::put_end(out, st.at);
+    Answer::Accepted(octets as u32, counts)
 }
 
 // SIZE, then the table room, then the header, into room that is cleared.
@@ -97,30 +74,28 @@ pub fn prepared(text: &[u8], out: &mut [u8], t: &mut [u32]) -> Phase
     output::clear(out);
     tables::clear(t);
     output::put_header(out);
-    Phase::Onward(begin())
+    let state = State::begin(fields::BODY);
+    let counts = Counts::start();
+    Phase::Onward(state, counts)
 }
 
-impl Mode {
-    // Among declarations no record is looked at a second time: their bit is known.
-    fn look_from(self, i: usize, n: usize) -> usize
-        ensures { λ r. ⌜ r ≡ fromMode self i n ⌝ }
-    {
-        match self {
-            Mode::Content => i,
-            Mode::Declaring(_) => n,
-            Mode::Listing(_) => i,
-        }
+// Among declarations no record is looked at a second time: their bit is known.
+fn look_from(mode: usize, i: usize, n: usize) -> usize
+    ensures { λ r. ⌜ r ≡ fromMode (modeOf mode) i n ⌝ }
+{
+    if State::DECLARING <= mode {
+        return n;
     }
+    i
+}
 
-    fn bit(self, a: bool) -> bool
-        ensures { λ r. ⌜ r ≡ bitOf self a ⌝ }
-    {
-        match self {
-            Mode::Content => a,
-            Mode::Declaring(b) => b,
-            Mode::Listing(_) => a,
-        }
+fn bit(mode: usize, a: bool) -> bool
+    ensures { λ r. ⌜ r ≡ bitOf (modeOf mode) a ⌝ }
+{
+    if mode < State::DECLARING {
+        return a;
     }
+    mode != State::DECLARING
 }
 
 impl Phase {
@@ -129,7 +104,7 @@ impl Phase {
         ensures { λ r. ⌜ r ≡ goesOn self i n ⌝ }
     {
         match self {
-            Phase::Onward(_) => i < n,
+            Phase::Onward(_, _) => i < n,
             Phase::Halted(_, _) => false,
         }
     }
@@ -139,10 +114,7 @@ impl Phase {
         ensures { λ r. ⌜ r ≡ lookFrom self i n ⌝ }
     {
         match self {
-            Phase::Onward(st) => {
-                let mode = st.mode;
-                mode.look_from(i, n)
-            }
+            Phase::Onward(st, _) => look_from(st.mode, i, n),
             Phase::Halted(_, _) => n,
         }
     }
@@ -162,10 +134,9 @@ impl Phase {
         ensures { λ r. ⌜ Turns (now (text .entry)) (length (now (out .entry))) (length (now (t .entry))) i self (now (out .entry)) (now (t .entry)) (now (index .entry)) e a r (now (out .exit)) (now (t .exit)) (now (index .exit)) ⌝ }
     {
         match self {
-            Phase::Onward(st) => {
-                let mode = st.mode;
-                match st.step(text, t, index, out, e, mode.bit(a)) {
-                    Step::On(next) => Phase::Onward(next),
+            Phase::Onward(st, counts) => {
+                match step(st, counts, text, t, index, out, e, bit(st.mode, a)) {
+                    Step::On(next, more) => Phase::Onward(next, more),
                     Step::Stop(number) => Phase::Halted(number, i as u32),
                 }
             }
@@ -179,7 +150,7 @@ impl Phase {
         ensures { λ r. ⌜ Ends (length (now (out .entry))) i self (now (out .entry)) r (now (out .exit)) ⌝ }
     {
         match self {
-            Phase::Onward(st) => st.finish(out, i),
+            Phase::Onward(st, counts) => finish(st, counts, out, i),
             Phase::Halted(number, event) => Answer::Refused(number, event),
         }
     }

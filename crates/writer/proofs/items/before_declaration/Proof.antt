@@ -4,11 +4,13 @@ use borrow.Author.Needs.{needs}
 use native.Mathlib.Omega.{arith}
 use mathlib.Core.Path.{refl}
 use Rattle.fields.proofs.Puts.{puts-nothing, puts-one}
+use borrow.Author.Tests.{eq-eqb, ne-eqb}
+use Rattle.writer.proofs.ModeLaws.{first-declaration}
 use Rattle.writer.proofs.items.before_declaration.Statement.{statement}
 use Rattle.writer.proofs.items.before_declaration.Tie as tie
 
-enum-told : tie.Need-enum-told
-enum-told c = search needs
+returns : tie.Need-returns
+returns c = rw (first-declaration (c .before .before .args .a) (c .before .before .args .mode), ne-eqb _ _ (c .if1 .taken)) (puts-nothing refl, omega arith)
 
 attribute-bit-requires : tie.Need-attribute-bit-requires
 attribute-bit-requires c κs = search needs
@@ -22,36 +24,13 @@ put-requires c κs = search needs
 add-result : tie.Need-add-result
 add-result c = search needs
 
-enum-told-2 : tie.Need-enum-told-2
-enum-told-2 c = search needs
-
-enum-told-3 : tie.Need-enum-told-3
-enum-told-3 c = search needs
-
 same-length : tie.Need-same-length
 same-length c = search needs
 
-returns : tie.Need-returns
-returns c = rw (c .before .before .before .before .before .enum-told .given .1, ← (c .before .before .before .attribute-bit .ensures .0)) (puts-one (c .before .before .put .ensures), omega arith)
-
 returns-2 : tie.Need-returns-2
-returns-2 c = rw (c .enum-told2 .given .1) (puts-nothing refl, omega arith)
-
-returns-3 : tie.Need-returns-3
-returns-3 c = rw (c .enum-told3 .given .1) (puts-nothing refl, omega arith)
+returns-2 c = rw (first-declaration (c .before .before .before .before .before .before .before .args .a) (c .before .before .before .before .before .before .before .args .mode), eq-eqb _ _ (c .before .before .before .before .before .if1 .left), ← (c .before .before .before .attribute-bit .ensures .0)) (puts-one (c .before .before .put .ensures), omega arith)
 
 pub before-declaration-spec : {M : Type 1} → statement M
 before-declaration-spec =
     tie.close
-    (tie.spec
-    enum-told
-    attribute-bit-requires
-    add-put
-    put-requires
-    add-result
-    enum-told-2
-    enum-told-3
-    same-length
-    returns
-    returns-2
-    returns-3)
+    (tie.spec returns attribute-bit-requires add-put put-requires add-result same-length returns-2)

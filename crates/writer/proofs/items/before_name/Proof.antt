@@ -4,14 +4,13 @@ use borrow.Author.Needs.{needs}
 use native.Mathlib.Omega.{arith}
 use mathlib.Core.Path.{refl}
 use Rattle.fields.proofs.Puts.{puts-nothing, puts-one}
+use borrow.Author.Tests.{le-leb, lt-leb}
+use Rattle.writer.proofs.ModeLaws.{last-declaration}
 use Rattle.writer.proofs.items.before_name.Statement.{statement}
 use Rattle.writer.proofs.items.before_name.Tie as tie
 
-enum-told : tie.Need-enum-told
-enum-told c = search needs
-
-enum-told-2 : tie.Need-enum-told-2
-enum-told-2 c = search needs
+returns : tie.Need-returns
+returns c = rw (last-declaration (c .before .before .args .mode), lt-leb _ _ (c .if1 .taken)) (puts-nothing refl, omega arith)
 
 put-requires : tie.Need-put-requires
 put-requires c κs = search needs
@@ -19,31 +18,11 @@ put-requires c κs = search needs
 add-result : tie.Need-add-result
 add-result c = search needs
 
-enum-told-3 : tie.Need-enum-told-3
-enum-told-3 c = search needs
-
-returns : tie.Need-returns
-returns c = rw (c .enum-told .given .1) (puts-nothing refl, omega arith)
-
 same-length : tie.Need-same-length
 same-length c = search needs
 
 returns-2 : tie.Need-returns-2
-returns-2 c = rw (c .before .before .before .before .enum-told2 .given .1) (puts-one (c .before .before .put .ensures), omega arith)
-
-returns-3 : tie.Need-returns-3
-returns-3 c = rw (c .enum-told3 .given .1) (puts-nothing refl, omega arith)
+returns-2 c = rw (last-declaration (c .before .before .before .before .before .before .args .mode), le-leb _ _ (c .before .before .before .before .if1 .left)) (puts-one (c .before .before .put .ensures), omega arith)
 
 pub before-name-spec : {M : Type 1} → statement M
-before-name-spec =
-    tie.close
-    (tie.spec
-    enum-told
-    enum-told-2
-    put-requires
-    add-result
-    enum-told-3
-    returns
-    same-length
-    returns-2
-    returns-3)
+before-name-spec = tie.close (tie.spec returns put-requires add-result same-length returns-2)

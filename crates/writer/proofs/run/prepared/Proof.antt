@@ -30,6 +30,9 @@ put-header-requires c κs =
 begin-requires : tie.Need-begin-requires
 begin-requires c κs = search needs
 
+start-requires : tie.Need-start-requires
+start-requires c κs = search needs
+
 same-length : tie.Need-same-length
 same-length c = search needs
 
@@ -38,9 +41,10 @@ same-length-2 c = search needs
 
 returns-3 : tie.Need-returns-3
 returns-3 c =
-    let a = c .before .before .before .before .before .before .before .before .before .before .before .before .before .before .before .before .before .before .args in
-    let clear2 = c .before .before .before .before .before .before .before .clear2 in
-    λ es ix z. going-start es _ _ _ (omega arith) (omega arith) (c .begin .ensures) (held-room (omega arith) (c .before .before .before .put-header .ensures)) (zeroed _ (length (a .t .now)) 7680 (clear2 .ensures) (omega arith)) z
+    let a = c .before .before .before .before .before .before .before .before .before .before .before .before .before .before .before .before .before .before .before .args in
+    let put-header = c .before .before .before .before .put-header in
+    let clear2 = c .before .before .before .before .before .before .before .before .clear2 in
+    λ es ix z. going-start es _ _ _ (omega arith) (omega arith) (c .before .begin .ensures) (c .start .ensures) (held-room (omega arith) (put-header .ensures)) (zeroed _ (length (a .t .now)) 7680 (clear2 .ensures) (omega arith)) z
 
 pub prepared-spec : {M : Type 1} → statement M
 prepared-spec =
@@ -52,6 +56,7 @@ prepared-spec =
     clear-requires-2
     put-header-requires
     begin-requires
+    start-requires
     same-length
     same-length-2
     returns-3)

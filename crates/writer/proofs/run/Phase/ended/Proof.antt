@@ -19,7 +19,7 @@ same-length : tie.Need-same-length
 same-length c = search needs
 
 returns : tie.Need-returns
-returns c = ends-onward _ _ _ (c .before .before .finish .result) (c .before .before .finish .last .1 .0) _ _ (c .before .before .before .before .before .self .given .1) (c .before .before .finish .ensures)
+returns c = ends-onward _ _ _ (c .before .before .finish .result) (c .before .before .finish .last .1 .1 .0) _ _ _ (c .before .before .before .before .before .self .given .1) (c .before .before .finish .ensures)
 
 returns-2 : tie.Need-returns-2
 returns-2 c = ends-halted _ _ _ _ (c .before .before .before .before .args .out .now) _ _ _ (c .before .self2 .given .1) refl

@@ -25,8 +25,8 @@ enum-known-next c = search needs
 enum-known-number : tie.Need-enum-known-number
 enum-known-number c = search needs
 
-cast-t25 : tie.Need-cast-t25
-cast-t25 c =
+cast-t26 : tie.Need-cast-t26
+cast-t26 c =
     let a′ = c .before .before .before .before .before .before .before .before .before .before .before .before .before .before .before .before .before .before .before .before .before .args in
     let pre = c .before .before .before .before .before .before .before .before .before .before .before .before .before .before .before .before .before .before .before .before .before .pre in
     let self = c .before .before .before .before .before .before .before .before .before .before .before .before .before .before .before .self in
@@ -50,7 +50,7 @@ returns c =
     let self = c .before .before .before .before .before .before .before .before .before .before .before .before .before .before .before .self in
     let bit = c .before .before .before .before .before .before .before .before .before .before .bit in
     let step = c .before .before .before .before .before .before .before .before .before .step in
-    turn-on (a .text .now) (length (a .out .now)) (length (a .t .now)) (a .i) (a .out .now) (a .t .now) (a .index .now) (a .e) (a .a) (step .last .1 .1 .1 .1 .0) (step .last .1 .1 .0) (step .last .1 .1 .1 .0) _ (a .self) (self .given .1) _ (bit .ensures) (step .result) (step .ensures) _ (c .before .next .given .1)
+    turn-on (a .text .now) (length (a .out .now)) (length (a .t .now)) (a .i) (a .out .now) (a .t .now) (a .index .now) (a .e) (a .a) (step .last .1 .1 .1 .1 .1 .0) (step .last .1 .1 .1 .0) (step .last .1 .1 .1 .1 .0) _ _ (a .self) (self .given .1) _ (bit .ensures) (step .result) (step .ensures) _ _ (c .before .next .given .1)
 
 same-length-4 : tie.Need-same-length-4
 same-length-4 c = search needs
@@ -67,7 +67,7 @@ returns-2 c =
     let self = c .before .before .before .before .before .before .before .before .before .before .before .before .before .before .before .self in
     let bit = c .before .before .before .before .before .before .before .before .before .before .bit in
     let step = c .before .before .before .before .before .before .before .before .before .step in
-    turn-stop (a .text .now) (length (a .out .now)) (length (a .t .now)) (a .i) (a .out .now) (a .t .now) (a .index .now) (a .e) (a .a) (step .last .1 .1 .1 .1 .0) (step .last .1 .1 .0) (step .last .1 .1 .1 .0) _ (a .self) (self .given .1) _ (bit .ensures) (step .result) (step .ensures) _ (c .before .number .given .1)
+    turn-stop (a .text .now) (length (a .out .now)) (length (a .t .now)) (a .i) (a .out .now) (a .t .now) (a .index .now) (a .e) (a .a) (step .last .1 .1 .1 .1 .1 .0) (step .last .1 .1 .1 .0) (step .last .1 .1 .1 .1 .0) _ _ (a .self) (self .given .1) _ (bit .ensures) (step .result) (step .ensures) _ (c .before .number .given .1)
 
 returns-3 : tie.Need-returns-3
 returns-3 c =
@@ -83,7 +83,7 @@ turn-spec =
     step-requires
     enum-known-next
     enum-known-number
-    cast-t25
+    cast-t26
     enum-known-self-2
     same-length
     same-length-2
