@@ -1,7 +1,6 @@
 // The ten tables in lent room: how many entries each has, and what is found and added there.
 // May depend on format and fields.
 ghost use mathlib.Core.Path.{_≡_};
-ghost use mathlib.Core.Bool.{false};
 ghost use mathlib.Core.List.{map};
 ghost use Prim.Native.Nat.{_+_, _-_, _*_, _<_, _≤_};
 ghost use lib.ListN.{length, getD, replicate};
@@ -9,7 +8,7 @@ ghost use Rattle.format.specs.Tables.{link, same, sameTriple};
 ghost use Rattle.tables.specs.Located.{stretch, octetsOf, start};
 ghost use Rattle.tables.specs.Counts.{countsOf, tableWords};
 ghost use Rattle.tables.specs.Rows.{tableOf, builtIn, stringAt, tripleAt, entries};
-ghost use Rattle.tables.specs.Search.{numberIn, numberOfTriple};
+ghost use Rattle.tables.specs.Search.{numberIn};
 ghost use Rattle.tables.specs.Kept.{listed, unlisted, countOf, oneMore, rowAt, stored, Ends, Inside};
 
 // How many entries each table has, in the required order.
@@ -294,39 +293,6 @@ pub fn is_spelled(s: &[u8], t: &[u32], j: usize, place: usize, len: usize, last:
     same_octets(s, at, len, s, place, len)
 }
 
-// The same as `find_any`, for a string that has octets and is not built in. Full tables are searched here, so the loop is kept short: most rows differ in
-// their length or in the last octet.
-fn find_spelled(s: &[u8], t: &[u32], table: usize, n: u32, place: usize, len: usize) -> u32
-    requires { ⌜ (length (now t) ≡ tableWords) × (table < 8) × (n ≤ 256) × (1 ≤ len) × (place + len ≤ length (now s)) × Inside (now s) (entries (stringAt (tableOf table) (now t)) (768 * table) n) × (same (octetsOf (now s) (builtIn (tableOf table))) (octetsOf (now s) (stretch place len)) ≡ false) ⌝ }
-    ensures { λ r. ⌜ r ≡ numberIn (map (octetsOf (now (s .entry))) (entries (stringAt (tableOf table) (now (t .entry))) (768 * table) n)) (octetsOf (now (s .entry)) (stretch place len)) ⌝ }
-{
-    let last = s[place + (len - 1)];
-    let mut j = 768 * table;
-    let mut i = 0;
-    while i < n {
-        if is_spelled(s, t, j, place, len, last) {
-            return i + 1;
-        }
-        i += 1;
-        j += 3;
-    }
-    0
-}
-
-// The lowest number of a table's first n entries that is the string of s at place; 0 if none is.
-pub fn find(s: &[u8], t: &[u32], table: usize, n: u32, place: usize, len: usize) -> u32
-    requires { ⌜ (length (now t) ≡ tableWords) × (table < 8) × (n ≤ 256) × (place + len ≤ length (now s)) × Inside (now s) (entries (stringAt (tableOf table) (now t)) (768 * table) n) ⌝ }
-    ensures { λ r. ⌜ r ≡ numberIn (map (octetsOf (now (s .entry))) (entries (stringAt (tableOf table) (now (t .entry))) (768 * table) n)) (octetsOf (now (s .entry)) (stretch place len)) ⌝ }
-{
-    if len == 0 {
-        return find_any(s, t, table, n, place, len);
-    }
-    if is_built_in(s, table, place, len) {
-        return find_any(s, t, table, n, place, len);
-    }
-    find_spelled(s, t, table, n, place, len)
-}
-
 // Whether the row at word j is the name with these numbers. Most names of a document have the same prefix and namespace.
 pub fn is_name(t: &[u32], j: usize, prefix: u32, namespace: u32, local: u32) -> bool
     requires { ⌜ (length (now t) ≡ tableWords) × (j + 3 ≤ tableWords) ⌝ }
@@ -339,21 +305,4 @@ pub fn is_name(t: &[u32], j: usize, prefix: u32, namespace: u32, local: u32) -> 
         return false;
     }
     t[j] == prefix
-}
-
-// The lowest number of a table's first n entries that is the name with these numbers; 0 if none is.
-pub fn find_name(t: &[u32], table: usize, n: u32, prefix: u32, namespace: u32, local: u32) -> u32
-    requires { ⌜ (length (now t) ≡ tableWords) × (table < 10) × (n ≤ 256) ⌝ }
-    ensures { λ r. ⌜ r ≡ numberOfTriple (entries (tripleAt (now (t .entry))) (768 * table) n) (record { prefix = prefix; namespace = namespace; local = local }) ⌝ }
-{
-    let mut j = 768 * table;
-    let mut i = 0;
-    while i < n {
-        if is_name(t, j, prefix, namespace, local) {
-            return i + 1;
-        }
-        i += 1;
-        j += 3;
-    }
-    0
 }
