@@ -1,5 +1,8 @@
 // Event records as callers lend them.
 // May depend on format and tables (for specs/ and proofs/) and on walk (for proofs/).
+pub mod kinds;
+pub mod strings;
+pub mod tags;
 mod words;
 
 ghost use mathlib.Core.Path.{_≡_};
@@ -51,14 +54,14 @@ impl Kind {
         ensures { λ r. ⌜ r ≡ kindNumber self ⌝ }
     {
         match self {
-            Kind::Blank => 0,
-            Kind::Namespace => 1,
-            Kind::Start => 2,
-            Kind::Attribute => 3,
-            Kind::Chunk => 4,
-            Kind::Comment => 5,
-            Kind::Instruction => 6,
-            Kind::End => 7,
+            Kind::Blank => kinds::BLANK,
+            Kind::Namespace => kinds::NAMESPACE,
+            Kind::Start => kinds::START,
+            Kind::Attribute => kinds::ATTRIBUTE,
+            Kind::Chunk => kinds::CHUNK,
+            Kind::Comment => kinds::COMMENT,
+            Kind::Instruction => kinds::INSTRUCTION,
+            Kind::End => kinds::END,
         }
     }
 }
@@ -69,11 +72,11 @@ impl EventString {
         ensures { λ r. ⌜ r ≡ stringTag self ⌝ }
     {
         match self {
-            EventString::Absent => 0,
-            EventString::Empty => 1,
-            EventString::Stretch(_, _) => 2,
-            EventString::XmlPrefix => 3,
-            EventString::XmlNamespace => 4,
+            EventString::Absent => tags::ABSENT,
+            EventString::Empty => tags::EMPTY,
+            EventString::Stretch(_, _) => tags::STRETCH,
+            EventString::XmlPrefix => tags::XML_PREFIX,
+            EventString::XmlNamespace => tags::XML_NAMESPACE,
         }
     }
 

@@ -11,6 +11,9 @@ use crate::Event;
 use crate::EventString;
 use crate::Kind;
 use crate::RECORD;
+use crate::kinds;
+use crate::strings;
+use crate::tags;
 
 // What three words say: a string, or none where they are not well formed.
 enum Told {
@@ -23,14 +26,14 @@ fn kind_of(number: u32) -> Kind
     ensures { λ r. ⌜ r ≡ kindOf number ⌝ }
 {
     match number {
-        0 => Kind::Blank,
-        1 => Kind::Namespace,
-        2 => Kind::Start,
-        3 => Kind::Attribute,
-        4 => Kind::Chunk,
-        5 => Kind::Comment,
-        6 => Kind::Instruction,
-        7 => Kind::End,
+        kinds::BLANK => Kind::Blank,
+        kinds::NAMESPACE => Kind::Namespace,
+        kinds::START => Kind::Start,
+        kinds::ATTRIBUTE => Kind::Attribute,
+        kinds::CHUNK => Kind::Chunk,
+        kinds::COMMENT => Kind::Comment,
+        kinds::INSTRUCTION => Kind::Instruction,
+        kinds::END => Kind::End,
         _ => Kind::Blank,
     }
 }
@@ -40,11 +43,11 @@ fn told_by_tag(tag: u32) -> Told
     ensures { λ r. ⌜ r ≡ toldByTag tag ⌝ }
 {
     match tag {
-        0 => Told::Said(EventString::Absent),
-        1 => Told::Said(EventString::Empty),
-        2 => Told::Not,
-        3 => Told::Said(EventString::XmlPrefix),
-        4 => Told::Said(EventString::XmlNamespace),
+        tags::ABSENT => Told::Said(EventString::Absent),
+        tags::EMPTY => Told::Said(EventString::Empty),
+        tags::STRETCH => Told::Not,
+        tags::XML_PREFIX => Told::Said(EventString::XmlPrefix),
+        tags::XML_NAMESPACE => Told::Said(EventString::XmlNamespace),
         _ => Told::Not,
     }
 }
@@ -52,7 +55,7 @@ fn told_by_tag(tag: u32) -> Told
 fn told_by(tag: u32, place: u32, size: u32) -> Told
     ensures { λ r. ⌜ r ≡ toldBy tag place size ⌝ }
 {
-    if tag == 2 {
+    if tag == tags::STRETCH {
         return Told::Said(EventString::Stretch(place, size));
     }
     if place != 0 || size != 0 {
@@ -98,17 +101,17 @@ pub fn from_words(w: &[u32], n: usize) -> Event
     requires { ⌜ 13 * n + 13 ≤ length (now w) ⌝ }
     ensures { λ r. ⌜ r ≡ recordAt (now (w .entry)) (13 * n) ⌝ }
 {
-    let at = 13 * n;
+    let at = RECORD * n;
     let number = w[at];
-    if number < 1 || 7 < number {
+    if number < kinds::NAMESPACE || kinds::END < number {
         return crate::blank();
     }
     framed(
         kind_of(number),
-        told_at(w, at + 1),
-        told_at(w, at + 4),
-        told_at(w, at + 7),
-        told_at(w, at + 10),
+        told_at(w, at + strings::PREFIX),
+        told_at(w, at + strings::NAMESPACE),
+        told_at(w, at + strings::NAME),
+        told_at(w, at + strings::VALUE),
     )
 }
 
@@ -140,13 +143,13 @@ pub fn keep(w: &mut [u32], n: usize, e: Event)
     let kind = e.kind;
     w[at] = kind.number();
     let prefix = e.prefix;
-    put_string(w, at + 1, prefix);
+    put_string(w, at + strings::PREFIX, prefix);
     let namespace = e.namespace;
-    put_string(w, at + 4, namespace);
+    put_string(w, at + strings::NAMESPACE, namespace);
     let name = e.name;
-    put_string(w, at + 7, name);
+    put_string(w, at + strings::NAME, name);
     let value = e.value;
-    put_string(w, at + 10, value);
+    put_string(w, at + strings::VALUE, value);
 }
 
 fn is_told(w: &[u32], at: usize) -> bool
@@ -171,5 +174,7 @@ pub fn is_kind(w: &[u32], n: usize, number: u32) -> bool
     if w[at] != number {
         return false;
     }
-    is_told(w, at + 1) && (is_told(w, at + 4) && (is_told(w, at + 7) && is_told(w, at + 10)))
+    is_told(w, at + strings::PREFIX)
+        && (is_told(w, at + strings::NAMESPACE)
+            && (is_told(w, at + strings::NAME) && is_told(w, at + strings::VALUE)))
 }

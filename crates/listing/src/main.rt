@@ -1,12 +1,13 @@
 // Lists one document from standard input: a line for each event and then their number, or the refusal.
 // A program: it prints what the reader found, and decides nothing.
+use events::RECORD;
+use events::kinds;
+use events::strings;
+use events::tags;
 use libc::STDIN_FILENO;
 use libc::STDOUT_FILENO;
 use tables::Counts;
 ghost use Prim.Native.Nat.{_≤_};
-
-// Words of an event record.
-const RECORD: usize = 13;
 
 // Output goes through a block, which is written when it is full. Answers where the next octet goes.
 fn put(out: &mut [u8], n: usize, b: u8) -> usize {
@@ -81,48 +82,48 @@ fn put_stretch(out: &mut [u8], n: usize, s: &[u8], place: usize, size: usize) ->
 // One string of an event from its three words: "-" for absent, else "=" and its octets.
 fn put_string(out: &mut [u8], n: usize, s: &[u8], tag: u32, place: u32, size: u32) -> usize {
     let at = put(out, n, b' ');
-    if tag == 0 {
+    if tag == tags::ABSENT {
         return put(out, at, b'-');
     }
     let at = put(out, at, b'=');
     match tag {
-        2 => put_stretch(out, at, s, place as usize, size as usize),
-        3 => put_hex(out, at, b"xml"),
-        4 => put_hex(out, at, b"http://www.w3.org/XML/1998/namespace"),
+        tags::STRETCH => put_stretch(out, at, s, place as usize, size as usize),
+        tags::XML_PREFIX => put_hex(out, at, b"xml"),
+        tags::XML_NAMESPACE => put_hex(out, at, b"http://www.w3.org/XML/1998/namespace"),
         _ => at,
     }
 }
 
 fn letter(kind: u32) -> u8 {
     match kind {
-        1 => b'N',
-        2 => b'S',
-        3 => b'A',
-        4 => b'T',
-        5 => b'C',
-        6 => b'P',
+        kinds::NAMESPACE => b'N',
+        kinds::START => b'S',
+        kinds::ATTRIBUTE => b'A',
+        kinds::CHUNK => b'T',
+        kinds::COMMENT => b'C',
+        kinds::INSTRUCTION => b'P',
         _ => b'E',
     }
 }
 
-// Of prefix, namespace, name and value, strings 0 to 3 of a record, a kind has those from the first on.
+// The word of a record at which the strings that a kind has start.
 fn first_of(kind: u32) -> usize {
     match kind {
-        1 | 2 | 3 => 0,
-        6 => 2,
-        7 => 4,
-        _ => 3,
+        kinds::NAMESPACE | kinds::START | kinds::ATTRIBUTE => strings::PREFIX,
+        kinds::INSTRUCTION => strings::NAME,
+        kinds::END => RECORD,
+        _ => strings::VALUE,
     }
 }
 
-// Where the strings that a kind has end. The bound keeps the numbers of their words small.
+// Where they end. The bound keeps the numbers of their words small.
 fn behind_last_of(kind: u32) -> usize
-    ensures { λ r. ⌜ r ≤ 4 ⌝ }
+    ensures { λ r. ⌜ r ≤ 13 ⌝ }
 {
     match kind {
-        1 => 2,
-        2 => 3,
-        _ => 4,
+        kinds::NAMESPACE => strings::NAME,
+        kinds::START => strings::VALUE,
+        _ => RECORD,
     }
 }
 
@@ -143,11 +144,11 @@ fn put_event(out: &mut [u8], n: usize, s: &[u8], w: &[u32], record: u32) -> usiz
     let mut k = first_of(kind);
     let end = behind_last_of(kind);
     while k < end {
-        let tag = word(w, record, 3 * k + 1);
-        let place = word(w, record, 3 * k + 2);
-        let size = word(w, record, 3 * k + 3);
+        let tag = word(w, record, k);
+        let place = word(w, record, k + 1);
+        let size = word(w, record, k + 2);
         at = put_string(out, at, s, tag, place, size);
-        k += 1;
+        k += 3;
     }
     put(out, at, b'\n')
 }
@@ -183,10 +184,10 @@ fn put_answer(out: &mut [u8], s: &[u8], w: &[u32], answer: u64) -> usize {
 
 fn main() {
     // One octet more than a document may have, so that a longer one is seen to be longer; 512 event records.
-    let mut s = [0u8; 16385];
-    let mut records = [0u32; 6656];
+    let mut s = [0u8; fields::OCTETS + 1];
+    let mut records = [0u32; 512 * RECORD];
     let mut tables = [0u32; Counts::WORDS];
-    let mut counts = [0u32; 10];
+    let mut counts = [0u32; Counts::TABLES];
     let mut out = io::buffer();
     let n = io::read_full(STDIN_FILENO, &mut s);
     let answer = lomphachit::lomphachit_read(&s[..n], &mut records, &mut tables, &mut counts);

@@ -6,7 +6,7 @@ use libc::STDOUT_FILENO;
 use tables::Counts;
 
 // One octet more than a text area may have, so that the writer sees a longer one to be longer.
-const LENT: usize = 16385;
+pub const LENT: usize = fields::OCTETS + 1;
 
 fn put_text(text: &[u8]) {
     io::write_all(STDOUT_FILENO, text);
@@ -50,9 +50,9 @@ fn put_answer(out: &[u8], answer: u64) {
 }
 
 pub fn put_document(line: Line, text: &[u8], records: &[u32]) {
-    let mut out = [0u8; 16384];
+    let mut out = [0u8; fields::OCTETS];
     let mut tables = [0u32; Counts::WORDS];
-    let mut counts = [0u32; 10];
+    let mut counts = [0u32; Counts::TABLES];
     let r = least(line.from, records.len());
     let t = least(least(line.fill, LENT), text.len());
     let answer = lomphachit::lomphachit_write(

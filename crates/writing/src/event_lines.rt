@@ -5,9 +5,10 @@ use crate::area::spells;
 use crate::sums::low;
 use crate::sums::next;
 use crate::sums::plus;
-
-// Words of an event record.
-const RECORD: usize = 13;
+use events::RECORD;
+use events::kinds;
+use events::strings;
+use events::tags;
 
 // What is wrong with a line.
 pub enum Fault {
@@ -59,36 +60,36 @@ pub struct State {
     pub phase: Phase,
 }
 
-// 0 for a letter that no event has.
+// Blank for a letter that no event has.
 fn kind_of(letter: u8) -> u32 {
     match letter {
-        b'N' => 1,
-        b'S' => 2,
-        b'A' => 3,
-        b'T' => 4,
-        b'C' => 5,
-        b'P' => 6,
-        b'E' => 7,
-        _ => 0,
+        b'N' => kinds::NAMESPACE,
+        b'S' => kinds::START,
+        b'A' => kinds::ATTRIBUTE,
+        b'T' => kinds::CHUNK,
+        b'C' => kinds::COMMENT,
+        b'P' => kinds::INSTRUCTION,
+        b'E' => kinds::END,
+        _ => kinds::BLANK,
     }
 }
 
-// Of prefix, namespace, name and value, three words each behind a record's kind, the word where those that a kind has start.
+// The word of a record at which the strings that a kind has start.
 fn word_of(kind: u32) -> usize {
     match kind {
-        1 | 2 | 3 => 1,
-        6 => 7,
-        7 => 13,
-        _ => 10,
+        kinds::NAMESPACE | kinds::START | kinds::ATTRIBUTE => strings::PREFIX,
+        kinds::INSTRUCTION => strings::NAME,
+        kinds::END => RECORD,
+        _ => strings::VALUE,
     }
 }
 
 fn many_of(kind: u32) -> u32 {
     match kind {
-        1 | 6 => 2,
-        2 => 3,
-        3 => 4,
-        7 => 0,
+        kinds::NAMESPACE | kinds::INSTRUCTION => 2,
+        kinds::START => 3,
+        kinds::ATTRIBUTE => 4,
+        kinds::END => 0,
         _ => 1,
     }
 }
@@ -161,7 +162,7 @@ impl Line {
             return self.at(Phase::Last(0));
         }
         let kind = kind_of(b);
-        if kind == 0 {
+        if kind == kinds::BLANK {
             return self.wrong(Fault::Letter);
         }
         let from = self.from;
@@ -235,19 +236,19 @@ impl Line {
         self
     }
 
-    // The mark of a built-in string in its own place, else 0. The text area of a document's events has room for what the document spells, and not for these.
+    // The tag of a built-in string in its own place, else that of none. The text area of a document's events has room for what the document spells, and not for these.
     fn mark(self, text: &[u8]) -> u32 {
         let place = self.place;
         let fill = self.fill;
-        if self.word == plus(self.from, 1) && spells(text, place, fill, b"xml") {
-            return 3;
+        if self.word == plus(self.from, strings::PREFIX) && spells(text, place, fill, b"xml") {
+            return tags::XML_PREFIX;
         }
-        if self.word == plus(self.from, 4)
+        if self.word == plus(self.from, strings::NAMESPACE)
             && spells(text, place, fill, b"http://www.w3.org/XML/1998/namespace")
         {
-            return 4;
+            return tags::XML_NAMESPACE;
         }
-        0
+        tags::ABSENT
     }
 
     // The string that has ended, into its three words.
@@ -257,10 +258,10 @@ impl Line {
         self.word = plus(word, 3);
         let place = self.place;
         if self.fill <= place {
-            put(records, word, 1);
+            put(records, word, tags::EMPTY);
             return self;
         }
-        if mark != 0 {
+        if mark != tags::ABSENT {
             put(records, word, mark);
             self.fill = place;
             return self;
@@ -273,7 +274,7 @@ impl Line {
         put_string(
             records,
             word,
-            2,
+            tags::STRETCH,
             (one % 0x1_0000_0000) as u32,
             (one / 0x1_0000_0000) as u32,
         );

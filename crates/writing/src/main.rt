@@ -9,6 +9,7 @@ use crate::event_lines::Fault;
 use crate::event_lines::Line;
 use crate::event_lines::Phase;
 use crate::event_lines::State;
+use events::RECORD;
 use libc::STDIN_FILENO;
 
 fn steps(from: State, s: &[u8], text: &mut [u8], known: &mut [u64], records: &mut [u32]) -> State {
@@ -41,8 +42,8 @@ fn lines(text: &mut [u8], known: &mut [u64], records: &mut [u32]) -> State {
 fn main() {
     // 21,839 records. A start and its end take three halves of an octet and any other event two, so that 21,838 events are the most that fit a document: the
     // writer refuses each longer list at a record that is here, and lists of any length are answered right.
-    let mut records = [0u32; 283907];
-    let mut text = [0u8; 32770];
+    let mut records = [0u32; 21839 * RECORD];
+    let mut text = [0u8; 2 * answers::LENT];
     let mut known = [0u64; 16381];
     let st = lines(&mut text, &mut known, &mut records);
     let line = st.line;
