@@ -1,15 +1,16 @@
 -- A record of words is of a kind where it has the kind's number and all four strings.
 -- Assumes nothing.
 use mathlib.Core.Path.{_≡_, refl, sym, _∙_}
-use mathlib.Core.Bool.{Bool, true, false, true≢false, _&&_}
+use mathlib.Core.Bool.{Bool, true, false, true≢false, _&&_, and-true, and-false}
 use mathlib.Core.List.{List}
-use Prim.Native.Nat.{ℕ, zero, suc, _+_, _*_, _/_, _≤_, _<_}
+use Prim.Native.Nat.{ℕ, _+_, _*_, _/_, _≤_, _<_}
 use native.Mathlib.Omega.{arith}
 use native.Mathlib.Decide.{decLt}
 use borrow.Author.Tests.{eq-eqb, ne-eqb}
 use lib.Dec.{eqb}
 use lib.ListN.{length, getD, drop, drop-of-length-le}
 use Rattle.format.specs.Numbers.{pick}
+use Rattle.tables.proofs.ByNumber.{by-number}
 use Rattle.events.specs.declared.Kind.{Kind}
 use Rattle.events.specs.declared.Kind.the-variants.{Blank}
 use Rattle.events.specs.declared.words.Told.{Told}
@@ -22,15 +23,7 @@ use Rattle.events.proofs.WordLaws.{record-low, record-high, record-fram
 
 kind-number : (n : ℕ) → n ≤ 7 → kindNumber (kindOf n) ≡ n
 unfolding kindOf
-kind-number zero h = refl
-kind-number (suc zero) h = refl
-kind-number (suc (suc zero)) h = refl
-kind-number (suc (suc (suc zero))) h = refl
-kind-number (suc (suc (suc (suc zero)))) h = refl
-kind-number (suc (suc (suc (suc (suc zero))))) h = refl
-kind-number (suc (suc (suc (suc (suc (suc zero)))))) h = refl
-kind-number (suc (suc (suc (suc (suc (suc (suc zero))))))) h = refl
-kind-number (suc (suc (suc (suc (suc (suc (suc (suc n)))))))) h = absurd (omega arith)
+kind-number n h = by-number (λ (k : ℕ). kindNumber (kindOf k) ≡ k) 0 8 (refl, (refl, (refl, (refl, (refl, (refl, (refl, (refl, tt)))))))) n (omega arith) (omega arith)
 
 framed-kind : (k : Kind) (p n l v : Told) → framed k p n l v .kind ≡ pick (isSaid p && (isSaid n && (isSaid l && isSaid v))) k Blank
 framed-kind k Not n l v = refl
@@ -40,13 +33,9 @@ framed-kind k (Said p) (Said n) (Said l) Not = refl
 framed-kind k (Said p) (Said n) (Said l) (Said v) = refl
 
 -- the number of a kind, or of Blank, which is 0
-picked : (b : Bool) (k : Kind) (number : ℕ) → kindNumber k ≡ number → 1 ≤ number → eqb (kindNumber (pick b k Blank)) number ≡ b
-picked true k number e l = eq-eqb _ _ e
-picked false k number e l = ne-eqb 0 number (omega arith)
-
-picked-other : (b : Bool) (k : Kind) (number : ℕ) → (kindNumber k ≡ number → ⊥) → 1 ≤ number → eqb (kindNumber (pick b k Blank)) number ≡ false
-picked-other true k number e l = ne-eqb _ _ e
-picked-other false k number e l = ne-eqb 0 number (omega arith)
+picked : (b : Bool) (k : Kind) (number : ℕ) → 1 ≤ number → eqb (kindNumber (pick b k Blank)) number ≡ b && eqb (kindNumber k) number
+picked true k number l = refl
+picked false k number l = ne-eqb 0 number (omega arith)
 
 module _ (w : List ℕ) (n number : ℕ) (low : 1 ≤ number) where
   pub none-begins : length w / 13 ≤ n → false ≡ beginsWith number (drop n (recordsOf w))
@@ -75,7 +64,8 @@ module _ (w : List ℕ) (n number : ℕ) (low : 1 ≤ number) where
 
     pub same-begins : number ≤ 7 → getD w (13 * n) 0 ≡ number
         → (isSaid (toldAt w (13 * n + 1)) && (isSaid (toldAt w (13 * n + 4)) && (isSaid (toldAt w (13 * n + 7)) && isSaid (toldAt w (13 * n + 10))))) ≡ beginsWith number (drop n (recordsOf w))
-    same-begins high e = rw (begins-is, kind-is (omega arith) (omega arith), picked _ (kindOf (getD w (13 * n) 0)) number (kind-number _ (omega arith) ∙ e) low)
+    same-begins high e =
+        rw (begins-is, kind-is (omega arith) (omega arith), picked _ (kindOf (getD w (13 * n) 0)) number low, eq-eqb _ _ (kind-number _ (omega arith) ∙ e), and-true)
 
     blank-other : blank ≡ recordAt w (13 * n) → false ≡ eqb (kindNumber (recordAt w (13 * n) .kind)) number
     blank-other e = rw (← e, ne-eqb 0 number (omega arith))
@@ -87,6 +77,6 @@ module _ (w : List ℕ) (n number : ℕ) (low : 1 ≤ number) where
           | yes l ↦ (blank-other (record-low w (13 * n) l))
           | no l ↦ (elim (decLt 7 (getD w (13 * n) 0)) [
             | yes h ↦ (blank-other (record-high w (13 * n) (omega arith) h))
-            | no h ↦ (rw (kind-is (omega arith) (omega arith), picked-other _ (kindOf (getD w (13 * n) 0)) number (λ z. e (sym (kind-number _ (omega arith)) ∙ z)) low))
+            | no h ↦ (rw (kind-is (omega arith) (omega arith), picked _ (kindOf (getD w (13 * n) 0)) number low, ne-eqb _ _ (λ z. e (sym (kind-number _ (omega arith)) ∙ z)), and-false))
           ])
         ])

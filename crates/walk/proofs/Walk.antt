@@ -30,34 +30,25 @@ module _ {M : Type 1} {𝓤 : URA M} {H : Heap 𝓤} {A : Atoms 𝓤} {K : Type 
 
 -- ---- pieces of a body that the generated MIR has under no name
 -- the two parts of a sequence; of any other body, itself
-abbrev pub heading : Body → Body
-heading (seq a b) = a
-heading skip = skip
-heading (assign p v) = (assign p v)
-heading (block b) = (block b)
-heading (loop b) = (loop b)
-heading (cond c a b) = (cond c a b)
-heading (switch c arms) = (switch c arms)
-heading (exit m) = (exit m)
-heading return = return
-heading (call f xs d) = (call f xs d)
+abbrev pub apart : Body → Body × Body
+apart (seq a b) = (a, b)
+apart skip = (skip, skip)
+apart (assign p v) = (assign p v, assign p v)
+apart (block b) = (block b, block b)
+apart (loop b) = (loop b, loop b)
+apart (cond c a b) = (cond c a b, cond c a b)
+apart (switch c arms) = (switch c arms, switch c arms)
+apart (exit m) = (exit m, exit m)
+apart return = (return, return)
+apart (call f xs d) = (call f xs d, call f xs d)
 
-abbrev pub tailing : Body → Body
-tailing (seq a b) = b
-tailing skip = skip
-tailing (assign p v) = (assign p v)
-tailing (block b) = (block b)
-tailing (loop b) = (loop b)
-tailing (cond c a b) = (cond c a b)
-tailing (switch c arms) = (switch c arms)
-tailing (exit m) = (exit m)
-tailing return = return
-tailing (call f xs d) = (call f xs d)
+abbrev pub heading : Body → Body
+heading b = apart b .0
 
 -- what is left of a sequence after its first n parts
 abbrev pub skipping : ℕ → Body → Body
 skipping zero b = b
-skipping (suc n) b = skipping n (tailing b)
+skipping (suc n) b = skipping n (apart b .1)
 
 -- the body of arm k of a switch
 abbrev pub armOf : ℕ → Arms → Body

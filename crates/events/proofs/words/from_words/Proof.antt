@@ -9,50 +9,8 @@ use Rattle.events.proofs.WordLaws.{record-low, record-high, record-fram
 use Rattle.events.proofs.words.from_words.Statement.{statement}
 use Rattle.events.proofs.words.from_words.Tie as tie
 
-mul-at : tie.Need-mul-at
-mul-at c = search needs
-
-mul-number : tie.Need-mul-number
-mul-number c = search needs
-
-shared-slice-read-number : tie.Need-shared-slice-read-number
-shared-slice-read-number c = search needs
-
-blank-requires : tie.Need-blank-requires
-blank-requires c κs = search needs
-
 returns : tie.Need-returns
 returns c = c .blank .ensures ∙ ⊎-elim (λ x. record-low _ _ (omega arith)) (λ x. record-high _ _ (omega arith) (omega (arith, ltb-true))) (c .before .if1 .came)
-
-kind-of-requires : tie.Need-kind-of-requires
-kind-of-requires c κs = search needs
-
-add-told-at : tie.Need-add-told-at
-add-told-at c = search needs
-
-told-at-requires : tie.Need-told-at-requires
-told-at-requires c κs = search needs
-
-add-told-at-2 : tie.Need-add-told-at-2
-add-told-at-2 c = search needs
-
-told-at-requires-2 : tie.Need-told-at-requires-2
-told-at-requires-2 c κs = search needs
-
-add-told-at-3 : tie.Need-add-told-at-3
-add-told-at-3 c = search needs
-
-told-at-requires-3 : tie.Need-told-at-requires-3
-told-at-requires-3 c κs = search needs
-
-add-told-at-4 : tie.Need-add-told-at-4
-add-told-at-4 c = search needs
-
-told-at-requires-4 : tie.Need-told-at-requires-4
-told-at-requires-4 c κs = search needs
-
-framed-requires : tie.Need-framed-requires
-framed-requires c κs = search needs
 
 returns-2 : tie.Need-returns-2
 returns-2 c =
@@ -63,19 +21,19 @@ pub from-words-spec : {M : Type 1} → statement M
 from-words-spec =
     tie.close
     (tie.spec
-    mul-at
-    mul-number
-    shared-slice-read-number
-    blank-requires
+    (λ c. search needs)
+    (λ c. search needs)
+    (λ c. search needs)
+    (λ c κs. search needs)
     returns
-    kind-of-requires
-    add-told-at
-    told-at-requires
-    add-told-at-2
-    told-at-requires-2
-    add-told-at-3
-    told-at-requires-3
-    add-told-at-4
-    told-at-requires-4
-    framed-requires
+    (λ c κs. search needs)
+    (λ c. search needs)
+    (λ c κs. search needs)
+    (λ c. search needs)
+    (λ c κs. search needs)
+    (λ c. search needs)
+    (λ c κs. search needs)
+    (λ c. search needs)
+    (λ c κs. search needs)
+    (λ c κs. search needs)
     returns-2)

@@ -19,11 +19,8 @@ returns-2 c =
     (λ w. told-sized _ _ _ (c .before .if1 .left) (w .0 .left) (eqb-false _ _ (not-true _ (w .1 .taken))))
     (c .if2 .came)
 
-told-by-tag-requires : tie.Need-told-by-tag-requires
-told-by-tag-requires c κs = search needs
-
 returns-3 : tie.Need-returns-3
 returns-3 c = c .told-by-tag .ensures ∙ told-tagged _ _ _ (omega arith) (omega arith) (eqb-true _ _ (not-false _ (c .before .if3 .left)))
 
 pub told-by-spec : {M : Type 1} → statement M
-told-by-spec = tie.close (tie.spec returns returns-2 told-by-tag-requires returns-3)
+told-by-spec = tie.close (tie.spec returns returns-2 (λ c κs. search needs) returns-3)
