@@ -51,10 +51,6 @@ adding-grows v t x =
       names-grow = λ u. let e = ap length (names-adding v t x u) in omega arith;
     }
 
-pub keeping-grows : {S : Type 0} (b : Bool) (v : Vocabulary S) (t : StringTable) (x : S) → Grows v (keeping b v t x)
-keeping-grows true v t x = adding-grows v t x
-keeping-grows false v t x = same-size v
-
 pub adding-name-grows : {S : Type 0} (v : Vocabulary S) (t : NameTable) (x : Triple) → Grows v (addingName v t x)
 adding-name-grows v t x =
     record {
@@ -74,6 +70,40 @@ one-longer v t x =
     let e = ap length (strings-adding v t x t ∙ ap (λ (b : Bool). extended b (strings v t) x) (eq-eqb (place t) (place t) refl)) in
     let l = length-append (strings v t) (x ∷ []) in
     omega arith
+
+-- ---- what a permitted choice for a string does with the tables: one entry more in its table, or nothing
+pub data More (t : StringTable) (v : Vocabulary Octets) : Vocabulary Octets → Type 0 where
+  as-was : More t v v
+  one-more : (x : Octets) → More t v (adding v t x)
+
+keeping-more : (b : Bool) {t : StringTable} {v : Vocabulary Octets} (x : Octets) → More t v (keeping b v t x)
+keeping-more true x = one-more x
+keeping-more false x = as-was
+
+pub id-more : {t : StringTable} {v w : Vocabulary Octets} {x : Octets} {h : How} {n : ℕ} → PermitsId t v x h n w → More t v w
+id-more (id-entry en) = as-was
+id-more {x = x} (id-new h) = one-more x
+
+pub optional-more : {t : StringTable} {v w : Vocabulary Octets} {x : Option Octets} {h : Option How} {n : ℕ} → PermitsIfAny t v x h n w → More t v w
+optional-more not-there = as-was
+optional-more (there c) = id-more c
+
+pub string-more : {t : StringTable} {v w : Vocabulary Octets} {x : Octets} {h : How} → PermitsString t v x h w → More t v w
+string-more (string-entry en) = as-was
+string-more {x = x} (string-spelled a) = keeping-more a x
+
+pub value-more : {t : StringTable} {v w : Vocabulary Octets} {x : Octets} {h : How} → PermitsValue t v x h w → More t v w
+value-more value-none = as-was
+value-more {x = x} (value-spelled a long) = keeping-more a x
+value-more (value-entry en) = as-was
+
+pub more-grows : {t : StringTable} {v w : Vocabulary Octets} → More t v w → Grows v w
+more-grows {v = v} as-was = same-size v
+more-grows {t} {v} (one-more x) = adding-grows v t x
+
+pub more-names : {t : StringTable} {v w : Vocabulary Octets} → More t v w → (u : NameTable) → names w u ≡ names v u
+more-names as-was u = refl
+more-names {t} {v} (one-more x) u = names-adding v t x u
 
 -- ---- the octets of a string or a name, from how it is written
 abbrev pub idOctets : Octets → How → Octets
@@ -120,10 +150,6 @@ module _ (t : StringTable) (v : Vocabulary Octets) (x : Octets) where
   unfolding chooseId
   id-case = id-from (numberIn (strings v t) x) refl
 
-pub id-grows : {t : StringTable} {v w : Vocabulary Octets} {x : Octets} {h : How} {n : ℕ} → PermitsId t v x h n w → Grows v w
-id-grows {v = v} (id-entry en) = same-size v
-id-grows {t} {v} {x = x} (id-new h) = adding-grows v t x
-
 module _ (ver : Version) (small : ver .entries ≤ top) where
   pub id-rule : {t : StringTable} {v w : Vocabulary Octets} {x : Octets} {h : How} {n : ℕ} → Spelling x → InLimits ver w → PermitsId t v x h n w → Identifying ver t v x h n (idOctets x h) w
   id-rule {t} {v} sp f (id-entry {k = j} en) = let a = f .few t in let h = entry-made en in id-numbered {k = j} (omega arith) en
@@ -137,10 +163,6 @@ pub optional-case : (t : StringTable) (v : Vocabulary Octets) (x : Option Octets
 unfolding chooseOptional
 optional-case t v none = not-there
 optional-case t v (some x) = there (id-case t v x)
-
-pub optional-grows : {t : StringTable} {v w : Vocabulary Octets} {x : Option Octets} {h : Option How} {n : ℕ} → PermitsIfAny t v x h n w → Grows v w
-optional-grows {v = v} not-there = same-size v
-optional-grows (there c) = id-grows c
 
 -- what can be spelled, if it is there
 abbrev pub SpellingIfAny : Option Octets → Type 0
@@ -176,10 +198,6 @@ pub literal-permits : {ver : Version} {t : StringTable} {v : Vocabulary Octets} 
 literal-permits (lit-held en) = string-entry en
 literal-permits (lit-new {added = a} r) = string-spelled a
 
-pub literal-grows : {t : StringTable} {v w : Vocabulary Octets} {x : Octets} {h : How} → PermitsString t v x h w → Grows v w
-literal-grows {v = v} (string-entry en) = same-size v
-literal-grows {t} {v} {x = x} (string-spelled a) = keeping-grows a v t x
-
 module _ (ver : Version) (small : ver .entries ≤ top) where
   -- one that is added had room
   had-room : (added : Bool) (v : Vocabulary Octets) (t : StringTable) (x : Octets) → InLimits ver (keeping added v t x) → added ≡ true → length (strings v t) < ver .entries
@@ -208,11 +226,6 @@ pub value-permits : {ver : Version} {t : StringTable} {v : Vocabulary Octets} {x
 value-permits (is-empty e) = rw e value-none
 value-permits (is-literal h (lit-held en)) = value-entry en
 value-permits (is-literal h (lit-new {added = a} r)) = value-spelled a h
-
-pub value-grows : {t : StringTable} {v w : Vocabulary Octets} {x : Octets} {h : How} → PermitsValue t v x h w → Grows v w
-value-grows {v = v} value-none = same-size v
-value-grows {t} {v} {x = x} (value-spelled a long) = keeping-grows a v t x
-value-grows {v = v} (value-entry en) = same-size v
 
 -- A text that may be spelled, or be empty.
 abbrev pub SpellingIfSome : Octets → Type 0
@@ -253,8 +266,8 @@ in-range-on g r =
     record { prefix = omega arith; namespace = omega arith; some-local = r .some-local; local = omega arith }
 
 -- more strings, the same names
-pub ranged-on : {S : Type 0} {v w : Vocabulary S} → Grows v w → ((t : NameTable) → names w t ≡ names v t) → Ranged v → Ranged w
-ranged-on g same-names r t k x e = in-range-on g (r t k x (rw (same-names t) at e))
+pub more-ranged : {t : StringTable} {v w : Vocabulary Octets} → More t v w → Ranged v → Ranged w
+more-ranged m r t k x e = in-range-on (more-grows m) (r t k x (rw (more-names m t) at e))
 
 -- what holds of a table's entries and of one more
 of-extended : {A : Type 0} {P : A → Type 0} (b : Bool) (l : List A) (x : A) → ((k : ℕ) (y : A) → Entry l k y → P y) → P x → (k : ℕ) (y : A) → Entry (extended b l x) k y → P y
@@ -273,27 +286,6 @@ same-names-longer : (t : NameTable) (l : List Triple) (x : Triple) → length (e
 unfolding sameNames
 same-names-longer ELEMENT-NAME l x = let y = length-append l (x ∷ []) in omega arith
 same-names-longer ATTRIBUTE-NAME l x = let y = length-append l (x ∷ []) in omega arith
-
-pub id-names : {t : StringTable} {v w : Vocabulary Octets} {x : Octets} {h : How} {n : ℕ} → PermitsId t v x h n w → (u : NameTable) → names w u ≡ names v u
-id-names (id-entry en) u = refl
-id-names {t} {v} {x = x} (id-new h) u = names-adding v t x u
-
-pub optional-names : {t : StringTable} {v w : Vocabulary Octets} {x : Option Octets} {h : Option How} {n : ℕ} → PermitsIfAny t v x h n w → (u : NameTable) → names w u ≡ names v u
-optional-names not-there u = refl
-optional-names (there c) u = id-names c u
-
-keeping-names : (b : Bool) (v : Vocabulary Octets) (t : StringTable) (x : Octets) (u : NameTable) → names (keeping b v t x) u ≡ names v u
-keeping-names true v t x u = names-adding v t x u
-keeping-names false v t x u = refl
-
-pub literal-names : {t : StringTable} {v w : Vocabulary Octets} {x : Octets} {h : How} → PermitsString t v x h w → (u : NameTable) → names w u ≡ names v u
-literal-names (string-entry en) u = refl
-literal-names {t} {v} {x = x} (string-spelled a) u = keeping-names a v t x u
-
-pub value-names : {t : StringTable} {v w : Vocabulary Octets} {x : Octets} {h : How} → PermitsValue t v x h w → (u : NameTable) → names w u ≡ names v u
-value-names value-none u = refl
-value-names {t} {v} {x = x} (value-spelled a long) u = keeping-names a v t x u
-value-names (value-entry en) u = refl
 
 -- the number is in range of the table then
 id-number : {t : StringTable} {v w : Vocabulary Octets} {x : Octets} {h : How} {n : ℕ} → PermitsId t v x h n w → n ≤ length (strings w t)
@@ -346,7 +338,7 @@ module _ (t : NameTable) (v : Vocabulary Octets) (x : Name Octets) where
         → NameCase (record { how = inParts (p .how) (n .how) (l .how); number = suc (length (names (l .tables) t)); tables = addingName (l .tables) t triple })
 
   no-names : (u : NameTable) → names (l .tables) u ≡ names v u
-  no-names u = id-names cl u ∙ optional-names cn u ∙ optional-names cp u
+  no-names u = more-names (id-more cl) u ∙ more-names (optional-more cn) u ∙ more-names (optional-more cp) u
 
   -- parts with numbers of the tables before: the triple names the name
   name-was : InRange v triple → Means v triple x
@@ -386,7 +378,7 @@ module _ (t : NameTable) (v : Vocabulary Octets) (x : Name Octets) where
 
 -- ---- a permitted name
 pub name-grows : {t : NameTable} {v w : Vocabulary Octets} {x : Name Octets} {h : NameHow} → PermitsName t v x h w → Grows v w
-name-grows {t} (name-parts {v₃ = v₃} up un ul new) = grows-on (optional-grows up) (grows-on (optional-grows un) (grows-on (id-grows ul) (adding-name-grows v₃ t _)))
+name-grows {t} (name-parts {v₃ = v₃} up un ul new) = grows-on (more-grows (optional-more up)) (grows-on (more-grows (optional-more un)) (grows-on (more-grows (id-more ul)) (adding-name-grows v₃ t _)))
 name-grows {v = v} (name-entry en m) = same-size v
 
 pub name-ranged : {t : NameTable} {v w : Vocabulary Octets} {x : Name Octets} {h : NameHow} → PermitsName t v x h w → Ranged v → Ranged w
@@ -394,10 +386,10 @@ name-ranged {t} (name-parts up un ul new) r =
     let a = optional-number up in
     let b = optional-number un in
     let c = id-number ul in
-    let d = grows-on (optional-grows un) (id-grows ul) .strings-grow PREFIX in
-    let e = id-grows ul .strings-grow NAMESPACE-NAME in
+    let d = grows-on (more-grows (optional-more un)) (more-grows (id-more ul)) .strings-grow PREFIX in
+    let e = more-grows (id-more ul) .strings-grow NAMESPACE-NAME in
     ranged-name t _ (record { prefix = omega arith; namespace = omega arith; some-local = id-some ul; local = c })
-    (ranged-on (grows-on (optional-grows up) (grows-on (optional-grows un) (id-grows ul))) (λ u. id-names ul u ∙ optional-names un u ∙ optional-names up u) r)
+    (more-ranged (id-more ul) (more-ranged (optional-more un) (more-ranged (optional-more up) r)))
 name-ranged (name-entry en m) r = r
 
 -- what can be said of a name's strings
@@ -416,8 +408,8 @@ module _ (ver : Version) (small : ver .entries ≤ top) (q : NameLayout) (big : 
   name-rule s f (name-parts {kp = kp} {kn = kn} {kl = kl} {v₃ = w} up un ul new) =
       let y : Triple = record { prefix = kp; namespace = kn; local = kl } in
       let fl = fits-before (adding-name-grows w (q .table) y) f in
-      let fn = fits-before (id-grows ul) fl in
-      let fp = fits-before (optional-grows un) fn in
+      let fn = fits-before (more-grows (id-more ul)) fl in
+      let fp = fits-before (more-grows (optional-more un)) fn in
       let longer = ap length (names-adding-name w (q .table) y (q .table)) in
       let one = same-names-longer (q .table) (names w (q .table)) y in
       let room = f .few-names (q .table) in

@@ -19,7 +19,7 @@ use Rattle.theorems.specs.Places.{allSpelled, spelledIn}
 use Rattle.theorems.proofs.Lists.{Refusal, halves-append, halves-length, halves-drop, halves-complete, drop-past}
 use Rattle.theorems.proofs.Words.{starting-map}
 use Rattle.theorems.proofs.Entries.{ranged-started}
-use Rattle.theorems.proofs.Run.{Inside, Right, run-right, fuel-free, NotShort, run-not-short, trace-few, placesOf, room-short, room-enough, AtMarks, run-at-marks, Reads, run-complete}
+use Rattle.theorems.proofs.Run.{Inside, Right, run-right, fuel-free, NotShort, run-not-short, trace-few, placesOf, AtMarks, ByRoom, by-room, Reads, run-complete}
 use Rattle.theorems.proofs.Opening.{Opened, opening-sound, opening-complete}
 
 pub link-bounded : Bounded link
@@ -146,27 +146,20 @@ module _ (ver : Version) (s : Octets) where
     known-is = rw (opens) (reads-all (length items) (omega arith) .known)
 
   -- room
-  short-from : (room : ℕ) (o : Opening) → room < length (marksFrom ver s o) → resultFrom ver s room o ≡ refusal 14 (getD (placesOf (marksFrom ver s o)) room 0)
-  short-from room (onward body tables) h = room-short ver s (fuelOf s) room (origin body tables) h
-  short-from room (halt n p) h = absurd (omega arith)
+  from-by-room : (room : ℕ) (o : Opening) → ByRoom (marksFrom ver s o) (λ r. resultFrom ver s r o) room
+  from-by-room room (onward body tables) = by-room ver s (fuelOf s) room (origin body tables)
+  from-by-room room (halt n p) = record { short = λ h. absurd (omega arith); enough = λ h. refl; at-marks = tt }
+
+  reading-by-room : (room : ℕ) → ByRoom (marks ver s) (λ r. reading ver s r) room
+  unfolding reading marks
+  reading-by-room room = from-by-room room (opening ver s)
 
   pub too-short : (room : ℕ) → room < length (marks ver s) → reading ver s room ≡ refusal 14 (getD (placesOf (marks ver s)) room 0)
-  unfolding reading marks
-  too-short room h = short-from room (opening ver s) h
-
-  enough-from : (room : ℕ) (o : Opening) → length (marksFrom ver s o) ≤ room → resultFrom ver s room o ≡ resultFrom ver s (length (marksFrom ver s o)) o
-  enough-from room (onward body tables) h = room-enough ver s (fuelOf s) room (origin body tables) h
-  enough-from room (halt n p) h = refl
+  too-short room h = reading-by-room room .short h
 
   pub long-enough : (room : ℕ) → length (marks ver s) ≤ room → reading ver s room ≡ reading ver s (length (marks ver s))
-  unfolding reading marks
-  long-enough room h = enough-from room (opening ver s) h
+  long-enough room h = reading-by-room room .enough h
 
   -- the events that are handed out have the places of the marks
-  from-at-marks : (room : ℕ) (o : Opening) → AtMarks (marksFrom ver s o) (resultFrom ver s room o)
-  from-at-marks room (onward body tables) = run-at-marks ver s (fuelOf s) room (origin body tables)
-  from-at-marks room (halt n p) = tt
-
   pub places-are : (room : ℕ) (events : List EventRead) (last : Stand) → reading ver s room ≡ accepted events last → map (λ (e : EventRead). e .place) events ≡ placesOf (marks ver s)
-  unfolding reading marks
-  places-are room events last e = subst (AtMarks (marks ver s)) e (from-at-marks room (opening ver s))
+  places-are room events last e = subst (AtMarks (marks ver s)) e (reading-by-room room .at-marks)

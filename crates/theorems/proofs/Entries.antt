@@ -2,27 +2,25 @@
 use Prim.Native.Nat.{ℕ, _+_, _≤_, _<_}
 use mathlib.Core.Path.{_≡_, refl, ap, _∙_}
 use mathlib.Core.Bool.{Bool, true, false}
-use mathlib.Core.Option.{Option}
 use mathlib.Core.List.{List, [], _∷_}
 use native.Mathlib.Omega.{arith}
 use lib.Dec.{eqb}
 use lib.ListN.{length, length-append}
 use Rattle.format.specs.Octets.{Octets}
 use Rattle.format.specs.Numbers.{pick}
-use Rattle.format.specs.Events.{Name, Event, How, NameHow, Choice, Item}
-use Rattle.format.specs.Tables.{StringTable, PREFIX, NAMESPACE-NAME, LOCAL-NAME, OTHER-NCNAME, OTHER-URI, ATTRIBUTE-VALUE, CONTENT-CHARACTER-CHUNK, OTHER-STRING, NameTable, ELEMENT-NAME, ATTRIBUTE-NAME, Vocabulary, strings, names, adding, starting, Version, InLimits, xmlPrefix, xmlNamespace}
-use Rattle.format.specs.Strings.{bit, keeping}
+use Rattle.format.specs.Events.{Name, Event, NameHow, Choice, Item}
+use Rattle.format.specs.Tables.{StringTable, PREFIX, NAMESPACE-NAME, LOCAL-NAME, OTHER-NCNAME, OTHER-URI, ATTRIBUTE-VALUE, CONTENT-CHARACTER-CHUNK, OTHER-STRING, NameTable, ELEMENT-NAME, ATTRIBUTE-NAME, Vocabulary, strings, names, starting, Version, InLimits, xmlPrefix, xmlNamespace}
+use Rattle.format.specs.Strings.{bit}
 use Rattle.format.specs.Document.{started}
 use Rattle.fields.proofs.Laws.{case}
 use Rattle.tables.specs.Rows.{place}
 use Rattle.tables.proofs.EntryLaws.{entry-made}
 use Rattle.tables.proofs.Adding.{extended, sameNames, strings-adding, strings-adding-name, names-adding-name}
 use Rattle.write_names.specs.Chosen.{chooseFor, chosen, tablesAfter}
-use Rattle.theorems.specs.Permitted.{PermitsId, id-new, id-entry, PermitsIfAny, not-there, there, PermitsString, string-spelled, string-entry, PermitsValue, value-none, value-spelled, value-entry}
 use Rattle.theorems.specs.Permitted.{PermitsName, name-parts, name-entry, Permits, a-declaration, a-start, an-attribute, a-chunk, a-comment, an-instruction, an-end, PermitsAll, no-item, an-item}
 use Rattle.theorems.proofs.Growing.{extended-few}
 use Rattle.theorems.proofs.Documents.{events}
-use Rattle.theorems.proofs.Chosen.{Grows, same-size, grows-on, Ranged, id-names, optional-names, literal-names, value-names}
+use Rattle.theorems.proofs.Chosen.{Grows, same-size, grows-on, More, as-was, one-more, id-more, optional-more, string-more, value-more, more-names, Ranged}
 use Rattle.theorems.proofs.Produced.{permits-for, permits-grows, ranged-for}
 
 -- ---- one entry more, in one table
@@ -35,34 +33,14 @@ abbrev own : StringTable → StringTable → ℕ
 own t u = bit (eqb (place t) (place u))
 
 module _ (u : StringTable) where
-  adding-adds : (v : Vocabulary Octets) (t : StringTable) (x : Octets) → length (strings (adding v t x) u) ≤ length (strings v u) + own t u
-  adding-adds v t x = rw (strings-adding v t x u) (extended-adds (eqb (place t) (place u)) (strings v u) x)
-
-  id-adds : {t : StringTable} {v w : Vocabulary Octets} {x : Octets} {h : How} {n : ℕ} → PermitsId t v x h n w → length (strings w u) ≤ length (strings v u) + own t u
-  id-adds (id-entry en) = omega arith
-  id-adds {t} {v} {x = x} (id-new h) = adding-adds v t x
-
-  optional-adds : {t : StringTable} {v w : Vocabulary Octets} {x : Option Octets} {h : Option How} {n : ℕ} → PermitsIfAny t v x h n w → length (strings w u) ≤ length (strings v u) + own t u
-  optional-adds not-there = omega arith
-  optional-adds (there c) = id-adds c
-
-  keeping-adds : (b : Bool) (v : Vocabulary Octets) (t : StringTable) (x : Octets) → length (strings (keeping b v t x) u) ≤ length (strings v u) + own t u
-  keeping-adds true v t x = adding-adds v t x
-  keeping-adds false v t x = omega arith
-
-  literal-adds : {t : StringTable} {v w : Vocabulary Octets} {x : Octets} {h : How} → PermitsString t v x h w → length (strings w u) ≤ length (strings v u) + own t u
-  literal-adds (string-entry en) = omega arith
-  literal-adds {t} {v} {x = x} (string-spelled b) = keeping-adds b v t x
-
-  value-adds : {t : StringTable} {v w : Vocabulary Octets} {x : Octets} {h : How} → PermitsValue t v x h w → length (strings w u) ≤ length (strings v u) + own t u
-  value-adds value-none = omega arith
-  value-adds {t} {v} {x = x} (value-spelled b long) = keeping-adds b v t x
-  value-adds (value-entry en) = omega arith
+  more-adds : {t : StringTable} {v w : Vocabulary Octets} → More t v w → length (strings w u) ≤ length (strings v u) + own t u
+  more-adds as-was = omega arith
+  more-adds {t} {v} (one-more x) = rw (strings-adding v t x u) (extended-adds (eqb (place t) (place u)) (strings v u) x)
 
   name-adds : {t : NameTable} {v w : Vocabulary Octets} {x : Name Octets} {h : NameHow} → PermitsName t v x h w
       → length (strings w u) ≤ length (strings v u) + own PREFIX u + own NAMESPACE-NAME u + own LOCAL-NAME u
   name-adds (name-entry en m) = omega arith
-  name-adds (name-parts up un ul new) = let a = optional-adds up in let b = optional-adds un in let c = id-adds ul in rw strings-adding-name (omega arith)
+  name-adds (name-parts up un ul new) = let a = more-adds (optional-more up) in let b = more-adds (optional-more un) in let c = more-adds (id-more ul) in rw strings-adding-name (omega arith)
 
 -- no event adds to one table twice
 once : (u : StringTable) → own PREFIX u + own NAMESPACE-NAME u + own LOCAL-NAME u + own OTHER-NCNAME u + own ATTRIBUTE-VALUE u + own CONTENT-CHARACTER-CHUNK u + own OTHER-STRING u ≤ 1
@@ -82,27 +60,27 @@ pub record Adds (n : ℕ) (v w : Vocabulary Octets) : Type 0 where
   pub few-names : (t : NameTable) → length (names w t) ≤ length (names v t) + n
 
 strings-for : {v w : Vocabulary Octets} {e : Event Octets} {c : Choice} → Permits v e c w → (u : StringTable) → length (strings w u) ≤ length (strings v u) + 1
-strings-for (a-declaration up un) u = let a = optional-adds u up in let b = optional-adds u un in let o = once u in omega arith
+strings-for (a-declaration up un) u = let a = more-adds u (optional-more up) in let b = more-adds u (optional-more un) in let o = once u in omega arith
 strings-for (a-start x) u = let a = name-adds u x in let o = once u in omega arith
-strings-for (an-attribute x y) u = let a = name-adds u x in let b = value-adds u y in let o = once u in omega arith
-strings-for (a-chunk y) u = let a = literal-adds u y in let o = once u in omega arith
-strings-for (a-comment y) u = let a = value-adds u y in let o = once u in omega arith
-strings-for (an-instruction x y) u = let a = id-adds u x in let b = value-adds u y in let o = once u in omega arith
+strings-for (an-attribute x y) u = let a = name-adds u x in let b = more-adds u (value-more y) in let o = once u in omega arith
+strings-for (a-chunk y) u = let a = more-adds u (string-more y) in let o = once u in omega arith
+strings-for (a-comment y) u = let a = more-adds u (value-more y) in let o = once u in omega arith
+strings-for (an-instruction x y) u = let a = more-adds u (id-more x) in let b = more-adds u (value-more y) in let o = once u in omega arith
 strings-for an-end u = omega arith
 
 name-more : {t : NameTable} {v w : Vocabulary Octets} {x : Name Octets} {h : NameHow} (u : NameTable) → PermitsName t v x h w → length (names w u) ≤ length (names v u) + 1
 name-more u (name-entry en m) = omega arith
 name-more {t} {v} u (name-parts up un ul new) =
-    let a = ap length (id-names ul u ∙ optional-names un u ∙ optional-names up u) in
+    let a = ap length (more-names (id-more ul) u ∙ more-names (optional-more un) u ∙ more-names (optional-more up) u) in
     rw names-adding-name (extended-few (sameNames t u) (length (names v u) + 1) _ _ (omega arith) (λ e. omega arith))
 
 names-for : {v w : Vocabulary Octets} {e : Event Octets} {c : Choice} → Permits v e c w → (u : NameTable) → length (names w u) ≤ length (names v u) + 1
-names-for (a-declaration up un) u = let a = ap length (optional-names up u) in let b = ap length (optional-names un u) in omega arith
+names-for (a-declaration up un) u = let a = ap length (more-names (optional-more up) u) in let b = ap length (more-names (optional-more un) u) in omega arith
 names-for (a-start x) u = name-more u x
-names-for (an-attribute x y) u = let a = name-more u x in let b = ap length (value-names y u) in omega arith
-names-for (a-chunk y) u = let a = ap length (literal-names y u) in omega arith
-names-for (a-comment y) u = let a = ap length (value-names y u) in omega arith
-names-for (an-instruction x y) u = let a = ap length (id-names x u) in let b = ap length (value-names y u) in omega arith
+names-for (an-attribute x y) u = let a = name-more u x in let b = ap length (more-names (value-more y) u) in omega arith
+names-for (a-chunk y) u = let a = ap length (more-names (string-more y) u) in omega arith
+names-for (a-comment y) u = let a = ap length (more-names (value-more y) u) in omega arith
+names-for (an-instruction x y) u = let a = ap length (more-names (id-more x) u) in let b = ap length (more-names (value-more y) u) in omega arith
 names-for an-end u = omega arith
 
 -- ---- along a list

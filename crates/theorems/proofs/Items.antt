@@ -32,7 +32,7 @@ use Rattle.theorems.proofs.Lists.{Fault, fault, test, test-lt, test-not
 use Rattle.theorems.proofs.Fields.{FieldRead, Ok, in-step, Hit}
 use Rattle.theorems.proofs.Strings.{shape15, inside, IdR, id-sound, LiteralR, literal-sound, ValueR, value-sound, id-complete, literal-complete, value-complete}
 use Rattle.theorems.proofs.Chosen.{Ranged}
-use Rattle.theorems.proofs.Names.{element-shape, attribute-shape, NameR, numbered-sound, parts-sound, name-sound, DeclaredR, declared-sound, NameQ, NameHit, hit-numbered, hit-parts, name-complete, declared-complete}
+use Rattle.theorems.proofs.Names.{element-shape, attribute-shape, NameR, numbered-sound, parts-sound, name-sound, DeclaredR, declared-sound, DeclaredQ, NameQ, NameHit, hit-numbered, hit-parts, name-complete, declared-complete}
 
 -- ---- the six bits of an element's name
 or-right : (a : Bool) → (a || true) ≡ true
@@ -365,78 +365,65 @@ module _ (ver : Version) (s : Octets) where
   name-first a (hit-numbered o oc hi n c e hit) = let b1 = one-bit a in omega arith
   name-first a (hit-parts o oc lo hi lone hit) = let b1 = one-bit a in omega arith
 
+  -- a Start or a declaration, found from octet j on, in an item that starts at k
+  module _ (k j : ℕ) (v : State Located) (o os : Octets) (z : j + length os ≡ k + length o) (some : 0 < length o) (here : k < length s) (first : byHalves (v .mode) ≡ true → getD s k 0 < 0xF0) (a : Bool) where
+    start-item : {x : Name Octets} {h : NameHow} {w : Vocabulary Octets} {p : List Located} {t : Step} → StartHit a j v x h os w p t → itemAt ver s k v (v .mode) ≡ t
+        → ItemHit k v (Start x by forStart h) o (opened (plainState s v) w a) p
+    unfolding eventMap
+    start-item t e =
+        record {
+          place = j;
+          found = Start (t .name .name) by forStart (t .name .how);
+          n = opened v (t .tables) a;
+          goes = rw (← z) (e ∙ t .goes);
+          what = λ i. Start (t .what .0 i) by forStart (t .what .1 i);
+          spells = rw append-nil (t .what .2);
+          state = ap (λ (y : Vocabulary Octets). opened (plainState s v) y a) (t .state);
+          some = some;
+          here = here;
+          first = first;
+        }
+
+    namespace-item : {p n : Option Octets} {hp hn : Option How} {w : Vocabulary Octets} {l : List Located} → Hit s (DeclaredQ ver s p n hp hn l) (j + length os) w (declaredAt ver s j (v .tables))
+        → itemAt ver s k v (v .mode) ≡ namespaceAt ver s j v a → ItemHit k v (Namespace p n by forNamespace hp hn) o (moved (plainState s v) w (declaring a)) l
+    unfolding namespaceAt eventMap
+    namespace-item h e =
+        record {
+          place = j;
+          found = Namespace (h .b .prefix) (h .b .namespace) by forNamespace (h .b .prefixHow) (h .b .namespaceHow);
+          n = moved v (h .v) (declaring a);
+          goes = rw (← z) (e ∙ rw (h .goes));
+          what = λ i. Namespace (h .what .0 i) (h .what .1 i) by forNamespace (h .what .2 i) (h .what .3 i);
+          spells = rw append-nil (h .what .4);
+          state = ap (λ (y : Vocabulary Octets). moved (plainState s v) y (declaring a)) (h .state);
+          some = some;
+          here = here;
+          first = first;
+        }
+
   pub item-complete : (k : ℕ) (v : State Located) {i : Item Octets} {o : Octets} {w : State Octets} (rest : Octets) (u : ItemWrittenAs ver (plainState s v) i o w) → drop k s ≡ o ++ rest → ItemHit k v i o w (inItem k u)
   unfolding itemAt declaringAt namespaceAt elementAt attributeAt chunkAt commentAt instructionAt eventMap mayStart ofElement ofAttribute
   item-complete k v rest (o-start a {o = os} md may deep u) d =
       let c = name-complete ver s ofElement element-shape (bit a) (64 * bit a) k (omega arith) (v .tables) rest u d in
-      let t = element-hit a k v may deep (c .2) (c .0) in
       let f = name-first a (c .0) in
-      record {
-        place = k;
-        found = Start (t .name .name) by forStart (t .name .how);
-        n = opened v (t .tables) a;
-        goes = ap (λ (y : Mode). itemAt ver s k v y) md ∙ t .goes;
-        what = λ j. Start (t .what .0 j) by forStart (t .what .1 j);
-        spells = rw append-nil (t .what .2);
-        state = ap (λ (y : Vocabulary Octets). opened (plainState s v) y a) (t .state);
-        some = c .1;
-        here = c .2;
-        first = λ y. omega arith;
-      }
+      start-item k k v os os refl (c .1) (c .2) (λ y. omega arith) a (element-hit a k v may deep (c .2) (c .0)) (ap (λ (y : Mode). itemAt ver s k v y) md)
   item-complete k v rest (o-first-namespace {a = a} {o = os} md may deep u) d =
       let f = drop-head s k (64 * bit a + 0x38) (os ++ rest) d in
       let oc = f .1 in
       let b1 = one-bit a in
       let c = declared-complete ver s (suc k) (v .tables) rest u (f .2) in
-      let h = c .0 in
-      let z : suc k + length os ≡ k + suc (length os) = omega arith in
       let pad : namePadding 0x38 ≡ false = unfold namePadding in refl in
-      record {
-        place = suc k;
-        found = Namespace (h .b .prefix) (h .b .namespace) by forNamespace (h .b .prefixHow) (h .b .namespaceHow);
-        n = moved v (h .v) (declaring a);
-        goes = ap (λ (y : Mode). itemAt ver s k v y) md ∙ element-goes a k 0x38 v oc (omega arith) (f .0) ∙ rw (pad, may, lt-ltb (v .level) (ver .depth) deep, h .goes, z);
-        what = λ j. Namespace (h .what .0 j) (h .what .1 j) by forNamespace (h .what .2 j) (h .what .3 j);
-        spells = rw append-nil (h .what .4);
-        state = ap (λ (y : Vocabulary Octets). moved (plainState s v) y (declaring a)) (h .state);
-        some = omega arith;
-        here = f .0;
-        first = λ y. omega arith;
-      }
+      namespace-item k (suc k) v _ os (omega arith) (omega arith) (f .0) (λ y. omega arith) a (c .0)
+      (ap (λ (y : Mode). itemAt ver s k v y) md ∙ element-goes a k 0x38 v oc (omega arith) (f .0) ∙ rw (pad, may, lt-ltb (v .level) (ver .depth) deep))
   item-complete k v rest (o-namespace {a = a} {o = os} md u) d =
       let c = declared-complete ver s k (v .tables) rest u d in
-      let h = c .0 in
-      let lo = c .1 in
       let hi = c .2 in
-      record {
-        place = k;
-        found = Namespace (h .b .prefix) (h .b .namespace) by forNamespace (h .b .prefixHow) (h .b .namespaceHow);
-        n = moved v (h .v) (declaring a);
-        goes = ap (λ (y : Mode). itemAt ver s k v y) md ∙ rw (ne-eqb (getD s k 0) 0xF0 (omega arith), h .goes);
-        what = λ j. Namespace (h .what .0 j) (h .what .1 j) by forNamespace (h .what .2 j) (h .what .3 j);
-        spells = rw append-nil (h .what .4);
-        state = ap (λ (y : Vocabulary Octets). moved (plainState s v) y (declaring a)) (h .state);
-        some = c .4;
-        here = c .3;
-        first = λ y. not-halves (v .mode) a md y;
-      }
+      namespace-item k k v os os refl (c .4) (c .3) (λ y. not-halves (v .mode) a md y) a (c .0) (ap (λ (y : Mode). itemAt ver s k v y) md ∙ rw (ne-eqb (getD s k 0) 0xF0 (omega arith)))
   item-complete k v rest (o-named-start {a = a} {o = os} md u) d =
       let f = drop-head s k 0xF0 (os ++ rest) d in
       let c = name-complete ver s ofElement element-shape 0 0 (suc k) refl (v .tables) rest u (f .2) in
-      let t = named-hit a (suc k) v (c .2) (c .0) in
-      let z : suc k + length os ≡ k + suc (length os) = omega arith in
-      record {
-        place = suc k;
-        found = Start (t .name .name) by forStart (t .name .how);
-        n = opened v (t .tables) a;
-        goes = ap (λ (y : Mode). itemAt ver s k v y) md ∙ rw (eq-eqb (getD s k 0) 0xF0 (f .1), t .goes, z);
-        what = λ j. Start (t .what .0 j) by forStart (t .what .1 j);
-        spells = rw append-nil (t .what .2);
-        state = ap (λ (y : Vocabulary Octets). opened (plainState s v) y a) (t .state);
-        some = omega arith;
-        here = f .0;
-        first = λ y. not-halves (v .mode) a md y;
-      }
+      start-item k (suc k) v _ os (omega arith) (omega arith) (f .0) (λ y. not-halves (v .mode) a md y) a (named-hit a (suc k) v (c .2) (c .0))
+      (ap (λ (y : Mode). itemAt ver s k v y) md ∙ rw (eq-eqb (getD s k 0) 0xF0 (f .1)))
   item-complete k v rest (o-attribute {some = any} {y = y} {g = g} {o₁ = o1} {o₂ = o2} {w₁ = w1} {w₂ = w2} md u1 u2) d =
       let d1 : drop k s ≡ o1 ++ (o2 ++ rest) = d ∙ append-assoc o1 o2 rest in
       let c = name-complete ver s ofAttribute attribute-shape 0 0 k refl (v .tables) (o2 ++ rest) u1 d1 in

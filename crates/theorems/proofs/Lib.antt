@@ -36,6 +36,7 @@ mod Entries
 mod Permitted
 mod Every
 mod RuleTables
+mod Turns
 mod WriterRun
 mod WriterDocument
 mod WriterTables

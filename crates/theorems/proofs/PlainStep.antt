@@ -1,5 +1,5 @@
 -- One event of the writer's run, seen in plain octets: where it stands, what it is written as, and what is known then.
-use mathlib.Core.Path.{_≡_, refl, sym, ap, _∙_}
+use mathlib.Core.Path.{_≡_, refl, ap, _∙_}
 use mathlib.Core.Bool.{Bool, true, false, not, _&&_, _||_}
 use mathlib.Core.List.{List, _∷_}
 use Prim.Native.Nat.{ℕ, _≤_}
@@ -22,45 +22,14 @@ use Rattle.write_names.specs.Choices.{within}
 use Rattle.write_names.specs.Chosen.{chooseFor}
 use Rattle.writer.specs.Events.{isDeclaring, isListing, eventOf}
 use Rattle.writer.specs.Items.{WroteItem, writeItem}
-use Rattle.writer.specs.Writing.{attributeNext, announced, isAttribute, isEnd, opens, owed, settled, halvesOf}
+use Rattle.writer.specs.Writing.{attributeNext, announced, isAttribute, opens, owed, settled, halvesOf}
 use Rattle.tables.proofs.Found.{both-true}
 use Rattle.theorems.specs.Verdicts.{plainOf}
 use Rattle.theorems.proofs.OneWriting.{later, later-start, later-declared}
 use Rattle.theorems.proofs.Produced.{Rest, octetsBy, knownBy}
 use Rattle.theorems.proofs.WriterChoices.{SameItem, same-item}
+use Rattle.theorems.proofs.Structure.{same-kind}
 use Rattle.theorems.proofs.Step.{halvesAs, halvesBy, nextBy, words-settled}
-
--- ---- what does not depend on the strings
-module _ {S T : Type 0} (f : S → T) where
-  attribute-map : (e : E.Event S) → isAttribute (eventMap f e) ≡ isAttribute e
-  unfolding eventMap
-  attribute-map (E.Namespace p n) = refl
-  attribute-map (E.Start x) = refl
-  attribute-map (E.Attribute x y) = refl
-  attribute-map (E.Text y) = refl
-  attribute-map (E.Comment y) = refl
-  attribute-map (E.Instruction x y) = refl
-  attribute-map E.End = refl
-
-  end-map : (e : E.Event S) → isEnd (eventMap f e) ≡ isEnd e
-  unfolding eventMap
-  end-map (E.Namespace p n) = refl
-  end-map (E.Start x) = refl
-  end-map (E.Attribute x y) = refl
-  end-map (E.Text y) = refl
-  end-map (E.Comment y) = refl
-  end-map (E.Instruction x y) = refl
-  end-map E.End = refl
-
-  pub opens-map : (m : Mode) (e : E.Event S) → opens m (eventMap f e) ≡ opens m e
-  unfolding eventMap
-  opens-map m (E.Namespace p n) = refl
-  opens-map m (E.Start x) = refl
-  opens-map m (E.Attribute x y) = refl
-  opens-map m (E.Text y) = refl
-  opens-map m (E.Comment y) = refl
-  opens-map m (E.Instruction x y) = refl
-  opens-map m E.End = refl
 
 pub opens-is : {S : Type 0} (m : Mode) (e : E.Event S) → opens m e ≡ ((isDeclaration e || isStart e) && not (isDeclaring m))
 opens-is m (E.Namespace p n) = refl
@@ -73,40 +42,33 @@ opens-is m E.End = refl
 
 -- ---- what the records ahead announce
 module _ (text : Octets) where
-  pub next-is : (e : Event) (es : List Event) → attributeNext (e ∷ es) ≡ isAttribute (plainOf text e)
-  unfolding eventOf
-  next-is e es = go (e .kind) ∙ sym (attribute-map (octetsOf text) (eventOf (e .kind) e))
-    where
-      go : (k : Kind) → elim k [ Blank ↦ false | Namespace ↦ false | Start ↦ false | Attribute ↦ true | Chunk ↦ false | Comment ↦ false | Instruction ↦ false | End ↦ false ] ≡ isAttribute (eventOf k e)
-      go Blank = refl
-      go Namespace = refl
-      go Start = refl
-      go Attribute = refl
-      go Chunk = refl
-      go Comment = refl
-      go Instruction = refl
-      go End = refl
-
-  announced-is : (e : Event) (es : List Event) → announced (e ∷ es) ≡ later (plainOf text e) (attributeNext es) (announced es)
+  -- by the record's kind, and by the event that it stands for
+  said-ahead : (e : Event) (es : List Event) → (attributeNext (e ∷ es) ≡ isAttribute (plainOf text e)) × (announced (e ∷ es) ≡ later (plainOf text e) (attributeNext es) (announced es))
   unfolding announced eventOf eventMap
-  announced-is e es = go (e .kind)
+  said-ahead e es = go (e .kind)
     where
-      go : (k : Kind) → elim k [ Blank ↦ false | Namespace ↦ announced es | Start ↦ attributeNext es | Attribute ↦ false | Chunk ↦ false | Comment ↦ false | Instruction ↦ false | End ↦ false ]
-          ≡ later (eventMap (octetsOf text) (eventOf k e)) (attributeNext es) (announced es)
-      go Blank = refl
-      go Namespace = refl
-      go Start = refl
-      go Attribute = refl
-      go Chunk = refl
-      go Comment = refl
-      go Instruction = refl
-      go End = refl
+      go : (k : Kind)
+          → (elim k [ Blank ↦ false | Namespace ↦ false | Start ↦ false | Attribute ↦ true | Chunk ↦ false | Comment ↦ false | Instruction ↦ false | End ↦ false ]
+          ≡ isAttribute (eventMap (octetsOf text) (eventOf k e)))
+          × (elim k [ Blank ↦ false | Namespace ↦ announced es | Start ↦ attributeNext es | Attribute ↦ false | Chunk ↦ false | Comment ↦ false | Instruction ↦ false | End ↦ false ]
+          ≡ later (eventMap (octetsOf text) (eventOf k e)) (attributeNext es) (announced es))
+      go Blank = (refl, refl)
+      go Namespace = (refl, refl)
+      go Start = (refl, refl)
+      go Attribute = (refl, refl)
+      go Chunk = (refl, refl)
+      go Comment = (refl, refl)
+      go Instruction = (refl, refl)
+      go End = (refl, refl)
+
+  pub next-is : (e : Event) (es : List Event) → attributeNext (e ∷ es) ≡ isAttribute (plainOf text e)
+  next-is e es = said-ahead e es .0
 
   pub announced-start : (e : Event) (es : List Event) → isStart (plainOf text e) ≡ true → announced (e ∷ es) ≡ attributeNext es
-  announced-start e es t = announced-is e es ∙ later-start (plainOf text e) (attributeNext es) (announced es) t
+  announced-start e es t = said-ahead e es .1 ∙ later-start (plainOf text e) (attributeNext es) (announced es) t
 
   pub announced-on : (e : Event) (es : List Event) → isDeclaration (plainOf text e) ≡ true → announced (e ∷ es) ≡ announced es
-  announced-on e es t = announced-is e es ∙ later-declared (plainOf text e) (attributeNext es) (announced es) t
+  announced-on e es t = said-ahead e es .1 ∙ later-declared (plainOf text e) (attributeNext es) (announced es) t
 
 -- ---- one event
 module _ (ver : Version) (text : Octets) (a : Bool) (v : State Located) (e : E.Event Located) where
@@ -121,7 +83,7 @@ module _ (ver : Version) (text : Octets) (a : Bool) (v : State Located) (e : E.E
 
   settled-plain : plainState text (settled v e) ≡ settled pv pe
   unfolding settled
-  settled-plain = rw (attribute-map (octetsOf text) e) (go (isListing (v .mode) && not (isAttribute e)))
+  settled-plain = rw (same-kind (octetsOf text) e .attribute) (go (isListing (v .mode) && not (isAttribute e)))
     where
       go : (t : Bool) → plainState text (pick t (moved v (v .tables) content) v) ≡ pick t (moved (plainState text v) (plainTables text (v .tables)) content) (plainState text v)
       go true = refl
@@ -139,7 +101,7 @@ module _ (ver : Version) (text : Octets) (a : Bool) (v : State Located) (e : E.E
   pub halves-plain : (room at : ℕ) → halvesOf ver text room at v e w ≡ halvesBy ver at a pv pe
   unfolding halvesOf halvesBy halvesAs owed
   halves-plain room at =
-      rw (attribute-map (octetsOf text) e, end-map (octetsOf text) e, same .octets ∙ ap (λ (u : State Octets). octetsBy ver a u pe) settled-plain)
+      rw (same-kind (octetsOf text) e .attribute, same-kind (octetsOf text) e .end, same .octets ∙ ap (λ (u : State Octets). octetsBy ver a u pe) settled-plain)
 
 -- ---- the tables behind it
 known-words : (ver : Version) (a : Bool) (v : State Octets) (e : E.Event Octets) → knownBy ver a v e .tables ≡ chooseFor ver (v .tables) e .tables

@@ -20,9 +20,9 @@ use Rattle.tables.specs.Rows.{place}
 use Rattle.tables.proofs.Adding.{extended, strings-adding, strings-adding-name}
 use Rattle.write_names.specs.Chosen.{Chose, chooseId, chooseOptional, chooseName, chooseLiteral, chooseValue, chooseFor}
 use Rattle.writer.specs.Items.{beforeDeclaration, beforeName, nameLead}
-use Rattle.theorems.specs.Permitted.{PermitsId, id-new, id-entry, PermitsIfAny, not-there, there, PermitsString, PermitsName, Permits, a-declaration, a-start, an-attribute, a-chunk, a-comment, an-instruction, an-end}
+use Rattle.theorems.specs.Permitted.{PermitsIfAny, PermitsString, PermitsName, Permits, a-declaration, a-start, an-attribute, a-chunk, a-comment, an-instruction, an-end}
 use Rattle.theorems.proofs.Growing.{same-table, extended-few}
-use Rattle.theorems.proofs.Chosen.{Grows, same-size, grows-on, fits-before, idOctets, optionalOctets, literalOctets, valueOctets, nameOctets, id-case, id-grows, id-rule, optional-case, optional-grows, optional-rule, SpellingIfAny, SpellingIfSome, LiteralCase, lit-held, lit-new, literal-case, literal-permits, literal-grows, literal-rule, ValueCase, is-empty, is-literal, value-case, value-permits, value-grows, value-rule, Ranged, ranged-on, id-names, optional-names, literal-names, value-names, NameCase, name-held, name-new, name-case, name-permits, name-grows, name-ranged, NameSaid, name-rule}
+use Rattle.theorems.proofs.Chosen.{Grows, same-size, grows-on, fits-before, idOctets, optionalOctets, literalOctets, valueOctets, nameOctets, More, as-was, one-more, id-more, optional-more, string-more, value-more, more-grows, id-case, id-rule, optional-case, optional-rule, SpellingIfAny, SpellingIfSome, LiteralCase, lit-held, lit-new, literal-case, literal-permits, literal-rule, ValueCase, is-empty, is-literal, value-case, value-permits, value-rule, Ranged, more-ranged, NameCase, name-held, name-new, name-case, name-permits, name-grows, name-ranged, NameSaid, name-rule}
 
 -- the tables in order: none over its limit, and each triple's numbers in range
 pub record Order (ver : Version) (v : Vocabulary Octets) : Type 0 where
@@ -37,8 +37,9 @@ pub record Rest (ver : Version) (v : Vocabulary Octets) : Type 0 where
 same-rest : {ver : Version} {v w : Vocabulary Octets} → ((t : StringTable) → 4 ≤ place t → strings w t ≡ strings v t) → Rest ver v → Rest ver w
 same-rest e r = record { few = λ t h. let a = r .few t h in let b = ap length (e t h) in omega arith }
 
-other-table : (v : Vocabulary Octets) (t u : StringTable) (x : Octets) → place t < 4 → 4 ≤ place u → strings (adding v t x) u ≡ strings v u
-other-table v t u x a b = strings-adding v t x u ∙ ap (λ (c : Bool). extended c (strings v u) x) (ne-eqb (place t) (place u) (λ e. omega arith))
+other-tables : {t : StringTable} {v w : Vocabulary Octets} (u : StringTable) → place t < 4 → 4 ≤ place u → More t v w → strings w u ≡ strings v u
+other-tables u a b as-was = refl
+other-tables {t} {v} u a b (one-more x) = strings-adding v t x u ∙ ap (λ (c : Bool). extended c (strings v u) x) (ne-eqb (place t) (place u) (λ e. omega arith))
 
 adding-rest : {ver : Version} (v : Vocabulary Octets) (t : StringTable) (x : Octets) → length (strings v t) < ver .entries → Rest ver v → Rest ver (adding v t x)
 adding-rest {ver} v t x room r =
@@ -48,14 +49,6 @@ adding-rest {ver} v t x room r =
           (extended-few (eqb (place t) (place u)) (ver .entries) (strings v u) x (r .few u h)
           (λ e. let z = same-table t u e in rw (← z) room));
     }
-
-id-rest : {t : StringTable} {v w : Vocabulary Octets} {x : Octets} {h : How} {n : ℕ} (u : StringTable) → place t < 4 → 4 ≤ place u → PermitsId t v x h n w → strings w u ≡ strings v u
-id-rest u a b (id-entry en) = refl
-id-rest {t} {v} {x = x} u a b (id-new h) = other-table v t u x a b
-
-optional-rest : {t : StringTable} {v w : Vocabulary Octets} {x : Option Octets} {h : Option How} {n : ℕ} (u : StringTable) → place t < 4 → 4 ≤ place u → PermitsIfAny t v x h n w → strings w u ≡ strings v u
-optional-rest u a b not-there = refl
-optional-rest u a b (there c) = id-rest u a b c
 
 literal-rest : {ver : Version} {t : StringTable} {v : Vocabulary Octets} {x : Octets} {c : Chose How} → LiteralCase ver t v x c → Rest ver v → Rest ver (c .tables)
 literal-rest (lit-held en) r = r
@@ -72,31 +65,19 @@ name-rest t v x u h (name-held en e) = refl
 name-rest t v x u h (name-new m) =
     let p = chooseOptional PREFIX v (x .prefix) in
     let n = chooseOptional NAMESPACE-NAME (p .tables) (x .namespace) in
-    strings-adding-name _ t _ u ∙ id-rest u (omega arith) h (id-case LOCAL-NAME (n .tables) (x .local)) ∙ optional-rest u (omega arith) h (optional-case NAMESPACE-NAME (p .tables) (x .namespace))
-    ∙ optional-rest u (omega arith) h (optional-case PREFIX v (x .prefix))
-
-target-low : place OTHER-NCNAME < 4
-unfolding place
-target-low = omega arith
-
-prefix-low : place PREFIX < 4
-unfolding place
-prefix-low = omega arith
-
-namespace-low : place NAMESPACE-NAME < 4
-unfolding place
-namespace-low = omega arith
+    strings-adding-name _ t _ u ∙ other-tables u (omega arith) h (id-more (id-case LOCAL-NAME (n .tables) (x .local)))
+    ∙ other-tables u (omega arith) h (optional-more (optional-case NAMESPACE-NAME (p .tables) (x .namespace))) ∙ other-tables u (omega arith) h (optional-more (optional-case PREFIX v (x .prefix)))
 
 -- so it is after each event
 pub rest-for : (C : Version) (v : Vocabulary Octets) (e : Event Octets) → Order C v → Rest C (chooseFor C v e .tables)
-unfolding chooseFor
+unfolding chooseFor place
 rest-for C v e o = go e (record { few = λ t h. o .fit .few t })
   where
     go : (e : Event Octets) → Rest C v → Rest C (chooseFor C v e .tables)
     go (Namespace p n) r =
-        let a = optional-case PREFIX v p in
-        let b = optional-case NAMESPACE-NAME (chooseOptional PREFIX v p .tables) n in
-        same-rest (λ u h. optional-rest u namespace-low h b ∙ optional-rest u prefix-low h a) r
+        let a = optional-more (optional-case PREFIX v p) in
+        let b = optional-more (optional-case NAMESPACE-NAME (chooseOptional PREFIX v p .tables) n) in
+        same-rest (λ u h. other-tables u (omega arith) h b ∙ other-tables u (omega arith) h a) r
     go (Start x) r = same-rest (λ u h. name-rest ELEMENT-NAME v x u h (name-case ELEMENT-NAME v x (o .ranged))) r
     go (Attribute x y) r =
         value-rest (value-case C ATTRIBUTE-VALUE (chooseName ATTRIBUTE-NAME v x .tables) y)
@@ -105,7 +86,7 @@ rest-for C v e o = go e (record { few = λ t h. o .fit .few t })
     go (Comment y) r = value-rest (value-case C OTHER-STRING v y) r
     go (Instruction x y) r =
         value-rest (value-case C OTHER-STRING (chooseId OTHER-NCNAME v x .tables) y)
-        (same-rest (λ u h. id-rest u target-low h (id-case OTHER-NCNAME v x)) r)
+        (same-rest (λ u h. other-tables u (omega arith) h (id-more (id-case OTHER-NCNAME v x))) r)
     go End r = r
 
 -- ---- the required choices are permitted ones
@@ -121,21 +102,21 @@ permits-for C v End r = an-end
 
 -- ---- tables only grow, and the numbers of triples stay in range
 pub permits-grows : {v w : Vocabulary Octets} {e : Event Octets} {c : Choice} → Permits v e c w → Grows v w
-permits-grows (a-declaration up un) = grows-on (optional-grows up) (optional-grows un)
+permits-grows (a-declaration up un) = grows-on (more-grows (optional-more up)) (more-grows (optional-more un))
 permits-grows (a-start u) = name-grows u
-permits-grows (an-attribute u y) = grows-on (name-grows u) (value-grows y)
-permits-grows (a-chunk y) = literal-grows y
-permits-grows (a-comment y) = value-grows y
-permits-grows (an-instruction u y) = grows-on (id-grows u) (value-grows y)
+permits-grows (an-attribute u y) = grows-on (name-grows u) (more-grows (value-more y))
+permits-grows (a-chunk y) = more-grows (string-more y)
+permits-grows (a-comment y) = more-grows (value-more y)
+permits-grows (an-instruction u y) = grows-on (more-grows (id-more u)) (more-grows (value-more y))
 permits-grows {v} an-end = same-size v
 
 pub permits-ranged : {v w : Vocabulary Octets} {e : Event Octets} {c : Choice} → Permits v e c w → Ranged v → Ranged w
-permits-ranged (a-declaration up un) r = ranged-on (grows-on (optional-grows up) (optional-grows un)) (λ u. optional-names un u ∙ optional-names up u) r
+permits-ranged (a-declaration up un) r = more-ranged (optional-more un) (more-ranged (optional-more up) r)
 permits-ranged (a-start u) r = name-ranged u r
-permits-ranged (an-attribute u y) r = ranged-on (value-grows y) (value-names y) (name-ranged u r)
-permits-ranged (a-chunk y) r = ranged-on (literal-grows y) (literal-names y) r
-permits-ranged (a-comment y) r = ranged-on (value-grows y) (value-names y) r
-permits-ranged (an-instruction x y) r = ranged-on (grows-on (id-grows x) (value-grows y)) (λ u. value-names y u ∙ id-names x u) r
+permits-ranged (an-attribute u y) r = more-ranged (value-more y) (name-ranged u r)
+permits-ranged (a-chunk y) r = more-ranged (string-more y) r
+permits-ranged (a-comment y) r = more-ranged (value-more y) r
+permits-ranged (an-instruction x y) r = more-ranged (value-more y) (more-ranged (id-more x) r)
 permits-ranged an-end r = r
 
 pub ranged-for : (C : Version) (v : Vocabulary Octets) (e : Event Octets) → Ranged v → Ranged (chooseFor C v e .tables)
@@ -233,7 +214,7 @@ module _ (ver : Version) (small : ver .entries ≤ top) where
   declared-rule : {v v₁ w : Vocabulary Octets} {p n : Option Octets} {hp hn : Option How} {kp kn : ℕ} → SpellingIfAny p × SpellingIfAny n → InLimits ver w
       → PermitsIfAny PREFIX v p hp kp v₁ → PermitsIfAny NAMESPACE-NAME v₁ n hn kn w
       → Declared ver v p n hp hn ((0xCC + 2 * has p + has n) ∷ (optionalOctets p hp ++ optionalOctets n hn)) w
-  declared-rule s f up un = declared (optional-rule ver small (s .0) (fits-before (optional-grows un) f) up) (optional-rule ver small (s .1) f un)
+  declared-rule s f up un = declared (optional-rule ver small (s .0) (fits-before (more-grows (optional-more un)) f) up) (optional-rule ver small (s .1) f un)
 
   before-at : (a : Bool) (m k : Mode) → m ≡ k → (v z : State Octets) (i : Item Octets) (os : Octets) → ItemWrittenAs ver v i (beforeDeclaration k a ++ os) z → ItemWrittenAs ver v i (beforeDeclaration m a ++ os) z
   before-at a m k e v z i os u = subst (λ (y : Mode). ItemWrittenAs ver v i (beforeDeclaration y a ++ os) z) (sym e) u
@@ -249,7 +230,7 @@ module _ (ver : Version) (small : ver .entries ≤ top) where
   made a v s (next-namespace md) f (a-declaration up un) = before-at a (v .mode) (declaring a) md _ _ _ _ (o-namespace {a = a} md (declared-rule s f up un))
   made a v s (first-start md may deep) f (a-start u) = name-at a (v .mode) content md _ _ _ _ (o-start a md may deep (element-rule (64 * bit a) s f u))
   made a v s (named-start md) f (a-start u) = name-at a (v .mode) (declaring a) md _ _ _ _ (o-named-start md (element-rule 0 s f u))
-  made a v s (in-list md) f (an-attribute u y) = o-attribute md (attribute-rule (s .0) (fits-before (value-grows y) f) u) (value-rule ver small (s .1) f y)
+  made a v s (in-list md) f (an-attribute u y) = o-attribute md (attribute-rule (s .0) (fits-before (more-grows (value-more y)) f) u) (value-rule ver small (s .1) f y)
   made a v s (in-element md lev) f (a-chunk y) = o-text md lev (chunk-rule s f y)
   made a v s (comment md) f (a-comment y) = o-comment md (value-rule ver small s f y)
-  made a v s (instruction md) f (an-instruction x y) = o-instruction md (id-rule ver small (s .0) (fits-before (value-grows y) f) x) (value-rule ver small (s .1) f y)
+  made a v s (instruction md) f (an-instruction x y) = o-instruction md (id-rule ver small (s .0) (fits-before (more-grows (value-more y)) f) x) (value-rule ver small (s .1) f y)

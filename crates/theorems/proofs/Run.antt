@@ -250,47 +250,26 @@ plus-at-marks : (e : EventRead) (n : Stand) (ks : List Mark) (a : Result) → At
 plus-at-marks e n ks (accepted es m) h = ap (λ (l : Octets). e .place ∷ l) h
 plus-at-marks e n ks (refusal c p) h = tt
 
-module _ (run₁ : ℕ → Stand → Result) (trace₁ : Stand → List Mark) where
-  turn-short : ((r : ℕ) (n : Stand) → r < length (trace₁ n) → run₁ r n ≡ refusal 14 (getD (placesOf (trace₁ n)) r 0))
-      → (room : ℕ) (m : Stand) (a : Step) → room < length (marked trace₁ a) → turn run₁ room m a ≡ refusal 14 (getD (placesOf (marked trace₁ a)) room 0)
-  turn-short rec zero m (more p i n) h = refl
-  turn-short rec (suc r) m (more p i n) h = rw (rec r n (omega arith))
-  turn-short rec room m (quiet n) h = rec room n h
-  turn-short rec room m done h = absurd (omega arith)
-  turn-short rec room m (stop c p) h = absurd (omega arith)
+-- A run by its room, where ks are its marks: the first event without a record is refused at its place; with a record for every event, more room changes nothing.
+pub record ByRoom (ks : List Mark) (go : ℕ → Result) (room : ℕ) : Type 0 where
+  pub short : room < length ks → go room ≡ refusal 14 (getD (placesOf ks) room 0)
+  pub enough : length ks ≤ room → go room ≡ go (length ks)
+  pub at-marks : AtMarks ks (go room)
 
-  turn-enough : ((r : ℕ) (n : Stand) → length (trace₁ n) ≤ r → run₁ r n ≡ run₁ (length (trace₁ n)) n)
-      → (room : ℕ) (m : Stand) (a : Step) → length (marked trace₁ a) ≤ room → turn run₁ room m a ≡ turn run₁ (length (marked trace₁ a)) m a
-  turn-enough rec zero m (more p i n) h = absurd (omega arith)
-  turn-enough rec (suc r) m (more p i n) h = ap (plus _) (rec r n (omega arith))
-  turn-enough rec room m (quiet n) h = rec room n h
-  turn-enough rec room m done h = refl
-  turn-enough rec room m (stop c p) h = refl
+module _ (run₁ : ℕ → Stand → Result) (trace₁ : Stand → List Mark) (rec : (r : ℕ) (n : Stand) → ByRoom (trace₁ n) (λ k. run₁ k n) r) where
+  turn-by-room : (room : ℕ) (m : Stand) (a : Step) → ByRoom (marked trace₁ a) (λ k. turn run₁ k m a) room
+  turn-by-room zero m (more p i n) = record { short = λ h. refl; enough = λ h. absurd (omega arith); at-marks = tt }
+  turn-by-room (suc r) m (more p i n) =
+      let f = rec r n in
+      record { short = λ h. rw (f .short (omega arith)); enough = λ h. ap (plus _) (f .enough (omega arith)); at-marks = plus-at-marks _ n (trace₁ n) (run₁ r n) (f .at-marks) }
+  turn-by-room room m (quiet n) = let f = rec room n in record { short = f .short; enough = f .enough; at-marks = f .at-marks }
+  turn-by-room room m done = record { short = λ h. absurd (omega arith); enough = λ h. refl; at-marks = refl }
+  turn-by-room room m (stop c p) = record { short = λ h. absurd (omega arith); enough = λ h. refl; at-marks = tt }
 
-  turn-at-marks : ((r : ℕ) (n : Stand) → AtMarks (trace₁ n) (run₁ r n)) → (room : ℕ) (m : Stand) (a : Step) → AtMarks (marked trace₁ a) (turn run₁ room m a)
-  turn-at-marks rec zero m (more p i n) = tt
-  turn-at-marks rec (suc r) m (more p i n) = plus-at-marks _ n (trace₁ n) (run₁ r n) (rec r n)
-  turn-at-marks rec room m (quiet n) = rec room n
-  turn-at-marks rec room m done = refl
-  turn-at-marks rec room m (stop c p) = tt
-
-module _ (ver : Version) (s : Octets) where
-  -- the first event without a record is refused at its place
-  pub room-short : (fuel room : ℕ) (m : Stand) → room < length (trace ver s fuel m) → run ver s fuel room m ≡ refusal 14 (getD (placesOf (trace ver s fuel m)) room 0)
-  unfolding run trace
-  room-short zero room m h = absurd (omega arith)
-  room-short (suc fuel) room m h = turn-short (λ r n. run ver s fuel r n) (λ n. trace ver s fuel n) (λ r n y. room-short fuel r n y) room m (step ver s m) h
-
-  -- with a record for every event, more room changes nothing
-  pub room-enough : (fuel room : ℕ) (m : Stand) → length (trace ver s fuel m) ≤ room → run ver s fuel room m ≡ run ver s fuel (length (trace ver s fuel m)) m
-  unfolding run trace
-  room-enough zero room m h = refl
-  room-enough (suc fuel) room m h = turn-enough (λ r n. run ver s fuel r n) (λ n. trace ver s fuel n) (λ r n y. room-enough fuel r n y) room m (step ver s m) h
-
-  pub run-at-marks : (fuel room : ℕ) (m : Stand) → AtMarks (trace ver s fuel m) (run ver s fuel room m)
-  unfolding run trace
-  run-at-marks zero room m = tt
-  run-at-marks (suc fuel) room m = turn-at-marks (λ r n. run ver s fuel r n) (λ n. trace ver s fuel n) (λ r n. run-at-marks fuel r n) room m (step ver s m)
+pub by-room : (ver : Version) (s : Octets) (fuel room : ℕ) (m : Stand) → ByRoom (trace ver s fuel m) (λ k. run ver s fuel k m) room
+unfolding run trace
+by-room ver s zero room m = record { short = λ h. absurd (omega arith); enough = λ h. refl; at-marks = tt }
+by-room ver s (suc fuel) room m = turn-by-room (λ r n. run ver s fuel r n) (λ n. trace ver s fuel n) (by-room ver s fuel) room m (step ver s m)
 
 -- ---- what the rules write is read
 no-end : (n h : ℕ) (t u : Octets) → h < 15 → replicate n 0 ++ (h ∷ t) ≡ 15 ∷ u → ⊥

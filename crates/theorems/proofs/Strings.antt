@@ -50,14 +50,8 @@ module _ (s : Octets) where
       (omega arith, rw z (sym (entry-is [] (entry-map (octetsOf s) v t (entry-at (strings v t) k empty (omega arith)))) ∙ entry-is [] en))
 
 -- C.14 and C.15: where their fields stand in the first octet
-pub record Shape (q : Layout) : Type 0 where
-  pub lead : Bool → ℕ
-  pub lead-is : (a : Bool) → q .spelledBits + q .addBit * bit a ≡ lead a * 2 ^ (9 - q .lengthBit)
-  pub numbered-lead : ℕ
-  pub numbered-is : q .numberedBits ≡ numbered-lead * 2 ^ (9 - numberBit q)
-  pub lengths-ok : Ordered (lengths (q .lengthBit))
+pub record Fits (q : Layout) : Type 0 where
   pub lengths-fit : rooms (lengths (q .lengthBit)) ≤ 2 ^ (9 - q .lengthBit)
-  pub numbers-ok : Ordered (q .numberForms)
   pub numbers-fit : rooms (q .numberForms) ≤ 2 ^ (9 - numberBit q)
   pub apart : 2 ^ (9 - q .lengthBit) ≤ q .addBit
   pub above : q .spelledBits + q .addBit + 2 ^ (9 - q .lengthBit) ≤ q .numberedBits
@@ -66,62 +60,39 @@ pub record Shape (q : Layout) : Type 0 where
   pub high : (o : ℕ) → q .spelledBits + q .addBit ≤ o → o < q .spelledBits + q .addBit + 2 ^ (9 - q .lengthBit) → o ≡ q .spelledBits + q .addBit * 1 + o % 2 ^ (9 - q .lengthBit)
   pub num : (o : ℕ) → q .numberedBits ≤ o → o < q .numberedBits + 2 ^ (9 - numberBit q) → o ≡ q .numberedBits + o % 2 ^ (9 - numberBit q)
 
-lead14 : Bool → ℕ
-lead14 true = 4
-lead14 false = 0
-
-lead14-is : (a : Bool) → 0 + 64 * bit a ≡ lead14 a * 16
-unfolding lead14
-lead14-is true = refl
-lead14-is false = refl
+pub record Shape (q : Layout) : Type 0 where
+  pub lead : Bool → ℕ
+  pub lead-is : (a : Bool) → q .spelledBits + q .addBit * bit a ≡ lead a * 2 ^ (9 - q .lengthBit)
+  pub numbered-lead : ℕ
+  pub numbered-is : q .numberedBits ≡ numbered-lead * 2 ^ (9 - numberBit q)
+  pub lengths-ok : Ordered (lengths (q .lengthBit))
+  pub numbers-ok : Ordered (q .numberForms)
+  pub fits : Fits q
 
 pub shape14 : Shape c14
-unfolding c14 roomsIn shareOf behindFirst lengths c25 lead14-is
+unfolding c14 roomsIn shareOf behindFirst lengths c25
 shape14 =
     record {
-      lead = lead14;
-      lead-is = lead14-is;
+      lead = λ a. 4 * bit a;
+      lead-is = λ a. omega arith;
       numbered-lead = 1;
       numbered-is = refl;
       lengths-ok = lengths-ordered 5 (omega arith) (omega arith);
-      lengths-fit = omega arith;
       numbers-ok = c25-ordered;
-      numbers-fit = omega arith;
-      apart = omega arith;
-      above = omega arith;
-      under = omega arith;
-      low = λ o a b. omega arith;
-      high = λ o a b. omega arith;
-      num = λ o a b. omega arith;
+      fits = omega arith;
     }
 
-lead15 : Bool → ℕ
-lead15 true = 36
-lead15 false = 32
-
-lead15-is : (a : Bool) → 0x80 + 16 * bit a ≡ lead15 a * 4
-unfolding lead15
-lead15-is true = refl
-lead15-is false = refl
-
 pub shape15 : Shape c15
-unfolding c15 roomsIn shareOf behindFirst lengths numbers lead15-is
+unfolding c15 roomsIn shareOf behindFirst lengths numbers
 shape15 =
     record {
-      lead = lead15;
-      lead-is = lead15-is;
+      lead = λ a. 32 + 4 * bit a;
+      lead-is = λ a. omega arith;
       numbered-lead = 5;
       numbered-is = refl;
       lengths-ok = lengths-ordered 7 (omega arith) (omega arith);
-      lengths-fit = omega arith;
       numbers-ok = numbers-ordered 4 (omega arith) (omega arith);
-      numbers-fit = omega arith;
-      apart = omega arith;
-      above = omega arith;
-      under = omega arith;
-      low = λ o a b. omega arith;
-      high = λ o a b. omega arith;
-      num = λ o a b. omega arith;
+      fits = omega arith;
     }
 
 -- ---- what is read is what the rules write
@@ -207,12 +178,12 @@ module _ (ver : Version) (s : Octets) (bytes : (i : ℕ) → getD s i 0 < 256) (
   literal-sound q g t k v kl lo hi =
       let P : Got StringRead → Type 0 = Ok s (LiteralR q t) k v in
       let o : ℕ = getD s k 0 in
-      either-lt P o (q .spelledBits + 2 ^ (9 - q .lengthBit)) _ _ (λ h. spelled-sound q (g .lengths-ok) t k false v kl (g .low o lo h))
+      either-lt P o (q .spelledBits + 2 ^ (9 - q .lengthBit)) _ _ (λ h. spelled-sound q (g .lengths-ok) t k false v kl (g .fits .low o lo h))
       λ h1. test-ge P (refused 8 k) (fault s 8 k refl kl) o (q .spelledBits + q .addBit) _
-      λ h2. either-lt P o (q .spelledBits + q .addBit + 2 ^ (9 - q .lengthBit)) _ _ (λ h. spelled-sound q (g .lengths-ok) t k true v kl (g .high o h2 h))
+      λ h2. either-lt P o (q .spelledBits + q .addBit + 2 ^ (9 - q .lengthBit)) _ _ (λ h. spelled-sound q (g .lengths-ok) t k true v kl (g .fits .high o h2 h))
       λ h3. test-ge P (refused 8 k) (fault s 8 k refl kl) o (q .numberedBits) _
       λ h4. on-number s P (λ c p f. f) (q .numberForms) top (q .numberedBits) k (fieldAt (q .numberForms) top (numberBit q) s k)
-      (num-sound s bytes (q .numberForms) (g .numbers-ok) top (numberBit q) (q .numberedBits) k kl (g .num o h4 hi)) _
+      (num-sound s bytes (q .numberForms) (g .numbers-ok) top (numberBit q) (q .numberedBits) k kl (g .fits .num o h4 hi)) _
       λ n next r. test-le P (refused 10 k) (fault s 10 k refl kl) n (length (strings v t)) _
       λ t1.
       let i = r .is in
@@ -324,7 +295,7 @@ module _ (ver : Version) (s : Octets) where
   spelled-complete q g t k v added x rest sp room d =
       let fs = lengths (q .lengthBit) in
       let base : ℕ = q .spelledBits + q .addBit * bit added in
-      let e : Spelt s fs (q .lengthBit) base k x = spelt s fs (q .lengthBit) (g .lead added) base k x rest (g .lengths-ok) (g .lengths-fit) (long-enough (q .lengthBit)) (g .lead-is added) sp d in
+      let e : Spelt s fs (q .lengthBit) base k x = spelt s fs (q .lengthBit) (g .lead added) base k x rest (g .lengths-ok) (g .fits .lengths-fit) (long-enough (q .lengthBit)) (g .lead-is added) sp d in
       let len = length-strings (octetsOf s) v t in
       let end = e .end-is in (
         hit-at s (StringQ x (spelled added) _) (e .next + length x) _ _ _ (e .end-is)
@@ -346,9 +317,9 @@ module _ (ver : Version) (s : Octets) where
       let c = spelled-complete q g t k v false x rest sp room d in
       let lo = c .1 .low in
       let hi = c .1 .high in
-      let f = g .lengths-fit in
-      let ab = g .above in
-      let un = g .under in
+      let f = g .fits .lengths-fit in
+      let ab = g .fits .above in
+      let un = g .fits .under in
       let p = sp .some in
       let la = length-append (spell (lengths (q .lengthBit)) (q .spelledBits + q .addBit * 0) (length x)) x in
       record { hit = rw (lt-ltb (getD s k 0) (q .spelledBits + 2 ^ (9 - q .lengthBit)) (omega arith)) (c .0); low = omega arith; high = omega arith; last = omega arith; some = omega arith; here = c .1 .here }
@@ -356,10 +327,10 @@ module _ (ver : Version) (s : Octets) where
       let c = spelled-complete q g t k v true x rest sp room d in
       let lo = c .1 .low in
       let hi = c .1 .high in
-      let f = g .lengths-fit in
-      let ab = g .above in
-      let ap2 = g .apart in
-      let un = g .under in
+      let f = g .fits .lengths-fit in
+      let ab = g .fits .above in
+      let ap2 = g .fits .apart in
+      let un = g .fits .under in
       let p = sp .some in
       let la = length-append (spell (lengths (q .lengthBit)) (q .spelledBits + q .addBit * 1) (length x)) x in
       record {
@@ -374,10 +345,10 @@ module _ (ver : Version) (s : Octets) where
       let o = num-first s (q .numberForms) (q .numberedBits) (suc j) k rest (g .numbers-ok) (omega arith) fits d in
       let lo = o .0 in
       let hi = o .1 in
-      let ab = g .above in
-      let ap2 = g .apart in
-      let un = g .under in
-      let n = num-complete s (q .numberForms) top (numberBit q) (g .numbered-lead) (q .numberedBits) (suc j) k rest (g .numbers-ok) (g .numbers-fit) (omega arith) fits (omega arith) (g .numbered-is) d in
+      let ab = g .fits .above in
+      let ap2 = g .fits .apart in
+      let un = g .fits .under in
+      let n = num-complete s (q .numberForms) top (numberBit q) (g .numbered-lead) (q .numberedBits) (suc j) k rest (g .numbers-ok) (g .fits .numbers-fit) (omega arith) fits (omega arith) (g .numbered-is) d in
       let y = entry-complete s v t j x en in
       record {
         hit = rw (le-ltb (getD s k 0) (q .spelledBits + 2 ^ (9 - q .lengthBit)) (omega arith), le-ltb (getD s k 0) (q .spelledBits + q .addBit) (omega arith), le-ltb (getD s k 0) (q .spelledBits + q .addBit + 2 ^ (9 - q .lengthBit)) (omega arith), le-ltb (getD s k 0) (q .numberedBits) lo, n, le-leb (suc j) (length (strings v t)) (y .0))

@@ -9,11 +9,11 @@ use native.Mathlib.Omega.{arith}
 use borrow.Author.Tests.{ltb-true, lt-ltb}
 use lib.Dec.{ltb}
 use Rattle.format.specs.Events.{Name, Event, Namespace, Start, Attribute, Text, Comment, Instruction, End, eventMap, Namespaces, no-namespace, a-namespace, Attributes, no-attribute, an-attribute, Aside, no-aside, a-comment, an-instruction, Element, element, Children, no-child, an-element, a-chunk, an-aside, IsDocument, deepest, isStart}
-use Rattle.format.specs.Tables.{Vocabulary, vocabularyMap}
+use Rattle.format.specs.Tables.{Vocabulary}
 use Rattle.format.specs.Items.{Mode, content, declaring, listing, State, mayStart, afterStart, moved, opened}
 use Rattle.format.specs.Document.{closed, beginning}
 use Rattle.writer.specs.Events.{amongChildren, isDeclaring, isListing, goesOn}
-use Rattle.writer.specs.Writing.{isAttribute, opens}
+use Rattle.writer.specs.Writing.{isAttribute, isEnd, opens}
 use Rattle.tables.proofs.Found.{clash, both-true}
 
 -- A place to which a document comes: elements are open only where there is a root, and an attribute list is an element's. The tables do not matter.
@@ -290,14 +290,19 @@ module _ {S : Type 0} where
   deep v (Instruction x y) tail s k t = clash t
   deep v End tail s k t = clash t
 
--- Whether a list goes on has nothing to do with what its strings are.
-pub goes-map : {S T : Type 0} (f : S → T) (v : State S) (e : Event S)
-    → goesOn (record { tables = vocabularyMap f (v .tables); level = v .level; root = v .root; mode = v .mode }) (eventMap f e) ≡ goesOn v e
+-- What is asked of an event and has nothing to do with what its strings are.
+pub record SameKind {S T : Type 0} (d : Event T) (e : Event S) : Type 0 where
+  pub attribute : isAttribute d ≡ isAttribute e
+  pub end : isEnd d ≡ isEnd e
+  pub opens-too : (m : Mode) → opens m d ≡ opens m e
+  pub goes-too : (w : Vocabulary T) (v : State S) → goesOn (record { tables = w; level = v .level; root = v .root; mode = v .mode }) d ≡ goesOn v e
+
+pub same-kind : {S T : Type 0} (f : S → T) (e : Event S) → SameKind (eventMap f e) e
 unfolding goesOn mayStart eventMap
-goes-map f v (Namespace p n) = refl
-goes-map f v (Start x) = refl
-goes-map f v (Attribute x y) = refl
-goes-map f v (Text y) = refl
-goes-map f v (Comment y) = refl
-goes-map f v (Instruction x y) = refl
-goes-map f v End = refl
+same-kind f (Namespace p n) = search
+same-kind f (Start x) = search
+same-kind f (Attribute x y) = search
+same-kind f (Text y) = search
+same-kind f (Comment y) = search
+same-kind f (Instruction x y) = search
+same-kind f End = search

@@ -1,33 +1,30 @@
 -- A whole document that the writer wrote: it is what the rules write, within the limits and the room, and what was known after each event is what the rules know; a
 -- list that it refuses is refused by the requirements.
 use mathlib.Core.Path.{_≡_, refl, sym, ap, _∙_, subst}
-use mathlib.Core.Bool.{_&&_}
 use mathlib.Core.List.{List, [], _∷_, _++_, map}
-use Prim.Native.Nat.{ℕ, zero, suc, _+_, _*_, _/_, _≤_, min}
+use Prim.Native.Nat.{ℕ, suc, _+_, _*_, _/_, _≤_, min}
 use native.Mathlib.Omega.{arith}
 use borrow.Author.Tests.{leb-true}
-use lib.Dec.{eqb, leb}
 use lib.ListN.{length, length-append, length-map}
 use Rattle.format.specs.Octets.{Octets, Halves}
-use Rattle.format.specs.Events.{Item, _by_}
+use Rattle.format.specs.Events.{Item}
 use Rattle.format.specs.Tables.{Version}
 use Rattle.format.specs.Items.{State}
-use Rattle.format.specs.Document.{halves, pad, aligned, Written, document-end, attributes-end, element-end, item, knownAfter, begun, beginning, header, started, Document}
+use Rattle.format.specs.Document.{halves, aligned, Written, document-end, attributes-end, element-end, item, knownAfter, begun, beginning, header, started, Document}
 use Rattle.events.specs.declared.Event.{Event}
 use Rattle.tables.specs.Located.{Located, plain, plainState, start}
 use Rattle.write_names.specs.Chosen.{chosen, tablesAfter}
-use Rattle.writer.specs.Events.{isContent, eventOf}
-use Rattle.writer.specs.Items.{writeItem}
-use Rattle.writer.specs.Writing.{announced, Result, written, refusal, plus, settled, fits, halvesOf, judge, finish, run, joined, writing, knownWriting}
+use Rattle.writer.specs.Writing.{Result, written, refusal, fits, run, joined, writing, knownWriting}
 use Rattle.theorems.specs.Bounded.{Bounded}
 use Rattle.theorems.specs.Verdicts.{plains, itemsOf, AllRight, Refused}
-use Rattle.theorems.proofs.Lists.{test, align-is, halves-length, pad-length}
+use Rattle.theorems.proofs.Lists.{align-is, halves-length, pad-length}
 use Rattle.theorems.proofs.Document.{plain-start}
 use Rattle.theorems.proofs.Structure.{all-left, sane-first}
 use Rattle.theorems.proofs.Produced.{Order}
 use Rattle.theorems.proofs.Joined.{joins, document-of}
 use Rattle.theorems.specs.Permitted.{no-item}
 use Rattle.theorems.proofs.Entries.{ranged-started, few-after}
+use Rattle.theorems.proofs.Turns.{ownOf, IfWritten, all-written}
 use Rattle.theorems.proofs.WriterRun.{Stands, Judged, run-judged}
 
 -- ---- after each item something is known
@@ -40,38 +37,14 @@ as-many (item u w) = ap suc (as-many w)
 
 -- ---- the room
 module _ (ver : Version) (text : Octets) (room : ℕ) where
-  abbrev InRoom : ℕ → Result → Type 0
-  InRoom at (written items hs z) = at + length hs ≤ 2 * min room (ver .octets)
-  InRoom at (refusal n p) = Unit {0}
+  abbrev InRoom : List Event → ℕ → State Located → List (Item Located) → Halves → State Located → Type 0
+  InRoom es at v items hs z = at + length hs ≤ 2 * min room (ver .octets)
 
-  plus-room : (at : ℕ) (j : Item Located) (hs : Halves) (r : Result) → InRoom (at + length hs) r → InRoom at (plus j hs r)
-  plus-room at j hs (written items rest z) h = let l = length-append hs rest in omega arith
-  plus-room at j hs (refusal n p) h = tt
-
-  finish-room : (at : ℕ) (v : State Located) (i : ℕ) → InRoom at (finish ver text room at v i)
-  unfolding finish fits
-  finish-room at v i =
-      test (InRoom at) (refusal 16 i) tt (isContent (v .mode) && (eqb (v .level) 0 && v .root)) _
-      λ t. test (InRoom at) (refusal 14 i) tt (leb (aligned (suc at) / 2) (min room (ver .octets))) (written [] (15 ∷ pad (suc at)) v)
-      λ f.
-      let a = leb-true (aligned (suc at) / 2) (min room (ver .octets)) f in
-      let b = pad-length (suc at) in
-      let c = align-is (suc at) in
-      omega arith
-
-  turn-room : (at : ℕ) (rest : ℕ → State Located → Result) → ((k : ℕ) (w : State Located) → InRoom k (rest k w)) → (i j : ℕ) (y : Item Located) (hs : Halves) (w : State Located)
-      → InRoom at (elim j [ zero ↦ plus y hs (rest (at + length hs) w) | suc n ↦ refusal (suc n) i ])
-  turn-room at rest rec i zero y hs w = plus-room at y hs (rest (at + length hs) w) (rec (at + length hs) w)
-  turn-room at rest rec i (suc n) y hs w = tt
-
-  run-room : (es : List Event) (at : ℕ) (v : State Located) (i : ℕ) → InRoom at (run ver text room at v i es)
-  unfolding run
-  run-room [] at v i = finish-room at v i
-  run-room (e ∷ es) at v i =
-      let ev = eventOf (e .kind) e in
-      let w = writeItem ver text (announced (e ∷ es)) (settled v ev) ev in
-      let hs = halvesOf ver text room at v ev w in
-      turn-room at (λ k w. run ver text room k w (suc i) es) (λ k w. run-room es k w (suc i)) i (judge ver text room at v e w hs) (ev by w .choice) hs (w .state)
+  in-room : (es : List Event) (at : ℕ) (v : State Located) (i : ℕ) → IfWritten ver text room InRoom es at v (run ver text room at v i es)
+  unfolding fits
+  in-room =
+      all-written ver text room InRoom (λ at v f. omega (arith, leb-true (aligned (suc at) / 2) (min room (ver .octets)) f, pad-length (suc at), align-is (suc at)))
+      (λ e es at v items rest z q h. omega (arith, length-append (ownOf ver text room e es at v) rest))
 
 -- ---- from the start
 pub started-order : (ver : Version) → Bounded ver → Order ver (started ver)
@@ -108,7 +81,7 @@ module _ (ver : Version) (ok : Bounded ver) (text : Octets) (short : length text
   Meaning es ks (written items hs z) = Means es ks items hs z
   Meaning es ks (refusal n p) = Refused ver text room es n p
 
-  from-run : (es : List Event) (ks : List (State Located)) (r : Result) → Judged ver ok text short room [] (2 * length (header ver)) (beginning (start ver)) es ks r → InRoom ver text room (2 * length (header ver)) r → Meaning es ks r
+  from-run : (es : List Event) (ks : List (State Located)) (r : Result) → Judged ver ok text short room [] (2 * length (header ver)) (beginning (start ver)) es ks r → IfWritten ver text room (InRoom ver text room) es (2 * length (header ver)) (beginning (start ver)) r → Meaning es ks r
   unfolding beginning
   from-run es ks (written items hs z) u h =
       let w = rw (plain-start ver text) at (u .0) in
@@ -130,7 +103,7 @@ module _ (ver : Version) (ok : Bounded ver) (text : Octets) (short : length text
   means es =
       from-run es (knownWriting ver text room es) (writing ver text room es)
       (run-judged ver ok text short room es [] (2 * length (header ver)) (beginning (start ver)) 0 refl (first-stands es) (λ b e after q. absurd (let l = ap length q in let k = length-append b (e ∷ after) in omega arith)))
-      (run-room ver text room es (2 * length (header ver)) (beginning (start ver)) 0)
+      (in-room ver text room es (2 * length (header ver)) (beginning (start ver)) 0)
 
   pub meant : (es : List Event) (items : List (Item Located)) (hs : Halves) (z : State Located) → writing ver text room es ≡ written items hs z → Means es (knownWriting ver text room es) items hs z
   meant es items hs z e = subst (Meaning es (knownWriting ver text room es)) e (means es)

@@ -38,7 +38,7 @@ use Rattle.theorems.proofs.Begun as Begun
 use Rattle.theorems.proofs.Produced.{Order, Said, rest-for, ranged-for}
 use Rattle.theorems.proofs.Sayable.{made-is, is-made, by-kind, in-order, Each, all-text, text-all, said, all-short, made-allowed}
 use Rattle.theorems.proofs.Step.{Ahead, front-by, next-by, ahead-next}
-use Rattle.theorems.proofs.PlainStep.{opens-map, opens-is, next-is, announced-start, announced-on, next-plain, choice-plain, halves-plain, next-words, within-plain, fits-of, of-fits}
+use Rattle.theorems.proofs.PlainStep.{opens-is, next-is, announced-start, announced-on, next-plain, choice-plain, halves-plain, next-words, within-plain, fits-of, of-fits}
 use Rattle.theorems.proofs.Append.{chosen-append, tables-append}
 use Rattle.theorems.proofs.Entries.{chosen-events}
 
@@ -85,12 +85,12 @@ module _ (ver : Version) (ok : Bounded ver) (text : Octets) where
     goes-if : BeginsDocument (upTo ver text room before e) → goesOn v ev ≡ true
     goes-if b =
         let d : IsDocument (ps ++ (pe ∷ b .rest)) = rw append-assoc at (b .whole) in
-        sym (Tree.goes-map (octetsOf text) v ev) ∙ Tree.goes pv pe (b .rest) (st .sane) (st .forth (pe ∷ b .rest) (sym (next-is text e es)) d)
+        sym (Tree.same-kind (octetsOf text) ev .goes-too (plainTables text (v .tables)) v) ∙ Tree.goes pv pe (b .rest) (st .sane) (st .forth (pe ∷ b .rest) (sym (next-is text e es)) d)
 
     begins : goesOn v ev ≡ true → BeginsDocument (upTo ver text room before e)
     begins go =
         let c = Tree.completes (record { prefix = none; namespace = none; local = [] }) (stepped a pv pe) in
-        let d = st .back (pe ∷ c .0) (Tree.back a pv pe (c .0) (Tree.goes-map (octetsOf text) v ev ∙ go) (c .1)) in
+        let d = st .back (pe ∷ c .0) (Tree.back a pv pe (c .0) (Tree.same-kind (octetsOf text) ev .goes-too (plainTables text (v .tables)) v ∙ go) (c .1)) in
         record { rest = c .0; whole = rw append-assoc d }
 
     is-event : wellMade text (e .kind) e ≡ true → goesOn v ev ≡ true → IsEvent ver text room before e
@@ -110,7 +110,7 @@ module _ (ver : Version) (ok : Bounded ver) (text : Octets) where
 
     opens-element : opens (v .mode) ev ≡ opensElement ps pe
     unfolding opensElement
-    opens-element = sym (opens-map (octetsOf text) (v .mode) ev) ∙ opens-is (v .mode) pe ∙ ap (λ (b : Bool). (isDeclaration pe || isStart pe) && not b) declaring-is
+    opens-element = sym (Tree.same-kind (octetsOf text) ev .opens-too (v .mode)) ∙ opens-is (v .mode) pe ∙ ap (λ (b : Bool). (isDeclaration pe || isStart pe) && not b) declaring-is
 
     shallow-from : (b : Bool) → opens (v .mode) ev ≡ b → (b && leb (ver .depth) (v .level)) ≡ false → IsShallow ver text room before e
     shallow-from true q f o = let l = leb-false (ver .depth) (v .level) f in let k = level-is in omega arith
@@ -147,7 +147,7 @@ module _ (ver : Version) (ok : Bounded ver) (text : Octets) where
       one : Begun ver at pv ((pe by chooseFor ver (pv .tables) pe .how) ∷ []) hs (plainState text (wi .state))
       one =
           rw (halves-plain ver text a v ev room at, next-plain ver text a v ev)
-          (front-by ver (ok .few-entries) ver at a pv pe (st .ahead) (st .order .ranged) sd (Tree.goes-map (octetsOf text) v ev ∙ go) (rw (opens-map (octetsOf text) (v .mode) ev) deep) few)
+          (front-by ver (ok .few-entries) ver at a pv pe (st .ahead) (st .order .ranged) sd (Tree.same-kind (octetsOf text) ev .goes-too (plainTables text (v .tables)) v ∙ go) (rw (Tree.same-kind (octetsOf text) ev .opens-too (v .mode)) deep) few)
 
       so-far : Begun ver (2 * length (header ver)) (beginning (started ver)) (itemsOf ver (upTo ver text room before e)) (st .halves ++ hs) (plainState text (wi .state))
       so-far = rw items-are (Begun.begun-more (st .begun) (subst (λ (k : ℕ). Begun ver k pv ((pe by chooseFor ver (pv .tables) pe .how) ∷ []) hs (plainState text (wi .state))) (st .at-is) one))
@@ -165,7 +165,7 @@ module _ (ver : Version) (ok : Bounded ver) (text : Octets) where
 
       -- and so the writer stands behind it
       goes-plain : goesOn pv pe ≡ true
-      goes-plain = Tree.goes-map (octetsOf text) v ev ∙ go
+      goes-plain = Tree.same-kind (octetsOf text) ev .goes-too (plainTables text (v .tables)) v ∙ go
 
       state-then : plainState text (wi .state) ≡ knowing (stepped a pv pe) (chooseFor ver (pv .tables) pe .tables)
       state-then = next-plain ver text a v ev ∙ next-by a pv ver pe goes-plain (st .order .ranged)

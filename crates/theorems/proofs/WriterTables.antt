@@ -1,10 +1,10 @@
 -- The writer's tables by where the strings stand: each table of strings holds what it held at the start and, behind it, the very strings that its choices add, in
 -- order. What is written by a number adds nothing, so it does not matter that the entry may stand elsewhere than the event's own string, as the same octets.
-use Prim.Native.Nat.{ℕ, zero, suc, _+_, _*_}
-use mathlib.Core.Path.{_≡_, subst}
+use Prim.Native.Nat.{ℕ, zero, suc}
+use mathlib.Core.Path.{_≡_}
 use mathlib.Core.Bool.{Bool, true, false, not, _&&_}
 use mathlib.Core.Option.{Option, none, some}
-use mathlib.Core.List.{List, [], _∷_, map}
+use mathlib.Core.List.{List, _∷_, map}
 use lib.Dec.{eqb}
 use lib.ListN.{length}
 use Rattle.format.specs.Octets.{Octets, Halves}
@@ -14,16 +14,17 @@ use Rattle.format.specs.Tables.{StringTable, PREFIX, NAMESPACE-NAME, LOCAL-NAME
 use Rattle.format.specs.Strings.{keeping, Layout, c14, c15}
 use Rattle.format.specs.Names.{NameLayout, ofElement, ofAttribute}
 use Rattle.format.specs.Items.{State}
-use Rattle.format.specs.Document.{header, beginning}
+use Rattle.format.specs.Document.{beginning}
 use Rattle.format.specs.Uses.{ofString, ofOption, ofName, ofItem, acts, after}
 use Rattle.events.specs.declared.Event.{Event}
 use Rattle.tables.specs.Located.{Located, builtInPrefix, builtInNamespace, octetsOf, start}
 use Rattle.tables.specs.Search.{numberIn, numberOfTriple}
 use Rattle.write_names.specs.Choices.{Wrote, writeId, writeOptional, writeName, worthAdding, writeLiteral, writeValue}
-use Rattle.writer.specs.Events.{isContent, isListing, eventOf}
+use Rattle.writer.specs.Events.{isListing, eventOf}
 use Rattle.writer.specs.Items.{writeItem, nameLead}
-use Rattle.writer.specs.Writing.{announced, Result, written, refusal, plus, isAttribute, settled, fits, halvesOf, judge, finish, run, writing}
-use Rattle.theorems.proofs.Lists.{test, either}
+use Rattle.writer.specs.Writing.{announced, written, isAttribute, settled, writing}
+use Rattle.theorems.proofs.Lists.{either}
+use Rattle.theorems.proofs.Turns.{as-written}
 use Rattle.theorems.proofs.Earlier.{Adds, adds-none, adds-both, adds-string, adds-name, adds-number, adds-name-number, adds-start}
 
 -- ---- strings and names
@@ -97,36 +98,11 @@ module _ (text : Octets) where
         either (λ (u : State Located). Adds (v .tables) (ofItem (e by writeItem ver text a u e .choice)) (writeItem ver text a u e .state .tables))
         (isListing (v .mode) && not (isAttribute e)) _ _ (λ q. item-adds a _ e) (λ q. item-adds a v e)
 
-    -- ---- a run
-    abbrev AddsAll : Vocabulary Located → Result → Type 0
-    AddsAll v (written items hs z) = Adds v (acts items) (z .tables)
-    AddsAll v (refusal n p) = Unit {0}
-
-    plus-adds : {v w : Vocabulary Located} (i : Item Located) (hs : Halves) → Adds v (ofItem i) w → (r : Result) → AddsAll w r → AddsAll v (plus i hs r)
-    plus-adds i hs f (written items rest z) g = adds-both f g
-    plus-adds i hs f (refusal n p) g = tt
-
-    turn-adds : (v : Vocabulary Located) (i : ℕ) (r : Result) → AddsAll v r → (j : ℕ) → AddsAll v (elim j [ zero ↦ r | suc n ↦ refusal (suc n) i ])
-    turn-adds v i r h zero = h
-    turn-adds v i r h (suc n) = tt
-
-    module _ (room : ℕ) where
-      run-adds : (es : List Event) (at : ℕ) (v : State Located) (i : ℕ) → AddsAll (v .tables) (run ver text room at v i es)
-      unfolding run finish
-      run-adds [] at v i =
-          test (AddsAll (v .tables)) (refusal 16 i) tt (isContent (v .mode) && (eqb (v .level) 0 && v .root)) _
-          λ t. test (AddsAll (v .tables)) (refusal 14 i) tt (fits ver text room (suc at)) _ λ f. adds-none
-      run-adds (e ∷ es) at v i =
-          let ev = eventOf (e .kind) e in
-          let a = announced (e ∷ es) in
-          let w = writeItem ver text a (settled v ev) ev in
-          let hs = halvesOf ver text room at v ev w in
-          turn-adds (v .tables) i _ (plus-adds (ev by w .choice) hs (settled-adds a v ev) (run ver text room (at + length hs) (w .state) (suc i) es) (run-adds es (at + length hs) (w .state) (suc i)))
-          (judge ver text room at v e w hs)
-
 -- ---- a document
 pub strings-written : (ver : Version) (text : Octets) (room : ℕ) (es : List Event) (items : List (Item Located)) (hs : Halves) (z : State Located) → writing ver text room es ≡ written items hs z
     → (t : StringTable) → strings (z .tables) t ≡ strings (after (starting ver builtInPrefix builtInNamespace) (acts items)) t
-unfolding writing beginning start
+unfolding beginning start
 strings-written ver text room es items hs z e =
-    adds-start ver builtInPrefix builtInNamespace (subst (AddsAll text ver (start ver)) e (run-adds text ver room es (2 * length (header ver)) (beginning (start ver)) 0))
+    adds-start ver builtInPrefix builtInNamespace
+    (as-written ver text room (λ es at v items hs z. Adds (v .tables) (acts items) (z .tables)) (λ at v f. adds-none)
+    (λ e es at v items rest z q h. adds-both (settled-adds text ver (announced (e ∷ es)) v (eventOf (e .kind) e)) h) es items hs z e)
