@@ -99,8 +99,6 @@ module _ (ver : Version) (ok : Bounded ver) (s : Octets) (bytes : AreOctets s) w
     from-refusal (accepted es m) w k p e = absurd (let z : _≡_ {A = ℕ} 0 1 = cc in omega arith)
     from-refusal (refusal n place) w k p e =
         let ek : n ≡ k = cc in
-        let f = w .0 in
-        let g = w .1 in
         (omega arith, omega arith)
 
     refused-small : (b d : Bool) (k p : ℕ)

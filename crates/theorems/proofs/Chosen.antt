@@ -257,9 +257,6 @@ Ranged v = (t : NameTable) (k : ℕ) (x : Triple) → Entry (names v t) k x → 
 
 pub in-range-on : {S : Type 0} {v w : Vocabulary S} {x : Triple} → Grows v w → InRange v x → InRange w x
 in-range-on g r =
-    let a = r .prefix in
-    let b = r .namespace in
-    let c = r .local in
     let d = g .strings-grow PREFIX in
     let e = g .strings-grow NAMESPACE-NAME in
     let f = g .strings-grow LOCAL-NAME in

@@ -66,13 +66,10 @@ module _ (s : Octets) where
       λ t2.
       let x : Octets = octetsOf s (stretch next n) in
       let l = length-octets s next n t1 in
-      let i = r .is in
-      let sm = r .small in
       let z : n ≡ length x = omega arith in
       let h : drop k s ≡ (spell fs base (length x) ++ x) ++ drop (next + n) s =
       r .here ∙ ap₂ (λ (u : ℕ) (y : Octets). spell fs base u ++ y) z (stretch-sound s next n)
       ∙ sym (append-assoc (spell fs base (length x)) x (drop (next + n) s)) in
-      let q = r .next-is in
       let zw = ap (λ (u : ℕ). length (spell fs base u)) z in
       let la = length-append (spell fs base (length x)) x in
       f (record { some = omega arith; fits = omega arith; formed = text-exact x .0 t2 }) h (omega arith) t1
@@ -107,7 +104,6 @@ module _ (s : Octets) where
       let w : Octets = spell fs base (length x) in
       let d1 : drop k s ≡ w ++ (x ++ rest) = d ∙ append-assoc w x rest in
       let p = sp .some in
-      let f = sp .fits in
       let n = num-complete s fs noTop bit lead base (length x) k (x ++ rest) ok r p (omega arith) (omega arith) bl d1 in
       let o = num-first s fs base (length x) k (x ++ rest) ok p (omega arith) d1 in
       let y = stretch-complete s (k + length w) (length x) x rest refl p (drop-past s k w (x ++ rest) d1) in

@@ -114,7 +114,6 @@ module _ (ver : Version) (s : Octets) (bytes : (i : ℕ) → getD s i 0 < 256) (
         → ItemRead j v k (Start (x .name) by forStart (x .how)) (octet next (opened v w a))
     unfolding eventMap
     start-read x next w r =
-        let n1 = r .next-is in
         let la = length-append pre (r .octets) in
         took j v k (Start (x .name) by forStart (x .how)) next (opened v w a) (pre ++ r .octets) (d ∙ ap (λ (l : Octets). pre ++ l) (r .here) ∙ sym (append-assoc pre (r .octets) (drop next s))) (omega arith) (r .inside) kl (f _ _ _ _ (r .rule))
 
@@ -129,7 +128,6 @@ module _ (ver : Version) (s : Octets) (bytes : (i : ℕ) → getD s i 0 < 256) (
   namespace-sound k j pre v a d l kl f =
       in-step s (Took j v) (λ c p f. f) (DeclaredR ver s bytes short) k (v .tables) (declaredAt ver s k (v .tables)) (declared-sound ver s bytes short k (v .tables) kl) _
       λ x next w r.
-      let n1 = r .next-is in
       let la = length-append pre (r .octets) in
       took j v k (Namespace (x .prefix) (x .namespace) by forNamespace (x .prefixHow) (x .namespaceHow)) next (moved v w (declaring a)) (pre ++ r .octets)
       (d ∙ ap (λ (l : Octets). pre ++ l) (r .here) ∙ sym (append-assoc pre (r .octets) (drop next s))) (omega arith) (r .inside) kl (f _ _ _ _ _ _ (r .rule))
@@ -138,7 +136,6 @@ module _ (ver : Version) (s : Octets) (bytes : (i : ℕ) → getD s i 0 < 256) (
   unfolding elementAt mayStart ofElement
   element-sound a k b v ranged md z hb h =
       let P : Step → Type 0 = Took k v in
-      let b1 = one-bit a in
       let kl : k ≤ length s = omega arith in
       test-not P (stop 6 k) (fault s 6 k refl kl) (namePadding b) _
       λ t0. test P (stop 15 k) (fault s 15 k refl kl) (mayStart v) _
@@ -186,8 +183,6 @@ module _ (ver : Version) (s : Octets) (bytes : (i : ℕ) → getD s i 0 < 256) (
       (name-sound ver s bytes short ofAttribute attribute-shape 0 o k (v .tables) ranged (λ y. omega arith) (λ y. omega arith) h) _
       λ x k₁ w₁ r₁. in-step s P (λ c p f. f) (ValueR ver s bytes short ATTRIBUTE-VALUE) k₁ w₁ (valueAt ver s ATTRIBUTE-VALUE k₁ w₁) (value-sound ver s bytes short ATTRIBUTE-VALUE k₁ w₁ (r₁ .inside)) _
       λ y k₂ w₂ r₂.
-      let n1 = r₁ .next-is in
-      let n2 = r₂ .next-is in
       let la = length-append (r₁ .octets) (r₂ .octets) in
       took k v k (Attribute (x .name) (y .string) by forAttribute (x .how) (y .how)) k₂ (moved v w₂ (listing true)) (r₁ .octets ++ r₂ .octets)
       (r₁ .here ∙ ap (λ (l : Octets). r₁ .octets ++ l) (r₂ .here) ∙ sym (append-assoc (r₁ .octets) (r₂ .octets) (drop k₂ s)))
@@ -206,7 +201,6 @@ module _ (ver : Version) (s : Octets) (bytes : (i : ℕ) → getD s i 0 < 256) (
       let kl : k ≤ length s = omega arith in
       in-step s (Took k v) (λ c p f. f) (ValueR ver s bytes short OTHER-STRING) (suc k) (v .tables) (valueAt ver s OTHER-STRING (suc k) (v .tables)) (value-sound ver s bytes short OTHER-STRING (suc k) (v .tables) h) _
       λ y next w r.
-      let n1 = r .next-is in
       took k v k (Comment (y .string) by forComment (y .how)) next (knowing v w) (0xE2 ∷ r .octets)
       (drop-cons s k 0 h ∙ ap₂ (λ (x : ℕ) (l : Octets). x ∷ l) e (r .here)) (omega arith) (r .inside) kl (o-comment md (r .rule))
 
@@ -218,8 +212,6 @@ module _ (ver : Version) (s : Octets) (bytes : (i : ℕ) → getD s i 0 < 256) (
       in-step s P (λ c p f. f) (IdR ver s bytes short OTHER-NCNAME) (suc k) (v .tables) (idAt ver s OTHER-NCNAME (suc k) (v .tables)) (id-sound ver s bytes short OTHER-NCNAME (suc k) (v .tables) h) _
       λ x k₁ w₁ r₁. in-step s P (λ c p f. f) (ValueR ver s bytes short OTHER-STRING) k₁ w₁ (valueAt ver s OTHER-STRING k₁ w₁) (value-sound ver s bytes short OTHER-STRING k₁ w₁ (r₁ .inside)) _
       λ y k₂ w₂ r₂.
-      let n1 = r₁ .next-is in
-      let n2 = r₂ .next-is in
       let la = length-append (r₁ .octets) (r₂ .octets) in
       took k v k (Instruction (x .string) (y .string) by forInstruction (x .how) (y .how)) k₂ (knowing v w₂) (0xE1 ∷ (r₁ .octets ++ r₂ .octets))
       (drop-cons s k 0 h ∙ ap₂ (λ (x : ℕ) (l : Octets). x ∷ l) e (r₁ .here ∙ ap (λ (l : Octets). r₁ .octets ++ l) (r₂ .here) ∙ sym (append-assoc (r₁ .octets) (r₂ .octets) (drop k₂ s))))
@@ -417,7 +409,6 @@ module _ (ver : Version) (s : Octets) where
       (ap (λ (y : Mode). itemAt ver s k v y) md ∙ element-goes a k 0x38 v oc (omega arith) (f .0) ∙ rw (pad, may, lt-ltb (v .level) (ver .depth) deep))
   item-complete k v rest (o-namespace {a = a} {o = os} md u) d =
       let c = declared-complete ver s k (v .tables) rest u d in
-      let hi = c .2 in
       namespace-item k k v os os refl (c .4) (c .3) (λ y. not-halves (v .mode) a md y) a (c .0) (ap (λ (y : Mode). itemAt ver s k v y) md ∙ rw (ne-eqb (getD s k 0) 0xF0 (omega arith)))
   item-complete k v rest (o-named-start {a = a} {o = os} md u) d =
       let f = drop-head s k 0xF0 (os ++ rest) d in
@@ -433,7 +424,6 @@ module _ (ver : Version) (s : Octets) where
       let e = value-complete ver s ATTRIBUTE-VALUE (k + length o1) (h .v) rest (subst (λ (x : Vocabulary Octets). Value ver ATTRIBUTE-VALUE x y g o2 w2) (sym (h .state)) u2) (drop-past s k o1 (o2 ++ rest) d1) in
       let la = length-append o1 o2 in
       let z : k + length o1 + length o2 ≡ k + length (o1 ++ o2) = omega arith in
-      let sm = c .1 in
       record {
         place = k;
         found = Attribute (h .b .name) (e .b .string) by forAttribute (h .b .how) (e .b .how);

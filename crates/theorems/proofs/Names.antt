@@ -104,7 +104,6 @@ module _ (ver : Version) (s : Octets) (bytes : (i : ℕ) → getD s i 0 < 256) (
       λ n next r. test-le P (refused 10 k) (fault s 10 k refl kl) n (length (names v (q .table))) _
       λ t1.
       let y = r .is in
-      let u = r .under in
       let e : n - 1 ≡ r .v = omega arith in
       let x : Triple = getD (names v (q .table)) (n - 1) noTriple in
       let same-names = names-map (octetsOf s) v (q .table) in
@@ -135,13 +134,8 @@ module _ (ver : Version) (s : Octets) (bytes : (i : ℕ) → getD s i 0 < 256) (
       λ t2.
       let bits = bits-are b in
       let lone = bits-paired b h3 in
-      let hp = r₁ .rule .1 in
-      let hn = r₂ .rule .1 in
       let oct : getD s k 0 ≡ lead + q .inPartsBits + 2 * has (Option·map (octetsOf s) (p .string)) + has (Option·map (octetsOf s) (n .string)) = omega arith in
       let paired : has (Option·map (octetsOf s) (p .string)) ≤ has (Option·map (octetsOf s) (n .string)) = omega arith in
-      let n1 = r₁ .next-is in
-      let n2 = r₂ .next-is in
-      let n3 = r₃ .next-is in
       let same-names = names-map (octetsOf s) v₃ (q .table) in
       record {
         octets = (lead + q .inPartsBits + 2 * has (Option·map (octetsOf s) (p .string)) + has (Option·map (octetsOf s) (n .string))) ∷ (r₁ .octets ++ (r₂ .octets ++ r₃ .octets));
@@ -173,11 +167,7 @@ module _ (ver : Version) (s : Octets) (bytes : (i : ℕ) → getD s i 0 < 256) (
       λ p k₁ v₁ r₁. on-field s P (λ c p f. f) (OptionalR ver s bytes short (namespaceBit b) NAMESPACE-NAME) k₁ v₁ (optionalAt ver (namespaceBit b) s NAMESPACE-NAME k₁ v₁) (optional-sound ver s bytes short (namespaceBit b) NAMESPACE-NAME k₁ v₁ (r₁ .inside)) _
       λ n k₂ v₂ r₂.
       let bits = bits-are b in
-      let hp = r₁ .rule .1 in
-      let hn = r₂ .rule .1 in
       let oct : b ≡ 0xCC + 2 * has (Option·map (octetsOf s) (p .string)) + has (Option·map (octetsOf s) (n .string)) = omega arith in
-      let n1 = r₁ .next-is in
-      let n2 = r₂ .next-is in
       let la = length-append (r₁ .octets) (r₂ .octets) in
       record {
         octets = (0xCC + 2 * has (Option·map (octetsOf s) (p .string)) + has (Option·map (octetsOf s) (n .string))) ∷ (r₁ .octets ++ r₂ .octets);
@@ -235,8 +225,6 @@ module _ (ver : Version) (s : Octets) where
   unfolding numberedAt octetsOf
   name-complete q g times lead k e v rest (by-number {k = j} {x = x} small fits en m) d =
       let f = num-first s (q .numberForms) lead (suc j) k rest (g .numbers-ok) (omega arith) fits d in
-      let lo = f .0 in
-      let hi = f .1 in
       let n = num-complete s (q .numberForms) top (nameBit (q .table)) times lead (suc j) k rest (g .numbers-ok) (g .numbers-fit) (omega arith) fits (omega arith) e d in
       let here = rw (names-map (octetsOf s) v (q .table)) at en in
       let made = entry-made here in
@@ -256,10 +244,8 @@ module _ (ver : Version) (s : Octets) where
   name-complete q g times lead k e v rest (in-parts {p = p} {n = n} {l = l} {hp = hp} {hn = hn} {hl = hl} {kp = kp} {kn = kn} {kl = kl} {op = op} {on = on} {ol = ol} {v₁ = w₁} {v₂ = w₂} {v₃ = w₃} paired up un ul new room) d =
       let o : ℕ = q .inPartsBits + 2 * has p + has n in
       let a = drop-head s k (lead + q .inPartsBits + 2 * has p + has n) ((op ++ (on ++ ol)) ++ rest) d in
-      let oc = a .1 in
       let p1 = has-one p in
       let n1 = has-one n in
-      let ev = g .even in
       let is : o % 4 ≡ 2 * has p + has n = omega arith in
       let d1 : drop (suc k) s ≡ op ++ (on ++ (ol ++ rest)) = a .2 ∙ simp append-assoc in
       let i1 = optional-complete ver s PREFIX (suc k) v (on ++ (ol ++ rest)) up d1 in
@@ -288,7 +274,6 @@ module _ (ver : Version) (s : Octets) where
   unfolding declaredAt
   declared-complete k v rest (declared {p = p} {n = n} {hp = hp} {hn = hn} {kp = kp} {kn = kn} {op = op} {on = on} {v₁ = w₁} {v₂ = w₂} up un) d =
       let a = drop-head s k (0xCC + 2 * has p + has n) ((op ++ on) ++ rest) d in
-      let oc = a .1 in
       let o : ℕ = getD s k 0 in
       let p1 = has-one p in
       let n1 = has-one n in

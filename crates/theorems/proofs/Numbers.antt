@@ -60,7 +60,6 @@ module _ (s : Octets) (bytes : (i : ℕ) → getD s i 0 < 256) where
       let before : n - 1 ≡ a .v = omega arith in
       let w : spell fs base n ≡ getD s k 0 ∷ take m (drop (suc k) s) = spell-is fs base n ok (omega arith) ∙ ap (λ (x : ℕ). spellIn (shares fs) base x) before ∙ a .written ∙ ap₂ (λ (x y : ℕ). x ∷ take m (drop y s)) (sym z) one in
       let nx : c .at ≡ suc k + m = let q = a .next in omega arith in
-      let rm = a .room in
       let lt : length (take m (drop (suc k) s)) ≡ m = length-take-le m (drop (suc k) s) (let q = length-drop (suc k) s in omega arith) in
       record {
         v = a .v;
@@ -105,5 +104,4 @@ num-first s fs base n k t ok p h d = go (spell fs base n) refl
         let a = drop-head s k o (w ++ t) (d ∙ ap (λ (l : Octets). l ++ t) e) in
         let x = first-within fs base n ok p h in
         let z : getD (spell fs base n) 0 0 ≡ o = ap (λ (l : Octets). getD l 0 0) e in
-        let b = a .1 in
         (omega arith, omega arith, a .0)

@@ -50,7 +50,6 @@ module _ (ver : Version) (text : Octets) (room : ℕ) where
   not-right (no-room i t s f a) r =
       let l : length (a .halves) ≡ length (r .has-room .halves) = begun-size (a .are) (r .has-room .are) .0 in
       let k : min room (ver .octets) < aligned (2 * length (header ver) + length (r .has-room .halves)) / 2 = rw (← l) (a .over) in
-      let m = r .has-room .fit in
       omega arith
 
   -- ---- one refusal

@@ -148,8 +148,6 @@ module _ (ver : Version) (s : Octets) where
       λ t1. test (Did R) (refused 12 k) tt (ltb (length (names v₃ (q .table))) (ver .entries)) _
       λ t2.
       let paired = bits-paired b (eqb-false (b % 4) 2 e) in
-      let hp = r₁ .1 in
-      let hn = r₂ .1 in
       name-made (omega arith) (r₁ .0) (r₂ .0) r₃
 
   numbered-did : (q : NameLayout) (k : ℕ) (v : Vocabulary Located) → Did (NameDid (q .table) v) (numberedAt ver q s k v)

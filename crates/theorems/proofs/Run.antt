@@ -95,9 +95,6 @@ module _ (ver : Version) (s : Octets) (bytes : (i : ℕ) → getD s i 0 < 256) (
       ∙ ap (λ (x : ℕ). pad (m .at) ++ drop x (halves s)) (sym a)
       ∙ ap (λ (l : Octets). pad (m .at) ++ l) (halves-sound s k o (k + length o) (w .here) ∙ ap (λ (x : ℕ). halves o ++ drop x (halves s)) (sym (w .next))) in
       let e = octets-some (w .rule) in
-      let some = e .0 in
-      let lev = e .1 in
-      let ins = w .inside in
       let al = aligned-ge (m .at) in (
         λ items y u.
             subst (λ (l : Octets). Written ver (m .at) (plainState s (m .state)) (plain s i ∷ items) l y) (sym d)
@@ -354,7 +351,6 @@ module _ (ver : Version) (s : Octets) where
       let x = pad-length (suc at) in
       let b = ap length d in
       let c = length-drop at (halves s) in
-      let h = a .0 in
       let hl = halves-length s in
       let over : aligned (suc at) ≡ 2 * length s = omega arith in
       rw (md, at-end m (pad (suc at)) d, le-ltb 0 (m .state .level) (omega arith), r, q .0, eq-eqb (aligned (suc at)) (2 * length s) over)
@@ -416,7 +412,6 @@ module _ (ver : Version) (s : Octets) where
       let l1 = length-append (pad at) (halves o ++ hs) in
       let l2 = length-append (halves o) hs in
       let l3 = halves-length o in
-      let l4 = t .2 in
       absurd (omega arith)
   run-complete (item u w) m (suc fuel) zero a k d f g = absurd (omega arith)
   run-complete (item {at = at} {w = v} {z = y} {i = i} {o = o} {items = items} {hs = hs} u w) m (suc fuel) (suc room) a k d f g =
@@ -424,6 +419,5 @@ module _ (ver : Version) (s : Octets) where
       let l1 = length-append (pad at) (halves o ++ hs) in
       let l2 = length-append (halves o) hs in
       let l3 = halves-length o in
-      let l4 = t .2 in
       go-on fuel room m (t .0 .n) (t .0 .place) (t .0 .found) i items y _ _ _ _ (t .0 .goes) (t .0 .what) (t .0 .spells ∙ ap (λ (x : ℕ). inItem (aligned x / 2) u) a) (t .0 .state)
       (run-complete w (t .0 .n) fuel room (t .0 .stands ∙ ap (λ (x : ℕ). aligned x + 2 * length o) a) (t .0 .state) (rw a at (t .1)) (omega arith) (omega arith))

@@ -124,7 +124,6 @@ module _ (ver : Version) (s : Octets) (bytes : (i : ℕ) → getD s i 0 < 256) (
       λ n next r. test-le P (refused 10 k) (fault s 10 k refl kl) n (length (strings v t)) _
       λ t1.
       let i = r .is in
-      let u = r .under in
       record {
         octets = spell c25 0x80 n;
         rule = subst (λ (m : ℕ). Identifying ver t (plainTables s v) (octetsOf s (getD (strings v t) (n - 1) empty)) (numbered m) m (spell c25 0x80 m) (plainTables s v)) (sym i)
@@ -187,7 +186,6 @@ module _ (ver : Version) (s : Octets) (bytes : (i : ℕ) → getD s i 0 < 256) (
       λ n next r. test-le P (refused 10 k) (fault s 10 k refl kl) n (length (strings v t)) _
       λ t1.
       let i = r .is in
-      let u = r .under in
       record {
         octets = spell (q .numberForms) (q .numberedBits) n;
         rule = subst (λ (m : ℕ). Literal ver q t (plainTables s v) (octetsOf s (getD (strings v t) (n - 1) empty)) (numbered m) (spell (q .numberForms) (q .numberedBits) m) (plainTables s v)) (sym i)
@@ -231,10 +229,8 @@ module _ (ver : Version) (s : Octets) where
   unfolding idAt roomsIn shareOf behindFirst sizes lengths c25
   id-complete t k v rest (id-spelled {x = x} sp new room) d =
       let e = spelt s (lengths 2) 2 0 0 k x rest (lengths-ordered 2 (omega arith) (omega arith)) (omega arith) (long-enough 2) refl sp d in
-      let hi = e .high in
       let len = length-strings (octetsOf s) v t in
       let fresh : holds (map (octetsOf s) (strings v t)) x ≡ false = rw (strings-map (octetsOf s) v t) at (new-string (strings (plainTables s v) t) x .1 new) in
-      let end = e .end-is in
       hit-at s (IdQ x (spelled true) (suc (length (strings (plainTables s v) t))) _) (e .next + length x) _ _ _ (e .end-is)
       (rw (lt-ltb (getD s k 0) 0x80 (omega arith), e .num, spelling-is s (lengths 2) 2 0 k x e _ (sp .formed), e .text-is, fresh, lt-ltb (length (strings v t)) (ver .entries) (omega arith))
       (record {
@@ -315,23 +311,10 @@ module _ (ver : Version) (s : Octets) where
   unfolding literalAt
   literal-complete q g t k v rest (literal-spelled {x = x} {added = false} sp room) d =
       let c = spelled-complete q g t k v false x rest sp room d in
-      let lo = c .1 .low in
-      let hi = c .1 .high in
-      let f = g .fits .lengths-fit in
-      let ab = g .fits .above in
-      let un = g .fits .under in
-      let p = sp .some in
       let la = length-append (spell (lengths (q .lengthBit)) (q .spelledBits + q .addBit * 0) (length x)) x in
       record { hit = rw (lt-ltb (getD s k 0) (q .spelledBits + 2 ^ (9 - q .lengthBit)) (omega arith)) (c .0); low = omega arith; high = omega arith; last = omega arith; some = omega arith; here = c .1 .here }
   literal-complete q g t k v rest (literal-spelled {x = x} {added = true} sp room) d =
       let c = spelled-complete q g t k v true x rest sp room d in
-      let lo = c .1 .low in
-      let hi = c .1 .high in
-      let f = g .fits .lengths-fit in
-      let ab = g .fits .above in
-      let ap2 = g .fits .apart in
-      let un = g .fits .under in
-      let p = sp .some in
       let la = length-append (spell (lengths (q .lengthBit)) (q .spelledBits + q .addBit * 1) (length x)) x in
       record {
         hit = rw (le-ltb (getD s k 0) (q .spelledBits + 2 ^ (9 - q .lengthBit)) (omega arith), le-ltb (getD s k 0) (q .spelledBits + q .addBit) (omega arith), lt-ltb (getD s k 0) (q .spelledBits + q .addBit + 2 ^ (9 - q .lengthBit)) (omega arith)) (c .0);
@@ -344,10 +327,6 @@ module _ (ver : Version) (s : Octets) where
   literal-complete q g t k v rest (literal-numbered {x = x} {k = j} small fits en) d =
       let o = num-first s (q .numberForms) (q .numberedBits) (suc j) k rest (g .numbers-ok) (omega arith) fits d in
       let lo = o .0 in
-      let hi = o .1 in
-      let ab = g .fits .above in
-      let ap2 = g .fits .apart in
-      let un = g .fits .under in
       let n = num-complete s (q .numberForms) top (numberBit q) (g .numbered-lead) (q .numberedBits) (suc j) k rest (g .numbers-ok) (g .fits .numbers-fit) (omega arith) fits (omega arith) (g .numbered-is) d in
       let y = entry-complete s v t j x en in
       record {
@@ -369,5 +348,4 @@ module _ (ver : Version) (s : Octets) where
       (rw (eq-eqb (getD s k 0) 0xFF (a .1)) (record { b = record { string = empty; how = numbered 0 }; v = v; goes = refl; state = refl; what = (refl, refl, refl) }))
   value-complete t k v rest (value u) d =
       let c = literal-complete c14 shape14 t k v rest u d in
-      let hi = c .high in
       rw (ne-eqb (getD s k 0) 0xFF (omega arith)) (c .hit)

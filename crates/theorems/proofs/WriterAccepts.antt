@@ -92,7 +92,6 @@ module _ (ver : Version) (ok : Bounded ver) (text : Octets) (room : ℕ) (ps res
       let l4 = halves-length (header ver) in
       let l5 = ap length (with-it .are) in
       let l6 = length-append (with-it .front-halves) (with-it .rest-halves) in
-      let k = w .short in
       let m = aligned-in (2 * length (header ver) + length (with-it .front-halves)) (length s) (omega arith) in
       omega arith
 

@@ -137,7 +137,6 @@ unfolding writing
 write-refused ver text room es n p e =
     let f = run-faulty ver text room es (2 * length (header ver)) (beginning (start ver)) 0 in
     let g : Faulty ver text room 0 (0 + length es) (refusal n p) = subst (Faulty ver text room 0 (0 + length es)) e f in
-    let h = g .2 in
     (g .0, omega arith)
 
 -- 20. WRITE FROM WORDS: what is accepted is left as the words of what `write` leaves, from the records of the words (17).
@@ -150,8 +149,6 @@ refused-small ver records text r t true true k p e = from (writing ver text r (r
     from (refusal n place) q e =
         let f = write-refused ver text r (recordsOf records) n place q .0 in
         let ek : n ≡ k = cc in
-        let low = f .0 in
-        let high = f .1 in
         (omega arith, omega arith)
 refused-small ver records text r t true false k p e = let ek : 14 ≡ k = cc in (omega arith, omega arith)
 refused-small ver records text r t false d k p e = let ek : 1 ≡ k = cc in (omega arith, omega arith)

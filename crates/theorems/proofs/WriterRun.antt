@@ -297,8 +297,6 @@ module _ (ver : Version) (ok : Bounded ver) (text : Octets) where
             let l6 = length-append (st .halves) (15 ∷ pad (suc (2 * length (header ver) + length (st .halves)))) in
             let l7 = pad-length (suc (2 * length (header ver) + length (st .halves))) in
             let l8 = align-is (suc (2 * length (header ver) + length (st .halves))) in
-            let k = w .fit in
-            let m = w .writes .short in
             rw (st .at-is) (le-leb (aligned (suc (2 * length (header ver) + length (st .halves))) / 2) (min room (ver .octets)) (omega arith))
 
       finish-judged : Judged before at v [] [] (finish ver text room at v i)
