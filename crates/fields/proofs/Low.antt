@@ -1,18 +1,18 @@
 -- All octets are below 0x80: where the highest is; where none has its high bit set, which their weight tells; and where two parts that overlap are.
 -- Assumes nothing.
 use mathlib.Core.Path.{_≡_, refl, sym, _∙_}
-use mathlib.Core.Bool.{Bool, true, false, _&&_, and-assoc, and-true, and-false}
+use mathlib.Core.Bool.{Bool, true, false, _&&_, and-assoc, and-true, and-false, true≢false}
 use mathlib.Core.List.{List, [], _∷_, _++_}
 use Prim.Native.Nat.{ℕ, zero, suc, _+_, _-_, _*_, _/_, _^_, _≤_, _<_}
 use native.Mathlib.Omega.{arith}
-use borrow.Author.Tests.{lt-ltb, le-ltb, eq-eqb, ne-eqb}
-use lib.Bits.{bitAnd, and-block, and-high, and-zero-r}
+use borrow.Author.Tests.{lt-ltb, le-ltb, eq-eqb, ne-eqb, ltb-true}
+use lib.Bits.{bitAnd, bitOr, and-block, and-high, and-zero-r, and-le-l, and-le-r, or-add-and}
 use lib.Dec.{ltb, eqb, lit<}
-use lib.ListN.{take, drop}
+use lib.ListN.{length, getD, take, drop}
 use lib.Pow.{shr-shr}
-use lib.Seq.{take-add, take-take, drop-drop}
+use lib.Seq.{take-add, take-take, drop-drop, getD-take, getD-drop}
 use Rattle.fields.specs.Utf8.{higher, highestOf}
-use Rattle.fields.specs.WeightContracts.{weight, Small}
+use Rattle.fields.specs.WeightContracts.{weight, Small, Low}
 use Rattle.fields.proofs.Laws.{case}
 
 unfoldable pub allLow : List ℕ → Bool
@@ -114,3 +114,66 @@ module _ (x : List ℕ) where
       let f : from + i ≡ to - 8 = omega arith in
       let o = rw (e, drop-drop i from x, f) at (overlap i 8 (drop from x) (omega arith)) in
       rw (eight-low from 8 u h (omega arith), eight-low (to - 8) 8 v k (omega arith)) (sym o ∙ sym (highest-low 0 (take (to - from) (drop from x))))
+
+-- ---- octet by octet
+both : (a b : Bool) → a && b ≡ true → (a ≡ true) × (b ≡ true)
+both true b e = (refl, e)
+both false b e = absurd (true≢false (sym e))
+
+low-at : (l : List ℕ) (i : ℕ) → allLow l ≡ true → getD l i 0 < 0x80
+unfolding allLow
+low-at [] i e = lit< tt
+low-at (b ∷ l) zero e = ltb-true b 0x80 (both (ltb b 0x80) (allLow l) e .0)
+low-at (b ∷ l) (suc i) e = low-at l i (both (ltb b 0x80) (allLow l) e .1)
+
+all-low : (l : List ℕ) → ((i : ℕ) → i < length l → getD l i 0 < 0x80) → allLow l ≡ true
+unfolding allLow
+all-low [] h = refl
+all-low (b ∷ l) h = rw (lt-ltb b 0x80 (h 0 (omega arith))) (all-low l (λ i u. h (suc i) (omega arith)))
+
+pub low-highest : (l : List ℕ) → ((i : ℕ) → i < length l → getD l i 0 < 0x80) → ltb (highestOf 0 l) 0x80 ≡ true
+low-highest l h = highest-low 0 l ∙ all-low l h
+
+-- three octets as one number
+weighed : (a b c : ℕ) → a + 256 * b + 65536 * c ≡ weight (a ∷ b ∷ c ∷ [])
+unfolding weight
+weighed a b c = omega arith
+
+pub three-low : (a b c : ℕ) → a < 256 → b < 256 → c < 256 → bitAnd (a + 256 * b + 65536 * c) (highBits 8) ≡ 0 → (a < 0x80) × (b < 0x80) × (c < 0x80)
+three-low a b c ha hb hc z =
+    let e : a + 256 * b + 65536 * c ≡ weight (a ∷ b ∷ c ∷ []) = weighed a b c in
+    let zero-bits = eq-eqb _ 0 (rw e at z) in
+    let low = sym (high-bits-low 8 (a ∷ b ∷ c ∷ []) (ha, (hb, (hc, tt)))) ∙ zero-bits in
+    (low-at (a ∷ b ∷ c ∷ []) 0 low, low-at (a ∷ b ∷ c ∷ []) 1 low, low-at (a ∷ b ∷ c ∷ []) 2 low)
+
+eight-bits : highBits 8 ≡ highBits 4 * 2 ^ 32 + highBits 4
+unfolding highBits
+eight-bits = refl
+
+four-bits : highBits 4 < 2 ^ 32
+unfolding highBits
+four-bits = lit< tt
+
+module _ (x : List ℕ) where
+  part-low : (at n v : ℕ) → v ≡ weight (take n (drop at x)) → Small (take n (drop at x)) → bitAnd v (highBits n) ≡ 0 → Low x at (at + n)
+  part-low at n v e h z j l u =
+      let k : at + (j - at) ≡ j = omega arith in
+      let b = rw (take-take n n (drop at x) (omega arith)) at (high-bits-low n (take n (drop at x)) h) in
+      let zero-bits = eq-eqb _ 0 (rw e at z) in
+      let low = low-at (take n (drop at x)) (j - at) (sym b ∙ zero-bits) in
+      rw (getD-take n (drop at x) (j - at) 0 (omega arith), getD-drop at x (j - at) 0, k) at low
+
+  pub eight-plain : (at v : ℕ) → Eight x at v → bitAnd v (highBits 8) ≡ 0 → Low x at (at + 8)
+  eight-plain at v h z = part-low at 8 v (h .0) (h .1) z
+
+  -- four octets and four more as one number
+  pub fours-plain : (a b u v : ℕ) → (u ≡ weight (take 4 (drop a x))) × Small (take 4 (drop a x)) × (u < 0x1_0000_0000) → (v ≡ weight (take 4 (drop b x))) × Small (take 4 (drop b x)) × (v < 0x1_0000_0000)
+      → bitAnd (u + 4294967296 * v) (highBits 8) ≡ 0 → Low x a (a + 4) × Low x b (b + 4)
+  fours-plain a b u v h k z =
+      let e : u + 4294967296 * v ≡ v * 2 ^ 32 + u = omega arith in
+      let y = rw (e, eight-bits, and-block 32 v (highBits 4) u (highBits 4) (h .2) four-bits) at z in
+      (part-low a 4 u (h .0) (h .1) (omega arith), part-low b 4 v (k .0) (k .1) (omega arith))
+
+-- no bit is set in either of two numbers
+pub neither : (a b : ℕ) → bitOr a b ≡ 0 → (a ≡ 0) × (b ≡ 0)
+neither a b z = let s = or-add-and a b in let l = and-le-l a b in let r = and-le-r a b in (omega arith, omega arith)

@@ -310,7 +310,7 @@ pub fn eight(x: &[u8], at: usize) -> u64
 }
 
 // The high bit of each of eight octets, set where one is above 0x7F.
-const HIGH: u64 = 0x8080_8080_8080_8080;
+pub const HIGH: u64 = 0x8080_8080_8080_8080;
 
 // No octet from `from` to before `to` is above 0x7F. Most strings are short: one load of eight octets tells it, or two that overlap.
 fn plain(s: &[u8], from: usize, to: usize) -> bool

@@ -8,6 +8,7 @@ use Rattle.format.specs.Numbers.{pick}
 use Rattle.format.specs.Tables.{Triple}
 use Prim.Native.Nat.{ℕ, zero, suc, _+_, _-_, _*_, _/_, _≤_, _<_}
 use native.Mathlib.Omega.{arith}
+use native.Mathlib.Decide.{decLt}
 use borrow.Author.Tests.{lt-ltb, le-ltb}
 use lib.ListN.{length, getD, take, drop, length-take, length-drop}
 use lib.Seq.{ext-getD, getD-take, getD-drop}
@@ -20,12 +21,8 @@ pub spread-lt : (h x : ℕ) → spread h x < 128
 unfolding spread
 spread-lt h x = omega arith
 
-first-eight : (l : List ℕ) (n : ℕ) → n ≡ 1 → rolled l 0 n 0 ≡ blended 0 (part l 0 8)
-unfolding rolled
-first-eight l n e = rw e
-
 module _ (s : List ℕ) (place len : ℕ) (h : place + len ≤ length s) where
-  octet-at : (i : ℕ) → i < len → getD (octetsOf s (stretch place len)) i 0 ≡ getD s (place + i) 0
+  pub octet-at : (i : ℕ) → i < len → getD (octetsOf s (stretch place len)) i 0 ≡ getD s (place + i) 0
   unfolding octetsOf
   octet-at i l = getD-take len (drop place s) i 0 l ∙ getD-drop place s i 0
 
@@ -57,17 +54,10 @@ module _ (s : List ℕ) (place len : ℕ) (h : place + len ≤ length s) where
       let first : part (octetsOf s (stretch place len)) 0 4 ≡ weight (take 4 (drop place s)) = (rw z at (part-at 0 4 (omega arith))) in
       rw (length-octets s place len h, le-ltb len 4 a, lt-ltb len 9 b, first, part-at (len - 4) 4 (omega arith))
 
-  pub bucket-long : 9 ≤ len → len < 66
+  bucket-long : 9 ≤ len → len < 66
       → spread (rolled (octetsOf s (stretch place len)) 0 ((len - 1) / 8) 0) (weight (take 8 (drop (place + (len - 8)) s))) ≡ bucket (octetsOf s (stretch place len))
   unfolding bucket
   bucket-long a b = rw (length-octets s place len h, le-ltb len 4 (omega arith), le-ltb len 9 a, lt-ltb len 66 b, part-at (len - 8) 8 (omega arith))
-
-  pub bucket-middle : 9 ≤ len → len < 17
-      → spread (blended 0 (weight (take 8 (drop place s)))) (weight (take 8 (drop (place + (len - 8)) s))) ≡ bucket (octetsOf s (stretch place len))
-  bucket-middle a b = rw (← one) (bucket-long a (omega arith))
-    where
-      one : rolled (octetsOf s (stretch place len)) 0 ((len - 1) / 8) 0 ≡ blended 0 (weight (take 8 (drop place s)))
-      one = first-eight (octetsOf s (stretch place len)) ((len - 1) / 8) (omega arith) ∙ ap (blended 0) (let z : place + 0 ≡ place = omega arith in rw z at (part-at 0 8 (omega arith)))
 
   -- the loop: what is left from octet i on
   pub rolled-next : (i x w : ℕ) → 8 < len - i → rolled (octetsOf s (stretch place len)) i ((len - i - 1) / 8) x ≡ w
@@ -86,11 +76,20 @@ rolled-first s place n len h l (suc k) at x u =
     let e = part-at s place n (omega arith) at 8 (omega arith) ∙ sym (part-at s place len h at 8 (omega arith)) in
     rw e (rolled-first s place n len h l k (at + 8) _ (omega arith))
 
-pub bucket-far : (s : List ℕ) (place len : ℕ) → place + len ≤ length s → 66 ≤ len
+bucket-far : (s : List ℕ) (place len : ℕ) → place + len ≤ length s → 66 ≤ len
     → spread (rolled (octetsOf s (stretch place 65)) 0 8 0) (weight (take 8 (drop (place + (len - 8)) s))) ≡ bucket (octetsOf s (stretch place len))
 unfolding bucket
 bucket-far s place len h a =
     rw (length-octets s place len h, le-ltb len 4 (omega arith), le-ltb len 9 (omega arith), le-ltb len 66 a, part-at s place len h (len - 8) 8 (omega arith), rolled-first s place 65 len h (omega arith) 8 0 0 (omega arith))
+
+-- n octets count, and the last eight
+pub bucket-counted : (s : List ℕ) (place len n r e : ℕ) → place + len ≤ length s → 9 ≤ len → (9 ≤ n) × (n ≤ len) × (len ≤ 65 → n ≡ len) × (65 < len → n ≡ 65)
+    → r ≡ rolled (octetsOf s (stretch place n)) 0 ((n - 1) / 8) 0 → e ≡ weight (take 8 (drop (place + (len - 8)) s)) → spread r e ≡ bucket (octetsOf s (stretch place len))
+bucket-counted s place len n r e h g m a b =
+    elim (decLt 65 len) [
+      | yes l ↦ let z = m .3 l in (rw (a, b, z) (bucket-far s place len h (omega arith)))
+      | no l ↦ let z = m .2 (omega arith) in (rw (a, b, z) (bucket-long s place len h g (omega arith)))
+    ]
 
 pub rolled-end : (l : List ℕ) (len i x w : ℕ) → len - i ≤ 8 → rolled l i ((len - i - 1) / 8) x ≡ w → x ≡ w
 unfolding rolled

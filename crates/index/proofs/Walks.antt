@@ -1,10 +1,13 @@
 -- The search along a chain, for strings and for names: where it starts, goes on, and stops.
 -- Assumes nothing.
 use mathlib.Core.Path.{_≡_, refl, _∙_}
-use mathlib.Core.Bool.{true, false}
+use mathlib.Core.Bool.{true, false, not, true≢false}
 use mathlib.Core.List.{List, map}
 use Prim.Native.Nat.{ℕ, _+_, _-_, _*_, _≤_, _<_}
 use native.Mathlib.Omega.{arith}
+use native.Mathlib.Decide.{decLt}
+use borrow.Author.Tests.{ne-eqb}
+use lib.Dec.{eqb}
 use lib.ListN.{getD}
 use Rattle.format.specs.Tables.{Triple, same, sameTriple}
 use Rattle.tables.specs.Located.{octetsOf}
@@ -25,6 +28,16 @@ equal-strings s table = record { exact = same-eq; itself = same-refl }
 
 pub StringWalk : (s t : List ℕ) (table n : ℕ) (x : List ℕ) (k : ℕ) → Type 0
 StringWalk s t table n x k = Walking (strings s table) (stringsAt s t table) (768 * table) x (reached n) k
+
+-- A number above 0 that was found says that there is one.
+pub string-is : (k n : ℕ) → k ≡ n → 0 < k → true ≡ not (eqb n 0)
+string-is k n e h = rw (ne-eqb n 0 (λ z. omega arith))
+
+pub string-new : (n : ℕ) → not (eqb n 0) ≡ false → n ≡ 0
+string-new n e = elim (decLt 0 n) [ yes h ↦ absurd (true≢false (string-is n n refl h ∙ e)) | no h ↦ omega arith ]
+
+pub string-none : (n : ℕ) → n ≡ 0 → not (eqb n 0) ≡ false
+string-none n e = rw e
 
 module _ (s t : List ℕ) (table n : ℕ) (x : List ℕ) where
   pub number-string : numbered (strings s table) (stringsAt s t table) (768 * table) n x ≡ numberIn (map (octetsOf s) (entries (stringAt (tableOf table) t) (768 * table) n)) x

@@ -1,15 +1,20 @@
 -- Contracts of the code, not definitions to be believed. What ties the index to the tables.
 use Prim.Native.Nat.{ℕ, _+_, _*_, _≤_, _<_}
 use mathlib.Core.Path.{_≡_}
-use mathlib.Core.Bool.{Bool, true, not}
+use mathlib.Core.Bool.{Bool, true, false, not}
+use mathlib.Core.List.{map}
 use lib.ListN.{length, getD}
+use lib.Dec.{eqb}
 use Rattle.format.specs.Octets.{Octets, Words}
 use Rattle.format.specs.Tables.{Triple, same, sameTriple}
-use Rattle.tables.specs.Located.{octetsOf}
-use Rattle.tables.specs.Rows.{tableOf, builtIn, stringAt, tripleAt}
+use Rattle.tables.specs.Located.{stretch, octetsOf}
+use Rattle.tables.specs.Rows.{tableOf, builtIn, stringAt, tripleAt, entries}
+use Rattle.tables.specs.Search.{numberIn}
 use Rattle.tables.specs.Kept.{stored}
 use Rattle.index.specs.Hash.{bucket, nameBucket}
 use Rattle.index.specs.Chain.{Kind, reached, Chains}
+use Rattle.index.specs.declared.Added.{Added}
+use Rattle.index.specs.declared.Added.the-variants.{Done, Known, Full}
 
 -- Octets in the index: 384 for each table.
 abbrev pub slots : ℕ
@@ -62,3 +67,13 @@ pub record StringEntered (s : Octets) (table n place len : ℕ) (t : Words) (ind
 pub record NameEntered (s : Octets) (table n : ℕ) (x : Triple) (t : Words) (index : Octets) (u : Words) (other : Octets) : Type 0 where
   pub words : u ≡ stored t table n (x .prefix) (x .namespace) (x .local)
   pub keeps : Keeps s table n t index u other
+
+-- The string at a place is one of a table's first n entries.
+abbrev pub listed : (s t : Octets) (table n place len : ℕ) → Bool
+listed s t table n place len = not (eqb (numberIn (map (octetsOf s) (entries (stringAt (tableOf table) t) (768 * table) n)) (octetsOf s (stretch place len))) 0)
+
+-- A string that is to be a new entry behind a table's n: it is one already, or the table is full, and nothing moved; or it was added.
+abbrev pub NewString : (s : Octets) (table n place len : ℕ) (t : Words) (index : Octets) → Added → (u : Words) (other : Octets) → Type 0
+NewString s table n place len t index Known u other = (listed s t table n place len ≡ true) × (u ≡ t) × (other ≡ index)
+NewString s table n place len t index Full u other = (listed s t table n place len ≡ false) × (256 ≤ n) × (u ≡ t) × (other ≡ index)
+NewString s table n place len t index Done u other = (listed s t table n place len ≡ false) × (n < 256) × StringEntered s table n place len t index u other

@@ -1,11 +1,13 @@
 // A hash index over the tables, local to a run: what `tables::find` and `tables::find_name` answer, in a few comparisons.
 // May depend on format, fields and tables.
 ghost use mathlib.Core.Path.{_≡_};
-ghost use mathlib.Core.Bool.{false};
+ghost use mathlib.Core.Bool.{true, false};
 ghost use mathlib.Core.List.{List, map};
 ghost use Prim.Native.Nat.{ℕ, _+_, _-_, _*_, _/_, _<_, _≤_};
 ghost use lib.ListN.{length};
 ghost use Rattle.format.specs.Tables.{same};
+ghost use Rattle.fields.specs.WeightContracts.{Low};
+ghost use Rattle.fields.specs.Utf8.{isText};
 ghost use Rattle.tables.specs.Located.{stretch, octetsOf};
 ghost use Rattle.tables.specs.Counts.{tableWords};
 ghost use Rattle.tables.specs.Rows.{tableOf, builtIn, stringAt, tripleAt, entries};
@@ -13,7 +15,8 @@ ghost use Rattle.tables.specs.Search.{numberIn, numberOfTriple};
 ghost use Rattle.tables.specs.Kept.{Inside};
 ghost use Rattle.index.specs.Hash.{summed, blended, spread, rolled, bucket, nameBucket};
 ghost use Rattle.index.specs.Chain.{lastRow, pushed};
-ghost use Rattle.index.specs.Indexed.{slots, strings, stringsAt, names, StringsIndexed, NamesIndexed, StringEntered, NameEntered};
+ghost use Rattle.index.specs.Indexed.{slots, strings, stringsAt, names, StringsIndexed, NamesIndexed, StringEntered, NameEntered, listed, NewString};
+use tables::Counts;
 
 // Octets of the index: PART for each table.
 pub const SLOTS: usize = 3840;
@@ -77,42 +80,109 @@ fn spread(h: u64, x: u64) -> usize
     (sum(h, x) / 0x100_0000 % 128) as usize
 }
 
-// The eights of the string of s at place, but for the last, in one number.
-fn roll(s: &[u8], place: usize, len: usize) -> u64
-    requires { ⌜ (1 ≤ len) × (place + len ≤ length (now s)) ⌝ }
-    ensures { λ r. ⌜ (r ≡ rolled (octetsOf (now (s .entry)) (stretch place len)) 0 ((len - 1) / 8) 0) × (r < 0x1_0000_0000) ⌝ }
-{
-    let mut h = 0;
-    let mut i = 0;
-    while 8 < len - i {
-        h = blend(h, fields::eight(s, place + i));
-        i += 8;
-    }
-    h
+// What eights of a string come to: one number, and the high bits that some octet of them has.
+struct Rolled {
+    number: u64,
+    high: u64,
 }
 
-// The bucket of the string of s at place. Most names have at most 16 octets, and no loop.
-pub fn bucket_of(s: &[u8], place: usize, len: usize) -> usize
+// The eights of the string of s at place, but for the last.
+fn roll(s: &[u8], place: usize, len: usize) -> Rolled
     requires { ⌜ (1 ≤ len) × (place + len ≤ length (now s)) ⌝ }
-    ensures { λ r. ⌜ (r ≡ bucket (octetsOf (now (s .entry)) (stretch place len))) × (r < 128) ⌝ }
+    ensures { λ r. ⌜ (r .number ≡ rolled (octetsOf (now (s .entry)) (stretch place len)) 0 ((len - 1) / 8) 0) × (r .number < 0x1_0000_0000) × (r .high ≡ 0 → Low (now (s .entry)) place (place + 8 * ((len - 1) / 8))) ⌝ }
+{
+    let mut number = 0;
+    let mut high = 0;
+    let mut i = 0;
+    while 8 < len - i {
+        let x = fields::eight(s, place + i);
+        number = blend(number, x);
+        high = high | (x & fields::HIGH);
+        i += 8;
+    }
+    Rolled { number, high }
+}
+
+// How many octets of so long a string count beside the last eight.
+fn counting(len: usize) -> usize
+    requires { ⌜ 9 ≤ len ⌝ }
+    ensures { λ r. ⌜ (9 ≤ r) × (r ≤ len) × (len ≤ 65 → r ≡ len) × (65 < len → r ≡ 65) ⌝ }
+{
+    if len < COUNTED {
+        return len;
+    }
+    COUNTED
+}
+
+// What a look at the octets of a string tells: its bucket, and that it is plain, which is that none is above 0x7F. A long one is not said to be.
+struct Seen {
+    bucket: usize,
+    plain: bool,
+}
+
+// The string of s at place.
+fn look(s: &[u8], place: usize, len: usize) -> Seen
+    requires { ⌜ (1 ≤ len) × (place + len ≤ length (now s)) ⌝ }
+    ensures { λ r. ⌜ (r .bucket ≡ bucket (octetsOf (now (s .entry)) (stretch place len))) × (r .bucket < 128) × (r .plain ≡ true → Low (now (s .entry)) place (place + len)) ⌝ }
 {
     if len < 4 {
         let middle = octet(s[place + len / 2]);
         let last = octet(s[place + (len - 1)]);
-        return spread(0, octet(s[place]) + 0x100 * middle + 0x1_0000 * last);
+        let few = octet(s[place]) + 0x100 * middle + 0x1_0000 * last;
+        return Seen {
+            bucket: spread(0, few),
+            plain: few & fields::HIGH == 0,
+        };
     }
     if len <= 8 {
         let last = fields::four(s, place + (len - 4));
-        return spread(0, fields::four(s, place) + 0x1_0000_0000 * last);
+        let both = fields::four(s, place) + 0x1_0000_0000 * last;
+        return Seen {
+            bucket: spread(0, both),
+            plain: both & fields::HIGH == 0,
+        };
     }
     let end = fields::eight(s, place + (len - 8));
-    if len <= 16 {
-        return spread(blend(0, fields::eight(s, place)), end);
+    let n = counting(len);
+    let r = roll(s, place, n);
+    let high = r.high | (end & fields::HIGH);
+    Seen {
+        bucket: spread(r.number, end),
+        plain: high == 0 && n == len,
     }
-    if len <= COUNTED {
-        return spread(roll(s, place, len), end);
+}
+
+// The bucket of the string of s at place.
+pub fn bucket_of(s: &[u8], place: usize, len: usize) -> usize
+    requires { ⌜ (1 ≤ len) × (place + len ≤ length (now s)) ⌝ }
+    ensures { λ r. ⌜ (r ≡ bucket (octetsOf (now (s .entry)) (stretch place len))) × (r < 128) ⌝ }
+{
+    let x = look(s, place, len);
+    x.bucket
+}
+
+// A string's bucket, and whether it is text.
+pub struct Marked {
+    pub bucket: usize,
+    pub text: bool,
+}
+
+// The string of s at place. One look tells both of most strings.
+pub fn mark(s: &[u8], place: usize, len: usize) -> Marked
+    requires { ⌜ (1 ≤ len) × (place + len ≤ length (now s)) ⌝ }
+    ensures { λ r. ⌜ (r .bucket ≡ bucket (octetsOf (now (s .entry)) (stretch place len))) × (r .bucket < 128) × (r .text ≡ isText (octetsOf (now (s .entry)) (stretch place len))) ⌝ }
+{
+    let x = look(s, place, len);
+    if x.plain {
+        return Marked {
+            bucket: x.bucket,
+            text: true,
+        };
     }
-    spread(roll(s, place, COUNTED), end)
+    Marked {
+        bucket: x.bucket,
+        text: fields::is_text(s, place, place + len),
+    }
 }
 
 // The number of the string of s at place in row 255 of a full table, 0 elsewhere: what is left where a chain ends.
@@ -235,16 +305,90 @@ pub fn enter_in(
     push(index, table, h, n);
 }
 
-// The same where the bucket and the number are not known: what a table is given that may hold the string already.
-pub fn enter(s: &[u8], t: &mut [u32], index: &mut [u8], table: usize, n: u32, place: u32, len: u32)
-    requires { ⌜ (length (now t) ≡ tableWords) × (length (now index) ≡ slots) × (table < 8) × (n < 256) × (1 ≤ len) × (place + len ≤ length (now s)) × Inside (now s) (entries (stringAt (tableOf table) (now t)) (768 * table) n) × StringsIndexed (now s) (now t) (now index) table n ⌝ }
-    ensures { λ _. ⌜ StringEntered (now (s .entry)) table n place len (now (t .entry)) (now (index .entry)) (now (t .exit)) (now (index .exit)) ⌝ }
+// Whether the string of s at place, which is not built in, is an entry, by its chain, that of bucket h. As `find_chained`, of which it is a copy where the reader
+// looks a new string up, so that neither costs a call.
+fn is_listed(
+    s: &[u8],
+    t: &[u32],
+    index: &[u8],
+    table: usize,
+    n: u32,
+    place: usize,
+    len: usize,
+    h: usize,
+) -> bool
+    requires { ⌜ (length (now t) ≡ tableWords) × (length (now index) ≡ slots) × (table < 8) × (n ≤ 256) × (1 ≤ len) × (place + len ≤ length (now s)) × Inside (now s) (entries (stringAt (tableOf table) (now t)) (768 * table) n) × StringsIndexed (now s) (now t) (now index) table n × (h ≡ bucket (octetsOf (now s) (stretch place len))) × (h < 128) × (same (octetsOf (now s) (builtIn (tableOf table))) (octetsOf (now s) (stretch place len)) ≡ false) ⌝ }
+    ensures { λ r. ⌜ r ≡ listed (now (s .entry)) (now (t .entry)) table n place len ⌝ }
 {
-    let at = wide(place);
-    let size = wide(len);
-    let h = bucket_of(s, at, size);
-    let known = find_in(s, t, index, table, n, at, size, h);
-    enter_in(s, t, index, table, n, place, len, known, h);
+    let last = s[place + (len - 1)];
+    let first = PART * table + h;
+    let mut row = number(index[first]);
+    while 0 < row {
+        if tables::is_spelled(s, t, 768 * table + 3 * (row - 1), place, len, last) {
+            return true;
+        }
+        row = number(index[PART * table + HEADS + (row - 1)]);
+    }
+    find_last(s, t, table, n, place, len) != 0
+}
+
+// What became of a string that is to be a new entry.
+pub enum Added {
+    Done,
+    Known,
+    Full,
+}
+
+fn narrow(x: usize) -> u32
+    requires { ⌜ x < 0x1_0000_0000 ⌝ }
+    ensures { λ r. ⌜ r ≡ x ⌝ }
+{
+    x as u32
+}
+
+// The same of the built-in string, which is in no chain.
+fn add_built_in(s: &[u8], t: &mut [u32], table: usize, n: u32, place: usize, len: usize) -> Added
+    requires { ⌜ (length (now t) ≡ tableWords) × (table < 8) × (n ≤ 256) × (1 ≤ len) × (place + len ≤ length (now s)) × (length (now s) < 0x1_0000_0000) × Inside (now s) (entries (stringAt (tableOf table) (now t)) (768 * table) n) × (same (octetsOf (now s) (builtIn (tableOf table))) (octetsOf (now s) (stretch place len)) ≡ true) ⌝ }
+    ensures { λ r. ⌜ ((index : List ℕ) → NewString (now (s .entry)) table n place len (now (t .entry)) index r (now (t .exit)) index) ⌝ }
+{
+    if tables::find_any(s, t, table, n, place, len) != 0 {
+        return Added::Known;
+    }
+    if Counts::ENTRIES <= n {
+        return Added::Full;
+    }
+    tables::add(t, table, n, narrow(place), narrow(len), 0);
+    Added::Done
+}
+
+// The string of s at place, whose bucket is h, becomes an entry behind a table's n where it is none yet.
+pub fn add_new(
+    s: &[u8],
+    t: &mut [u32],
+    index: &mut [u8],
+    table: usize,
+    n: u32,
+    place: usize,
+    len: usize,
+    h: usize,
+) -> Added
+    requires { ⌜ (length (now t) ≡ tableWords) × (length (now index) ≡ slots) × (table < 8) × (n ≤ 256) × (1 ≤ len) × (place + len ≤ length (now s)) × Inside (now s) (entries (stringAt (tableOf table) (now t)) (768 * table) n) × StringsIndexed (now s) (now t) (now index) table n × (h ≡ bucket (octetsOf (now s) (stretch place len))) × (h < 128) × (length (now s) < 0x1_0000_0000) ⌝ }
+    ensures { λ r. ⌜ NewString (now (s .entry)) table n place len (now (t .entry)) (now (index .entry)) r (now (t .exit)) (now (index .exit)) ⌝ }
+{
+    if tables::is_built_in(s, table, place, len) {
+        return add_built_in(s, t, table, n, place, len);
+    }
+    if is_listed(s, t, index, table, n, place, len, h) {
+        return Added::Known;
+    }
+    if Counts::ENTRIES <= n {
+        return Added::Full;
+    }
+    tables::add(t, table, n, narrow(place), narrow(len), 0);
+    if n < LAST {
+        push(index, table, h, n);
+    }
+    Added::Done
 }
 
 // The bucket of a name.

@@ -32,7 +32,8 @@ use Rattle.tables.proofs.Adding.{names-adding}
 use Rattle.tables.proofs.Entries.{stored-0, stored-1}
 use Rattle.tables.proofs.Rooms.{stored-length}
 use Rattle.tables.proofs.Laws.{strings-are, length-strings, string-nth, counted-more, string-added, clean-string, holds-number, inside-string, inside-table}
-use Rattle.index.specs.Indexed.{Indexed, StringsIndexed, StringEntered}
+use Rattle.index.specs.declared.Added.the-variants.{Done, Known, Full}
+use Rattle.index.specs.Indexed.{listed, NewString, Indexed, StringsIndexed, StringEntered}
 use Rattle.index.proofs.Entered.{keeps-elsewhere}
 use Rattle.events.specs.declared.EventString.{EventString}
 use Rattle.events.specs.declared.EventString.the-variants.{Absent, Empty, Stretch, XmlPrefix, XmlNamespace}
@@ -57,6 +58,9 @@ pub behind-within : (most : ℕ) (s : List ℕ) (k : ℕ) (fs : List Form) (bit 
 behind-within most s k fs bit (NoNum n p) e = tt
 behind-within most s k fs bit (Num n c) e = field-got most s k fs bit (sym e) .3
 
+pub begins : (s : List ℕ) (k : ℕ) (r : Number) (bit n : ℕ) (c : Cursor) → r ≡ fieldAt (lengths bit) noTop bit s k → r ≡ Num n c → (1 ≤ n) × (c .at ≤ length s)
+begins s k r bit n c read e = let g = field-got noTop s k (lengths bit) bit (sym read ∙ e) in (g .0, g .3)
+
 pub starts-within : (s : List ℕ) (r : Number) (n : ℕ) (c : Cursor) → r ≡ Num n c → BehindWithin s r → c .at ≤ length s
 starts-within s r n c e w = rw e at w
 
@@ -70,17 +74,24 @@ module _ (s : List ℕ) (k : ℕ) (r : Number) where
     unfolding stretchOf
     stretch-past h = rw (e, lt-leb _ _ h)
 
+    module _ (b : Bool) (h : c .at + n ≤ length s) (q : b ≡ isText (octetsOf s (stretch (c .at) n))) where
+      pub judged-bad : b ≡ false → NoNum 9 k ≡ stretchOf s k r
+      unfolding stretchOf
+      judged-bad t = rw (e, le-leb _ _ h, ← q, t)
+
+      pub judged-text : b ≡ true → Num n c ≡ stretchOf s k r
+      unfolding stretchOf
+      judged-text t = rw (e, le-leb _ _ h, ← q, t)
+
     module _ (b : Bool) (to : ℕ) (h : c .at + n ≤ length s) (is-to : to ≡ c .at + n) (q : b ≡ isText (take (to - c .at) (drop (c .at) s))) where
       tested : b ≡ isText (octetsOf s (stretch (c .at) n))
       tested = let z : to - c .at ≡ n = omega arith in rw (octets-stretch s (c .at) n, ← z) q
 
       pub stretch-bad : b ≡ false → NoNum 9 k ≡ stretchOf s k r
-      unfolding stretchOf
-      stretch-bad t = rw (e, le-leb _ _ h, ← tested, t)
+      stretch-bad = judged-bad b h tested
 
       pub stretch-text : b ≡ true → Num n c ≡ stretchOf s k r
-      unfolding stretchOf
-      stretch-text t = rw (e, le-leb _ _ h, ← tested, t)
+      stretch-text = judged-text b h tested
 
 -- ---- an entry as a string of an event
 module _ (t at : ℕ) (w : List ℕ) (e : Row) (is : e ≡ rowAt w at) where
@@ -366,38 +377,61 @@ module _ (s c w x : List ℕ) (t k : ℕ) (tidy : Tidy s c w x) (small : t < 8) 
     unfolding idAt
     id-spelled = rw (lt-ltb _ _ low, is, read) (judged s k asId (fieldAt (lengths 2) noTop 2 s k))
 
-    pub fresh-not : (n p : ℕ) → r ≡ NoNum n p → IdAnswers s c w t (NotNumbered n p) c w x byId
+    fresh-not : (n p : ℕ) → r ≡ NoNum n p → IdAnswers s c w t (NotNumbered n p) c w x byId
     fresh-not n p e = rw (id-spelled, e) (refl, rooms, tt)
 
-    module _ (n : ℕ) (i : Cursor) (e : r ≡ Num n i) (f : ℕ)
-        (found : f ≡ numberIn (map (octetsOf s) (entries (stringAt (tableOf t) w) (768 * t) (getD c t 0))) (octetsOf s (stretch (i .at) n))) where
-      there : holds (map (octetsOf s) table) (octetsOf s (stretch (i .at) n)) ≡ not (eqb f 0)
-      there = rw (strings-are (unlisted c) w t small, count-at c (tidy .ten) t, found) (holds-number _ _)
+    module _ (n : ℕ) (i : Cursor) (e : r ≡ Num n i) where
+      there : holds (map (octetsOf s) table) (octetsOf s (stretch (i .at) n)) ≡ listed s w t (getD c t 0) (i .at) n
+      there = rw (strings-are (unlisted c) w t small, count-at c (tidy .ten) t) (holds-number _ _)
 
-      pub fresh-there : (f ≡ 0 → ⊥) → IdAnswers s c w t (NotNumbered 11 k) c w x byId
-      fresh-there ne = rw (id-spelled, e, there, ne-eqb _ _ ne) (refl, rooms, tt)
+      fresh-known : listed s w t (getD c t 0) (i .at) n ≡ true → IdAnswers s c w t (NotNumbered 11 k) c w x byId
+      fresh-known l = rw (id-spelled, e, there, l) (refl, rooms, tt)
 
-      pub fresh-full : f ≡ 0 → 256 ≤ getD c t 0 → IdAnswers s c w t (NotNumbered 12 k) c w x byId
-      unfolding link
-      fresh-full z l = rw (id-spelled, e, there, z, length-strings (unlisted c) w t small, count-at c (tidy .ten) t, le-ltb _ _ l) (refl, rooms, tt)
+      module _ (new : listed s w t (getD c t 0) (i .at) n ≡ false) where
+        fresh-full : 256 ≤ getD c t 0 → IdAnswers s c w t (NotNumbered 12 k) c w x byId
+        unfolding link
+        fresh-full l = rw (id-spelled, e, there, new, length-strings (unlisted c) w t small, count-at c (tidy .ten) t, le-ltb _ _ l) (refl, rooms, tt)
 
-      fresh-stored : f ≡ 0 → (l : getD c t 0 < 256) (y : List ℕ) → StringEntered s t (getD c t 0) (i .at) n w x (stored w t (getD c t 0) (i .at) n 0) y
-          → IdAnswers s c w t (Numbered (getD c t 0 + 1) (i .at + n)) (set c t (getD c t 0 + 1)) (stored w t (getD c t 0) (i .at) n 0) y byId
-      unfolding link
-      fresh-stored z l y q =
-          let b = stretch-lies s k m n i (sym e ∙ is) 2 read in
-          let more = one-more-words c (tidy .ten) t (omega arith) .here in
-          rw (id-spelled, e, there, z, length-strings (unlisted c) w t small, count-at c (tidy .ten) t, lt-ltb _ _ l, ← add-one (getD c t 0)) (
-            rw (← new-string s c w x t (i .at) n tidy small l (b .1) (b .0), ← is-added s c w x t (i .at) n tidy small l (b .1) (b .0)) refl,
-            (left-entered s c w x t (i .at) n tidy small l (b .1) (b .0) y q, omega arith),
-            omega arith,
-          )
+        fresh-stored : (l : getD c t 0 < 256) (y : List ℕ) → StringEntered s t (getD c t 0) (i .at) n w x (stored w t (getD c t 0) (i .at) n 0) y
+            → IdAnswers s c w t (Numbered (getD c t 0 + 1) (i .at + n)) (set c t (getD c t 0 + 1)) (stored w t (getD c t 0) (i .at) n 0) y byId
+        unfolding link
+        fresh-stored l y q =
+            let b = stretch-lies s k m n i (sym e ∙ is) 2 read in
+            let more = one-more-words c (tidy .ten) t (omega arith) .here in
+            rw (id-spelled, e, there, new, length-strings (unlisted c) w t small, count-at c (tidy .ten) t, lt-ltb _ _ l, ← add-one (getD c t 0)) (
+              rw (← new-string s c w x t (i .at) n tidy small l (b .1) (b .0), ← is-added s c w x t (i .at) n tidy small l (b .1) (b .0)) refl,
+              (left-entered s c w x t (i .at) n tidy small l (b .1) (b .0) y q, omega arith),
+              omega arith,
+            )
 
-      pub fresh-added : f ≡ 0 → getD c t 0 < 256 → (a b : ℕ) → a ≡ i .at → b ≡ n → (v y : List ℕ) → StringEntered s t (getD c t 0) a b w x v y
-          → IdAnswers s c w t (Numbered (getD c t 0 + 1) (i .at + n)) (set c t (getD c t 0 + 1)) v y byId
-      fresh-added z l a b ea eb v y q =
-          let q : StringEntered s t (getD c t 0) (i .at) n w x v y = rw (ea, eb) at q in
-          rw (q .words) (fresh-stored z l y (rw (q .words) at q))
+        fresh-added : getD c t 0 < 256 → (v y : List ℕ) → StringEntered s t (getD c t 0) (i .at) n w x v y
+            → IdAnswers s c w t (Numbered (getD c t 0 + 1) (i .at + n)) (set c t (getD c t 0 + 1)) v y byId
+        fresh-added l v y q = rw (q .words) (fresh-stored l y (rw (q .words) at q))
+
+  -- its length was read, m: n octets from a place on; and what became of them
+  module _ (low : getD s k 0 < 0x80) (m : Number) (read : m ≡ fieldAt (lengths 2) noTop 2 s k) where
+    pub fresh-refused : (n p : ℕ) → m ≡ NoNum n p → IdAnswers s c w t (NotNumbered n p) c w x byId
+    fresh-refused n p e = fresh-not low m read m (stretch-not s k m n p e) n p e
+
+    module _ (n : ℕ) (i : Cursor) (e : m ≡ Num n i) where
+      pub fresh-past : length s < i .at + n → IdAnswers s c w t (NotNumbered 2 k) c w x byId
+      fresh-past h = fresh-not low m read (NoNum 2 k) (stretch-past s k m n i e h) 2 k refl
+
+      module _ (b : Bool) (h : i .at + n ≤ length s) (q : b ≡ isText (octetsOf s (stretch (i .at) n))) where
+        pub fresh-bad : b ≡ false → IdAnswers s c w t (NotNumbered 9 k) c w x byId
+        fresh-bad z = fresh-not low m read (NoNum 9 k) (judged-bad s k m n i e b h q z) 9 k refl
+
+        -- they are text, and v and y are the words of the tables and the index then
+        module _ (text : b ≡ true) (v y : List ℕ) where
+          pub new-known : NewString s t (getD c t 0) (i .at) n w x Known v y → IdAnswers s c w t (NotNumbered 11 k) c v y byId
+          new-known a = rw (a .1) (fresh-known low m read (Num n i) (judged-text s k m n i e b h q text) n i refl (a .0))
+
+          pub new-full : NewString s t (getD c t 0) (i .at) n w x Full v y → IdAnswers s c w t (NotNumbered 12 k) c v y byId
+          new-full a = rw (a .2) (fresh-full low m read (Num n i) (judged-text s k m n i e b h q text) n i refl (a .0) (a .1))
+
+          pub new-done : NewString s t (getD c t 0) (i .at) n w x Done v y
+              → IdAnswers s c w t (Numbered (getD c t 0 + 1) (i .at + n)) (set c t (getD c t 0 + 1)) v y byId
+          new-done a = fresh-added low m read (Num n i) (judged-text s k m n i e b h q text) n i refl (a .0) (a .1) v y (a .2)
 
   module _ (high : 0x80 ≤ getD s k 0) (r : Number) (is : r ≡ fieldAt c25 top 2 s k) where
     pub id-held : (a : Entry) → a ≡ heldOf (countOf (unlisted c) t) k r → IdAnswers s c w t a c w x byId

@@ -27,6 +27,7 @@ use format::refusals::REPEAT;
 use format::refusals::TEXT;
 use format::refusals::TRUNCATED;
 use format::table::CONTENT_CHARACTER_CHUNK;
+use index::Added;
 use tables::Counts;
 
 // The octet at a place, 0 behind the last.
@@ -111,22 +112,27 @@ fn fresh(
     ensures { λ r. ⌜ (seenId table r (now (counts .exit)) (now (t .exit)) ≡ idSeen (idAt link (now (s .entry)) (tableOf table) at (vocabulary (unlisted (now (counts .entry))) (now (t .entry))))) × IdLeft (now (s .entry)) (now (counts .entry)) (now (t .entry)) table r (now (counts .exit)) (now (t .exit)) (now (index .exit)) × Positive r ⌝ }
 {
     let c = Cursor { at };
-    match stretch(s, at, c.length(s, 2)) {
+    match c.length(s, 2) {
         Number::Refused(k, place) => Entry::Refused(k, place),
         Number::Got(n, first) => {
             let place = first.at;
             let size = n as usize;
+            if s.len() - place < size {
+                return Entry::Refused(TRUNCATED, at);
+            }
+            let m = index::mark(s, place, size);
+            if !m.text {
+                return Entry::Refused(TEXT, at);
+            }
             let count = counts[table];
-            let h = index::bucket_of(s, place, size);
-            if index::find_in(s, t, index, table, count, place, size, h) != 0 {
-                return Entry::Refused(REPEAT, at);
+            match index::add_new(s, t, index, table, count, place, size, m.bucket) {
+                Added::Known => Entry::Refused(REPEAT, at),
+                Added::Full => Entry::Refused(FULL, at),
+                Added::Done => {
+                    counts[table] = count + 1;
+                    Entry::Got(count + 1, place + size)
+                }
             }
-            if Counts::ENTRIES <= count {
-                return Entry::Refused(FULL, at);
-            }
-            index::enter_in(s, t, index, table, count, narrow(place), narrow(size), 0, h);
-            counts[table] = count + 1;
-            Entry::Got(count + 1, place + size)
         }
     }
 }

@@ -1,24 +1,29 @@
--- `roll` meets its contract: eight octets at a time: what is left from octet i on gives what the whole gives.
+-- `roll` meets its contract: eight octets at a time: what is left from octet i on gives what the whole gives, and those before it are low where no high bit was seen.
 -- Assumes nothing.
 use borrow.Author.Needs.{needs}
 use native.Mathlib.Omega.{arith}
 use mathlib.Core.Path.{_≡_}
-use Prim.Native.Nat.{_-_, _/_, _≤_, _<_}
+use Prim.Native.Nat.{_+_, _-_, _/_, _%_, _≤_, _<_}
+use Rattle.fields.specs.WeightContracts.{Low}
+use Rattle.fields.proofs.Low.{highBits}
 use Rattle.tables.specs.Located.{stretch, octetsOf}
 use Rattle.index.specs.Hash.{rolled}
 use Rattle.index.proofs.Hash.{rolled-start, rolled-next, rolled-end}
+use Rattle.index.proofs.Plain.{low-next}
 use Rattle.index.proofs.roll.Statement.{statement}
 use Rattle.index.proofs.roll.Tie as tie
 
 abbrev Inv-loop : tie.InvT-loop
-Inv-loop s place len h₀ i₀ h i =
-    (i ≤ len) × (h < 0x100000000) × (rolled (octetsOf s (stretch place len)) i ((len - i - 1) / 8) h ≡ rolled (octetsOf s (stretch place len)) 0 ((len - 1) / 8) 0)
+Inv-loop s place len number₀ high₀ i₀ number high i =
+    (i < len) × (i % 8 ≡ 0) × (number < 0x100000000)
+    × (rolled (octetsOf s (stretch place len)) i ((len - i - 1) / 8) number ≡ rolled (octetsOf s (stretch place len)) 0 ((len - 1) / 8) 0)
+    × (high ≡ 0 → Low s place (place + i))
 
 abbrev μ-loop : tie.MeasureT-loop
-μ-loop s place len h₀ i₀ h i = len - i
+μ-loop s place len number₀ high₀ i₀ number high i = len - i
 
 loop-holds : tie.Need-loop-holds Inv-loop μ-loop
-loop-holds c = (omega arith, omega arith, rolled-start _ (c .before .args .len))
+loop-holds c = (omega arith, omega arith, omega arith, rolled-start _ (c .before .args .len), λ z j l u. absurd (omega arith))
 
 sub-loop : tie.Need-sub-loop Inv-loop μ-loop
 sub-loop c = search needs
@@ -39,12 +44,16 @@ loop-less : tie.Need-loop-less Inv-loop μ-loop
 loop-less c = search needs
 
 loop-again : tie.Need-loop-again Inv-loop μ-loop
+unfolding highBits
 loop-again c =
-    let e = rolled-next _ _ _ (c .before .before .before .before .before .pre .1) _ _ _ (omega arith) (c .before .before .before .loop .inv .2) in
-    (omega arith, c .blend .ensures .1, rw (c .blend .ensures .0, c .before .eight .ensures .0) e)
+    let inv = c .before .before .before .loop .inv in
+    let e = rolled-next _ _ _ (c .before .before .before .before .before .pre .1) _ _ _ (omega arith) (inv .3) in
+    (omega arith, omega arith, c .blend .ensures .1, rw (c .blend .ensures .0, c .before .eight .ensures .0) e, low-next _ _ _ _ _ (c .before .eight .ensures) (inv .4))
 
 returns : tie.Need-returns Inv-loop μ-loop
-returns c = (rolled-end _ _ _ _ _ (omega arith) (c .before .loop .inv .2), c .before .loop .inv .1)
+returns c =
+    let inv = c .before .loop .inv in
+    (rolled-end _ _ _ _ _ (omega arith) (inv .3), inv .2, λ z j l u. inv .4 z j l (omega arith))
 
 pub roll-spec : {M : Type 1} → statement M
 roll-spec =
