@@ -34,6 +34,7 @@ use Rattle.read_items.specs.Contracts.{Lent, lent, standOf, SeenStep, more, qui
 use Rattle.reader.specs.declared.run.Ended.{Ended}
 use Rattle.reader.specs.declared.run.Ended.the-variants.{Accepted, Refused}
 use Rattle.reader.specs.Reading.{Opening, onward, halt, sized, opening, EventRead, recordRead, Result, accepted, refusal, plus, turn, run, origin, fuelOf, reading, numberOf, checkOf}
+use Rattle.reader.specs.LaneContracts.{whole, Underway}
 use Rattle.reader.specs.RunContracts.{Ending, ended, faulty, endingOf, seenEnding, eventWords, keptFrom, Small, answerNumber, Ran}
 use Rattle.read_names.proofs.StringLaws.{tests}
 use Rattle.read_items.proofs.Places.{Placed, step-placed}
@@ -188,20 +189,6 @@ placed-seen s (I.quiet k) h = tt
 placed-seen s I.done h = tt
 placed-seen s (I.stop j p) h = h
 
--- ---- a run of a document s with records for `room` events, whose words were v
-abbrev whole : List ℕ → (room body : ℕ) → Result
-whole s room body = run link s (fuelOf s) room (origin body (start link))
-
-module _ (s v : List ℕ) (room body : ℕ) where
-  -- there is fuel for `left` steps more, and there were n events; a is what is lent
-  pub record Underway (left n : ℕ) (st : State) (a : Lent) : Type 0 where
-    pub good : Good s st a
-    pub fits : n ≤ room
-    pub fuel : n + left ≤ 2 * length s + 1
-    pub ends : endingOf n (run link s left (room - n) (standOf st a)) ≡ endingOf 0 (whole s room body)
-    pub keeps : 13 * room ≤ length v → keptFrom (a .records) n (run link s left (room - n) (standOf st a)) ≡ keptFrom v 0 (whole s room body)
-    pub same-length : length (a .records) ≡ length v
-
 -- ---- before the first item: tables of zeros, the counts of the start, an index of zeros
 module _ (s : List ℕ) (body : ℕ) (t c x : List ℕ) (zeros : t ≡ replicate tableWords 0) (counts : c ≡ listed (countsOf (start link))) (clear : x ≡ replicate slots 0) where
   tables-start : vocabulary (countsOf (start link)) t ≡ start link
@@ -248,6 +235,10 @@ module _ (s : List ℕ) (body : ℕ) (t c x : List ℕ) (zeros : t ≡ replicate
         same-length = refl;
       })
 
+pub run-one : (s : List ℕ) (left room : ℕ) (m : Stand) → 0 < left → run link s left room m ≡ turn (λ k j. run link s (left - 1) k j) room m (step link s m)
+unfolding run
+run-one s left room m h = let z : left ≡ suc (left - 1) = omega arith in ap (λ (k : ℕ). run link s k room m) z
+
 module _ {s v : List ℕ} {room body left n : ℕ} {st : State} {a : Lent} (u : Underway s v room body left n st a) where
   pub ran-spent : left ≤ 0 → Ran room v (Refused 2 (st .at / 2)) (a .counts) (a .tables) (a .records) (whole s room body)
   unfolding run
@@ -262,8 +253,7 @@ module _ {s v : List ℕ} {room body left n : ℕ} {st : State} {a : Lent} (u : 
     onward-from k m = run link s (left - 1) k m
 
     one : run link s left (room - n) (standOf st a) ≡ turn onward-from (room - n) (standOf st a) (step link s (standOf st a))
-    unfolding run
-    one = let z : left ≡ suc (left - 1) = omega arith in ap (λ (k : ℕ). run link s k (room - n) (standOf st a)) z
+    one = run-one s left (room - n) (standOf st a) h
 
     ends-here : endsBy onward-from (standOf st a) n (room - n) (seenStep r b) ≡ endingOf 0 (whole s room body)
     ends-here = rw (p .is) (sym (ap (endingOf n) one ∙ turn-ends onward-from (standOf st a) n (room - n) (step link s (standOf st a))) ∙ u .ends)

@@ -1,5 +1,6 @@
 // Reading a document: octets in, events and tables out, or a refusal and its place.
 // May depend on format, fields, tables, index, states, events, read_names and read_items.
+mod lane;
 mod run;
 
 pub use run::Opening;

@@ -8,6 +8,7 @@ ghost use Rattle.tables.specs.Counts.{tableWords};
 ghost use Rattle.reader.specs.Reading.{sized, opening, run, origin, fuelOf, reading, checkOf};
 ghost use Rattle.reader.specs.RunContracts.{openingOf, Ran, Small, answerNumber};
 ghost use Rattle.reader.specs.Words.{leaving, readWords};
+use crate::lane;
 use events::RECORD;
 use format::refusals::HEADER;
 use format::refusals::OPTIONAL_PART;
@@ -111,6 +112,11 @@ fn steps(
     let mut n = 0;
     let mut left = 2 * s.len() + 1;
     while 0 < left {
+        let y = lane::skim(s, t, counts, records, room, left, st, n);
+        left = n + left - y.n;
+        n = y.n;
+        let reached = y.state;
+        st = reached;
         left -= 1;
         match read_items::items::step(st, s, t, counts, &mut index, records, n) {
             Step::More(next, place) => {

@@ -1,12 +1,13 @@
--- `steps` meets its contract: the run is underway at each turn, and each way out ends it.
+-- `steps` meets its contract: the run is underway at each turn, before the lane and behind it, and each way out ends it.
 -- Assumes nothing.
-use mathlib.Core.Path.{_≡_, refl, ap, _∙_}
 use borrow.Author.Needs.{needs}
+use native.Mathlib.Omega.{arith}
+use mathlib.Core.Path.{_≡_, refl, ap, _∙_}
 use lib.ListN.{length}
 use Rattle.tables.specs.Kept.{listed}
 use Rattle.read_items.specs.Contracts.{lent}
-use Rattle.reader.proofs.RunLaws.{Underway, underway-start, underway-quiet, underway-more, more-place, ran-full, ran-done, stop-place, ran-stop, ran-spent}
-use native.Mathlib.Omega.{arith}
+use Rattle.reader.proofs.RunLaws.{underway-start, underway-quiet, underway-more, more-place, ran-full, ran-done, stop-place, ran-stop, ran-spent}
+use Rattle.reader.specs.LaneContracts.{Underway}
 use Rattle.reader.proofs.run.steps.Statement.{statement}
 use Rattle.reader.proofs.run.steps.Tie as tie
 
@@ -32,121 +33,100 @@ add-left : tie.Need-add-left Inv-loop μ-loop
 add-left c = omega arith
 
 loop-holds : tie.Need-loop-holds Inv-loop μ-loop
-loop-holds c =
-    let pre = c .before .before .before .before .before .before .before .before .before .before .pre in
-    (refl, omega arith, underway-start _ _ _ _ _ (pre .2) (c .before .before .before .put-counts .ensures ∙ ap listed (c .before .before .before .before .start .ensures)) refl (pre .0) (pre .1) _ _ (c .begin .ensures))
+loop-holds c = let pre = c .before .before .before .before .before .before .before .before .before .before .pre in (refl, omega arith, underway-start _ _ _ _ _ (pre .2) (c .before .before .before .put-counts .ensures ∙ ap listed (c .before .before .before .before .start .ensures)) refl (pre .0) (pre .1) _ _ (c .begin .ensures))
+
+skim-requires : tie.Need-skim-requires Inv-loop μ-loop
+skim-requires c κs = let u = c .before .before .before .before .loop .inv .2 in let g = u .good .tidy .size in let a = u .good .at in let f = u .fuel in (record { index = _; tidy = u .good .tidy }, omega arith, omega arith, u .fits, omega arith)
+
+add-left-2 : tie.Need-add-left-2 Inv-loop μ-loop
+add-left-2 c = let u = c .before .before .before .before .before .before .before .before .before .before .before .loop .inv .2 in let g = u .good .tidy .size in let f = u .fuel in omega arith
 
 sub-left : tie.Need-sub-left Inv-loop μ-loop
-sub-left c = omega arith
+sub-left c = let h = c .before .before .before .before .before .before .before .skim .ensures .short in omega arith
+
+sub-left-2 : tie.Need-sub-left-2 Inv-loop μ-loop
+sub-left-2 c = let h = c .before .before .before .before .before .before .before .before .skim .ensures .short in omega arith
 
 slice-aggregate-step : tie.Need-slice-aggregate-step Inv-loop μ-loop
 slice-aggregate-step c = search needs
 
 step-requires : tie.Need-step-requires Inv-loop μ-loop
-step-requires c κs = c .before .before .before .before .before .loop .inv .2 .good
+step-requires c κs = c .before .before .before .before .before .before .before .before .before .before .before .before .skim .ensures .goes (c .before .before .before .before .before .before .before .before .before .before .before .before .before .before .before .before .before .loop .inv .2) .good
 
 enum-known-next : tie.Need-enum-known-next Inv-loop μ-loop
 enum-known-next c = search needs
 
 refused-requires : tie.Need-refused-requires Inv-loop μ-loop
-refused-requires c κs =
-    let loop = c .before .before .before .before .before .before .before .before .before .before .before .before .before .before .before .before .before .loop in
-    let step = c .before .before .before .before .before .before .before .before .before .before .before .step in
-    more-place (loop .inv .2) (omega arith) (step .ensures) (c .before .before .next .given .1)
+refused-requires c κs = let u = c .before .before .before .before .before .before .before .before .before .before .before .before .before .before .before .before .before .before .before .before .before .before .before .before .skim .ensures .goes (c .before .before .before .before .before .before .before .before .before .before .before .before .before .before .before .before .before .before .before .before .before .before .before .before .before .before .before .before .before .loop .inv .2) in let h = c .before .before .before .before .before .before .before .before .before .before .before .before .before .before .before .before .before .before .before .before .before .before .before .before .skim .ensures .short in more-place u (omega arith) (c .before .before .before .before .before .before .before .before .before .before .before .step .ensures) (c .before .before .next .given .1)
 
 same-length : tie.Need-same-length Inv-loop μ-loop
-same-length c = let l = c .before .before .before .before .before .before .before .before .before .before .before .before .before .before .before .before .before .before .loop .inv .2 .same-length in omega arith
+same-length c = let i = c .before .before .before .before .before .before .before .before .before .before .before .before .before .before .before .before .before .before .before .before .before .before .before .before .before .before .before .before .before .before .loop .inv .0 in let k = c .before .before .before .before .before .before .before .before .before .before .before .before .before .before .before .before .before .before .before .before .before .before .before .before .before .skim .kept in let q = c .before .before .before .before .before .before .before .before .before .before .before .before .step .kept in omega arith
 
 same-length-2 : tie.Need-same-length-2 Inv-loop μ-loop
-same-length-2 c = let l = c .before .before .before .before .before .before .before .before .before .before .before .before .before .before .before .before .before .before .loop .inv .2 .same-length in omega arith
+same-length-2 c = let p = c .before .before .before .before .before .before .before .before .before .before .before .before .before .before .before .before .before .before .before .before .before .before .before .before .before .before .before .before .before .before .before .before .before .before .put-counts .kept in let i = c .before .before .before .before .before .before .before .before .before .before .before .before .before .before .before .before .before .before .before .before .before .before .before .before .before .before .before .before .before .before .loop .inv .1 in let k = c .before .before .before .before .before .before .before .before .before .before .before .before .before .before .before .before .before .before .before .before .before .before .before .before .before .skim .kept in let q = c .before .before .before .before .before .before .before .before .before .before .before .before .step .kept in omega arith
 
 same-length-3 : tie.Need-same-length-3 Inv-loop μ-loop
-same-length-3 c = let l = c .before .before .before .before .before .before .before .before .before .before .before .before .before .before .before .before .before .before .loop .inv .2 .same-length in omega arith
+same-length-3 c = let l = c .before .before .before .before .before .before .before .before .before .before .before .before .before .before .before .before .before .before .before .before .before .before .before .before .before .before .before .before .before .before .loop .inv .2 .same-length in let k = c .before .before .before .before .before .before .before .before .before .before .before .before .before .before .before .before .before .before .before .before .before .before .before .before .before .skim .kept in let q = c .before .before .before .before .before .before .before .before .before .before .before .before .step .kept in omega arith
 
 returns : tie.Need-returns Inv-loop μ-loop
-returns c =
-    let loop = c .before .before .before .before .before .before .before .before .before .before .before .before .before .before .before .before .before .before .loop in
-    let step = c .before .before .before .before .before .before .before .before .before .before .before .before .step in
-    rw (c .refused .ensures) (ran-full (loop .inv .2) (omega arith) (step .ensures) (c .before .before .before .next .given .1) (c .before .if1 .taken))
+returns c = let u = c .before .before .before .before .before .before .before .before .before .before .before .before .before .before .before .before .before .before .before .before .before .before .before .before .before .skim .ensures .goes (c .before .before .before .before .before .before .before .before .before .before .before .before .before .before .before .before .before .before .before .before .before .before .before .before .before .before .before .before .before .before .loop .inv .2) in let h = c .before .before .before .before .before .before .before .before .before .before .before .before .before .before .before .before .before .before .before .before .before .before .before .before .before .skim .ensures .short in rw (c .refused .ensures) (ran-full u (omega arith) (c .before .before .before .before .before .before .before .before .before .before .before .before .step .ensures) (c .before .before .before .next .given .1) (c .before .if1 .taken))
 
 add-n : tie.Need-add-n Inv-loop μ-loop
-add-n c = let f = c .before .before .before .before .before .before .before .before .before .before .before .before .before .before .before .before .before .loop .inv .2 .fuel in omega arith
+add-n c = let u = c .before .before .before .before .before .before .before .before .before .before .before .before .before .before .before .before .before .before .before .before .before .before .before .before .skim .ensures .goes (c .before .before .before .before .before .before .before .before .before .before .before .before .before .before .before .before .before .before .before .before .before .before .before .before .before .before .before .before .before .loop .inv .2) in let h = c .before .before .before .before .before .before .before .before .before .before .before .before .before .before .before .before .before .before .before .before .before .before .before .before .skim .ensures .short in let f = u .fuel in let g = u .good .tidy .size in omega arith
 
 loop-less : tie.Need-loop-less Inv-loop μ-loop
-loop-less c = omega arith
+loop-less c = let l = c .before .before .before .before .before .before .before .before .before .before .before .before .before .before .before .before .before .before .before .before .before .before .before .before .skim .ensures .less in let h = c .before .before .before .before .before .before .before .before .before .before .before .before .before .before .before .before .before .before .before .before .before .before .before .before .skim .ensures .short in omega arith
 
 loop-again : tie.Need-loop-again Inv-loop μ-loop
-loop-again c =
-    let loop = c .before .before .before .before .before .before .before .before .before .before .before .before .before .before .before .before .before .loop in
-    let step = c .before .before .before .before .before .before .before .before .before .before .before .step in
-    (omega arith, omega arith, underway-more (loop .inv .2) (omega arith) (step .ensures) (c .before .before .next .given .1) (c .if1 .left) (omega arith))
+loop-again c = let u = c .before .before .before .before .before .before .before .before .before .before .before .before .before .before .before .before .before .before .before .before .before .before .before .before .skim .ensures .goes (c .before .before .before .before .before .before .before .before .before .before .before .before .before .before .before .before .before .before .before .before .before .before .before .before .before .before .before .before .before .loop .inv .2) in let h = c .before .before .before .before .before .before .before .before .before .before .before .before .before .before .before .before .before .before .before .before .before .before .before .before .skim .ensures .short in let i = c .before .before .before .before .before .before .before .before .before .before .before .before .before .before .before .before .before .before .before .before .before .before .before .before .before .before .before .before .before .loop .inv in let k = c .before .before .before .before .before .before .before .before .before .before .before .before .before .before .before .before .before .before .before .before .before .before .before .before .skim .kept in let q = c .before .before .before .before .before .before .before .before .before .before .before .step .kept in (omega arith, omega arith, underway-more u (omega arith) (c .before .before .before .before .before .before .before .before .before .before .before .step .ensures) (c .before .before .next .given .1) (c .if1 .left) (omega arith))
 
 enum-known-next-2 : tie.Need-enum-known-next-2 Inv-loop μ-loop
 enum-known-next-2 c = search needs
 
 loop-less-2 : tie.Need-loop-less-2 Inv-loop μ-loop
-loop-less-2 c = omega arith
+loop-less-2 c = let l = c .before .before .before .before .before .before .before .before .before .before .before .before .before .before .before .before .before .before .before .before .before .before .before .skim .ensures .less in let h = c .before .before .before .before .before .before .before .before .before .before .before .before .before .before .before .before .before .before .before .before .before .before .before .skim .ensures .short in omega arith
 
 loop-again-2 : tie.Need-loop-again-2 Inv-loop μ-loop
-loop-again-2 c =
-    let loop = c .before .before .before .before .before .before .before .before .before .before .before .before .before .before .before .before .loop in
-    let step = c .before .before .before .before .before .before .before .before .before .before .step in
-    (omega arith, omega arith, underway-quiet (loop .inv .2) (omega arith) (step .ensures) (c .before .next2 .given .1) (omega arith))
+loop-again-2 c = let u = c .before .before .before .before .before .before .before .before .before .before .before .before .before .before .before .before .before .before .before .before .before .before .before .skim .ensures .goes (c .before .before .before .before .before .before .before .before .before .before .before .before .before .before .before .before .before .before .before .before .before .before .before .before .before .before .before .before .loop .inv .2) in let h = c .before .before .before .before .before .before .before .before .before .before .before .before .before .before .before .before .before .before .before .before .before .before .before .skim .ensures .short in let i = c .before .before .before .before .before .before .before .before .before .before .before .before .before .before .before .before .before .before .before .before .before .before .before .before .before .before .before .before .loop .inv in let k = c .before .before .before .before .before .before .before .before .before .before .before .before .before .before .before .before .before .before .before .before .before .before .before .skim .kept in let q = c .before .before .before .before .before .before .before .before .before .before .step .kept in (omega arith, omega arith, underway-quiet u (omega arith) (c .before .before .before .before .before .before .before .before .before .before .step .ensures) (c .before .next2 .given .1) (omega arith))
 
 enum-told : tie.Need-enum-told Inv-loop μ-loop
 enum-told c = search needs
 
-cast-t33 : tie.Need-cast-t33 Inv-loop μ-loop
-cast-t33 c =
-    let loop = c .before .before .before .before .before .before .before .before .before .before .before .before .before .before .before .loop in
-    let f = loop .inv .2 .fuel in
-    let g = loop .inv .2 .good .tidy .size in
-    omega arith
+cast-t42 : tie.Need-cast-t42 Inv-loop μ-loop
+cast-t42 c = let u = c .before .before .before .before .before .before .before .before .before .before .before .before .before .before .before .before .before .before .before .before .before .before .skim .ensures .goes (c .before .before .before .before .before .before .before .before .before .before .before .before .before .before .before .before .before .before .before .before .before .before .before .before .before .before .before .loop .inv .2) in let h = c .before .before .before .before .before .before .before .before .before .before .before .before .before .before .before .before .before .before .before .before .before .before .skim .ensures .short in let f = u .fuel in let g = u .good .tidy .size in omega arith
 
 same-length-4 : tie.Need-same-length-4 Inv-loop μ-loop
-same-length-4 c = let l = c .before .before .before .before .before .before .before .before .before .before .before .before .before .before .before .loop .inv .2 .same-length in omega arith
+same-length-4 c = let i = c .before .before .before .before .before .before .before .before .before .before .before .before .before .before .before .before .before .before .before .before .before .before .before .before .before .before .before .loop .inv .0 in let k = c .before .before .before .before .before .before .before .before .before .before .before .before .before .before .before .before .before .before .before .before .before .before .skim .kept in let q = c .before .before .before .before .before .before .before .before .before .step .kept in omega arith
 
 same-length-5 : tie.Need-same-length-5 Inv-loop μ-loop
-same-length-5 c = let l = c .before .before .before .before .before .before .before .before .before .before .before .before .before .before .before .loop .inv .2 .same-length in omega arith
+same-length-5 c = let p = c .before .before .before .before .before .before .before .before .before .before .before .before .before .before .before .before .before .before .before .before .before .before .before .before .before .before .before .before .before .before .before .put-counts .kept in let i = c .before .before .before .before .before .before .before .before .before .before .before .before .before .before .before .before .before .before .before .before .before .before .before .before .before .before .before .loop .inv .1 in let k = c .before .before .before .before .before .before .before .before .before .before .before .before .before .before .before .before .before .before .before .before .before .before .skim .kept in let q = c .before .before .before .before .before .before .before .before .before .step .kept in omega arith
 
 same-length-6 : tie.Need-same-length-6 Inv-loop μ-loop
-same-length-6 c = let l = c .before .before .before .before .before .before .before .before .before .before .before .before .before .before .before .loop .inv .2 .same-length in omega arith
+same-length-6 c = let l = c .before .before .before .before .before .before .before .before .before .before .before .before .before .before .before .before .before .before .before .before .before .before .before .before .before .before .before .loop .inv .2 .same-length in let k = c .before .before .before .before .before .before .before .before .before .before .before .before .before .before .before .before .before .before .before .before .before .before .skim .kept in let q = c .before .before .before .before .before .before .before .before .before .step .kept in omega arith
 
 returns-2 : tie.Need-returns-2 Inv-loop μ-loop
-returns-2 c =
-    let loop = c .before .before .before .before .before .before .before .before .before .before .before .before .before .before .before .loop in
-    let step = c .before .before .before .before .before .before .before .before .before .step in
-    ran-done (loop .inv .2) (omega arith) (step .ensures) (c .enum-told .given .1)
+returns-2 c = let u = c .before .before .before .before .before .before .before .before .before .before .before .before .before .before .before .before .before .before .before .before .before .before .skim .ensures .goes (c .before .before .before .before .before .before .before .before .before .before .before .before .before .before .before .before .before .before .before .before .before .before .before .before .before .before .before .loop .inv .2) in let h = c .before .before .before .before .before .before .before .before .before .before .before .before .before .before .before .before .before .before .before .before .before .before .skim .ensures .short in ran-done u (omega arith) (c .before .before .before .before .before .before .before .before .before .step .ensures) (c .enum-told .given .1)
 
 enum-known-stopped : tie.Need-enum-known-stopped Inv-loop μ-loop
 enum-known-stopped c = search needs
 
 cast-refused : tie.Need-cast-refused Inv-loop μ-loop
-cast-refused c =
-    let loop = c .before .before .before .before .before .before .before .before .before .before .before .before .before .before .before .before .loop in
-    let step = c .before .before .before .before .before .before .before .before .before .before .step in
-    let k = stop-place (loop .inv .2) (omega arith) (step .ensures) (c .before .stopped .given .1) in omega arith
+cast-refused c = let u = c .before .before .before .before .before .before .before .before .before .before .before .before .before .before .before .before .before .before .before .before .before .before .before .skim .ensures .goes (c .before .before .before .before .before .before .before .before .before .before .before .before .before .before .before .before .before .before .before .before .before .before .before .before .before .before .before .before .loop .inv .2) in let h = c .before .before .before .before .before .before .before .before .before .before .before .before .before .before .before .before .before .before .before .before .before .before .before .skim .ensures .short in let k = stop-place u (omega arith) (c .before .before .before .before .before .before .before .before .before .before .step .ensures) (c .before .stopped .given .1) in omega arith
 
 refused-requires-2 : tie.Need-refused-requires-2 Inv-loop μ-loop
-refused-requires-2 c κs =
-    let loop = c .before .before .before .before .before .before .before .before .before .before .before .before .before .before .before .before .loop in
-    let step = c .before .before .before .before .before .before .before .before .before .before .step in
-    stop-place (loop .inv .2) (omega arith) (step .ensures) (c .before .stopped .given .1) .1
+refused-requires-2 c κs = let u = c .before .before .before .before .before .before .before .before .before .before .before .before .before .before .before .before .before .before .before .before .before .before .before .skim .ensures .goes (c .before .before .before .before .before .before .before .before .before .before .before .before .before .before .before .before .before .before .before .before .before .before .before .before .before .before .before .before .loop .inv .2) in let h = c .before .before .before .before .before .before .before .before .before .before .before .before .before .before .before .before .before .before .before .before .before .before .before .skim .ensures .short in stop-place u (omega arith) (c .before .before .before .before .before .before .before .before .before .before .step .ensures) (c .before .stopped .given .1) .1
 
 same-length-7 : tie.Need-same-length-7 Inv-loop μ-loop
-same-length-7 c = let l = c .before .before .before .before .before .before .before .before .before .before .before .before .before .before .before .before .before .loop .inv .2 .same-length in omega arith
+same-length-7 c = let i = c .before .before .before .before .before .before .before .before .before .before .before .before .before .before .before .before .before .before .before .before .before .before .before .before .before .before .before .before .before .loop .inv .0 in let k = c .before .before .before .before .before .before .before .before .before .before .before .before .before .before .before .before .before .before .before .before .before .before .before .before .skim .kept in let q = c .before .before .before .before .before .before .before .before .before .before .before .step .kept in omega arith
 
 same-length-8 : tie.Need-same-length-8 Inv-loop μ-loop
-same-length-8 c = let l = c .before .before .before .before .before .before .before .before .before .before .before .before .before .before .before .before .before .loop .inv .2 .same-length in omega arith
+same-length-8 c = let p = c .before .before .before .before .before .before .before .before .before .before .before .before .before .before .before .before .before .before .before .before .before .before .before .before .before .before .before .before .before .before .before .before .before .put-counts .kept in let i = c .before .before .before .before .before .before .before .before .before .before .before .before .before .before .before .before .before .before .before .before .before .before .before .before .before .before .before .before .before .loop .inv .1 in let k = c .before .before .before .before .before .before .before .before .before .before .before .before .before .before .before .before .before .before .before .before .before .before .before .before .skim .kept in let q = c .before .before .before .before .before .before .before .before .before .before .before .step .kept in omega arith
 
 same-length-9 : tie.Need-same-length-9 Inv-loop μ-loop
-same-length-9 c = let l = c .before .before .before .before .before .before .before .before .before .before .before .before .before .before .before .before .before .loop .inv .2 .same-length in omega arith
+same-length-9 c = let l = c .before .before .before .before .before .before .before .before .before .before .before .before .before .before .before .before .before .before .before .before .before .before .before .before .before .before .before .before .before .loop .inv .2 .same-length in let k = c .before .before .before .before .before .before .before .before .before .before .before .before .before .before .before .before .before .before .before .before .before .before .before .before .skim .kept in let q = c .before .before .before .before .before .before .before .before .before .before .before .step .kept in omega arith
 
 returns-3 : tie.Need-returns-3 Inv-loop μ-loop
-returns-3 c =
-    let loop = c .before .before .before .before .before .before .before .before .before .before .before .before .before .before .before .before .before .loop in
-    let step = c .before .before .before .before .before .before .before .before .before .before .before .step in
-    rw (c .refused2 .ensures) (ran-stop (loop .inv .2) (omega arith) (step .ensures) (c .before .before .stopped .given .1))
+returns-3 c = let u = c .before .before .before .before .before .before .before .before .before .before .before .before .before .before .before .before .before .before .before .before .before .before .before .before .skim .ensures .goes (c .before .before .before .before .before .before .before .before .before .before .before .before .before .before .before .before .before .before .before .before .before .before .before .before .before .before .before .before .before .loop .inv .2) in let h = c .before .before .before .before .before .before .before .before .before .before .before .before .before .before .before .before .before .before .before .before .before .before .before .before .skim .ensures .short in rw (c .refused2 .ensures) (ran-stop u (omega arith) (c .before .before .before .before .before .before .before .before .before .before .before .step .ensures) (c .before .before .stopped .given .1))
 
 refused-requires-3 : tie.Need-refused-requires-3 Inv-loop μ-loop
 refused-requires-3 c κs = let g = c .before .before .loop .inv .2 .good in omega arith
@@ -175,7 +155,10 @@ steps-spec =
     mul-left
     add-left
     loop-holds
+    skim-requires
+    add-left-2
     sub-left
+    sub-left-2
     slice-aggregate-step
     step-requires
     enum-known-next
@@ -191,7 +174,7 @@ steps-spec =
     loop-less-2
     loop-again-2
     enum-told
-    cast-t33
+    cast-t42
     same-length-4
     same-length-5
     same-length-6

@@ -1,0 +1,338 @@
+-- The quick lane: what each of its items is as a step, and steps one behind the other.
+-- Assumes nothing.
+use mathlib.Core.Path.{_≡_, refl, sym, ap, _∙_}
+use mathlib.Core.Bool.{true, false, _&&_}
+use mathlib.Core.List.{List}
+use Prim.Native.Nat.{ℕ, zero, suc, _+_, _-_, _*_, _/_, _%_, _^_, _≤_, _<_}
+use native.Mathlib.Omega.{arith}
+use borrow.Author.Tests.{lt-ltb, eq-eqb, ne-eqb, eqb-true, ltb-true}
+use lib.Dec.{eqb, ltb}
+use lib.ListN.{length, getD}
+use Rattle.format.specs.Octets.{Octets, Words}
+use Rattle.format.specs.Numbers.{numbers, top}
+use Rattle.format.specs.Tables.{Triple, link}
+use Rattle.fields.specs.Fields.{valueFrom, fieldAt}
+use Rattle.fields.proofs.Laws.{sizesIn, roomsIn}
+use Rattle.fields.proofs.Cases.{behind-got, field-form}
+use Rattle.fields.proofs.Bounds.{field-got}
+use Rattle.fields.proofs.Numbers.{numberShares, number-values, numbers-are}
+use Rattle.tables.specs.declared.Row.{Row}
+use Rattle.tables.specs.Counts.{tableWords}
+use Rattle.tables.specs.Rows.{tableOf, tripleAt}
+use Rattle.tables.specs.Kept.{countOf, unlisted, layoutOf, rowAt}
+use Rattle.tables.proofs.Found.{both-true}
+use Rattle.states.specs.declared.State.{State}
+use Rattle.states.specs.States.{modeOf, afterEnd}
+use Rattle.events.specs.declared.EventString.the-variants.{Absent, Stretch}
+use Rattle.events.specs.declared.Kind.the-variants.{Start}
+use Rattle.events.specs.declared.Event.{Event}
+use Rattle.events.specs.Records.{startRecord, chunkRecord, endRecord}
+use Rattle.events.specs.Kept.{kept}
+use Rattle.read_names.specs.declared.Parts.{Parts}
+use Rattle.read_names.specs.Contracts.{eventStringAt, nameStringsAt}
+use Rattle.read_names.proofs.Grown.{count-at, name-ranged}
+use Rattle.read_names.proofs.StringLaws.{entry-octets, string-none, string-there, held-entry, said-entry, table-small, chunk-held}
+use Rattle.read_names.proofs.NameLaws.{element-number, row-is, strings-are, number-held}
+use Rattle.read_items.specs.declared.Step.the-variants.{More}
+use Rattle.read_items.specs.Items as I
+use Rattle.read_items.specs.Items.{Stand, childAt, itemAt}
+use Rattle.read_items.specs.Steps.{halfAt, padsAt, step}
+use Rattle.read_items.specs.Contracts.{Lent, lent, standOf, Good, Met}
+use Rattle.read_items.specs.ItemContracts.{NameThere, namedRecord}
+use Rattle.read_items.proofs.StepLaws.{met-by, start-opened}
+use Rattle.read_items.proofs.Fields.{name-there}
+use Rattle.read_items.proofs.EndLaws.{half-high, half-low, pads-even, pads-odd, ends-half, end-element}
+use Rattle.read_items.proofs.ItemLaws.{padding-none, chunk-more, start-met, element-numbered, child-element, child-text, item-child, step-end, step-item}
+use Rattle.reader.specs.declared.lane.Lane.{Lane}
+use Rattle.reader.specs.declared.lane.Named.{Named}
+use Rattle.reader.specs.Reading.{Result, turn, run}
+use Rattle.reader.specs.RunContracts.{endingOf, eventWords, keptFrom}
+use Rattle.reader.specs.LaneContracts.{Underway, Tidied, Onward, inLane, entersLane, Stands, Skims, Advances, ReadsShort}
+use Rattle.reader.proofs.RunLaws.{run-one, underway-more}
+
+-- ---- one behind the other
+module _ {s : Octets} {n : ℕ} {st : State} {t c r : Words} where
+  pub onward-same : {full : ℕ} → n ≤ full → Tidied s c t → Onward s full st n t c r st n t c r
+  onward-same h d = record { less = omega arith; most = h; tidied = d; goes = λ {v} {room} {body} {left} f l u. let z : n + left - n ≡ left = omega arith in rw z u }
+
+  pub onward-then : {full m k : ℕ} {st₁ st₂ : State} {t₁ c₁ r₁ t₂ c₂ r₂ : Words} → Onward s full st n t c r st₁ m t₁ c₁ r₁ → m < full → Onward s (m + 1) st₁ m t₁ c₁ r₁ st₂ k t₂ c₂ r₂ → Onward s full st n t c r st₂ k t₂ c₂ r₂
+  onward-then {m = m} {k = k} a h b =
+      let al = a .less in
+      let bl = b .less in
+      let bm = b .most in
+      record {
+        less = omega arith;
+        most = omega arith;
+        tidied = b .tidied;
+        goes = λ {v} {room} {body} {left} f l u.
+            let z : m + (n + left - m) - k ≡ n + left - k = omega arith in
+            rw z at (b .goes (omega arith) (omega arith) (a .goes f l u));
+      }
+
+  -- one step
+  pub onward-one : {st′ : State} {p : ℕ} {t′ c′ r′ : Words} → Tidied s c′ t′ → length r′ ≡ length r
+      → ((x : Octets) → Good s st (lent t c x r) → Met s st n (lent t c x r) (More st′ p) (lent t′ c′ x r′) (step link s))
+      → Onward s (n + 1) st n t c r st′ (n + 1) t′ c′ r′
+  onward-one d same m =
+      record {
+        less = omega arith;
+        most = omega arith;
+        tidied = d;
+        goes = λ {v} {room} {body} {left} {x} f l u.
+            let z : left - 1 ≡ n + left - (n + 1) = omega arith in
+            rw z at (underway-more u (omega arith) (m x (u .good)) refl (λ q. omega arith) same);
+      }
+
+-- ---- places that are one: the next step is the same from both, and so is all behind it
+module _ (go : ℕ → Stand → Result) (m m′ : Stand) (q : m .state ≡ m′ .state) (n : ℕ) where
+  turn-ends : (room : ℕ) (x : I.Step) → endingOf n (turn go room m x) ≡ endingOf n (turn go room m′ x)
+  turn-ends zero (I.more p i k) = refl
+  turn-ends (suc room) (I.more p i k) = refl
+  turn-ends room (I.quiet k) = refl
+  turn-ends room I.done = rw q
+  turn-ends room (I.stop j p) = refl
+
+  turn-kept : (w : List ℕ) (room : ℕ) (x : I.Step) → keptFrom w n (turn go room m x) ≡ keptFrom w n (turn go room m′ x)
+  turn-kept w zero (I.more p i k) = refl
+  turn-kept w (suc room) (I.more p i k) = refl
+  turn-kept w room (I.quiet k) = refl
+  turn-kept w room I.done = refl
+  turn-kept w room (I.stop j p) = refl
+
+module _ {s v : Words} {room body left n : ℕ} {st st′ : State} {a : Lent} (u : Underway s v room body left n st a) (h : 0 < left) (g : Good s st′ a)
+    (q : standOf st a .state ≡ standOf st′ a .state) (e : step link s (standOf st a) ≡ step link s (standOf st′ a)) where
+  abbrev go : ℕ → Stand → Result
+  go k m = run link s (left - 1) k m
+
+  turned : run link s left (room - n) (standOf st a) ≡ turn go (room - n) (standOf st a) (step link s (standOf st′ a))
+  turned = run-one s left (room - n) (standOf st a) h ∙ ap (turn go (room - n) (standOf st a)) e
+
+  pub underway-over : Underway s v room body left n st′ a
+  underway-over =
+      record {
+        good = g;
+        fits = u .fits;
+        fuel = u .fuel;
+        ends = ap (endingOf n) (run-one s left (room - n) (standOf st′ a) h)
+            ∙ sym (turn-ends go (standOf st a) (standOf st′ a) q n (room - n) (step link s (standOf st′ a)))
+            ∙ sym (ap (endingOf n) turned) ∙ u .ends;
+        keeps = λ k. ap (keptFrom (a .records) n) (run-one s left (room - n) (standOf st′ a) h)
+            ∙ sym (turn-kept go (standOf st a) (standOf st′ a) q n (a .records) (room - n) (step link s (standOf st′ a)))
+            ∙ sym (ap (keptFrom (a .records) n) turned) ∙ u .keeps k;
+        same-length = u .same-length;
+      }
+
+-- where the lane comes to a place from which the next step is that from another
+pub onward-over : {s : Octets} {full n m : ℕ} {st st₁ st₂ : State} {t c r t₁ c₁ r₁ : Words} → Onward s full st n t c r st₁ m t₁ c₁ r₁
+    → ((x : Octets) → Good s st₁ (lent t₁ c₁ x r₁)
+    → Good s st₂ (lent t₁ c₁ x r₁) × (standOf st₁ (lent t₁ c₁ x r₁) .state ≡ standOf st₂ (lent t₁ c₁ x r₁) .state) × (step link s (standOf st₁ (lent t₁ c₁ x r₁)) ≡ step link s (standOf st₂ (lent t₁ c₁ x r₁))))
+    → Onward s full st n t c r st₂ m t₁ c₁ r₁
+onward-over a f =
+    let most = a .most in
+    record {
+      less = a .less;
+      most = a .most;
+      tidied = a .tidied;
+      goes = λ {v} {room} {body} {left} {x} k l u. let w = a .goes k l u in let g = f x (w .good) in underway-over w (omega arith) (g .0) (g .1) (g .2);
+    }
+
+-- ---- a step among children
+module _ (s : Octets) (st : State) (a : Lent) (k : ℕ) (m : st .mode ≡ 0) where
+  -- No end stands there, and the padding that is due is right: it is the child at the next octet.
+  step-child : (halfAt s (st .at) ≡ 15 → ⊥) → true ≡ padsAt s (st .at) → (st .at + 1) / 2 ≡ k → step link s (standOf st a) ≡ childAt link s k (standOf st a .state)
+  step-child not15 pads e =
+      step-item s (standOf st a) (sym (ne-eqb _ _ not15) ∙ ends-half (st .mode) s (st .at) (omega arith)) pads
+      ∙ ap (λ (i : ℕ). itemAt link s i (standOf st a .state) (modeOf (st .mode))) e
+      ∙ item-child s k (standOf st a .state) (st .mode) m
+
+  -- at the start of an octet
+  pub step-here : st .at ≡ 2 * k → k < length s → getD s k 0 < 0xF0 → step link s (standOf st a) ≡ childAt link s k (standOf st a .state)
+  step-here e h l =
+      let z : st .at / 2 ≡ k = omega arith in
+      let y : getD s k 0 / 16 % 16 ≡ halfAt s (st .at) = half-high s (st .at) (omega arith) (getD s k 0 / 16 % 16) (rw z (omega arith)) (omega arith) (rw z refl) in
+      step-child (λ q. omega arith) (pads-even s (st .at) (omega arith)) (omega arith)
+
+  -- behind an end in the first half of an octet whose other half is padding
+  pub step-behind : (j : ℕ) → st .at ≡ 2 * j + 1 → j + 1 ≡ k → k < length s → getD s j 0 ≡ 0xF0 → step link s (standOf st a) ≡ childAt link s k (standOf st a .state)
+  step-behind j e n h l =
+      let z : st .at / 2 ≡ j = omega arith in
+      let odd : st .at % 2 ≡ 0 → ⊥ = λ q. omega arith in
+      let y : 0 ≡ halfAt s (st .at) = half-low s (st .at) (omega arith) 0 (rw z (omega arith)) odd (rw (z, l) refl) in
+      step-child (λ q. omega arith) (sym (eq-eqb _ _ (sym y)) ∙ pads-odd s (st .at) odd) (omega arith)
+
+-- ---- numbers of one octet or two
+module _ (s : Octets) (at b ones : ℕ) (h : at + 1 < length s) (small : ones ≤ 64) where
+  pub row-one : {row next : ℕ} → b < ones → row ≡ b → next ≡ at + 1 → ReadsShort s at b ones (record { row = row; next = next })
+  unfolding valueFrom sizesIn roomsIn
+  row-one l er en bit f u e q =
+      let n : 1 + b ≡ b + 1 = omega arith in
+      let p : at + 1 + 0 ≡ at + 1 = omega arith in
+      rw (er, en)
+      (sym (rw (n, p) at (behind-got s at b 0 1 (2 ^ (8 - bit)) top b (omega arith) refl (omega arith) (omega arith)
+      ∙ field-form top bit s at (numbers bit) (numberShares bit) (numbers-are bit f u) (omega arith) 0 tt _ _ _ _ refl b (omega arith) 1 _ refl refl (omega arith))))
+
+  pub row-two : {row next : ℕ} → ones ≤ b → b < ones + ones / 4 → getD s (at + 1) 0 < 256 → row ≡ 256 * (b - ones) + getD s (at + 1) 0 + ones → next ≡ at + 2
+      → ReadsShort s at b ones (record { row = row; next = next })
+  unfolding valueFrom sizesIn roomsIn
+  row-two l g o er en bit f u e q =
+      let w = number-values bit u in
+      let n : 1 + 2 ^ (8 - bit) + ((b - ones) * 256 + getD s (at + 1) 0) ≡ 256 * (b - ones) + getD s (at + 1) 0 + ones + 1 = omega arith in
+      let p : at + 1 + 1 ≡ at + 2 = omega arith in
+      rw (er, en)
+      (sym (rw (n, p) at (behind-got s at (b - ones) 1 (1 + 2 ^ (8 - bit)) (2 ^ (14 - bit)) top ((b - ones) * 256 + getD s (at + 1) 0) (omega arith) refl (omega arith) (omega arith)
+      ∙ field-form top bit s at (numbers bit) (numberShares bit) (numbers-are bit f u) (omega arith) 1 (omega arith) _ _ _ _ refl (b - ones) (omega arith) _ _ (omega arith) refl (omega arith))))
+
+number-near : (s : Octets) (at o ones bit : ℕ) (x : Named) → 1 ≤ bit → bit ≤ 6 → ones ≡ 2 ^ (8 - bit) → o ≡ getD s at 0 % 2 ^ (9 - bit) → ReadsShort s at o ones x → x .next ≤ length s
+number-near s at o ones bit x f g p e q = field-got top s at (numbers bit) bit (q bit f g p e) .3
+
+-- ---- each item as a step; where it is not taken, nothing has changed
+module _ {s : Octets} {t c r : Words} {y : Lane} (w : Stands s c t y) where
+  pub takes-none : Skims s (y .n + 1) y t c r y t c r
+  takes-none =
+      let m = w .more in
+      let z = w .tidied .tidy .size in
+      record { onward = onward-same (omega arith) (w .tidied); inside = w .inside; near = omega arith }
+
+  module _ {r′ : Words} (same : length r′ ≡ length r) where
+    module _ (o : ℕ) (e : o ≡ getD s (y .at) 0) (x : Named) where
+      pub takes-start : o < 0x28 → ReadsShort s (y .at) o 0x20 x → x .row < getD c 8 0 → y .level < 32 → r′ ≡ kept r (y .n) (namedRecord Start (nameStringsAt t 8 (x .row + 1)) Absent)
+          → Skims s (y .n + 1) y t c r (record { at = x .next; level = y .level + 1; n = y .n + 1 }) t c r′
+      unfolding layoutOf
+      takes-start l q h d k =
+          let m = w .more in
+          let i = w .inside in
+          let z = w .tidied .tidy .size in
+          let b : o ≡ getD s (y .at) 0 % 2 ^ (9 - 3) = omega arith in
+          let near = number-near s (y .at) o 0x20 3 x (omega arith) (omega arith) refl b q in
+          record {
+            onward = onward-one (w .tidied) same λ i good.
+                let v = standOf (inLane y) (lent t c i r) .state in
+                let read = number-held s c t i 8 (y .at) (good .tidy) (omega arith) (omega arith) _ (sym (q 3 (omega arith) (omega arith) refl b) ∙ element-number 8 refl s (y .at)) _
+                (held-entry _ (y .at) _ (x .row + 1) (record { at = x .next }) refl (rw (count-at c (good .tidy .ten) 8) (omega arith))) in
+                start-met (y .at) false _ _ (read .0) (read .1) (start-opened (inLane y) (y .at) false t r (y .n) refl d refl k)
+                (step-here s (inLane y) (lent t c i r) (y .at) refl refl (omega arith) (omega arith)
+                ∙ child-element s (y .at) v (omega arith) 0 o (omega arith) (omega arith) (omega arith) (omega arith)
+                ∙ element-numbered s (y .at) o false v (padding-none o (omega arith) (λ a. omega arith) (λ a. omega arith)) (rw (lt-ltb 0 (y .level) (omega arith)) refl) (omega arith));
+            inside = omega arith;
+            near = omega arith;
+          }
+
+      pub takes-chunk : 0xA0 ≤ o → o < 0xB4 → ReadsShort s (y .at) (o - 0xA0) 0x10 x → x .row < getD c 6 0 → r′ ≡ kept r (y .n) (chunkRecord (eventStringAt t 6 (x .row + 1)))
+          → Skims s (y .n + 1) y t c r (record { at = x .next; level = y .level; n = y .n + 1 }) t c r′
+      unfolding tableOf
+      takes-chunk a l q h k =
+          let m = w .more in
+          let i = w .inside in
+          let z = w .tidied .tidy .size in
+          let b : o - 0xA0 ≡ getD s (y .at) 0 % 2 ^ (9 - 4) = omega arith in
+          let near = number-near s (y .at) (o - 0xA0) 0x10 4 x (omega arith) (omega arith) refl b q in
+          record {
+            onward = onward-one (w .tidied) same λ i good.
+                let v = standOf (inLane y) (lent t c i r) .state in
+                met-by
+                (chunk-more (y .at) refl good k (ap chunkRecord (sym (string-there t 6 (x .row + 1) _ (omega arith) refl)))
+                (chunk-held s c t i 6 (y .at) (good .tidy) (omega arith) o e (omega arith) (omega arith) 1 (omega arith) refl _ (sym (q 4 (omega arith) (omega arith) refl b)) _ _
+                (held-entry _ (y .at) _ (x .row + 1) (record { at = x .next }) refl (rw (count-at c (good .tidy .ten) 6) (omega arith)))
+                (said-entry t 6 _ (x .row + 1) (x .next) _ refl refl)))
+                (step-here s (inLane y) (lent t c i r) (y .at) refl refl (omega arith) (omega arith)
+                ∙ child-text s (y .at) v (omega arith) (omega arith) (omega arith) (λ a. omega arith));
+            inside = w .inside;
+            near = omega arith;
+          }
+
+    pub takes-end : {e : Event} → getD s (y .at) 0 ≡ 0xF0 → 2 ≤ y .level → getD s (y .at + 1) 0 < 0xF0 → r′ ≡ kept r (y .n) e → e ≡ endRecord
+        → Skims s (y .n + 1) y t c r (record { at = y .at + 1; level = y .level - 1; n = y .n + 1 }) t c r′
+    takes-end o l b k q =
+        let m = w .more in
+        let z = w .tidied .tidy .size in
+        let e : 2 * y .at / 2 ≡ y .at = omega arith in
+        let h : 15 ≡ halfAt s (2 * y .at) = half-high s (2 * y .at) (omega arith) 15 (rw e (omega arith)) (omega arith) (rw (e, o) refl) in
+        let behind : State = afterEnd (inLane y) (y .level - 1) in
+        let next : State = record { at = 2 * (y .at + 1); level = y .level - 1; root = 1; mode = 0 } in
+        record {
+          onward = onward-over
+              (onward-one (w .tidied) same λ i good.
+              met-by (end-element good refl (λ a. omega arith) (omega arith) k q) (step-end s (standOf (inLane y) (lent t c i r)) (sym (eq-eqb _ _ (sym h)) ∙ ends-half 0 s (2 * y .at) (omega arith))))
+              λ i good.
+              let g = good .shallow in (
+                record { tidy = good .tidy; at = omega arith; shallow = g },
+                refl,
+                step-behind s behind (lent t c i r′) (y .at + 1) refl (y .at) refl refl (omega arith) o ∙ sym (step-here s next (lent t c i r′) (y .at + 1) refl refl (omega arith) b),
+              );
+          inside = omega arith;
+          near = omega arith;
+        }
+
+pub skims-then : {s : Octets} {full : ℕ} {x y z : Lane} {t c r t₁ c₁ r₁ t₂ c₂ r₂ : Words} → Skims s full x t c r y t₁ c₁ r₁ → y .n < full → Skims s (y .n + 1) y t₁ c₁ r₁ z t₂ c₂ r₂ → Skims s full x t c r z t₂ c₂ r₂
+skims-then a h b = record { onward = onward-then (a .onward) h (b .onward); inside = b .inside; near = b .near }
+
+-- ---- the records of elements and chunks by number
+module _ (t : Words) (i : ℕ) (x : Row) (e : x ≡ rowAt t (768 * 8 + 3 * i)) where
+  there : x ≡ rowAt t (768 * 8 + 3 * (i + 1 - 1))
+  there = let z : i + 1 - 1 ≡ i = omega arith in rw z e
+
+  pub local-there : NameThere t 8 (i + 1) → 1 ≤ tripleAt t (768 * 8 + 3 * (i + 1 - 1)) .local → (1 ≤ x .c) × (x .c ≤ 256)
+  local-there p l = let z : x .c ≡ tripleAt t (768 * 8 + 3 * (i + 1 - 1)) .local = ap (λ (y : Triple). y .local) (row-is t 8 (i + 1) x there) in let h = p .7 in omega arith
+
+  -- a local name alone
+  pub local-alone : (y : Row) → x .a ≡ 0 → x .b ≡ 0 → 1 ≤ x .c → y ≡ rowAt t (768 * 2 + 3 * (x .c - 1)) → (y .b ≡ 0 → ⊥)
+      → startRecord Absent Absent (Stretch (y .a) (y .b)) ≡ namedRecord Start (nameStringsAt t 8 (i + 1)) Absent
+  local-alone y a b l q h =
+      ap (λ (z : Parts). namedRecord Start z Absent)
+      (strings-are t 8 (i + 1) x there Absent Absent (Stretch (y .a) (y .b)) (string-none t 0 (x .a) a) (string-none t 1 (x .b) b) (string-there t 2 (x .c) _ l (entry-octets 2 (768 * 2 + 3 * (x .c - 1)) t y q h)))
+
+module _ {s : Octets} {t c : Words} (d : Tidied s c t) where
+  pub name-in-row : (i : ℕ) → i < getD c 8 0 → NameThere t 8 (i + 1) × (1 ≤ tripleAt t (768 * 8 + 3 * (i + 1 - 1)) .local)
+  name-in-row i h =
+      let l : i + 1 ≤ countOf (unlisted c) 8 = rw (count-at c (d .tidy .ten) 8) (omega arith) in
+      (name-there (d .tidy) 8 (i + 1) (omega arith) (omega arith) (omega arith) l, name-ranged s c t (d .index) (d .tidy) 8 (i + 1) (omega arith) (omega arith) (omega arith) l .2)
+
+  pub chunk-in-row : (i : ℕ) → i < getD c 6 0 → (length t ≡ tableWords) × (i < 256)
+  chunk-in-row i h = let l = table-small s c t (d .index) 6 (d .tidy) in (d .tidy .room, omega arith)
+
+-- ---- where the lane is entered
+abbrev state : (at level root mode : ℕ) → State
+state i j p q = record { at = i; level = j; root = p; mode = q }
+
+module _ (st : State) where
+  pub enters-mode : (st .mode ≡ 0 → ⊥) → false ≡ entersLane st
+  unfolding entersLane
+  enters-mode h = rw (ne-eqb _ _ h)
+
+  module _ (m : st .mode ≡ 0) where
+    pub enters-root : (st .root ≡ 1 → ⊥) → false ≡ entersLane st
+    unfolding entersLane
+    enters-root h = rw (eq-eqb _ _ m, ne-eqb _ _ h)
+
+    module _ (r : st .root ≡ 1) where
+      pub enters-level : st .level ≡ 0 → false ≡ entersLane st
+      unfolding entersLane
+      enters-level h = rw (eq-eqb _ _ m, eq-eqb _ _ r, h)
+
+      pub enters-half : (st .level ≡ 0 → ⊥) → eqb (st .at % 2) 0 ≡ entersLane st
+      unfolding entersLane
+      enters-half h = let l : 0 < st .level = omega arith in rw (eq-eqb _ _ m, eq-eqb _ _ r, lt-ltb _ _ l)
+
+  pub enters-is : true ≡ entersLane st → (1 ≤ st .level) × (st ≡ inLane (record { at = st .at / 2; level = st .level; n = 0 }))
+  unfolding entersLane
+  enters-is e =
+      let a = both-true (eqb (st .mode) 0) (eqb (st .root) 1 && (ltb 0 (st .level) && eqb (st .at % 2) 0)) (sym e) in
+      let b = both-true (eqb (st .root) 1) (ltb 0 (st .level) && eqb (st .at % 2) 0) (a .1) in
+      let d = both-true (ltb 0 (st .level)) (eqb (st .at % 2) 0) (b .1) in
+      let m : st .mode ≡ 0 = eqb-true _ _ (a .0) in
+      let r : st .root ≡ 1 = eqb-true _ _ (b .0) in
+      let l : 0 < st .level = ltb-true _ _ (d .0) in
+      let h : st .at % 2 ≡ 0 = eqb-true _ _ (d .1) in
+      let k : st .at ≡ 2 * (st .at / 2) = omega arith in
+      (omega arith, ap (λ (i : ℕ). state i (st .level) (st .root) (st .mode)) k ∙ rw (m, r) refl)
+
+-- ---- the lane from any state
+module _ {s : Octets} (room left : ℕ) {st : State} {n : ℕ} {t c r : Words} where
+  pub advances-none : 0 < left → Advances s room left st n t c r st n t c r
+  advances-none h = record { less = omega arith; short = omega arith; goes = λ u. let z : n + left - n ≡ left = omega arith in rw z u }
+
+  pub advances-lane : {full : ℕ} {z : Lane} {t′ c′ r′ : Words} → true ≡ entersLane st → full ≤ room → full < n + left
+      → Skims s full (record { at = st .at / 2; level = st .level; n = n }) t c r z t′ c′ r′ → Advances s room left st n t c r (inLane z) (z .n) t′ c′ r′
+  advances-lane e f l k =
+      let m = k .onward .most in
+      record { less = k .onward .less; short = omega arith; goes = λ u. k .onward .goes f l (rw (enters-is st e .1) at u) }

@@ -1,0 +1,44 @@
+-- `chunk` meets its contract: a chunk whose number is that of a row is a step.
+-- Assumes nothing.
+use borrow.Author.Needs.{needs}
+use native.Mathlib.Omega.{arith}
+use Rattle.reader.proofs.LaneLaws.{takes-none, takes-chunk, chunk-in-row}
+use Rattle.reader.proofs.lane.chunk.Statement.{statement}
+use Rattle.reader.proofs.lane.chunk.Tie as tie
+
+sub-row-at : tie.Need-sub-row-at
+sub-row-at c = search needs
+
+row-at-requires : tie.Need-row-at-requires
+row-at-requires c κs = search needs
+
+shared-slice-read-if1 : tie.Need-shared-slice-read-if1
+shared-slice-read-if1 c = search needs
+
+returns : tie.Need-returns
+returns c = takes-none (c .before .before .before .before .before .before .before .before .pre .0)
+
+keep-chunk-requires : tie.Need-keep-chunk-requires
+keep-chunk-requires c κs = chunk-in-row (c .before .before .before .before .before .before .before .before .before .pre .0 .tidied) _ (omega arith)
+
+add-t15 : tie.Need-add-t15
+add-t15 c = search needs
+
+same-length : tie.Need-same-length
+same-length c = search needs
+
+returns-2 : tie.Need-returns-2
+returns-2 c = takes-chunk (c .before .before .before .before .before .before .before .before .before .before .before .before .before .pre .0) (omega arith) _ (c .before .before .before .before .before .before .before .before .before .before .before .before .before .pre .1) _ (c .before .before .before .before .before .before .before .before .before .before .before .before .before .pre .2) (c .before .before .before .before .before .before .before .before .before .before .before .before .before .pre .3) (c .before .before .before .before .before .before .before .before .row-at .ensures) (omega arith) (c .before .before .before .keep-chunk .ensures)
+
+pub chunk-spec : {M : Type 1} → statement M
+chunk-spec =
+    tie.close
+    (tie.spec
+    sub-row-at
+    row-at-requires
+    shared-slice-read-if1
+    returns
+    keep-chunk-requires
+    add-t15
+    same-length
+    returns-2)

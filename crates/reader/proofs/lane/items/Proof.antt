@@ -1,0 +1,92 @@
+-- `items` meets its contract: one item behind the other, and each turn has one event more.
+-- Assumes nothing.
+use native.Mathlib.Omega.{arith}
+use mathlib.Core.Path.{_≡_, refl}
+use borrow.Author.Tests.{ltb-true}
+use Prim.Native.Nat.{_-_, _<_}
+use lib.ListN.{length}
+use Rattle.reader.specs.LaneContracts.{Skims}
+use Rattle.reader.proofs.LaneLaws.{onward-same, skims-then}
+use Rattle.reader.proofs.lane.items.Statement.{statement}
+use Rattle.reader.proofs.lane.items.Tie as tie
+
+abbrev Inv-loop : tie.InvT-loop
+Inv-loop s t₀ counts₀ records₀ full lane₀ t counts records lane = (length t ≡ length t₀) × (length counts ≡ length counts₀) × (length records ≡ length records₀) × Skims s full lane₀ t₀ counts₀ records₀ lane t counts records
+
+abbrev μ-loop : tie.MeasureT-loop
+μ-loop s t₀ counts₀ records₀ full lane₀ t counts records lane = full - lane .n
+
+loop-holds : tie.Need-loop-holds Inv-loop μ-loop
+loop-holds c = (refl, refl, refl, record { onward = onward-same (c .before .before .before .before .pre .3) (c .before .before .before .before .pre .0); inside = c .before .before .before .before .pre .1; near = c .before .before .before .before .pre .2 })
+
+add-if2 : tie.Need-add-if2 Inv-loop μ-loop
+add-if2 c = let h = c .before .before .before .loop .inv .3 .near in omega arith
+
+item-requires : tie.Need-item-requires Inv-loop μ-loop
+item-requires c κs = let few : c .before .before .before .before .before .before .before .loop .lane .n < 65536 = omega arith in record { tidied = c .before .before .before .before .before .before .before .loop .inv .3 .onward .tidied; more = ltb-true _ _ (c .before .before .before .if2 .taken); inside = c .before .before .before .before .before .before .before .loop .inv .3 .inside; few = few }
+
+same-length : tie.Need-same-length Inv-loop μ-loop
+same-length c = omega arith
+
+same-length-2 : tie.Need-same-length-2 Inv-loop μ-loop
+same-length-2 c = omega arith
+
+same-length-3 : tie.Need-same-length-3 Inv-loop μ-loop
+same-length-3 c = omega arith
+
+returns : tie.Need-returns Inv-loop μ-loop
+returns c = skims-then (c .before .before .before .before .before .before .before .before .before .before .before .before .before .before .before .before .loop .inv .3) (omega arith) (c .before .before .before .before .before .before .before .before .item .ensures)
+
+loop-less : tie.Need-loop-less Inv-loop μ-loop
+loop-less c = let l = c .before .before .before .before .before .before .before .before .item .ensures .onward .less in let m = c .before .before .before .before .before .before .before .before .item .ensures .onward .most in omega arith
+
+loop-again : tie.Need-loop-again Inv-loop μ-loop
+loop-again c = (omega arith, omega arith, omega arith, skims-then (c .before .before .before .before .before .before .before .before .before .before .before .before .before .before .before .before .loop .inv .3) (omega arith) (c .before .before .before .before .before .before .before .before .item .ensures))
+
+same-length-4 : tie.Need-same-length-4 Inv-loop μ-loop
+same-length-4 c = omega arith
+
+same-length-5 : tie.Need-same-length-5 Inv-loop μ-loop
+same-length-5 c = omega arith
+
+same-length-6 : tie.Need-same-length-6 Inv-loop μ-loop
+same-length-6 c = omega arith
+
+returns-2 : tie.Need-returns-2 Inv-loop μ-loop
+returns-2 c = c .before .before .before .before .loop .inv .3
+
+same-length-7 : tie.Need-same-length-7 Inv-loop μ-loop
+same-length-7 c = omega arith
+
+same-length-8 : tie.Need-same-length-8 Inv-loop μ-loop
+same-length-8 c = omega arith
+
+same-length-9 : tie.Need-same-length-9 Inv-loop μ-loop
+same-length-9 c = omega arith
+
+returns-3 : tie.Need-returns-3 Inv-loop μ-loop
+returns-3 c = c .before .before .loop .inv .3
+
+pub items-spec : {M : Type 1} → statement M
+items-spec =
+    tie.close
+    (tie.spec
+    Inv-loop
+    μ-loop
+    loop-holds
+    add-if2
+    item-requires
+    same-length
+    same-length-2
+    same-length-3
+    returns
+    loop-less
+    loop-again
+    same-length-4
+    same-length-5
+    same-length-6
+    returns-2
+    same-length-7
+    same-length-8
+    same-length-9
+    returns-3)
