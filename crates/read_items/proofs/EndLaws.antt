@@ -6,9 +6,9 @@ use mathlib.Core.List.{List}
 use Prim.Native.Nat.{ℕ, suc, _+_, _-_, _*_, _/_, _%_, _≤_, _<_}
 use native.Mathlib.Numerals.{add-one}
 use native.Mathlib.Omega.{arith}
-use native.Mathlib.Decide.{decLt, ℕ-discrete}
+use native.Mathlib.Decide.{decLt}
 use borrow.Author.Tests.{lt-ltb, le-ltb, eq-eqb, ne-eqb, eqb-true}
-use lib.Dec.{eqb}
+use lib.Dec.{eqb, ltb}
 use lib.ListN.{length, getD, drop-of-length-le}
 use lib.Seq.{drop-cons}
 use Rattle.format.specs.Octets.{Octets, Words}
@@ -16,7 +16,7 @@ use Rattle.format.specs.Events.{End, forEnd, _by_}
 use Rattle.format.specs.Document.{halves, aligned}
 use Rattle.states.specs.declared.State.{State}
 use Rattle.states.specs.States.{modeOf, rootOf, coming, afterEnd}
-use Rattle.states.proofs.Modes.{mode-content, mode-listing, mode-listed}
+use Rattle.states.proofs.Modes.{mode-content, mode-listing, mode-listed, by-mode}
 use Rattle.events.specs.declared.Event.{Event}
 use Rattle.events.specs.Records.{recordOf, endRecord}
 use Rattle.events.specs.Kept.{kept}
@@ -63,22 +63,15 @@ next-half : (s : List ℕ) (at : ℕ) (t : Bool) → t ≡ padsAt s (at + 1) →
 next-half s at t e = ap (padsAt s) (sym (add-one at)) ∙ sym e
 
 -- ---- where an end is looked for
+halves-of : (m : ℕ) → byHalves (modeOf m) ≡ ltb m 3
+halves-of = by-mode (λ m f. byHalves f ≡ ltb m 3) refl refl refl refl (λ m h. let a : 3 ≤ m = omega arith in rw (le-ltb _ _ a))
+
 module _ (m : ℕ) where
   declares : 3 ≤ m → byHalves (modeOf m) ≡ false
-  unfolding modeOf
-  declares h =
-      let a : m ≡ 0 → ⊥ = λ e. omega arith in
-      let b : m ≡ 1 → ⊥ = λ e. omega arith in
-      let c : m ≡ 2 → ⊥ = λ e. omega arith in
-      elim (ℕ-discrete m 3) [ yes e ↦ rw e | no n ↦ rw (ne-eqb _ _ a, ne-eqb _ _ b, ne-eqb _ _ c, ne-eqb _ _ n) ]
+  declares h = halves-of m ∙ le-ltb _ _ h
 
   by-halves : m < 3 → byHalves (modeOf m) ≡ true
-  unfolding modeOf
-  by-halves h =
-      elim (ℕ-discrete m 0) [
-        | yes e ↦ rw e
-        | no n ↦ elim (ℕ-discrete m 1) [ yes e ↦ rw e | no o ↦ let e : m ≡ 2 = omega arith in rw e ]
-      ]
+  by-halves h = halves-of m ∙ lt-ltb _ _ h
 
   pub ends-not : (u : Bool) → 3 ≤ m → false ≡ (byHalves (modeOf m) && u)
   ends-not u h = rw (declares h)

@@ -110,7 +110,7 @@ module _ (a : S.Got DeclaredRead) (d v : Words) {r : Declaration} where
   declared-is e q = got-is asDeclared a _ _ _ (rw e at q ∙ declared-seen a)
 
 -- ---- what is left
-pub near : {s d v x : List ℕ} {at : ℕ} → Tidy s d v x → at ≤ length s → at ≤ 16384
+pub near : {s d v x : List ℕ} {at : ℕ} → Tidy s d v x → at ≤ length s → at ≤ 200000
 near t h = let z = t .size in omega arith
 
 -- Behind a field the reader is in order again.
@@ -133,5 +133,5 @@ name-there {s = s} {d = d} {v = v} {x = x} t table n low high from to =
     (t .room, low, high, from, (omega arith), (omega arith), (omega arith), (omega arith))
 
 pub entry-named : (s c w d v x : List ℕ) (table : ℕ) (r : Entry) → 8 ≤ table → table < 10 → IdLeft s c w table r d v x → Positive r → Named v table r
-entry-named s c w d v x table (Numbered n next) low high l p = (name-there (l .0 .tidy) table n low high p (l .1), near (l .0 .tidy) (l .0 .within))
+entry-named s c w d v x table (Numbered n next) low high l p = (name-there (l .0 .tidy) table n low high p (l .1), let z = l .0 .tidy .size in let h = l .0 .within in omega arith)
 entry-named s c w d v x table (NotNumbered n p) low high l q = tt

@@ -32,7 +32,7 @@ opened-requires : tie.Need-opened-requires
 opened-requires c κs =
     let at-r2 = c .before .before .before .before .before .before .before in
     let at-start = at-r2 .before .before .before .before in
-    let named = rw (at-r2 .r2 .given .1) at (at-start .pre) in (named .1, omega arith)
+    let named = rw (at-r2 .r2 .given .1) at (at-start .pre) in let near = named .1 in (omega arith, omega arith)
 
 returns-2 : tie.Need-returns-2
 returns-2 c = start-refused _ _ _ _ _ _ (c .before .before .r .given .1) (c .stop .ensures .1) (c .stop .ensures .0)
