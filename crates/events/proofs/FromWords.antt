@@ -62,30 +62,21 @@ text-back (Stretch place size) = refl
 text-back XmlPrefix = refl
 text-back XmlNamespace = refl
 
-kind-back : (k : Kind) → kindOf (kindNumber k) ≡ k
+-- a kind by its number, and the number of one that is not Blank
+kind-back : (k : Kind) → (kindOf (kindNumber k) ≡ k) × ((k ≡ Blank → ⊥) → (leb 1 (kindNumber k) && leb (kindNumber k) 7) ≡ true)
 unfolding kindOf
-kind-back Blank = refl
-kind-back Namespace = refl
-kind-back Start = refl
-kind-back Attribute = refl
-kind-back Chunk = refl
-kind-back Comment = refl
-kind-back Instruction = refl
-kind-back End = refl
-
-kind-numbered : (k : Kind) → (k ≡ Blank → ⊥) → (leb 1 (kindNumber k) && leb (kindNumber k) 7) ≡ true
-kind-numbered Blank h = absurd (h refl)
-kind-numbered Namespace h = refl
-kind-numbered Start h = refl
-kind-numbered Attribute h = refl
-kind-numbered Chunk h = refl
-kind-numbered Comment h = refl
-kind-numbered Instruction h = refl
-kind-numbered End h = refl
+kind-back Blank = (refl, λ h. absurd (h refl))
+kind-back Namespace = (refl, λ h. refl)
+kind-back Start = (refl, λ h. refl)
+kind-back Attribute = (refl, λ h. refl)
+kind-back Chunk = (refl, λ h. refl)
+kind-back Comment = (refl, λ h. refl)
+kind-back Instruction = (refl, λ h. refl)
+kind-back End = (refl, λ h. refl)
 
 pub record-back : (e : Event) (rest : List ℕ) → (e .kind ≡ Blank → ⊥) → recordAt (recordWords e ++ rest) 0 ≡ e
 unfolding recordAt
-record-back e rest h = rw (kind-numbered (e .kind) h, text-back (e .prefix), text-back (e .namespace), text-back (e .name), text-back (e .value), kind-back (e .kind))
+record-back e rest h = rw (kind-back (e .kind) .1 h, text-back (e .prefix), text-back (e .namespace), text-back (e .name), text-back (e .value), kind-back (e .kind) .0)
 
 from-back : (es : List Event) (rest : List ℕ) → AllKinded es → recordsFrom (rowWords es ++ rest) 0 (length es) ≡ es
 unfolding recordsFrom rowWords

@@ -4,9 +4,9 @@ use mathlib.Core.Path.{_≡_, refl, ap, _∙_}
 use mathlib.Core.Bool.{Bool, true, false}
 use mathlib.Core.List.{List, [], _∷_, _++_}
 use lib.Dec.{eqb}
-use Rattle.format.specs.Tables.{StringTable, PREFIX, NAMESPACE-NAME, LOCAL-NAME, OTHER-NCNAME, OTHER-URI, ATTRIBUTE-VALUE, CONTENT-CHARACTER-CHUNK, OTHER-STRING}
-use Rattle.format.specs.Tables.{NameTable, ELEMENT-NAME, ATTRIBUTE-NAME, Tables, strings, names, withStrings, adding, withNames, addingName}
+use Rattle.format.specs.Tables.{StringTable, NameTable, ELEMENT-NAME, ATTRIBUTE-NAME, Tables, strings, names, withStrings, adding, withNames, addingName}
 use Rattle.tables.specs.Rows.{place}
+use Rattle.tables.proofs.ByNumber.{by-table}
 
 -- A list with one more entry where the test is true, and as it is where it is false.
 abbrev pub extended : {A : Type 0} → Bool → List A → A → List A
@@ -29,25 +29,11 @@ module _ {S N : Type 0} (v : Tables S N) where
 
   pub adding-is : (t : StringTable) (x : S) → adding v t x ≡ byPlace t x
   unfolding adding place
-  adding-is PREFIX x = refl
-  adding-is NAMESPACE-NAME x = refl
-  adding-is LOCAL-NAME x = refl
-  adding-is OTHER-NCNAME x = refl
-  adding-is OTHER-URI x = refl
-  adding-is ATTRIBUTE-VALUE x = refl
-  adding-is CONTENT-CHARACTER-CHUNK x = refl
-  adding-is OTHER-STRING x = refl
+  adding-is t x = by-table (λ (t : StringTable). adding v t x ≡ byPlace t x) refl refl refl refl refl refl refl refl t
 
   strings-by-place : (t : StringTable) (x : S) (u : StringTable) → strings (byPlace t x) u ≡ extended (eqb (place t) (place u)) (strings v u) x
   unfolding strings place
-  strings-by-place t x PREFIX = refl
-  strings-by-place t x NAMESPACE-NAME = refl
-  strings-by-place t x LOCAL-NAME = refl
-  strings-by-place t x OTHER-NCNAME = refl
-  strings-by-place t x OTHER-URI = refl
-  strings-by-place t x ATTRIBUTE-VALUE = refl
-  strings-by-place t x CONTENT-CHARACTER-CHUNK = refl
-  strings-by-place t x OTHER-STRING = refl
+  strings-by-place t x = by-table _ refl refl refl refl refl refl refl refl
 
   pub strings-adding : (t : StringTable) (x : S) (u : StringTable) → strings (adding v t x) u ≡ extended (eqb (place t) (place u)) (strings v u) x
   strings-adding t x u = ap (λ (w : Tables S N). strings w u) (adding-is t x) ∙ strings-by-place t x u
@@ -67,14 +53,7 @@ module _ {S N : Type 0} (v : Tables S N) where
 
   strings-with-names : (es ts : List N) (u : StringTable) → strings (withNames v es ts) u ≡ strings v u
   unfolding strings
-  strings-with-names es ts PREFIX = refl
-  strings-with-names es ts NAMESPACE-NAME = refl
-  strings-with-names es ts LOCAL-NAME = refl
-  strings-with-names es ts OTHER-NCNAME = refl
-  strings-with-names es ts OTHER-URI = refl
-  strings-with-names es ts ATTRIBUTE-VALUE = refl
-  strings-with-names es ts CONTENT-CHARACTER-CHUNK = refl
-  strings-with-names es ts OTHER-STRING = refl
+  strings-with-names es ts = by-table _ refl refl refl refl refl refl refl refl
 
   pub strings-adding-name : (t : NameTable) (x : N) (u : StringTable) → strings (addingName v t x) u ≡ strings v u
   unfolding addingName
