@@ -78,7 +78,7 @@ module _ (ver : Version) (ok : Bounded ver) (s : Octets) (bytes : AreOctets s) w
 
   from-number : (a : Result) → Whole.Means ver ok s bytes a → numberOf a ≡ 0 → Written ver s
   from-number (accepted es m) w e = record { items = map (plain s) (itemsRead es); last = plainState s (m .state); writes = w }
-  from-number (refusal n p) w e = let h = w .0 in absurd (omega arith)
+  from-number (refusal n p) w e = absurd (omega arith)
 
   -- 14. THE CHECK answers 0 for what the rules write, and for nothing else.
   pub check-accepts : checkOf ver s ≡ 0 → Written ver s
@@ -99,18 +99,18 @@ module _ (ver : Version) (ok : Bounded ver) (s : Octets) (bytes : AreOctets s) w
     from-refusal (accepted es m) w k p e = absurd (let z : _≡_ {A = ℕ} 0 1 = cc in omega arith)
     from-refusal (refusal n place) w k p e =
         let ek : n ≡ k = cc in
-        (omega arith, omega arith)
+        omega arith
 
     refused-small : (b d : Bool) (k p : ℕ)
         → pick b (pick d (outcome (reading ver s (r / 13)) (r / 13)) (refusing 14 0 (r / 13) t)) (refusing 1 0 (r / 13) t) .answer ≡ Refused k p → (1 ≤ k) × (k ≤ 15)
     refused-small true true k p e = from-refusal (reading ver s (r / 13)) (Whole.means ver ok s bytes (r / 13)) k p e
-    refused-small true false k p e = let ek : 14 ≡ k = cc in (omega arith, omega arith)
-    refused-small false d k p e = let ek : 1 ≡ k = cc in (omega arith, omega arith)
+    refused-small true false k p e = let ek : 14 ≡ k = cc in omega arith
+    refused-small false d k p e = let ek : 1 ≡ k = cc in omega arith
 
     by-answer : (n : ℕ) (a : Answer) → left .answer ≡ a → answerWord a ≡ n * 2 ^ 32 → Handed ver s (r / 13) left
     unfolding readOf
     by-answer n (Accepted m c) e q = read-accepts (r / 13) t m c e
-    by-answer n (Refused k p) e q = let f = refused-small (sized ver s) (eqb t tableWords) k p e in absurd (let low = f .0 in let high = f .1 in omega arith)
+    by-answer n (Refused k p) e q = let f = refused-small (sized ver s) (eqb t tableWords) k p e in absurd (omega arith)
 
     by-words : (c n : ℕ) (b d : Bool) → pick b (pick d (inWords r left) (nothing 14 r t c)) (nothing 1 r t c) .answer ≡ n * 2 ^ 32
         → Handed ver s (r / 13) left × (pick b (pick d (inWords r left) (nothing 14 r t c)) (nothing 1 r t c) ≡ inWords r left)

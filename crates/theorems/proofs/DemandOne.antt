@@ -49,8 +49,8 @@ module _ (ver : Version) (ok : Bounded ver) (s : Octets) (bytes : AreOctets s) w
         either (ReadAnswers s room table) (Read.sized ver s) _ _
         (λ y. either-eq (ReadAnswers s room table) table tableWords _ _
         (λ e. rw e (read-result (Read.reading ver s room) (Whole.means ver ok s bytes room)))
-        (λ n. ReadAnswers.refuses {n = 14} {p = 0} (omega arith, omega arith) (omega arith) refl refl refl))
-        (λ y. ReadAnswers.refuses {n = 1} {p = 0} (omega arith, omega arith) (omega arith) refl refl refl)
+        (λ n. ReadAnswers.refuses {n = 14} {p = 0} (omega arith) (omega arith) refl refl refl))
+        (λ y. ReadAnswers.refuses {n = 1} {p = 0} (omega arith) (omega arith) refl refl refl)
 
   -- in words
   module _ (r t : ℕ) where
@@ -66,8 +66,8 @@ module _ (ver : Version) (ok : Bounded ver) (s : Octets) (bytes : AreOctets s) w
           | yes h ↦ rw h (read-words (Read.readOf ver s (r / 13) t) _ (read-worded ver s r t 10 refl) (read-answers (r / 13) t))
           | no h ↦
               read-zeros ver s r t c h (ReadWordsAnswer s r t c)
-              (ReadWordsAnswer.refuses {n = 1} {p = 0} (omega arith, omega arith) (omega arith) refl refl refl refl)
-              (ReadWordsAnswer.refuses {n = 14} {p = 0} (omega arith, omega arith) (omega arith) refl refl refl refl)
+              (ReadWordsAnswer.refuses {n = 1} {p = 0} (omega arith) (omega arith) refl refl refl refl)
+              (ReadWordsAnswer.refuses {n = 14} {p = 0} (omega arith) (omega arith) refl refl refl refl)
         ]
 
 -- ---- the writer

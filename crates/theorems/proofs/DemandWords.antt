@@ -53,7 +53,7 @@ module _ (ver : Version) (ok : Bounded ver) (s : Octets) (bytes : AreOctets s) w
     -- the number is in the low bits, so they tell whether it is 0
     row-accepted : (o : Read.Outcome) → ReadAnswers s (r / 13) t o → wholeWord (o .told) % 2 ^ 32 ≡ 0 → o .told .number ≡ 0
     row-accepted o (ReadAnswers.accepts n p) h = n
-    row-accepted o (ReadAnswers.refuses k l told row tables) h = let e = ap wholeWord told in let low = k .0 in let high = k .1 in absurd (omega arith)
+    row-accepted o (ReadAnswers.refuses k l told row tables) h = let e = ap wholeWord told in absurd (omega arith)
 
     read-words-accepted : (c : ℕ) → ReadWords.readWords ver s r t c .answer % 2 ^ 32 ≡ 0 → (c ≡ 10) × (rows-read ver s r t .told .number ≡ 0)
     read-words-accepted c e =
@@ -89,7 +89,7 @@ module _ (ver : Version) (ok : Bounded ver) (records : Words) (text : Octets) (r
 
   row-written : (o : Write.Outcome) → WriteAnswers es r t o → wholeWord (o .told) % 2 ^ 32 ≡ 0 → o .told .number ≡ 0
   row-written o (WriteAnswers.accepts n p) h = n
-  row-written o (WriteAnswers.refuses k l told out tables) h = let e = ap wholeWord told in let n = numbered k in let low = n .0 in let high = n .1 in absurd (omega arith)
+  row-written o (WriteAnswers.refuses k l told out tables) h = let e = ap wholeWord told in let n = numbered k in absurd (omega arith)
 
   -- a word is one refusal's
   row-refused : (o : Write.Outcome) → WriteAnswers es r t o → (n p : ℕ) → 1 ≤ n → n < 32 → wholeWord (o .told) ≡ p * 32 + n → o .told ≡ toldRefused n p

@@ -17,7 +17,7 @@ use Rattle.format.specs.Document.{beginning, knownAfter, Document, header, star
 use Rattle.format.specs.Uses.{acts, after, Known, Holds}
 use Rattle.format.specs.Allowed.{All, Allowed}
 use Rattle.fields.proofs.Characters.{one-list}
-use Rattle.tables.specs.Located.{Located, builtInPrefix, builtInNamespace, plain, plainState}
+use Rattle.tables.specs.Located.{Located, builtInPrefix, builtInNamespace, plain, plainState, start}
 use Rattle.read_items.specs.Items.{Stand}
 use Rattle.reader.specs.Reading.{EventRead, itemsRead, recordRead, accepted, refusal, Mark, run, onward, opening, origin, fuelOf, reading, marks, numberOf, checkOf, Accepts}
 use Rattle.events.specs.declared.Event.{Event}
@@ -38,7 +38,7 @@ use Rattle.theorems.proofs.Earlier as Before
 use Rattle.theorems.proofs.Wider as Wider
 use Rattle.theorems.proofs.Documents as Tree
 use Rattle.theorems.proofs.Plain as Plain
-use Rattle.theorems.proofs.ReadPlaces as Places
+use Rattle.theorems.proofs.ReadEffects.{reading-done}
 use Rattle.theorems.proofs.ReadRecords as Records
 use Rattle.theorems.proofs.Every as Every
 use Rattle.theorems.proofs.Permitted as Permitted
@@ -95,7 +95,8 @@ made-earlier ver items z s w = Before.earlier ver xmlPrefix xmlNamespace (docume
 --    name behind a number.
 pub made-earlier-places : (ver : Version) (s : Octets) (room : ℕ) (events : List EventRead) (last : Stand) → reading ver s room ≡ accepted events last
     → Known (starting ver builtInPrefix builtInNamespace) (acts (itemsRead events))
-made-earlier-places ver s room events last e = Places.earlier-places ver s room events last e
+unfolding start
+made-earlier-places ver s room events last e = Before.earlier ver builtInPrefix builtInNamespace (reading-done ver s room events last e)
 
 --    SPELLED: the strings that the choices spell have, in order, the very places and lengths at which the rules write them.
 pub spelled-places : (ver : Version) (items : List (Item Octets)) (z : State Octets) (s : Octets) (w : Document ver items z s) (room : ℕ) → length items ≤ room
@@ -109,7 +110,8 @@ tables-made ver items z s w = Before.made ver xmlPrefix xmlNamespace (document-d
 
 pub tables-made-places : (ver : Version) (s : Octets) (room : ℕ) (events : List EventRead) (last : Stand) → reading ver s room ≡ accepted events last
     → Holds (last .state .tables) (after (starting ver builtInPrefix builtInNamespace) (acts (itemsRead events)))
-tables-made-places ver s room events last e = Places.made-places ver s room events last e
+unfolding start
+tables-made-places ver s room events last e = Before.made ver builtInPrefix builtInNamespace (reading-done ver s room events last e)
 
 -- 5. TABLES: what the reader knows after each event is what the rules know then.
 pub tables : (ver : Version) (items : List (Item Octets)) (z : State Octets) (s : Octets) (w : Document ver items z s) → map (λ (k : Mark). plainState s (k .stand .state)) (marks ver s) ≡ knownAfter ver (w .rule)

@@ -40,7 +40,7 @@ module _ (ver : Version) (ok : Bounded ver) (s : Octets) (bytes : AreOctets s) w
   at = length (header ver)
 
   brief : length s ≤ ver .octets → length s ≤ longest
-  brief h = let k = ok .few-octets in omega arith
+  brief h = omega arith
 
   -- what a result means
   abbrev pub Means : Result → Type 0
@@ -81,7 +81,7 @@ module _ (ver : Version) (ok : Bounded ver) (s : Octets) (bytes : AreOctets s) w
     -- the number that comes back then
     never-14 : (a : Result) → Means a → NotShort a → numberOf a % 32 ≡ 14 → ⊥
     never-14 (accepted es m) g h e = omega arith
-    never-14 (refusal n p) g h e = h (let k = g .1 in omega arith)
+    never-14 (refusal n p) g h e = h (omega arith)
 
     pub number-never-14 : length (marks ver s) ≤ room → numberOf (reading ver s room) % 32 ≡ 14 → ⊥
     number-never-14 h = never-14 (reading ver s room) means (not-short h)

@@ -7,11 +7,12 @@ use mathlib.Core.Option.{Option}
 use mathlib.Core.List.{List, [], _∷_, _++_, append-assoc, append-nil}
 use lib.Dec.{eqb}
 use Rattle.format.specs.Events.{Name, How, NameHow, Item}
-use Rattle.format.specs.Tables.{StringTable, PREFIX, NAMESPACE-NAME, LOCAL-NAME, OTHER-NCNAME, OTHER-URI, ATTRIBUTE-VALUE, CONTENT-CHARACTER-CHUNK, OTHER-STRING}
+use Rattle.format.specs.Tables.{StringTable}
 use Rattle.format.specs.Tables.{NameTable, ELEMENT-NAME, ATTRIBUTE-NAME, Triple, Tables, Vocabulary, strings, names, adding, addingName, starting, Entry, first, later, an-entry, Means, Version}
 use Rattle.format.specs.Uses.{Act, makes, uses, makesName, usesName, ofString, ofOption, ofName, ofItem, acts, after, Known, AllMean, no-triple, a-triple, Holds}
 use Rattle.tables.specs.Rows.{place}
 use Rattle.tables.proofs.Adding.{extended, sameNames, strings-adding, names-adding, strings-adding-name, names-adding-name}
+use Rattle.tables.proofs.ByNumber.{by-table}
 use Rattle.read_names.specs.Names.{nameOf}
 use Rattle.theorems.proofs.Triples.{means-is}
 use Rattle.theorems.proofs.Effects.{IdDone, id-made, id-used, PartDone, no-part, a-part, StringDone, string-made, string-used, ValueDone, empty-value, a-value, NameDone, name-made, name-used}
@@ -126,14 +127,7 @@ module _ {S : Type 0} where
   -- at the start the tables hold no name
   same-start : (ver : Version) (p u : S) → Same {N = Triple} {M = Name S} (starting ver p u) (starting ver p u)
   unfolding strings starting
-  same-start ver p u PREFIX = refl
-  same-start ver p u NAMESPACE-NAME = refl
-  same-start ver p u LOCAL-NAME = refl
-  same-start ver p u OTHER-NCNAME = refl
-  same-start ver p u OTHER-URI = refl
-  same-start ver p u ATTRIBUTE-VALUE = refl
-  same-start ver p u CONTENT-CHARACTER-CHUNK = refl
-  same-start ver p u OTHER-STRING = refl
+  same-start ver p u = by-table _ refl refl refl refl refl refl refl refl
 
   pub holds-start : (ver : Version) (p u : S) → Holds (starting ver p u) (starting ver p u)
   unfolding names starting

@@ -16,6 +16,7 @@ use Rattle.fields.proofs.Laws.{case}
 use Rattle.tables.specs.Rows.{place}
 use Rattle.tables.proofs.EntryLaws.{entry-made}
 use Rattle.tables.proofs.Adding.{extended, sameNames, strings-adding, strings-adding-name, names-adding-name}
+use Rattle.tables.proofs.ByNumber.{by-table}
 use Rattle.write_names.specs.Chosen.{chooseFor, chosen, tablesAfter}
 use Rattle.theorems.specs.Permitted.{PermitsName, name-parts, name-entry, Permits, a-declaration, a-start, an-attribute, a-chunk, a-comment, an-instruction, an-end, PermitsAll, no-item, an-item}
 use Rattle.theorems.proofs.Growing.{extended-few}
@@ -45,14 +46,7 @@ module _ (u : StringTable) where
 -- no event adds to one table twice
 once : (u : StringTable) → own PREFIX u + own NAMESPACE-NAME u + own LOCAL-NAME u + own OTHER-NCNAME u + own ATTRIBUTE-VALUE u + own CONTENT-CHARACTER-CHUNK u + own OTHER-STRING u ≤ 1
 unfolding place
-once PREFIX = omega arith
-once NAMESPACE-NAME = omega arith
-once LOCAL-NAME = omega arith
-once OTHER-NCNAME = omega arith
-once OTHER-URI = omega arith
-once ATTRIBUTE-VALUE = omega arith
-once CONTENT-CHARACTER-CHUNK = omega arith
-once OTHER-STRING = omega arith
+once = by-table _ (omega arith) (omega arith) (omega arith) (omega arith) (omega arith) (omega arith) (omega arith) (omega arith)
 
 -- ---- with each event, each table by one at most
 pub record Adds (n : ℕ) (v w : Vocabulary Octets) : Type 0 where
@@ -115,14 +109,7 @@ at-most-one false x = omega arith
 
 few-started : (ver : Version) (t : StringTable) → length (strings (started ver) t) ≤ 1
 unfolding strings starting
-few-started ver PREFIX = at-most-one (ver .builtIn) xmlPrefix
-few-started ver NAMESPACE-NAME = at-most-one (ver .builtIn) xmlNamespace
-few-started ver LOCAL-NAME = omega arith
-few-started ver OTHER-NCNAME = omega arith
-few-started ver OTHER-URI = omega arith
-few-started ver ATTRIBUTE-VALUE = omega arith
-few-started ver CONTENT-CHARACTER-CHUNK = omega arith
-few-started ver OTHER-STRING = omega arith
+few-started ver = by-table _ (at-most-one (ver .builtIn) xmlPrefix) (at-most-one (ver .builtIn) xmlNamespace) (omega arith) (omega arith) (omega arith) (omega arith) (omega arith) (omega arith)
 
 none-started : (ver : Version) (t : NameTable) → length (names (started ver) t) ≡ 0
 unfolding names starting

@@ -9,24 +9,18 @@ use borrow.Author.Tests.{eq-eqb, eqb-true}
 use lib.Dec.{eqb}
 use lib.ListN.{length, length-append}
 use Rattle.format.specs.Events.{Name, How}
-use Rattle.format.specs.Tables.{StringTable, PREFIX, NAMESPACE-NAME, LOCAL-NAME, OTHER-NCNAME, OTHER-URI, ATTRIBUTE-VALUE, CONTENT-CHARACTER-CHUNK, OTHER-STRING}
+use Rattle.format.specs.Tables.{StringTable, PREFIX, NAMESPACE-NAME, LOCAL-NAME}
 use Rattle.format.specs.Tables.{NameTable, ELEMENT-NAME, ATTRIBUTE-NAME, Triple, Vocabulary, strings, adding, addingName, Entry, first, later, Behind, nothing, an-entry, Means}
 use Rattle.tables.specs.Rows.{tableOf, place}
 use Rattle.tables.proofs.Found.{clash}
 use Rattle.tables.proofs.Adding.{extended, sameNames, strings-adding, strings-adding-name}
+use Rattle.tables.proofs.ByNumber.{by-table}
 use Rattle.theorems.proofs.Effects.{IdDone, id-made, id-used, PartDone, no-part, a-part}
 
 -- ---- one entry more in one table: which it is, and how many entries there are then
 place-back : (t : StringTable) → tableOf (place t) ≡ t
 unfolding tableOf place
-place-back PREFIX = refl
-place-back NAMESPACE-NAME = refl
-place-back LOCAL-NAME = refl
-place-back OTHER-NCNAME = refl
-place-back OTHER-URI = refl
-place-back ATTRIBUTE-VALUE = refl
-place-back CONTENT-CHARACTER-CHUNK = refl
-place-back OTHER-STRING = refl
+place-back = by-table _ refl refl refl refl refl refl refl refl
 
 pub same-table : (t u : StringTable) → eqb (place t) (place u) ≡ true → t ≡ u
 same-table t u e = sym (place-back t) ∙ ap tableOf (eqb-true (place t) (place u) e) ∙ place-back u

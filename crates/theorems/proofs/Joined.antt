@@ -19,7 +19,7 @@ Joins zero hs = halves (joined hs) ≡ hs
 Joins (suc n) hs = (h : ℕ) → halves (joined (h ∷ hs)) ≡ h ∷ hs
 
 one-octet : (h l : ℕ) → l < 16 → ((16 * h + l) / 16 ≡ h) × ((16 * h + l) % 16 ≡ l)
-one-octet h l k = (omega arith, omega arith)
+one-octet h l k = omega arith
 
 join-two : (h l : ℕ) (hs : Halves) → l < 16 → halves (joined hs) ≡ hs → halves (joined (h ∷ l ∷ hs)) ≡ h ∷ l ∷ hs
 unfolding halves joined

@@ -22,7 +22,6 @@ mod Documents
 mod Begun
 mod Plain
 mod ReadEffects
-mod ReadPlaces
 mod ReadRecords
 mod Chosen
 mod Produced

@@ -56,15 +56,15 @@ module _ (s : Octets) (bytes : (i : ℕ) → getD s i 0 < 256) where
       let a = accepted (shares fs) top 1 base s k b n c bytes e in
       let one : k + 1 ≡ suc k = omega arith in
       let m : ℕ = a .m in
-      let i : n ≡ suc (a .v) = let q = a .is in omega arith in
+      let i : n ≡ suc (a .v) = omega arith in
       let before : n - 1 ≡ a .v = omega arith in
       let w : spell fs base n ≡ getD s k 0 ∷ take m (drop (suc k) s) = spell-is fs base n ok (omega arith) ∙ ap (λ (x : ℕ). spellIn (shares fs) base x) before ∙ a .written ∙ ap₂ (λ (x y : ℕ). x ∷ take m (drop y s)) (sym z) one in
-      let nx : c .at ≡ suc k + m = let q = a .next in omega arith in
+      let nx : c .at ≡ suc k + m = omega arith in
       let lt : length (take m (drop (suc k) s)) ≡ m = length-take-le m (drop (suc k) s) (let q = length-drop (suc k) s in omega arith) in
       record {
         v = a .v;
         is = i;
-        small = let q = a .small in let z = sizes-are fs in omega arith;
+        small = let z = sizes-are fs in omega arith;
         under = a .under;
         here =
             drop-cons s k 0 h

@@ -4,7 +4,7 @@ use mathlib.Core.Option.{Option}
 use mathlib.Core.List.{List}
 use Rattle.format.specs.Octets.{Octets, Halves}
 use Rattle.format.specs.Events.{Name, How, NameHow, Item}
-use Rattle.format.specs.Tables.{StringTable, ELEMENT-NAME, ATTRIBUTE-NAME, Vocabulary, Version}
+use Rattle.format.specs.Tables.{StringTable, Vocabulary, Version}
 use Rattle.format.specs.Strings.{Identifying, id-spelled, id-numbered, Optional, absent, present, Layout, Literal, literal-spelled, literal-numbered, Value, value-empty, value}
 use Rattle.format.specs.Names.{NameLayout, ofElement, ofAttribute, Named, in-parts, by-number, declared}
 use Rattle.format.specs.Items.{State, ItemWrittenAs, o-start, o-first-namespace, o-namespace, o-named-start, o-attribute, o-text, o-comment, o-instruction}
@@ -34,20 +34,13 @@ module _ {ver : Version} where
   name-may (in-parts lone up un ul new room) = name-parts (optional-may up) (optional-may un) (id-may ul) new
   name-may (by-number small fits en m) = name-entry en m
 
-  element-may : {lead : ℕ} {v w : Vocabulary Octets} {x : Name Octets} {h : NameHow} {o : Octets} → Named ver ofElement lead v x h o w → PermitsName ELEMENT-NAME v x h w
-  unfolding ofElement
-  element-may u = name-may u
-
-  attribute-may : {lead : ℕ} {v w : Vocabulary Octets} {x : Name Octets} {h : NameHow} {o : Octets} → Named ver ofAttribute lead v x h o w → PermitsName ATTRIBUTE-NAME v x h w
-  unfolding ofAttribute
-  attribute-may u = name-may u
-
   pub octets-may : {v w : State Octets} {i : Item Octets} {o : Octets} → ItemWrittenAs ver v i o w → Permits (v .tables) (i .event) (i .choice) (w .tables)
-  octets-may (o-start a md may deep u) = a-start (element-may u)
+  unfolding ofElement ofAttribute
+  octets-may (o-start a md may deep u) = a-start (name-may u)
   octets-may (o-first-namespace md may deep (declared up un)) = a-declaration (optional-may up) (optional-may un)
   octets-may (o-namespace md (declared up un)) = a-declaration (optional-may up) (optional-may un)
-  octets-may (o-named-start md u) = a-start (element-may u)
-  octets-may (o-attribute md u y) = an-attribute (attribute-may u) (value-may y)
+  octets-may (o-named-start md u) = a-start (name-may u)
+  octets-may (o-attribute md u y) = an-attribute (name-may u) (value-may y)
   octets-may (o-text md lv y) = a-chunk (literal-may y)
   octets-may (o-comment md y) = a-comment (value-may y)
   octets-may (o-instruction md x y) = an-instruction (id-may x) (value-may y)

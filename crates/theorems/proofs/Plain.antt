@@ -10,7 +10,7 @@ use Rattle.format.specs.Octets.{Octets}
 use Rattle.format.specs.Characters.{utf8s, IsText}
 use Rattle.format.specs.Numbers.{pick}
 use Rattle.format.specs.Events.{Name, Event, Namespace, Start, Attribute, Text, Comment, Instruction, End, How, NameHow, Item}
-use Rattle.format.specs.Tables.{StringTable, PREFIX, NAMESPACE-NAME, LOCAL-NAME, OTHER-NCNAME, OTHER-URI, ATTRIBUTE-VALUE, CONTENT-CHARACTER-CHUNK, OTHER-STRING}
+use Rattle.format.specs.Tables.{StringTable, PREFIX, NAMESPACE-NAME, LOCAL-NAME, OTHER-NCNAME, ATTRIBUTE-VALUE, CONTENT-CHARACTER-CHUNK, OTHER-STRING}
 use Rattle.format.specs.Tables.{NameTable, ELEMENT-NAME, ATTRIBUTE-NAME, Triple, Vocabulary, strings, names, adding, addingName, starting, Version}
 use Rattle.format.specs.Tables.{xmlPrefix, xmlNamespace, Entry, first as lowest, later, Means}
 use Rattle.format.specs.Names.{has}
@@ -21,6 +21,7 @@ use Rattle.fields.specs.Utf8.{rows, between, first, next, after, isText}
 use Rattle.fields.proofs.Characters.{text-exact}
 use Rattle.tables.specs.Rows.{place}
 use Rattle.tables.proofs.Adding.{extended, sameNames, strings-adding, names-adding, strings-adding-name, names-adding-name}
+use Rattle.tables.proofs.ByNumber.{by-table}
 use Rattle.theorems.proofs.Effects.{IdDone, id-made, id-used, PartDone, no-part, a-part, StringDone, string-made, string-used, ValueDone, empty-value, a-value, NameDone, name-made, name-used}
 use Rattle.theorems.proofs.Effects.{ItemDone, done-namespace, done-start, done-attribute, done-text, done-comment, done-instruction, done-end, Done, no-item, an-item, document-done}
 use Rattle.theorems.proofs.Triples.{means-is}
@@ -151,14 +152,7 @@ module _ {S : Type 0} (P : StringTable → S → Type 0) (d : S) where
         if-built-in t x h false = tt
 
         two-strings : (t : StringTable) → All (P t) (strings {N = Triple} (starting ver p n) t)
-        two-strings PREFIX = if-built-in PREFIX p a (ver .builtIn)
-        two-strings NAMESPACE-NAME = if-built-in NAMESPACE-NAME n b (ver .builtIn)
-        two-strings LOCAL-NAME = tt
-        two-strings OTHER-NCNAME = tt
-        two-strings OTHER-URI = tt
-        two-strings ATTRIBUTE-VALUE = tt
-        two-strings CONTENT-CHARACTER-CHUNK = tt
-        two-strings OTHER-STRING = tt
+        two-strings = by-table _ (if-built-in PREFIX p a (ver .builtIn)) (if-built-in NAMESPACE-NAME n b (ver .builtIn)) tt tt tt tt tt tt
 
     pub holds : (ver : Version) {p n : S} {items : List (Item S)} {z : Vocabulary S} → P PREFIX p → P NAMESPACE-NAME n → Done d Spelt (starting ver p n) items z → All (λ i. Holds (i .event)) items
     holds ver a b r = all-hold r (good-start ver a b)

@@ -2,7 +2,7 @@
 use mathlib.Core.Path.{_≡_, refl, ap, _∙_}
 use mathlib.Core.Bool.{Bool, true, false, not, _&&_, _||_}
 use mathlib.Core.List.{List, _∷_}
-use Prim.Native.Nat.{ℕ, _≤_}
+use Prim.Native.Nat.{ℕ}
 use native.Mathlib.Omega.{arith}
 use borrow.Author.Tests.{leb-true, le-leb}
 use lib.Dec.{leb}
@@ -11,7 +11,7 @@ use Rattle.format.specs.Octets.{Octets}
 use Rattle.format.specs.Numbers.{pick}
 use Rattle.format.specs.Events as E
 use Rattle.format.specs.Events.{eventMap, isDeclaration, isStart}
-use Rattle.format.specs.Tables.{StringTable, PREFIX, NAMESPACE-NAME, LOCAL-NAME, OTHER-NCNAME, OTHER-URI, ATTRIBUTE-VALUE, CONTENT-CHARACTER-CHUNK, OTHER-STRING, NameTable, ELEMENT-NAME, ATTRIBUTE-NAME, Vocabulary, strings, names, vocabularyMap, Version, InLimits}
+use Rattle.format.specs.Tables.{PREFIX, NAMESPACE-NAME, LOCAL-NAME, OTHER-NCNAME, OTHER-URI, ATTRIBUTE-VALUE, CONTENT-CHARACTER-CHUNK, OTHER-STRING, ELEMENT-NAME, ATTRIBUTE-NAME, Vocabulary, strings, names, vocabularyMap, Version, InLimits}
 use Rattle.format.specs.Items.{Mode, content, State, moved}
 use Rattle.events.specs.declared.Kind.{Kind}
 use Rattle.events.specs.declared.Kind.the-variants.{Blank, Namespace, Start, Attribute, Chunk, Comment, Instruction, End}
@@ -24,6 +24,7 @@ use Rattle.writer.specs.Events.{isDeclaring, isListing, eventOf}
 use Rattle.writer.specs.Items.{WroteItem, writeItem}
 use Rattle.writer.specs.Writing.{attributeNext, announced, isAttribute, opens, owed, settled, halvesOf}
 use Rattle.tables.proofs.Found.{both-true}
+use Rattle.tables.proofs.ByNumber.{by-table}
 use Rattle.theorems.specs.Verdicts.{plainOf}
 use Rattle.theorems.proofs.OneWriting.{later, later-start, later-declared}
 use Rattle.theorems.proofs.Produced.{Rest, octetsBy, knownBy}
@@ -131,21 +132,11 @@ fits-of ver v e r =
     let c = both-true (leb (length (v .locals)) (ver .entries)) _ (b .1) in
     let d = both-true (leb (length (v .ncnames)) (ver .entries)) _ (c .1) in
     let f = both-true (leb (length (v .elements)) (ver .entries)) _ (d .1) in
-    record { few = go (leb-true _ _ (a .0)) (leb-true _ _ (b .0)) (leb-true _ _ (c .0)) (leb-true _ _ (d .0)); few-names = gone (leb-true _ _ (f .0)) (leb-true _ _ (f .1)) }
-  where
-    go : length (v .prefixes) ≤ ver .entries → length (v .namespaces) ≤ ver .entries → length (v .locals) ≤ ver .entries → length (v .ncnames) ≤ ver .entries → (t : StringTable) → length (strings v t) ≤ ver .entries
-    go p n l o PREFIX = p
-    go p n l o NAMESPACE-NAME = n
-    go p n l o LOCAL-NAME = l
-    go p n l o OTHER-NCNAME = o
-    go p n l o OTHER-URI = r .few OTHER-URI (omega arith)
-    go p n l o ATTRIBUTE-VALUE = r .few ATTRIBUTE-VALUE (omega arith)
-    go p n l o CONTENT-CHARACTER-CHUNK = r .few CONTENT-CHARACTER-CHUNK (omega arith)
-    go p n l o OTHER-STRING = r .few OTHER-STRING (omega arith)
-
-    gone : length (v .elements) ≤ ver .entries → length (v .attributes) ≤ ver .entries → (t : NameTable) → length (names v t) ≤ ver .entries
-    gone e a ELEMENT-NAME = e
-    gone e a ATTRIBUTE-NAME = a
+    record {
+      few = by-table _ (leb-true _ _ (a .0)) (leb-true _ _ (b .0)) (leb-true _ _ (c .0)) (leb-true _ _ (d .0)) (r .few OTHER-URI (omega arith)) (r .few ATTRIBUTE-VALUE (omega arith))
+          (r .few CONTENT-CHARACTER-CHUNK (omega arith)) (r .few OTHER-STRING (omega arith));
+      few-names = λ t. elim t [ ELEMENT-NAME ↦ leb-true _ _ (f .0) | ATTRIBUTE-NAME ↦ leb-true _ _ (f .1) ];
+    }
 
 pub of-fits : (ver : Version) (v : Vocabulary Octets) → InLimits ver v → within ver v ≡ true
 unfolding within strings names place

@@ -10,17 +10,17 @@ use lib.Dec.{eqb}
 use lib.ListN.{length}
 use Rattle.format.specs.Octets.{Octets}
 use Rattle.format.specs.Numbers.{sizes, numbers, c25, top}
-use Rattle.format.specs.Events.{Name, Event, Namespace, Start, Attribute, Text, Comment, Instruction, End, How, NameHow, Item, _by_, Choice, forStart}
+use Rattle.format.specs.Events.{Name, Event, Namespace, Start, Attribute, Text, Comment, Instruction, End, How, NameHow, Item, _by_, Choice}
 use Rattle.format.specs.Tables.{StringTable, PREFIX, NAMESPACE-NAME, LOCAL-NAME, OTHER-NCNAME, ATTRIBUTE-VALUE, CONTENT-CHARACTER-CHUNK, OTHER-STRING, NameTable, ELEMENT-NAME, ATTRIBUTE-NAME, Vocabulary, strings, adding, Version, InLimits}
-use Rattle.format.specs.Strings.{Spelling, bit, c15, Literal}
-use Rattle.format.specs.Names.{has, ofElement, ofAttribute, Named, Declared, declared}
+use Rattle.format.specs.Strings.{Spelling, bit, c15}
+use Rattle.format.specs.Names.{has, ofElement, ofAttribute, Declared, declared}
 use Rattle.format.specs.Items.{Mode, content, declaring, listing, State, mayStart, knowing, moved, opened, ItemWrittenAs, o-start, o-first-namespace, o-namespace, o-named-start, o-attribute, o-text, o-comment, o-instruction}
 use Rattle.format.specs.Document.{closed}
 use Rattle.tables.specs.Rows.{place}
 use Rattle.tables.proofs.Adding.{extended, strings-adding, strings-adding-name}
 use Rattle.write_names.specs.Chosen.{Chose, chooseId, chooseOptional, chooseName, chooseLiteral, chooseValue, chooseFor}
 use Rattle.writer.specs.Items.{beforeDeclaration, beforeName, nameLead}
-use Rattle.theorems.specs.Permitted.{PermitsIfAny, PermitsString, PermitsName, Permits, a-declaration, a-start, an-attribute, a-chunk, a-comment, an-instruction, an-end}
+use Rattle.theorems.specs.Permitted.{PermitsIfAny, Permits, a-declaration, a-start, an-attribute, a-chunk, a-comment, an-instruction, an-end}
 use Rattle.theorems.proofs.Growing.{same-table, extended-few}
 use Rattle.theorems.proofs.Chosen.{Grows, same-size, grows-on, fits-before, idOctets, optionalOctets, literalOctets, valueOctets, nameOctets, More, as-was, one-more, id-more, optional-more, string-more, value-more, more-grows, id-case, id-rule, optional-case, optional-rule, SpellingIfAny, SpellingIfSome, LiteralCase, lit-held, lit-new, literal-case, literal-permits, literal-rule, ValueCase, is-empty, is-literal, value-case, value-permits, value-rule, Ranged, more-ranged, NameCase, name-held, name-new, name-case, name-permits, name-grows, name-ranged, NameSaid, name-rule}
 
@@ -198,39 +198,23 @@ octets-by C a v End r = refl
 
 -- A permitted choice is what the rules write.
 module _ (ver : Version) (small : ver .entries ≤ top) where
-  element-rule : (lead : ℕ) {v w : Vocabulary Octets} {x : Name Octets} {h : NameHow} → NameSaid x → InLimits ver w → PermitsName ELEMENT-NAME v x h w → Named ver ofElement lead v x h (nameOctets ofElement lead x h) w
-  unfolding ofElement sizes numbers
-  element-rule lead s f u = name-rule ver small ofElement (omega arith) lead s f u
-
-  attribute-rule : {v w : Vocabulary Octets} {x : Name Octets} {h : NameHow} → NameSaid x → InLimits ver w → PermitsName ATTRIBUTE-NAME v x h w → Named ver ofAttribute 0 v x h (nameOctets ofAttribute 0 x h) w
-  unfolding ofAttribute sizes c25
-  attribute-rule s f u = name-rule ver small ofAttribute (omega arith) 0 s f u
-
-  chunk-rule : {v w : Vocabulary Octets} {y : Octets} {h : How} → Spelling y → InLimits ver w → PermitsString CONTENT-CHARACTER-CHUNK v y h w → Literal ver c15 CONTENT-CHARACTER-CHUNK v y h (literalOctets c15 y h) w
-  unfolding c15 sizes numbers
-  chunk-rule s f u = literal-rule ver small (omega arith) s f u
-
   -- the strings of a declaration
   declared-rule : {v v₁ w : Vocabulary Octets} {p n : Option Octets} {hp hn : Option How} {kp kn : ℕ} → SpellingIfAny p × SpellingIfAny n → InLimits ver w
       → PermitsIfAny PREFIX v p hp kp v₁ → PermitsIfAny NAMESPACE-NAME v₁ n hn kn w
       → Declared ver v p n hp hn ((0xCC + 2 * has p + has n) ∷ (optionalOctets p hp ++ optionalOctets n hn)) w
   declared-rule s f up un = declared (optional-rule ver small (s .0) (fits-before (more-grows (optional-more un)) f) up) (optional-rule ver small (s .1) f un)
 
-  before-at : (a : Bool) (m k : Mode) → m ≡ k → (v z : State Octets) (i : Item Octets) (os : Octets) → ItemWrittenAs ver v i (beforeDeclaration k a ++ os) z → ItemWrittenAs ver v i (beforeDeclaration m a ++ os) z
-  before-at a m k e v z i os u = subst (λ (y : Mode). ItemWrittenAs ver v i (beforeDeclaration y a ++ os) z) (sym e) u
-
-  name-at : (a : Bool) (m k : Mode) → m ≡ k → (v z : State Octets) (x : Name Octets) (h : NameHow)
-      → ItemWrittenAs ver v (Start x by forStart h) (beforeName k ++ nameOctets ofElement (nameLead k a) x h) z → ItemWrittenAs ver v (Start x by forStart h) (beforeName m ++ nameOctets ofElement (nameLead m a) x h) z
-  name-at a m k e v z x h u = subst (λ (y : Mode). ItemWrittenAs ver v (Start x by forStart h) (beforeName y ++ nameOctets ofElement (nameLead y a) x h) z) (sym e) u
+  at-mode : (f : Mode → Octets) {m k : Mode} {v z : State Octets} {i : Item Octets} → m ≡ k → ItemWrittenAs ver v i (f k) z → ItemWrittenAs ver v i (f m) z
+  at-mode f {v = v} {z} {i} e u = subst (λ (y : Mode). ItemWrittenAs ver v i (f y) z) (sym e) u
 
   pub made : (a : Bool) (v : State Octets) {e : Event Octets} {c : Choice} {w : Vocabulary Octets} → Said e → Where ver a v e → InLimits ver w → (p : Permits (v .tables) e c w)
       → ItemWrittenAs ver v (e by c) (octetsAs a (v .mode) p) (behind a v w e)
-  unfolding octetsAs mayStart
-  made a v s (first-namespace md may deep) f (a-declaration up un) = before-at a (v .mode) content md _ _ _ _ (o-first-namespace {a = a} md may deep (declared-rule s f up un))
-  made a v s (next-namespace md) f (a-declaration up un) = before-at a (v .mode) (declaring a) md _ _ _ _ (o-namespace {a = a} md (declared-rule s f up un))
-  made a v s (first-start md may deep) f (a-start u) = name-at a (v .mode) content md _ _ _ _ (o-start a md may deep (element-rule (64 * bit a) s f u))
-  made a v s (named-start md) f (a-start u) = name-at a (v .mode) (declaring a) md _ _ _ _ (o-named-start md (element-rule 0 s f u))
-  made a v s (in-list md) f (an-attribute u y) = o-attribute md (attribute-rule (s .0) (fits-before (more-grows (value-more y)) f) u) (value-rule ver small (s .1) f y)
-  made a v s (in-element md lev) f (a-chunk y) = o-text md lev (chunk-rule s f y)
+  unfolding octetsAs mayStart ofElement ofAttribute c15 sizes numbers c25
+  made a v s (first-namespace md may deep) f (a-declaration up un) = at-mode (λ m. octetsAs a m (a-declaration up un)) md (o-first-namespace {a = a} md may deep (declared-rule s f up un))
+  made a v s (next-namespace md) f (a-declaration up un) = at-mode (λ m. octetsAs a m (a-declaration up un)) md (o-namespace {a = a} md (declared-rule s f up un))
+  made a v s (first-start md may deep) f (a-start u) = at-mode (λ m. octetsAs a m (a-start u)) md (o-start a md may deep (name-rule ver small ofElement (omega arith) (64 * bit a) s f u))
+  made a v s (named-start md) f (a-start u) = at-mode (λ m. octetsAs a m (a-start u)) md (o-named-start md (name-rule ver small ofElement (omega arith) 0 s f u))
+  made a v s (in-list md) f (an-attribute u y) = o-attribute md (name-rule ver small ofAttribute (omega arith) 0 (s .0) (fits-before (more-grows (value-more y)) f) u) (value-rule ver small (s .1) f y)
+  made a v s (in-element md lev) f (a-chunk y) = o-text md lev (literal-rule ver small (omega arith) s f y)
   made a v s (comment md) f (a-comment y) = o-comment md (value-rule ver small s f y)
   made a v s (instruction md) f (an-instruction x y) = o-instruction md (id-rule ver small (s .0) (fits-before (more-grows (value-more y)) f) x) (value-rule ver small (s .1) f y)

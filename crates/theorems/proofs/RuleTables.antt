@@ -60,16 +60,6 @@ module _ {ver : Version} where
   named-words (by-number small fits en m) (name-new new) e = cc
   named-words (by-number small fits en m) (name-held en′ m′) e = refl
 
-  element-words : {lead : ℕ} {v w : Vocabulary Octets} {x : Name Octets} {h : NameHow} {o : Octets}
-      → Named ver ofElement lead v x h o w → Ranged v → h ≡ chooseName ELEMENT-NAME v x .how → w ≡ chooseName ELEMENT-NAME v x .tables
-  unfolding ofElement
-  element-words {v = v} {x = x} u r e = named-words u (name-case ELEMENT-NAME v x r) e
-
-  attribute-words : {lead : ℕ} {v w : Vocabulary Octets} {x : Name Octets} {h : NameHow} {o : Octets}
-      → Named ver ofAttribute lead v x h o w → Ranged v → h ≡ chooseName ATTRIBUTE-NAME v x .how → w ≡ chooseName ATTRIBUTE-NAME v x .tables
-  unfolding ofAttribute
-  attribute-words {v = v} {x = x} u r e = named-words u (name-case ATTRIBUTE-NAME v x r) e
-
   declared-words : {v w : Vocabulary Octets} {p n : Option Octets} {hp hn : Option How} {o : Octets} → Declared ver v p n hp hn o w
       → hp ≡ chooseOptional PREFIX v p .how → hn ≡ chooseOptional NAMESPACE-NAME (chooseOptional PREFIX v p .tables) n .how
       → w ≡ chooseOptional NAMESPACE-NAME (chooseOptional PREFIX v p .tables) n .tables
@@ -81,13 +71,13 @@ module _ {ver : Version} where
   module _ (C : Version) where
     octets-words : {v w : State Octets} {i : Item Octets} {o : Octets} → ItemWrittenAs ver v i o w → Ranged (v .tables)
         → i .choice ≡ chooseFor C (v .tables) (i .event) .how → w .tables ≡ chooseFor C (v .tables) (i .event) .tables
-    unfolding chooseFor
-    octets-words (o-start a md may deep u) r e = element-words u r (cc)
+    unfolding chooseFor ofElement ofAttribute
+    octets-words {v} (o-start a {x = x} md may deep u) r e = named-words u (name-case ELEMENT-NAME (v .tables) x r) (cc)
     octets-words (o-first-namespace md may deep u) r e = declared-words u (cc) (cc)
     octets-words (o-namespace md u) r e = declared-words u (cc) (cc)
-    octets-words (o-named-start md u) r e = element-words u r (cc)
+    octets-words {v} (o-named-start {x = x} md u) r e = named-words u (name-case ELEMENT-NAME (v .tables) x r) (cc)
     octets-words {v} (o-attribute {x = x} {y = y} md u1 u2) r e =
-        let a = attribute-words u1 r (cc) in
+        let a = named-words u1 (name-case ATTRIBUTE-NAME (v .tables) x r) (cc) in
         value-words (rw a at u2) (value-case C ATTRIBUTE-VALUE (chooseName ATTRIBUTE-NAME (v .tables) x .tables) y) (cc)
     octets-words {v} (o-text {y = y} md lv u) r e = literal-words u (literal-case C CONTENT-CHARACTER-CHUNK (v .tables) y) (cc)
     octets-words {v} (o-comment {y = y} md u) r e = value-words u (value-case C OTHER-STRING (v .tables) y) (cc)

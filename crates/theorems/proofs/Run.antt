@@ -48,18 +48,18 @@ module _ {ver : Version} where
 
   literal-some : {q : Layout} (g : Shape q) {t : StringTable} {v w : Vocabulary Octets} {x : Octets} {h : How} {o : Octets} → Literal ver q t v x h o w → 0 < length o
   literal-some {q} g (literal-spelled {x = x} {added = a} sp room) =
-      let p = sp .some in let l = length-append (spell (lengths (q .lengthBit)) (q .spelledBits + q .addBit * bit a) (length x)) x in omega arith
+      let l = length-append (spell (lengths (q .lengthBit)) (q .spelledBits + q .addBit * bit a) (length x)) x in omega arith
   literal-some {q} g (literal-numbered {k = k} small fits en) = some-first (q .numberForms) (q .numberedBits) (suc k) (g .numbers-ok) (omega arith) fits
 
   octets-some : {v w : State Octets} {i : Item Octets} {o : Octets} → ItemWrittenAs ver v i o w → (0 < length o) × (w .level ≤ suc (v .level))
   octets-some (o-start a md may deep u) = (named-some element-shape u, omega arith)
-  octets-some (o-first-namespace md may deep u) = (omega arith, omega arith)
+  octets-some (o-first-namespace md may deep u) = omega arith
   octets-some (o-namespace md u) = (declared-some u, omega arith)
-  octets-some (o-named-start md u) = (omega arith, omega arith)
-  octets-some (o-attribute {o₁ = o1} {o₂ = o2} md u1 u2) = let p = named-some attribute-shape u1 in let l = length-append o1 o2 in (omega arith, omega arith)
+  octets-some (o-named-start md u) = omega arith
+  octets-some (o-attribute {o₁ = o1} {o₂ = o2} md u1 u2) = let p = named-some attribute-shape u1 in let l = length-append o1 o2 in omega arith
   octets-some (o-text md lev u) = (literal-some shape15 u, omega arith)
-  octets-some (o-comment md u) = (omega arith, omega arith)
-  octets-some (o-instruction md u1 u2) = (omega arith, omega arith)
+  octets-some (o-comment md u) = omega arith
+  octets-some (o-instruction md u1 u2) = omega arith
 
 -- ---- what is read is what the rules write
 -- where a reader can stand: not behind the end, with the numbers of triples in range
@@ -89,7 +89,7 @@ module _ (ver : Version) (s : Octets) (bytes : (i : ℕ) → getD s i 0 < 256) (
       let k : ℕ = aligned (m .at) / 2 in
       let o = w .octets in
       let a = align-is (m .at) in
-      let z : n .at ≡ aligned (m .at) + 2 * length o = let q = w .next in omega arith in
+      let z : n .at ≡ aligned (m .at) + 2 * length o = omega arith in
       let d : drop (m .at) (halves s) ≡ pad (m .at) ++ (halves o ++ drop (n .at) (halves s)) =
       pads-sound s (m .at) t
       ∙ ap (λ (x : ℕ). pad (m .at) ++ drop x (halves s)) (sym a)
@@ -191,8 +191,8 @@ module _ (ver : Version) (s : Octets) (bytes : (i : ℕ) → getD s i 0 < 256) (
   turn-free : (go go′ : ℕ → Stand → Result) (k : ℕ) → ((r : ℕ) (n : Stand) → Inside s n → left n < 2 * k → go r n ≡ go′ r n)
       → (room : ℕ) (m : Stand) → left m < 2 * suc k → (a : Step) → Fine m a → turn go room m a ≡ turn go′ room m a
   turn-free go go′ k rec zero m h (more p i n) g = refl
-  turn-free go go′ k rec (suc r) m h (more p i n) g = let l = g .2 in ap (plus _) (rec r n (g .1) (omega arith))
-  turn-free go go′ k rec room m h (quiet n) g = let l = g .2 in rec room n (g .1) (omega arith)
+  turn-free go go′ k rec (suc r) m h (more p i n) g = ap (plus _) (rec r n (g .1) (omega arith))
+  turn-free go go′ k rec room m h (quiet n) g = rec room n (g .1) (omega arith)
   turn-free go go′ k rec room m h done w = refl
   turn-free go go′ k rec room m h (stop c p) w = refl
 
@@ -205,8 +205,8 @@ module _ (ver : Version) (s : Octets) (bytes : (i : ℕ) → getD s i 0 < 256) (
 
   -- the events are few
   marked-few : (go : Stand → List Mark) → ((n : Stand) → Inside s n → 3 * length (go n) ≤ left n) → (m : Stand) (a : Step) → Fine m a → 3 * length (marked go a) ≤ left m
-  marked-few go rec m (more p i n) g = let r = rec n (g .1) in let l = g .2 in omega arith
-  marked-few go rec m (quiet n) g = let r = rec n (g .1) in let l = g .2 in omega arith
+  marked-few go rec m (more p i n) g = let r = rec n (g .1) in omega arith
+  marked-few go rec m (quiet n) g = let r = rec n (g .1) in omega arith
   marked-few go rec m done w = omega arith
   marked-few go rec m (stop c p) w = omega arith
 

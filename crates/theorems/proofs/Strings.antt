@@ -292,8 +292,7 @@ module _ (ver : Version) (s : Octets) where
       let fs = lengths (q .lengthBit) in
       let base : ℕ = q .spelledBits + q .addBit * bit added in
       let e : Spelt s fs (q .lengthBit) base k x = spelt s fs (q .lengthBit) (g .lead added) base k x rest (g .lengths-ok) (g .fits .lengths-fit) (long-enough (q .lengthBit)) (g .lead-is added) sp d in
-      let len = length-strings (octetsOf s) v t in
-      let end = e .end-is in (
+      let len = length-strings (octetsOf s) v t in (
         hit-at s (StringQ x (spelled added) _) (e .next + length x) _ _ _ (e .end-is)
             (rw (e .num, spelling-is s fs (q .lengthBit) base k x e _ (sp .formed), or-room added (length (strings v t)) (ver .entries) (λ y. let r = room y in omega arith))
             (record {

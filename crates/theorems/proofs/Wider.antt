@@ -59,4 +59,4 @@ module _ {ver M : Version} (long : ver .octets ≤ M .octets) (many : ver .entri
 pub in-standard : {ver : Version} {items : List (Item Octets)} {z : State Octets} {s : Octets} (depth octets : ℕ) → ver .entries ≤ top → ver .octets ≤ octets → ver .depth ≤ depth
     → Document ver items z s → Document (standard ver depth octets) items z s
 unfolding standard starting header
-in-standard depth octets few long deep d = record { body = d .body; here = d .here; rule = written long few deep (d .rule); short = let a = d .short in omega arith }
+in-standard depth octets few long deep d = record { body = d .body; here = d .here; rule = written long few deep (d .rule); short = omega arith }

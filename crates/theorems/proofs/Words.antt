@@ -8,11 +8,12 @@ use lib.Dec.{eqb}
 use lib.ListN.{length, length-map, List·getD-map}
 use Rattle.format.specs.Events.{nameMap}
 use Rattle.format.specs.Numbers.{pick}
-use Rattle.format.specs.Tables.{StringTable, PREFIX, NAMESPACE-NAME, LOCAL-NAME, OTHER-NCNAME, OTHER-URI, ATTRIBUTE-VALUE, CONTENT-CHARACTER-CHUNK, OTHER-STRING, NameTable, ELEMENT-NAME, ATTRIBUTE-NAME, Triple, Vocabulary, strings, names, adding, addingName, vocabularyMap, starting, Entry, first, later, Version}
+use Rattle.format.specs.Tables.{StringTable, NameTable, ELEMENT-NAME, ATTRIBUTE-NAME, Triple, Vocabulary, strings, names, adding, addingName, vocabularyMap, starting, Entry, first, later, Version}
 use Rattle.format.specs.Strings.{keeping}
 use Rattle.tables.specs.Rows.{place}
 use Rattle.tables.specs.Told.{entriesOf}
 use Rattle.tables.proofs.Adding.{extended, adding-is}
+use Rattle.tables.proofs.ByNumber.{by-table}
 use Rattle.read_names.specs.Names.{partOf, nameOf}
 
 pub map-append : {A B : Type 0} (f : A → B) (a b : List A) → map f (a ++ b) ≡ map f a ++ map f b
@@ -22,14 +23,7 @@ map-append f (x ∷ a) b = ap (λ (l : List _). f x ∷ l) (map-append f a b)
 module _ {S T : Type 0} (f : S → T) where
   pub strings-map : (v : Vocabulary S) (t : StringTable) → strings (vocabularyMap f v) t ≡ map f (strings v t)
   unfolding strings vocabularyMap
-  strings-map v PREFIX = refl
-  strings-map v NAMESPACE-NAME = refl
-  strings-map v LOCAL-NAME = refl
-  strings-map v OTHER-NCNAME = refl
-  strings-map v OTHER-URI = refl
-  strings-map v ATTRIBUTE-VALUE = refl
-  strings-map v CONTENT-CHARACTER-CHUNK = refl
-  strings-map v OTHER-STRING = refl
+  strings-map v = by-table _ refl refl refl refl refl refl refl refl
 
   pub length-strings : (v : Vocabulary S) (t : StringTable) → length (strings (vocabularyMap f v) t) ≡ length (strings v t)
   length-strings v t = ap length (strings-map v t) ∙ length-map (strings v t) f

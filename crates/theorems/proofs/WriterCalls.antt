@@ -111,12 +111,12 @@ module _ (ver : Version) (text : Octets) (room : ℕ) where
     where
       cases : (a b : Bool) → Faulty i i (pick a (pick b (written [] (15 ∷ pad (suc at)) v) (refusal 14 i)) (refusal 16 i))
       cases true true = tt
-      cases true false = (omega arith, omega arith, omega arith)
-      cases false b = (omega arith, omega arith, omega arith)
+      cases true false = omega arith
+      cases false b = omega arith
 
   later : (i n : ℕ) (j : Item Located) (hs : Halves) (r : Result) → Faulty (suc i) (suc i + n) r → Faulty i (i + suc n) (plus j hs r)
   later i n j hs (written items ks z) h = tt
-  later i n j hs (refusal k p) h = let a = h .1 in let b = h .2 in (h .0, omega arith, omega arith)
+  later i n j hs (refusal k p) h = (h .0, omega arith, omega arith)
 
   turned : (i m : ℕ) (j : Item Located) (hs : Halves) (r : Result) (n : ℕ) → ((n ≡ 0 → ⊥) → Numbered n) → Faulty (suc i) (suc i + m) r
       → Faulty i (i + suc m) (elim n [ zero ↦ plus j hs r | suc k ↦ refusal (suc k) i ])
@@ -149,9 +149,9 @@ refused-small ver records text r t true true k p e = from (writing ver text r (r
     from (refusal n place) q e =
         let f = write-refused ver text r (recordsOf records) n place q .0 in
         let ek : n ≡ k = cc in
-        (omega arith, omega arith)
-refused-small ver records text r t true false k p e = let ek : 14 ≡ k = cc in (omega arith, omega arith)
-refused-small ver records text r t false d k p e = let ek : 1 ≡ k = cc in (omega arith, omega arith)
+        omega arith
+refused-small ver records text r t true false k p e = let ek : 14 ≡ k = cc in omega arith
+refused-small ver records text r t false d k p e = let ek : 1 ≡ k = cc in omega arith
 
 module _ (ver : Version) (ok : Bounded ver) (records : Words) (text : Octets) (r t : ℕ) where
   abbrev left : Outcome
@@ -160,7 +160,7 @@ module _ (ver : Version) (ok : Bounded ver) (records : Words) (text : Octets) (r
   by-answer : (n : ℕ) (a : Answer) → left .answer ≡ a → answerWord a ≡ n * 2 ^ 32 → Wrote ver text (recordsOf records) r left
   unfolding writeOf
   by-answer n (Accepted m c) e q = write-accepts ver ok text r (recordsOf records) t m c e
-  by-answer n (Refused k p) e q = let f = refused-small ver records text r t (leb (length text) (ver .octets)) (eqb t tableWords) k p e in absurd (let low = f .0 in let high = f .1 in omega arith)
+  by-answer n (Refused k p) e q = let f = refused-small ver records text r t (leb (length text) (ver .octets)) (eqb t tableWords) k p e in absurd (omega arith)
 
   by-words : (c n : ℕ) (b d : Bool) → pick b (pick d (inWords left) (nothing 14 r t c)) (nothing 1 r t c) .answer ≡ n * 2 ^ 32
       → Wrote ver text (recordsOf records) r left × (pick b (pick d (inWords left) (nothing 14 r t c)) (nothing 1 r t c) ≡ inWords left)

@@ -153,7 +153,7 @@ module _ (ver : Version) (ok : Bounded ver) (text : Octets) where
       so-far = rw items-are (Begun.begun-more (st .begun) (subst (λ (k : ℕ). Begun ver k pv ((pe by chooseFor ver (pv .tables) pe .how) ∷ []) hs (plainState text (wi .state))) (st .at-is) one))
 
       at-then : at + length hs ≡ 2 * length (header ver) + length (st .halves ++ hs)
-      at-then = let l = length-append (st .halves) hs in let k = st .at-is in omega arith
+      at-then = let l = length-append (st .halves) hs in omega arith
 
       room-if : fits ver text room (at + length hs) ≡ true → HasRoom ver text room before e
       unfolding fits
@@ -195,7 +195,7 @@ module _ (ver : Version) (ok : Bounded ver) (text : Octets) where
     ]
 
     can-say : WellMade text e → Each IsText pe → Said pe
-    can-say m t = said pe (made-allowed text m t) (all-short text (let k = ok .few-octets in omega arith) ev)
+    can-say m t = said pe (made-allowed text m t) (all-short text (omega arith) ev)
 
     verdict-from : (b1 b2 b3 b4 b5 : Bool) → (wellMade text (e .kind) e && goesOn v ev) ≡ b1 → allText text ev ≡ b2 → (opens (v .mode) ev && leb (ver .depth) (v .level)) ≡ b3 → within ver (wi .state .tables) ≡ b4
         → fits ver text room (at + length hs) ≡ b5 → Verdict (pick b1 (pick b2 (pick b3 13 (pick b4 (pick b5 0 14) 12)) 9) 16)
