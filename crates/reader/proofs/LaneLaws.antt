@@ -2,36 +2,49 @@
 -- Assumes nothing.
 use mathlib.Core.Path.{_≡_, refl, sym, ap, _∙_}
 use mathlib.Core.Bool.{true, false, _&&_}
-use mathlib.Core.List.{List}
+use mathlib.Core.List.{List, [], _∷_}
 use Prim.Native.Nat.{ℕ, zero, suc, _+_, _-_, _*_, _/_, _%_, _^_, _≤_, _<_}
 use native.Mathlib.Omega.{arith}
+use native.Mathlib.Decide.{ℕ-discrete}
 use borrow.Author.Tests.{lt-ltb, eq-eqb, ne-eqb, eqb-true, ltb-true}
 use lib.Dec.{eqb, ltb}
-use lib.ListN.{length, getD}
+use lib.ListN.{length, getD, take, drop}
+use lib.Seq.{drop-cons}
 use Rattle.format.specs.Octets.{Octets, Words}
-use Rattle.format.specs.Numbers.{numbers, top}
+use Rattle.format.specs.Numbers.{lengths, numbers, top}
 use Rattle.format.specs.Tables.{Triple, link}
-use Rattle.fields.specs.Fields.{valueFrom, fieldAt}
+use Rattle.format.specs.Strings.{c15}
+use Rattle.fields.specs.declared.Cursor.{Cursor}
+use Rattle.fields.specs.declared.Number.{Number}
+use Rattle.fields.specs.declared.Number.the-variants.{Got as Num}
+use Rattle.fields.specs.Fields.{valueFrom, fieldAt, noTop}
+use Rattle.fields.specs.Utf8.{isText}
 use Rattle.fields.proofs.Laws.{sizesIn, roomsIn}
 use Rattle.fields.proofs.Cases.{behind-got, field-form}
-use Rattle.fields.proofs.Bounds.{field-got}
+use Rattle.fields.proofs.Low.{allLow, highest-low}
+use Rattle.fields.proofs.Utf8.{low-text}
 use Rattle.fields.proofs.Numbers.{numberShares, number-values, numbers-are}
 use Rattle.tables.specs.declared.Row.{Row}
 use Rattle.tables.specs.Counts.{tableWords}
-use Rattle.tables.specs.Rows.{tableOf, tripleAt}
+use Rattle.tables.specs.Rows.{tableOf, stringAt, tripleAt, vocabulary}
 use Rattle.tables.specs.Kept.{countOf, unlisted, layoutOf, rowAt}
 use Rattle.tables.proofs.Found.{both-true}
 use Rattle.states.specs.declared.State.{State}
 use Rattle.states.specs.States.{modeOf, afterEnd}
+use Rattle.events.specs.declared.EventString.{EventString}
 use Rattle.events.specs.declared.EventString.the-variants.{Absent, Stretch}
 use Rattle.events.specs.declared.Kind.the-variants.{Start}
 use Rattle.events.specs.declared.Event.{Event}
-use Rattle.events.specs.Records.{startRecord, chunkRecord, endRecord}
+use Rattle.events.specs.Records.{eventString, startRecord, chunkRecord, endRecord}
 use Rattle.events.specs.Kept.{kept}
+use Rattle.read_names.specs.declared.Entry.the-variants.{Got as Numbered}
+use Rattle.read_names.specs.declared.Field.the-variants.{Got}
 use Rattle.read_names.specs.declared.Parts.{Parts}
-use Rattle.read_names.specs.Contracts.{eventStringAt, nameStringsAt}
+use Rattle.read_names.specs.Strings.{literalAt}
+use Rattle.read_names.specs.Names.{numberedAt}
+use Rattle.read_names.specs.Contracts.{Tidy, IdLeft, seenName, nameSeen, stringSeen, eventStringAt, nameStringsAt}
 use Rattle.read_names.proofs.Grown.{count-at, name-ranged}
-use Rattle.read_names.proofs.StringLaws.{entry-octets, string-none, string-there, held-entry, said-entry, table-small, chunk-held}
+use Rattle.read_names.proofs.StringLaws.{stretch-text, entry-octets, string-none, string-there, held-entry, said-entry, FieldAnswers, table-small, spelled-added, chunk-held, chunk-spelled}
 use Rattle.read_names.proofs.NameLaws.{element-number, row-is, strings-are, number-held}
 use Rattle.read_items.specs.declared.Step.the-variants.{More}
 use Rattle.read_items.specs.Items as I
@@ -46,8 +59,8 @@ use Rattle.read_items.proofs.ItemLaws.{padding-none, chunk-more, start-met, ele
 use Rattle.reader.specs.declared.lane.Lane.{Lane}
 use Rattle.reader.specs.declared.lane.Named.{Named}
 use Rattle.reader.specs.Reading.{Result, turn, run}
-use Rattle.reader.specs.RunContracts.{endingOf, eventWords, keptFrom}
-use Rattle.reader.specs.LaneContracts.{Underway, Tidied, Onward, inLane, entersLane, Stands, Skims, Advances, ReadsShort}
+use Rattle.reader.specs.RunContracts.{endingOf, keptFrom}
+use Rattle.reader.specs.LaneContracts.{Underway, Tidied, Onward, inLane, entersLane, Stands, Skims, Advances, ReadsShort, AddsChunk}
 use Rattle.reader.proofs.RunLaws.{run-one, underway-more}
 
 -- ---- one behind the other
@@ -55,7 +68,7 @@ module _ {s : Octets} {n : ℕ} {st : State} {t c r : Words} where
   pub onward-same : {full : ℕ} → n ≤ full → Tidied s c t → Onward s full st n t c r st n t c r
   onward-same h d = record { less = omega arith; most = h; tidied = d; goes = λ {v} {room} {body} {left} f l u. let z : n + left - n ≡ left = omega arith in rw z u }
 
-  pub onward-then : {full m k : ℕ} {st₁ st₂ : State} {t₁ c₁ r₁ t₂ c₂ r₂ : Words} → Onward s full st n t c r st₁ m t₁ c₁ r₁ → m < full → Onward s (m + 1) st₁ m t₁ c₁ r₁ st₂ k t₂ c₂ r₂ → Onward s full st n t c r st₂ k t₂ c₂ r₂
+  onward-then : {full m k : ℕ} {st₁ st₂ : State} {t₁ c₁ r₁ t₂ c₂ r₂ : Words} → Onward s full st n t c r st₁ m t₁ c₁ r₁ → m < full → Onward s (m + 1) st₁ m t₁ c₁ r₁ st₂ k t₂ c₂ r₂ → Onward s full st n t c r st₂ k t₂ c₂ r₂
   onward-then {m = m} {k = k} a h b =
       let al = a .less in
       let bl = b .less in
@@ -70,7 +83,7 @@ module _ {s : Octets} {n : ℕ} {st : State} {t c r : Words} where
       }
 
   -- one step
-  pub onward-one : {st′ : State} {p : ℕ} {t′ c′ r′ : Words} → Tidied s c′ t′ → length r′ ≡ length r
+  onward-one : {st′ : State} {p : ℕ} {t′ c′ r′ : Words} → Tidied s c′ t′ → length r′ ≡ length r
       → ((x : Octets) → Good s st (lent t c x r) → Met s st n (lent t c x r) (More st′ p) (lent t′ c′ x r′) (step link s))
       → Onward s (n + 1) st n t c r st′ (n + 1) t′ c′ r′
   onward-one d same m =
@@ -107,7 +120,7 @@ module _ {s v : Words} {room body left n : ℕ} {st st′ : State} {a : Lent} (u
   turned : run link s left (room - n) (standOf st a) ≡ turn go (room - n) (standOf st a) (step link s (standOf st′ a))
   turned = run-one s left (room - n) (standOf st a) h ∙ ap (turn go (room - n) (standOf st a)) e
 
-  pub underway-over : Underway s v room body left n st′ a
+  underway-over : Underway s v room body left n st′ a
   underway-over =
       record {
         good = g;
@@ -123,7 +136,7 @@ module _ {s v : Words} {room body left n : ℕ} {st st′ : State} {a : Lent} (u
       }
 
 -- where the lane comes to a place from which the next step is that from another
-pub onward-over : {s : Octets} {full n m : ℕ} {st st₁ st₂ : State} {t c r t₁ c₁ r₁ : Words} → Onward s full st n t c r st₁ m t₁ c₁ r₁
+onward-over : {s : Octets} {full n m : ℕ} {st st₁ st₂ : State} {t c r t₁ c₁ r₁ : Words} → Onward s full st n t c r st₁ m t₁ c₁ r₁
     → ((x : Octets) → Good s st₁ (lent t₁ c₁ x r₁)
     → Good s st₂ (lent t₁ c₁ x r₁) × (standOf st₁ (lent t₁ c₁ x r₁) .state ≡ standOf st₂ (lent t₁ c₁ x r₁) .state) × (step link s (standOf st₁ (lent t₁ c₁ x r₁)) ≡ step link s (standOf st₂ (lent t₁ c₁ x r₁))))
     → Onward s full st n t c r st₂ m t₁ c₁ r₁
@@ -146,14 +159,14 @@ module _ (s : Octets) (st : State) (a : Lent) (k : ℕ) (m : st .mode ≡ 0) whe
       ∙ item-child s k (standOf st a .state) (st .mode) m
 
   -- at the start of an octet
-  pub step-here : st .at ≡ 2 * k → k < length s → getD s k 0 < 0xF0 → step link s (standOf st a) ≡ childAt link s k (standOf st a .state)
+  step-here : st .at ≡ 2 * k → k < length s → getD s k 0 < 0xF0 → step link s (standOf st a) ≡ childAt link s k (standOf st a .state)
   step-here e h l =
       let z : st .at / 2 ≡ k = omega arith in
       let y : getD s k 0 / 16 % 16 ≡ halfAt s (st .at) = half-high s (st .at) (omega arith) (getD s k 0 / 16 % 16) (rw z (omega arith)) (omega arith) (rw z refl) in
       step-child (λ q. omega arith) (pads-even s (st .at) (omega arith)) (omega arith)
 
   -- behind an end in the first half of an octet whose other half is padding
-  pub step-behind : (j : ℕ) → st .at ≡ 2 * j + 1 → j + 1 ≡ k → k < length s → getD s j 0 ≡ 0xF0 → step link s (standOf st a) ≡ childAt link s k (standOf st a .state)
+  step-behind : (j : ℕ) → st .at ≡ 2 * j + 1 → j + 1 ≡ k → k < length s → getD s j 0 ≡ 0xF0 → step link s (standOf st a) ≡ childAt link s k (standOf st a .state)
   step-behind j e n h l =
       let z : st .at / 2 ≡ j = omega arith in
       let odd : st .at % 2 ≡ 0 → ⊥ = λ q. omega arith in
@@ -182,8 +195,39 @@ module _ (s : Octets) (at b ones : ℕ) (h : at + 1 < length s) (small : ones �
       (sym (rw (n, p) at (behind-got s at (b - ones) 1 (1 + 2 ^ (8 - bit)) (2 ^ (14 - bit)) top ((b - ones) * 256 + getD s (at + 1) 0) (omega arith) refl (omega arith) (omega arith)
       ∙ field-form top bit s at (numbers bit) (numberShares bit) (numbers-are bit f u) (omega arith) 1 (omega arith) _ _ _ _ refl (b - ones) (omega arith) _ _ (omega arith) refl (omega arith))))
 
-number-near : (s : Octets) (at o ones bit : ℕ) (x : Named) → 1 ≤ bit → bit ≤ 6 → ones ≡ 2 ^ (8 - bit) → o ≡ getD s at 0 % 2 ^ (9 - bit) → ReadsShort s at o ones x → x .next ≤ length s
-number-near s at o ones bit x f g p e q = field-got top s at (numbers bit) bit (q bit f g p e) .3
+-- ---- what is read there, with any index
+module _ (s c t : List ℕ) (at o : ℕ) where
+  read-start : (x : Named) → o ≡ getD s at 0 % 2 ^ (9 - 3) → ReadsShort s at o 0x20 x → x .row < getD c 8 0 → (i : Octets) → Tidy s c t i
+      → (seenName 8 (Numbered (x .row + 1) (x .next)) c t ≡ nameSeen (numberedAt link (layoutOf 8) s at (vocabulary (unlisted c) t))) × IdLeft s c t 8 (Numbered (x .row + 1) (x .next)) c t i
+  read-start x b q h i tidy =
+      number-held s c t i 8 at tidy (omega arith) (omega arith) _ (sym (q 3 (omega arith) (omega arith) refl b) ∙ element-number 8 refl s at) _
+      (held-entry _ at _ (x .row + 1) (record { at = x .next }) refl (rw (count-at c (tidy .ten) 8) (omega arith)))
+
+-- A chunk's string v, and the octet behind it.
+abbrev ReadsText : (s c t : List ℕ) → ℕ → EventString → ℕ → (c′ t′ x : List ℕ) → Type 0
+ReadsText s c t at v next c′ t′ x = FieldAnswers s c t (Got v next) c′ t′ x (stringSeen (literalAt link c15 s (tableOf 6) at (vocabulary (unlisted c) t)))
+
+module _ (s c t : List ℕ) (at o : ℕ) (e : o ≡ getD s at 0) where
+  read-chunk : (x : Named) → 0xA0 ≤ o → o < 0xB4 → ReadsShort s at (o - 0xA0) 0x10 x → x .row < getD c 6 0 → (i : Octets) → Tidy s c t i
+      → ReadsText s c t at (eventString (stringAt (tableOf 6) t (768 * 6 + 3 * (x .row + 1 - 1)))) (x .next) c t i
+  read-chunk x a l q h i tidy =
+      let b : o - 0xA0 ≡ getD s at 0 % 2 ^ (9 - 4) = omega arith in
+      chunk-held s c t i 6 at tidy (omega arith) o e (omega arith) (omega arith) 1 (omega arith) refl _ (sym (q 4 (omega arith) (omega arith) refl b)) _ _
+      (held-entry _ at _ (x .row + 1) (record { at = x .next }) refl (rw (count-at c (tidy .ten) 6) (omega arith)))
+      (said-entry t 6 _ (x .row + 1) (x .next) _ refl refl)
+
+  -- bit 3 is 0
+  spelled-bit : 0x80 ≤ o → o < 0xA0 → o / 32 % 2 ≡ 1 → ⊥
+  spelled-bit l h z = omega arith
+
+  -- b is its bits 5 and 6, a its add bit; its length is read, m, and its octets are text
+  read-spelled : {c′ t′ : Words} → 0x80 ≤ o → o < 0xA0 → {b : ℕ} → b ≡ o / 4 % 4 → b ≡ 0 → {m : Number} → m ≡ fieldAt (lengths 7) noTop 7 s at → {n : ℕ} {i : Cursor} → m ≡ Num n i → i .at + n ≤ length s
+      → true ≡ isText (take (i .at + n - i .at) (drop (i .at) s)) → {a : ℕ} → a ≡ o / 16 % 2 → AddsChunk true c t (i .at) n (eqb a 1) c′ t′ → (x : Octets) → Tidy s c t x
+      → ReadsText s c t at (Stretch (i .at) n) (i .at + n) c′ t′ x
+  read-spelled {c′ = c′} {t′ = t′} l h {b = b} eb zb {m = m} em {n = n} {i = i} q to text {a = a} ea adds x tidy =
+      let got = Got (Stretch (i .at) n) (i .at + n) in
+      chunk-spelled s c t x 6 at tidy (omega arith) o e l (omega arith) (o / 32 % 2) refl (spelled-bit l h) b eb zb a ea got c′ t′
+      (spelled-added s c t x 6 at tidy (omega arith) 7 (eqb a 1) m em (Num n i) (stretch-text s at m n i q true (i .at + n) to refl text refl) (omega arith) n i refl got c′ t′ (adds at))
 
 -- ---- each item as a step; where it is not taken, nothing has changed
 module _ {s : Octets} {t c r : Words} {y : Lane} (w : Stands s c t y) where
@@ -194,51 +238,55 @@ module _ {s : Octets} {t c r : Words} {y : Lane} (w : Stands s c t y) where
       record { onward = onward-same (omega arith) (w .tidied); inside = w .inside; near = omega arith }
 
   module _ {r′ : Words} (same : length r′ ≡ length r) where
-    module _ (o : ℕ) (e : o ≡ getD s (y .at) 0) (x : Named) where
-      pub takes-start : o < 0x28 → ReadsShort s (y .at) o 0x20 x → x .row < getD c 8 0 → y .level < 32 → r′ ≡ kept r (y .n) (namedRecord Start (nameStringsAt t 8 (x .row + 1)) Absent)
-          → Skims s (y .n + 1) y t c r (record { at = x .next; level = y .level + 1; n = y .n + 1 }) t c r′
-      unfolding layoutOf
-      takes-start l q h d k =
-          let m = w .more in
-          let i = w .inside in
-          let z = w .tidied .tidy .size in
-          let b : o ≡ getD s (y .at) 0 % 2 ^ (9 - 3) = omega arith in
-          let near = number-near s (y .at) o 0x20 3 x (omega arith) (omega arith) refl b q in
-          record {
-            onward = onward-one (w .tidied) same λ i good.
-                let v = standOf (inLane y) (lent t c i r) .state in
-                let read = number-held s c t i 8 (y .at) (good .tidy) (omega arith) (omega arith) _ (sym (q 3 (omega arith) (omega arith) refl b) ∙ element-number 8 refl s (y .at)) _
-                (held-entry _ (y .at) _ (x .row + 1) (record { at = x .next }) refl (rw (count-at c (good .tidy .ten) 8) (omega arith))) in
-                start-met (y .at) false _ _ (read .0) (read .1) (start-opened (inLane y) (y .at) false t r (y .n) refl d refl k)
-                (step-here s (inLane y) (lent t c i r) (y .at) refl refl (omega arith) (omega arith)
-                ∙ child-element s (y .at) v (omega arith) 0 o (omega arith) (omega arith) (omega arith) (omega arith)
-                ∙ element-numbered s (y .at) o false v (padding-none o (omega arith) (λ a. omega arith) (λ a. omega arith)) (rw (lt-ltb 0 (y .level) (omega arith)) refl) (omega arith));
-            inside = omega arith;
-            near = omega arith;
-          }
+    pub takes-start : (o : ℕ) → o ≡ getD s (y .at) 0 → (x : Named) → o < 0x28 → ReadsShort s (y .at) o 0x20 x → x .row < getD c 8 0 → y .level < 32
+        → r′ ≡ kept r (y .n) (namedRecord Start (nameStringsAt t 8 (x .row + 1)) Absent) → Skims s (y .n + 1) y t c r (record { at = x .next; level = y .level + 1; n = y .n + 1 }) t c r′
+    unfolding layoutOf
+    takes-start o e x l q h d k =
+        let m = w .more in
+        let inside = w .inside in
+        let z = w .tidied .tidy .size in
+        let b : o ≡ getD s (y .at) 0 % 2 ^ (9 - 3) = omega arith in
+        let near = read-start s c t (y .at) o x b q h (w .tidied .index) (w .tidied .tidy) .1 .0 .within in
+        record {
+          onward = onward-one (w .tidied) same λ i good.
+              let v = standOf (inLane y) (lent t c i r) .state in
+              let read = read-start s c t (y .at) o x b q h i (good .tidy) in
+              start-met (y .at) false _ _ (read .0) (read .1) (start-opened (inLane y) (y .at) false t r (y .n) refl d refl k)
+              (step-here s (inLane y) (lent t c i r) (y .at) refl refl (omega arith) (omega arith)
+              ∙ child-element s (y .at) v (omega arith) 0 o (omega arith) (omega arith) (omega arith) (omega arith)
+              ∙ element-numbered s (y .at) o false v (padding-none o (omega arith) (λ a. omega arith) (λ a. omega arith)) (rw (lt-ltb 0 (y .level) (omega arith)) refl) (omega arith));
+          inside = omega arith;
+          near = omega arith;
+        }
 
-      pub takes-chunk : 0xA0 ≤ o → o < 0xB4 → ReadsShort s (y .at) (o - 0xA0) 0x10 x → x .row < getD c 6 0 → r′ ≡ kept r (y .n) (chunkRecord (eventStringAt t 6 (x .row + 1)))
-          → Skims s (y .n + 1) y t c r (record { at = x .next; level = y .level; n = y .n + 1 }) t c r′
-      unfolding tableOf
-      takes-chunk a l q h k =
-          let m = w .more in
-          let i = w .inside in
-          let z = w .tidied .tidy .size in
-          let b : o - 0xA0 ≡ getD s (y .at) 0 % 2 ^ (9 - 4) = omega arith in
-          let near = number-near s (y .at) (o - 0xA0) 0x10 4 x (omega arith) (omega arith) refl b q in
-          record {
-            onward = onward-one (w .tidied) same λ i good.
-                let v = standOf (inLane y) (lent t c i r) .state in
-                met-by
-                (chunk-more (y .at) refl good k (ap chunkRecord (sym (string-there t 6 (x .row + 1) _ (omega arith) refl)))
-                (chunk-held s c t i 6 (y .at) (good .tidy) (omega arith) o e (omega arith) (omega arith) 1 (omega arith) refl _ (sym (q 4 (omega arith) (omega arith) refl b)) _ _
-                (held-entry _ (y .at) _ (x .row + 1) (record { at = x .next }) refl (rw (count-at c (good .tidy .ten) 6) (omega arith)))
-                (said-entry t 6 _ (x .row + 1) (x .next) _ refl refl)))
-                (step-here s (inLane y) (lent t c i r) (y .at) refl refl (omega arith) (omega arith)
-                ∙ child-text s (y .at) v (omega arith) (omega arith) (omega arith) (λ a. omega arith));
-            inside = w .inside;
-            near = omega arith;
-          }
+    -- a chunk whose string is read
+    takes-text : {t′ c′ : Words} {v : EventString} {next : ℕ} {f : Event} → 0x80 ≤ getD s (y .at) 0 → getD s (y .at) 0 < 0xC0 → ((x : Octets) → Tidy s c t x → ReadsText s c t (y .at) v next c′ t′ x)
+        → r′ ≡ kept r (y .n) f → f ≡ chunkRecord v → Skims s (y .n + 1) y t c r (record { at = next; level = y .level; n = y .n + 1 }) t′ c′ r′
+    unfolding tableOf
+    takes-text l h read k q =
+        let m = w .more in
+        let inside = w .inside in
+        let z = w .tidied .tidy .size in
+        let left = read (w .tidied .index) (w .tidied .tidy) .1 in
+        let within = left .within in
+        record {
+          onward = onward-one (record { index = w .tidied .index; tidy = left .tidy }) same λ x good.
+              met-by (chunk-more (y .at) refl good k q (read x (good .tidy)))
+              (step-here s (inLane y) (lent t c x r) (y .at) refl refl (omega arith) (omega arith)
+              ∙ child-text s (y .at) (standOf (inLane y) (lent t c x r) .state) (omega arith) (omega arith) (omega arith) (λ a. omega arith));
+          inside = w .inside;
+          near = omega arith;
+        }
+
+    pub takes-chunk : (o : ℕ) → o ≡ getD s (y .at) 0 → (x : Named) → 0xA0 ≤ o → o < 0xB4 → ReadsShort s (y .at) (o - 0xA0) 0x10 x → x .row < getD c 6 0 → r′ ≡ kept r (y .n) (chunkRecord (eventStringAt t 6 (x .row + 1)))
+        → Skims s (y .n + 1) y t c r (record { at = x .next; level = y .level; n = y .n + 1 }) t c r′
+    takes-chunk o e x a l q h k =
+        takes-text (omega arith) (omega arith) (read-chunk s c t (y .at) o e x a l q h) k (ap chunkRecord (sym (string-there t 6 (x .row + 1) _ (omega arith) refl)))
+
+    pub takes-spelled : {t′ c′ : Words} (o : ℕ) → o ≡ getD s (y .at) 0 → 0x80 ≤ o → o < 0xA0 → {b : ℕ} → b ≡ o / 4 % 4 → b ≡ 0 → {m : Number} → m ≡ fieldAt (lengths 7) noTop 7 s (y .at)
+        → {n : ℕ} {i : Cursor} → m ≡ Num n i → i .at + n ≤ length s → true ≡ isText (take (i .at + n - i .at) (drop (i .at) s)) → {a : ℕ} → a ≡ o / 16 % 2 → AddsChunk true c t (i .at) n (eqb a 1) c′ t′
+        → {f : Event} → r′ ≡ kept r (y .n) f → f ≡ chunkRecord (Stretch (i .at) n) → Skims s (y .n + 1) y t c r (record { at = i .at + n; level = y .level; n = y .n + 1 }) t′ c′ r′
+    takes-spelled o e l h eb zb em q to text ea adds k z = takes-text (omega arith) (omega arith) (read-spelled s c t (y .at) o e l h eb zb em q to text ea adds) k z
 
     pub takes-end : {e : Event} → getD s (y .at) 0 ≡ 0xF0 → 2 ≤ y .level → getD s (y .at + 1) 0 < 0xF0 → r′ ≡ kept r (y .n) e → e ≡ endRecord
         → Skims s (y .n + 1) y t c r (record { at = y .at + 1; level = y .level - 1; n = y .n + 1 }) t c r′
@@ -262,6 +310,27 @@ module _ {s : Octets} {t c r : Words} {y : Lane} (w : Stands s c t y) where
           inside = omega arith;
           near = omega arith;
         }
+
+-- ---- one or two octets of ASCII
+module _ (s : Octets) (from to : ℕ) (l : from < to) (h : to ≤ length s) (a : getD s from 0 < 0x80) (b : ltb (getD s (to - 1) 0) 0x80 ≡ true) where
+  ascii-one : to - from ≡ 1 → true ≡ isText (take (to - from) (drop from s))
+  unfolding allLow
+  ascii-one z = rw (z, drop-cons s from 0 (omega arith)) (low-text (getD s from 0 ∷ []) (highest-low 0 (getD s from 0 ∷ []) ∙ rw (lt-ltb (getD s from 0) 0x80 a) refl))
+
+  ascii-two : to - from ≡ 2 → true ≡ isText (take (to - from) (drop from s))
+  unfolding allLow
+  ascii-two z =
+      let e : to - 1 ≡ suc from = omega arith in
+      let c = rw e at b in
+      rw (z, drop-cons s from 0 (omega arith), drop-cons s (suc from) 0 (omega arith))
+      (low-text (getD s from 0 ∷ getD s (suc from) 0 ∷ []) (highest-low 0 (getD s from 0 ∷ getD s (suc from) 0 ∷ []) ∙ rw (lt-ltb (getD s from 0) 0x80 a, c) refl))
+
+  pub ascii-text : to ≤ from + 2 → true ≡ isText (take (to - from) (drop from s))
+  ascii-text k = elim (ℕ-discrete (to - from) 1) [ yes z ↦ ascii-one z | no n ↦ ascii-two (omega arith) ]
+
+-- no room for a row more
+pub takes-full : {s : Octets} {t c t′ c′ r : Words} {y : Lane} → Stands s c t y → (c′ ≡ c) × (t′ ≡ t) → Skims s (y .n + 1) y t c r y t′ c′ r
+takes-full w q = rw (q .0, q .1) (takes-none w)
 
 pub skims-then : {s : Octets} {full : ℕ} {x y z : Lane} {t c r t₁ c₁ r₁ t₂ c₂ r₂ : Words} → Skims s full x t c r y t₁ c₁ r₁ → y .n < full → Skims s (y .n + 1) y t₁ c₁ r₁ z t₂ c₂ r₂ → Skims s full x t c r z t₂ c₂ r₂
 skims-then a h b = record { onward = onward-then (a .onward) h (b .onward); inside = b .inside; near = b .near }

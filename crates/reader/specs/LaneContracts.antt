@@ -1,7 +1,7 @@
 -- Contracts of the code, not definitions to be believed. What holds while a run is underway, and the quick lane as some steps of it.
 use Prim.Native.Nat.{ℕ, _+_, _-_, _*_, _%_, _^_, _≤_, _<_}
 use mathlib.Core.Path.{_≡_}
-use mathlib.Core.Bool.{Bool, _&&_}
+use mathlib.Core.Bool.{Bool, true, false, _&&_}
 use lib.ListN.{length, getD}
 use lib.Dec.{eqb, ltb}
 use Rattle.format.specs.Octets.{Octets, Words}
@@ -11,7 +11,10 @@ use Rattle.fields.specs.declared.Number.the-variants.{Got}
 use Rattle.fields.specs.Fields.{fieldAt}
 use Rattle.tables.specs.Located.{start}
 use Rattle.states.specs.declared.State.{State}
+use Rattle.events.specs.declared.EventString.the-variants.{Stretch}
+use Rattle.read_names.specs.declared.Field.the-variants as F
 use Rattle.read_names.specs.Contracts.{Tidy}
+use Rattle.read_names.specs.StringContracts.{addedOf, addedCounts, addedWords}
 use Rattle.read_items.specs.Contracts.{Lent, lent, standOf, Good}
 use Rattle.reader.specs.declared.lane.Lane.{Lane}
 use Rattle.reader.specs.declared.lane.Named.{Named}
@@ -72,3 +75,8 @@ pub record Advances (s : Octets) (room left : ℕ) (st : State) (n : ℕ) (t c r
 -- A number of one or two octets, from a bit of the octet: b is what its bits of the first octet hold, of which those below `ones` stand alone.
 abbrev pub ReadsShort : Octets → (at b ones : ℕ) → Named → Type 0
 ReadsShort s at b ones r = (bit : ℕ) → 1 ≤ bit → bit ≤ 6 → ones ≡ 2 ^ (8 - bit) → b ≡ getD s at 0 % 2 ^ (9 - bit) → fieldAt (numbers bit) top bit s at ≡ Got (r .row + 1) (record { at = r .next })
+
+-- A row more of chunks, where one is to be added, as the reading of a string says it at any place k; or no room for it.
+abbrev pub AddsChunk : Bool → (c t : Words) → (place size : ℕ) → Bool → (c′ t′ : Words) → Type 0
+AddsChunk true c t place size add c′ t′ = (k : ℕ) → (F.Got (Stretch place size) (place + size) ≡ addedOf c 6 k place size add) × (c′ ≡ addedCounts c 6 add) × (t′ ≡ addedWords c t 6 place size add)
+AddsChunk false c t place size add c′ t′ = (c′ ≡ c) × (t′ ≡ t)

@@ -1,8 +1,10 @@
-// A quick lane for what most of a document is: elements and chunks by number, and ends. It takes as many of them as it can, each as a step would, and leaves all else, every fault and the
-// root's end to the step.
+// A quick lane for what most of a document is: elements and chunks by number, spelled chunks, and ends. It takes as many of them as it can, each as a step
+// would, without a step's answer around it. All else is left to the step: other items, every fault, the root's end, and an event for which there is no record.
 ghost use mathlib.Core.Path.{_≡_};
 ghost use Prim.Native.Nat.{ℕ, _+_, _-_, _*_, _/_, _<_, _≤_};
-ghost use lib.ListN.{length, getD};
+ghost use mathlib.Core.Bool.{true};
+ghost use lib.ListN.{length, getD, take, drop};
+ghost use Rattle.fields.specs.Utf8.{isText};
 ghost use Rattle.tables.specs.Counts.{tableWords};
 ghost use Rattle.tables.specs.Rows.{tripleAt};
 ghost use Rattle.events.specs.declared.EventString.the-variants.{Absent};
@@ -11,12 +13,16 @@ ghost use Rattle.events.specs.Kept.{kept};
 ghost use Rattle.events.specs.Records.{chunkRecord};
 ghost use Rattle.read_names.specs.Contracts.{eventStringAt, nameStringsAt};
 ghost use Rattle.read_items.specs.ItemContracts.{NameThere, namedRecord};
-ghost use Rattle.reader.specs.LaneContracts.{Tidied, entersLane, Stands, Skims, Advances, ReadsShort};
+ghost use Rattle.reader.specs.LaneContracts.{Tidied, entersLane, Stands, Skims, Advances, ReadsShort, AddsChunk};
 use events::EventString;
+use fields::Cursor;
+use fields::Number;
+use fields::bits;
 use format::table::CONTENT_CHARACTER_CHUNK;
 use format::table::ELEMENT_NAME;
 use format::table::LOCAL_NAME;
 use states::State;
+use tables::Counts;
 
 // Where the lane stands: at an octet among children, inside the root, behind n events.
 struct Lane {
@@ -168,6 +174,79 @@ fn end(s: &[u8], t: &[u32], counts: &[u32], records: &mut [u32], lane: Lane) -> 
     }
 }
 
+// The octets from `from` to before `to` are text. One or two are looked at here, so that they cost no call; where they are not ASCII, false leaves them to the step.
+fn is_text(s: &[u8], from: usize, to: usize) -> bool
+    requires { ⌜ (from < to) × (to ≤ length (now s)) ⌝ }
+    ensures { λ r. ⌜ (r ≡ true → true ≡ isText (take (to - from) (drop from (now (s .entry))))) ⌝ }
+{
+    if 2 < to - from {
+        return fields::is_text(s, from, to);
+    }
+    if 0x80 <= s[from] {
+        return false;
+    }
+    s[to - 1] < 0x80
+}
+
+// A row more of chunks, where one is to be added; false where there is no room for it.
+fn added(t: &mut [u32], counts: &mut [u32], place: u32, size: u32, add: bool) -> bool
+    requires { ⌜ (length (now t) ≡ tableWords) × (length (now counts) ≡ 10) ⌝ }
+    ensures { λ r. ⌜ AddsChunk r (now (counts .entry)) (now (t .entry)) place size add (now (counts .exit)) (now (t .exit)) ⌝ }
+{
+    if !add {
+        return true;
+    }
+    let count = counts[CONTENT_CHARACTER_CHUNK];
+    if Counts::ENTRIES <= count {
+        return false;
+    }
+    tables::add(t, CONTENT_CHARACTER_CHUNK, count, place, size, 0);
+    counts[CONTENT_CHARACTER_CHUNK] = count + 1;
+    true
+}
+
+// A spelled chunk, whose first octet is o.
+fn spelled(
+    s: &[u8],
+    t: &mut [u32],
+    counts: &mut [u32],
+    records: &mut [u32],
+    lane: Lane,
+    o: u8,
+) -> Lane
+    requires { ⌜ Stands (now s) (now counts) (now t) lane × (o ≡ getD (now s) (lane .at) 0) × (o < 0xA0) ⌝ }
+    ensures { λ r. ⌜ Skims (now (s .entry)) (lane .n + 1) lane (now (t .entry)) (now (counts .entry)) (now (records .entry)) r (now (t .exit)) (now (counts .exit)) (now (records .exit)) ⌝ }
+{
+    if o < 0x80 {
+        return lane;
+    }
+    if bits(o, 5, 6) != 0 {
+        return lane;
+    }
+    let c = Cursor { at: lane.at };
+    let Number::Got(length, behind) = c.length(s, 7) else {
+        return lane;
+    };
+    let place = behind.at;
+    let size = length as usize;
+    if s.len() - place < size {
+        return lane;
+    }
+    if !is_text(s, place, place + size) {
+        return lane;
+    }
+    if !added(t, counts, place as u32, size as u32, bits(o, 4, 4) == 1) {
+        return lane;
+    }
+    let e = events::chunk(EventString::Stretch(place as u32, size as u32));
+    events::keep(records, lane.n, e);
+    Lane {
+        at: place + size,
+        level: lane.level,
+        n: lane.n + 1,
+    }
+}
+
 // One item, where the lane takes it.
 fn item(s: &[u8], t: &mut [u32], counts: &mut [u32], records: &mut [u32], lane: Lane) -> Lane
     requires { ⌜ Stands (now s) (now counts) (now t) lane ⌝ }
@@ -182,7 +261,7 @@ fn item(s: &[u8], t: &mut [u32], counts: &mut [u32], records: &mut [u32], lane: 
         return end(s, t, counts, records, lane);
     }
     if o < 0xA0 {
-        return lane;
+        return spelled(s, t, counts, records, lane, o);
     }
     if 0xB4 <= o {
         return lane;
@@ -203,7 +282,7 @@ fn items(
     ensures { λ r. ⌜ Skims (now (s .entry)) full from (now (t .entry)) (now (counts .entry)) (now (records .entry)) r (now (t .exit)) (now (counts .exit)) (now (records .exit)) ⌝ }
 {
     let mut lane = from;
-    while lane.n < full && lane.at + 1 < s.len() {
+    while lane.at + 1 < s.len() && lane.n < full {
         let n = lane.n;
         lane = item(s, t, counts, records, lane);
         if lane.n == n {

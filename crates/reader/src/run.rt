@@ -1,4 +1,5 @@
-// A run: the opening, then steps until the document's end. The check and the reader for C are such runs.
+// A run: the opening, then steps until the document's end. Each turn takes what the quick lane takes, which is some steps at once, and then one step; the lane decides and
+// refuses nothing of its own. The check and the reader for C are such runs.
 ghost use mathlib.Core.Path.{_≡_};
 ghost use Prim.Native.Nat.{_≤_};
 ghost use lib.ListN.{length, take, replicate};
@@ -113,12 +114,9 @@ fn steps(
     let mut left = 2 * s.len() + 1;
     while 0 < left {
         let y = lane::skim(s, t, counts, records, room, left, st, n);
-        left = n + left - y.n;
+        left = n + left - y.n - 1;
         n = y.n;
-        let reached = y.state;
-        st = reached;
-        left -= 1;
-        match read_items::items::step(st, s, t, counts, &mut index, records, n) {
+        match read_items::items::step(y.state, s, t, counts, &mut index, records, n) {
             Step::More(next, place) => {
                 if n == room {
                     return refused(ROOM, place);

@@ -19,7 +19,9 @@ returns : tie.Need-returns
 returns c = takes-none (c .before .before .before .before .before .before .before .before .pre .0)
 
 keep-chunk-requires : tie.Need-keep-chunk-requires
-keep-chunk-requires c κs = chunk-in-row (c .before .before .before .before .before .before .before .before .before .pre .0 .tidied) _ (omega arith)
+keep-chunk-requires c κs =
+    let at-start = c .before .before .before .before .before .before .before .before .before in
+    chunk-in-row (at-start .pre .0 .tidied) _ (omega arith)
 
 add-t15 : tie.Need-add-t15
 add-t15 c = search needs
@@ -28,7 +30,9 @@ same-length : tie.Need-same-length
 same-length c = search needs
 
 returns-2 : tie.Need-returns-2
-returns-2 c = takes-chunk (c .before .before .before .before .before .before .before .before .before .before .before .before .before .pre .0) (omega arith) _ (c .before .before .before .before .before .before .before .before .before .before .before .before .before .pre .1) _ (c .before .before .before .before .before .before .before .before .before .before .before .before .before .pre .2) (c .before .before .before .before .before .before .before .before .before .before .before .before .before .pre .3) (c .before .before .before .before .before .before .before .before .row-at .ensures) (omega arith) (c .before .before .before .keep-chunk .ensures)
+returns-2 c =
+    let at-start = c .before .before .before .before .before .before .before .before .before .before .before .before .before in
+    takes-chunk (at-start .pre .0) (omega arith) _ (at-start .pre .1) _ (at-start .pre .2) (at-start .pre .3) (c .before .before .before .before .before .before .before .before .row-at .ensures) (omega arith) (c .before .before .before .keep-chunk .ensures)
 
 pub chunk-spec : {M : Type 1} → statement M
 chunk-spec =

@@ -16,10 +16,14 @@ returns : tie.Need-returns
 returns c = takes-none (c .before .before .before .before .before .before .before .before .pre .0)
 
 returns-2 : tie.Need-returns-2
-returns-2 c = takes-none (c .before .before .before .before .before .before .before .before .before .before .pre .0)
+returns-2 c =
+    let at-start = c .before .before .before .before .before .before .before .before .before .before in
+    takes-none (at-start .pre .0)
 
 keep-start-requires : tie.Need-keep-start-requires
-keep-start-requires c κs = name-in-row (c .before .before .before .before .before .before .before .before .before .before .before .pre .0 .tidied) _ (omega arith)
+keep-start-requires c κs =
+    let at-start = c .before .before .before .before .before .before .before .before .before .before .before in
+    name-in-row (at-start .pre .0 .tidied) _ (omega arith)
 
 add-t14 : tie.Need-add-t14
 add-t14 c = search needs
@@ -31,7 +35,11 @@ same-length : tie.Need-same-length
 same-length c = search needs
 
 returns-3 : tie.Need-returns-3
-returns-3 c = takes-start (c .before .before .before .before .before .before .before .before .before .before .before .before .before .before .before .before .pre .0) (omega arith) _ (c .before .before .before .before .before .before .before .before .before .before .before .before .before .before .before .before .pre .1) _ (c .before .before .before .before .before .before .before .before .before .before .before .before .before .before .before .before .pre .2) (c .before .before .before .before .before .before .before .before .before .before .before .row-at .ensures) (omega arith) (omega arith) (c .before .before .before .before .keep-start .ensures)
+returns-3 c =
+    let at-keep-start = c .before .before .before .before in
+    let at-row-at = at-keep-start .before .before .before .before .before .before .before in
+    let at-start = at-row-at .before .before .before .before .before in
+    takes-start (at-start .pre .0) (omega (arith, at-keep-start .keep-start .kept)) _ (at-start .pre .1) _ (at-start .pre .2) (at-row-at .row-at .ensures) (omega (arith, c .before .before .before .before .before .before .before .before .if1 .left)) (omega (arith, c .before .before .before .before .before .before .if2 .left)) (at-keep-start .keep-start .ensures)
 
 pub element-spec : {M : Type 1} → statement M
 element-spec =

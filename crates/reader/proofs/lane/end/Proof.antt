@@ -16,7 +16,9 @@ shared-slice-read-if2 : tie.Need-shared-slice-read-if2
 shared-slice-read-if2 c = search needs
 
 returns-2 : tie.Need-returns-2
-returns-2 c = takes-none (c .before .before .before .before .before .before .before .before .before .pre .0)
+returns-2 c =
+    let at-start = c .before .before .before .before .before .before .before .before .before in
+    takes-none (at-start .pre .0)
 
 end-requires : tie.Need-end-requires
 end-requires c κs = search needs
@@ -34,7 +36,9 @@ same-length : tie.Need-same-length
 same-length c = search needs
 
 returns-3 : tie.Need-returns-3
-returns-3 c = takes-end (c .before .before .before .before .before .before .before .before .before .before .before .before .before .before .before .before .pre .0) (omega arith) (c .before .before .before .before .before .before .before .before .before .before .before .before .before .before .before .before .pre .1) (omega arith) (omega arith) (c .before .before .before .before .keep .ensures) (c .before .before .before .before .before .before .end .ensures)
+returns-3 c =
+    let at-start = c .before .before .before .before .before .before .before .before .before .before .before .before .before .before .before .before in
+    takes-end (at-start .pre .0) (omega arith) (at-start .pre .1) (omega arith) (omega arith) (c .before .before .before .before .keep .ensures) (c .before .before .before .before .before .before .end .ensures)
 
 pub end-spec : {M : Type 1} → statement M
 end-spec =

@@ -38,14 +38,8 @@ same-length-6 c = search needs
 returns-2 : tie.Need-returns-2
 returns-2 c = search needs
 
-returns-3 : tie.Need-returns-3
-returns-3 c = takes-none (c .before .before .before .before .before .before .before .before .pre)
-
-returns-4 : tie.Need-returns-4
-returns-4 c = takes-none (c .before .before .before .before .before .before .before .before .before .pre)
-
-chunk-requires : tie.Need-chunk-requires
-chunk-requires c κs = search needs
+spelled-requires : tie.Need-spelled-requires
+spelled-requires c κs = search needs
 
 same-length-7 : tie.Need-same-length-7
 same-length-7 c = search needs
@@ -55,6 +49,26 @@ same-length-8 c = search needs
 
 same-length-9 : tie.Need-same-length-9
 same-length-9 c = search needs
+
+returns-3 : tie.Need-returns-3
+returns-3 c = search needs
+
+returns-4 : tie.Need-returns-4
+returns-4 c =
+    let at-start = c .before .before .before .before .before .before .before .before .before in
+    takes-none (at-start .pre)
+
+chunk-requires : tie.Need-chunk-requires
+chunk-requires c κs = search needs
+
+same-length-10 : tie.Need-same-length-10
+same-length-10 c = search needs
+
+same-length-11 : tie.Need-same-length-11
+same-length-11 c = search needs
+
+same-length-12 : tie.Need-same-length-12
+same-length-12 c = search needs
 
 returns-5 : tie.Need-returns-5
 returns-5 c = search needs
@@ -74,10 +88,14 @@ item-spec =
     same-length-5
     same-length-6
     returns-2
-    returns-3
-    returns-4
-    chunk-requires
+    spelled-requires
     same-length-7
     same-length-8
     same-length-9
+    returns-3
+    returns-4
+    chunk-requires
+    same-length-10
+    same-length-11
+    same-length-12
     returns-5)

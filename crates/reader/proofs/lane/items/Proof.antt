@@ -17,13 +17,22 @@ abbrev μ-loop : tie.MeasureT-loop
 μ-loop s t₀ counts₀ records₀ full lane₀ t counts records lane = full - lane .n
 
 loop-holds : tie.Need-loop-holds Inv-loop μ-loop
-loop-holds c = (refl, refl, refl, record { onward = onward-same (c .before .before .before .before .pre .3) (c .before .before .before .before .pre .0); inside = c .before .before .before .before .pre .1; near = c .before .before .before .before .pre .2 })
+loop-holds c =
+    let at-start = c .before .before .before .before in
+    (refl, refl, refl, record { onward = onward-same (at-start .pre .3) (at-start .pre .0); inside = at-start .pre .1; near = at-start .pre .2 })
 
-add-if2 : tie.Need-add-if2 Inv-loop μ-loop
-add-if2 c = let h = c .before .before .before .loop .inv .3 .near in omega arith
+add-if1 : tie.Need-add-if1 Inv-loop μ-loop
+add-if1 c =
+    let h = c .before .loop .inv .3 .near in
+    omega arith
 
 item-requires : tie.Need-item-requires Inv-loop μ-loop
-item-requires c κs = let few : c .before .before .before .before .before .before .before .loop .lane .n < 65536 = omega arith in record { tidied = c .before .before .before .before .before .before .before .loop .inv .3 .onward .tidied; more = ltb-true _ _ (c .before .before .before .if2 .taken); inside = c .before .before .before .before .before .before .before .loop .inv .3 .inside; few = few }
+item-requires c κs =
+    let at-loop = c .before .before .before .before .before .before .before in
+    let at-start = at-loop .before .before .before .before .before in
+    let h : at-loop .loop .lane .n < at-start .args .full = ltb-true _ _ (c .before .before .before .if2 .taken) in
+    let few : at-loop .loop .lane .n < 65536 = omega arith in
+    record { tidied = at-loop .loop .inv .3 .onward .tidied; more = c .before .before .before .before .before .if1 .taken; inside = at-loop .loop .inv .3 .inside; few = few }
 
 same-length : tie.Need-same-length Inv-loop μ-loop
 same-length c = omega arith
@@ -35,13 +44,27 @@ same-length-3 : tie.Need-same-length-3 Inv-loop μ-loop
 same-length-3 c = omega arith
 
 returns : tie.Need-returns Inv-loop μ-loop
-returns c = skims-then (c .before .before .before .before .before .before .before .before .before .before .before .before .before .before .before .before .loop .inv .3) (omega arith) (c .before .before .before .before .before .before .before .before .item .ensures)
+returns c =
+    let at-if2 = c .before .before .before .before .before .before .before .before .before .before .before .before in
+    let at-loop = at-if2 .before .before .before .before in
+    skims-then (at-loop .loop .inv .3) (ltb-true _ _ (at-if2 .if2 .taken)) (c .before .before .before .before .before .before .before .before .item .ensures)
 
 loop-less : tie.Need-loop-less Inv-loop μ-loop
-loop-less c = let l = c .before .before .before .before .before .before .before .before .item .ensures .onward .less in let m = c .before .before .before .before .before .before .before .before .item .ensures .onward .most in omega arith
+loop-less c =
+    let at-item = c .before .before .before .before .before .before .before .before in
+    let at-if2 = at-item .before .before .before .before in
+    let at-loop = at-if2 .before .before .before .before in
+    let at-start = at-loop .before .before .before .before .before in
+    let h : at-loop .loop .lane .n < at-start .args .full = ltb-true _ _ (at-if2 .if2 .taken) in
+    let l = at-item .item .ensures .onward .less in
+    let m = at-item .item .ensures .onward .most in
+    omega arith
 
 loop-again : tie.Need-loop-again Inv-loop μ-loop
-loop-again c = (omega arith, omega arith, omega arith, skims-then (c .before .before .before .before .before .before .before .before .before .before .before .before .before .before .before .before .loop .inv .3) (omega arith) (c .before .before .before .before .before .before .before .before .item .ensures))
+loop-again c =
+    let at-if2 = c .before .before .before .before .before .before .before .before .before .before .before .before in
+    let at-loop = at-if2 .before .before .before .before in
+    (omega arith, omega arith, omega arith, skims-then (at-loop .loop .inv .3) (ltb-true _ _ (at-if2 .if2 .taken)) (c .before .before .before .before .before .before .before .before .item .ensures))
 
 same-length-4 : tie.Need-same-length-4 Inv-loop μ-loop
 same-length-4 c = omega arith
@@ -74,7 +97,7 @@ items-spec =
     Inv-loop
     μ-loop
     loop-holds
-    add-if2
+    add-if1
     item-requires
     same-length
     same-length-2

@@ -22,10 +22,16 @@ entry-requires : tie.Need-entry-requires
 entry-requires c κs = search needs
 
 sub-entry : tie.Need-sub-entry
-sub-entry c = let l = local-there _ _ _ (c .before .before .before .before .before .entry .ensures) (c .before .before .before .before .before .before .before .before .before .before .before .pre .0) (c .before .before .before .before .before .before .before .before .before .before .before .pre .1) in omega arith
+sub-entry c =
+    let at-start = c .before .before .before .before .before .before .before .before .before .before .before in
+    let l = local-there _ _ _ (c .before .before .before .before .before .entry .ensures) (at-start .pre .0) (at-start .pre .1) in
+    omega arith
 
 entry-requires-2 : tie.Need-entry-requires-2
-entry-requires-2 c κs = let l = local-there _ _ _ (c .before .before .before .before .before .entry .ensures) (c .before .before .before .before .before .before .before .before .before .before .before .pre .0) (c .before .before .before .before .before .before .before .before .before .before .before .pre .1) in (c .before .before .before .before .before .before .before .before .before .before .before .pre .0 .0, omega arith, omega arith)
+entry-requires-2 c κs =
+    let at-start = c .before .before .before .before .before .before .before .before .before .before .before in
+    let l = local-there _ _ _ (c .before .before .before .before .before .entry .ensures) (at-start .pre .0) (at-start .pre .1) in
+    (at-start .pre .0 .0, omega arith, omega arith)
 
 start-requires : tie.Need-start-requires
 start-requires c κs = search needs
@@ -37,7 +43,13 @@ same-length-2 : tie.Need-same-length-2
 same-length-2 c = search needs
 
 returns-2 : tie.Need-returns-2
-returns-2 c = let at-start = c .before .before .before .before .before .before .before .before .before .before .before .before .before .before .before .before .before .before .before in let l = local-there _ _ _ (c .before .before .before .before .before .before .before .before .before .before .before .before .before .entry .ensures) (at-start .pre .0) (at-start .pre .1) in rw (← c .before .before .before .before .start .ensures ∙ local-alone _ _ _ (c .before .before .before .before .before .before .before .before .before .before .before .before .before .entry .ensures) _ (c .before .before .before .before .before .before .before .before .before .before .before .if2 .taken) (eqb-true _ _ (c .before .before .before .before .before .before .before .before .before .if3 .taken)) (l .0) (c .before .before .before .before .before .before .before .entry2 .ensures) (c .before .before .before .before .before .if4 .taken)) (c .before .before .keep .ensures)
+returns-2 c =
+    let at-if3 = c .before .before .before .before .before .before .before .before .before in
+    let at-if2 = at-if3 .before .before in
+    let at-entry = at-if2 .before .before in
+    let at-start = at-entry .before .before .before .before .before .before in
+    let l = local-there _ _ _ (at-entry .entry .ensures) (at-start .pre .0) (at-start .pre .1) in
+    rw (← c .before .before .before .before .start .ensures ∙ local-alone _ _ _ (at-entry .entry .ensures) _ (at-if2 .if2 .taken) (eqb-true _ _ (at-if3 .if3 .taken)) (l .0) (c .before .before .before .before .before .before .before .entry2 .ensures) (c .before .before .before .before .before .if4 .taken)) (c .before .before .keep .ensures)
 
 add-strings-of : tie.Need-add-strings-of
 add-strings-of c = search needs

@@ -14,7 +14,9 @@ add-t7 : tie.Need-add-t7
 add-t7 c = search needs
 
 returns : tie.Need-returns
-returns c = row-one _ _ _ _ (c .before .before .before .pre .0) (c .before .before .before .pre .1) (omega arith) (c .wide .ensures .0) refl
+returns c =
+    let at-start = c .before .before .before in
+    row-one _ _ _ _ (at-start .pre .0) (at-start .pre .1) (omega arith) (c .wide .ensures .0) refl
 
 wide-requires-2 : tie.Need-wide-requires-2
 wide-requires-2 c κs = search needs
@@ -44,7 +46,9 @@ add-t18 : tie.Need-add-t18
 add-t18 c = search needs
 
 returns-2 : tie.Need-returns-2
-returns-2 c = row-two _ _ _ _ (c .before .before .before .before .before .before .pre .0) (c .before .before .before .before .before .before .pre .1) (omega arith) (c .before .before .before .before .before .before .pre .2) (omega arith) (omega arith) refl
+returns-2 c =
+    let at-start = c .before .before .before .before .before .before in
+    row-two _ _ _ _ (at-start .pre .0) (at-start .pre .1) (omega arith) (at-start .pre .2) (omega arith) (omega arith) refl
 
 pub row-at-spec : {M : Type 1} → statement M
 row-at-spec =

@@ -24,10 +24,14 @@ least-requires : tie.Need-least-requires
 least-requires c κs = search needs
 
 items-requires : tie.Need-items-requires
-items-requires c κs = (c .before .before .before .before .before .before .before .before .before .before .before .pre .0, enters-is _ (sym (not-false _ (c .before .before .before .before .before .if1 .left)) ∙ c .before .before .before .before .before .before .enters .ensures) .0, omega arith, c .least .ensures .2 _ (c .before .before .before .before .before .before .before .before .before .before .before .pre .3) (omega arith), omega arith)
+items-requires c κs =
+    let at-start = c .before .before .before .before .before .before .before .before .before .before .before in
+    (at-start .pre .0, enters-is _ (sym (not-false _ (c .before .before .before .before .before .if1 .left)) ∙ c .before .before .before .before .before .before .enters .ensures) .0, omega arith, c .least .ensures .2 _ (at-start .pre .3) (omega arith), omega arith)
 
 mul-t14 : tie.Need-mul-t14
-mul-t14 c = let h = c .before .before .before .before .before .before .before .items .ensures .near in omega arith
+mul-t14 c =
+    let h = c .before .before .before .before .before .before .before .items .ensures .near in
+    omega arith
 
 same-length : tie.Need-same-length
 same-length c = search needs
@@ -39,7 +43,14 @@ same-length-3 : tie.Need-same-length-3
 same-length-3 c = search needs
 
 returns-2 : tie.Need-returns-2
-returns-2 c = let h = c .before .before .before .before .before .before .before .before .before .before .before .before .before .before .before .before .before .before .before .pre .1 in let l = c .before .before .before .before .before .before .before .before .least .ensures .1 in advances-lane _ _ (sym (not-false _ (c .before .before .before .before .before .before .before .before .before .before .before .before .before .if1 .left)) ∙ c .before .before .before .before .before .before .before .before .before .before .before .before .before .before .enters .ensures) (c .before .before .before .before .before .before .before .before .least .ensures .0) (omega arith) (c .before .before .before .before .before .before .before .items .ensures)
+returns-2 c =
+    let at-least = c .before .before .before .before .before .before .before .before in
+    let at-if1 = at-least .before .before .before .before .before in
+    let at-enters = at-if1 .before in
+    let at-start = at-enters .before .before .before .before .before in
+    let h = at-start .pre .1 in
+    let l = at-least .least .ensures .1 in
+    advances-lane _ _ (sym (not-false _ (at-if1 .if1 .left)) ∙ at-enters .enters .ensures) (at-least .least .ensures .0) (omega arith) (c .before .before .before .before .before .before .before .items .ensures)
 
 pub skim-spec : {M : Type 1} → statement M
 skim-spec =

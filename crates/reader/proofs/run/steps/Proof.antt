@@ -33,112 +33,285 @@ add-left : tie.Need-add-left Inv-loop μ-loop
 add-left c = omega arith
 
 loop-holds : tie.Need-loop-holds Inv-loop μ-loop
-loop-holds c = let pre = c .before .before .before .before .before .before .before .before .before .before .pre in (refl, omega arith, underway-start _ _ _ _ _ (pre .2) (c .before .before .before .put-counts .ensures ∙ ap listed (c .before .before .before .before .start .ensures)) refl (pre .0) (pre .1) _ _ (c .begin .ensures))
+loop-holds c =
+    let at-start = c .before .before .before .before .before .before .before .before .before .before in
+    (refl, omega arith, underway-start _ _ _ _ _ (at-start .pre .2) (c .before .before .before .put-counts .ensures ∙ ap listed (c .before .before .before .before .start .ensures)) refl (at-start .pre .0) (at-start .pre .1) _ _ (c .begin .ensures))
 
 skim-requires : tie.Need-skim-requires Inv-loop μ-loop
-skim-requires c κs = let u = c .before .before .before .before .loop .inv .2 in let g = u .good .tidy .size in let a = u .good .at in let f = u .fuel in (record { index = _; tidy = u .good .tidy }, omega arith, omega arith, u .fits, omega arith)
+skim-requires c κs =
+    let u = c .before .before .before .before .loop .inv .2 in
+    let g = u .good .tidy .size in
+    let a = u .good .at in
+    let f = u .fuel in
+    (record { index = _; tidy = u .good .tidy }, omega arith, omega arith, u .fits, omega arith)
 
 add-left-2 : tie.Need-add-left-2 Inv-loop μ-loop
-add-left-2 c = let u = c .before .before .before .before .before .before .before .before .before .before .before .loop .inv .2 in let g = u .good .tidy .size in let f = u .fuel in omega arith
+add-left-2 c =
+    let at-loop = c .before .before .before .before .before .before .before .before .before .before .before in
+    let u = at-loop .loop .inv .2 in
+    let g = u .good .tidy .size in
+    let f = u .fuel in
+    omega arith
 
 sub-left : tie.Need-sub-left Inv-loop μ-loop
-sub-left c = let h = c .before .before .before .before .before .before .before .skim .ensures .short in omega arith
+sub-left c =
+    let h = c .before .before .before .before .before .before .before .skim .ensures .short in
+    omega arith
 
 sub-left-2 : tie.Need-sub-left-2 Inv-loop μ-loop
-sub-left-2 c = let h = c .before .before .before .before .before .before .before .before .skim .ensures .short in omega arith
+sub-left-2 c =
+    let h = c .before .before .before .before .before .before .before .skim .ensures .short in
+    omega arith
 
 slice-aggregate-step : tie.Need-slice-aggregate-step Inv-loop μ-loop
 slice-aggregate-step c = search needs
 
 step-requires : tie.Need-step-requires Inv-loop μ-loop
-step-requires c κs = c .before .before .before .before .before .before .before .before .before .before .before .before .skim .ensures .goes (c .before .before .before .before .before .before .before .before .before .before .before .before .before .before .before .before .before .loop .inv .2) .good
+step-requires c κs =
+    let at-skim = c .before .before .before .before .before .before .before .before .before .before .before in
+    let at-loop = at-skim .before .before .before .before .before in
+    at-skim .skim .ensures .goes (at-loop .loop .inv .2) .good
 
 enum-known-next : tie.Need-enum-known-next Inv-loop μ-loop
 enum-known-next c = search needs
 
 refused-requires : tie.Need-refused-requires Inv-loop μ-loop
-refused-requires c κs = let u = c .before .before .before .before .before .before .before .before .before .before .before .before .before .before .before .before .before .before .before .before .before .before .before .before .skim .ensures .goes (c .before .before .before .before .before .before .before .before .before .before .before .before .before .before .before .before .before .before .before .before .before .before .before .before .before .before .before .before .before .loop .inv .2) in let h = c .before .before .before .before .before .before .before .before .before .before .before .before .before .before .before .before .before .before .before .before .before .before .before .before .skim .ensures .short in more-place u (omega arith) (c .before .before .before .before .before .before .before .before .before .before .before .step .ensures) (c .before .before .next .given .1)
+refused-requires c κs =
+    let at-step = c .before .before .before .before .before .before .before .before .before .before .before in
+    let at-skim = at-step .before .before .before .before .before .before .before .before .before .before .before .before in
+    let at-loop = at-skim .before .before .before .before .before in
+    let u = at-skim .skim .ensures .goes (at-loop .loop .inv .2) in
+    let h = at-skim .skim .ensures .short in
+    more-place u (omega arith) (at-step .step .ensures) (c .before .before .next .given .1)
 
 same-length : tie.Need-same-length Inv-loop μ-loop
-same-length c = let i = c .before .before .before .before .before .before .before .before .before .before .before .before .before .before .before .before .before .before .before .before .before .before .before .before .before .before .before .before .before .before .loop .inv .0 in let k = c .before .before .before .before .before .before .before .before .before .before .before .before .before .before .before .before .before .before .before .before .before .before .before .before .before .skim .kept in let q = c .before .before .before .before .before .before .before .before .before .before .before .before .step .kept in omega arith
+same-length c =
+    let at-step = c .before .before .before .before .before .before .before .before .before .before .before .before in
+    let at-skim = at-step .before .before .before .before .before .before .before .before .before .before .before .before in
+    let at-loop = at-skim .before .before .before .before .before in
+    let i = at-loop .loop .inv .0 in
+    let k = at-skim .skim .kept in
+    let q = at-step .step .kept in
+    omega arith
 
 same-length-2 : tie.Need-same-length-2 Inv-loop μ-loop
-same-length-2 c = let p = c .before .before .before .before .before .before .before .before .before .before .before .before .before .before .before .before .before .before .before .before .before .before .before .before .before .before .before .before .before .before .before .before .before .before .put-counts .kept in let i = c .before .before .before .before .before .before .before .before .before .before .before .before .before .before .before .before .before .before .before .before .before .before .before .before .before .before .before .before .before .before .loop .inv .1 in let k = c .before .before .before .before .before .before .before .before .before .before .before .before .before .before .before .before .before .before .before .before .before .before .before .before .before .skim .kept in let q = c .before .before .before .before .before .before .before .before .before .before .before .before .step .kept in omega arith
+same-length-2 c =
+    let at-step = c .before .before .before .before .before .before .before .before .before .before .before .before in
+    let at-skim = at-step .before .before .before .before .before .before .before .before .before .before .before .before in
+    let at-loop = at-skim .before .before .before .before .before in
+    let at-put-counts = at-loop .before .before .before .before in
+    let p = at-put-counts .put-counts .kept in
+    let i = at-loop .loop .inv .1 in
+    let k = at-skim .skim .kept in
+    let q = at-step .step .kept in
+    omega arith
 
 same-length-3 : tie.Need-same-length-3 Inv-loop μ-loop
-same-length-3 c = let l = c .before .before .before .before .before .before .before .before .before .before .before .before .before .before .before .before .before .before .before .before .before .before .before .before .before .before .before .before .before .before .loop .inv .2 .same-length in let k = c .before .before .before .before .before .before .before .before .before .before .before .before .before .before .before .before .before .before .before .before .before .before .before .before .before .skim .kept in let q = c .before .before .before .before .before .before .before .before .before .before .before .before .step .kept in omega arith
+same-length-3 c =
+    let at-step = c .before .before .before .before .before .before .before .before .before .before .before .before in
+    let at-skim = at-step .before .before .before .before .before .before .before .before .before .before .before .before in
+    let at-loop = at-skim .before .before .before .before .before in
+    let l = at-loop .loop .inv .2 .same-length in
+    let k = at-skim .skim .kept in
+    let q = at-step .step .kept in
+    omega arith
 
 returns : tie.Need-returns Inv-loop μ-loop
-returns c = let u = c .before .before .before .before .before .before .before .before .before .before .before .before .before .before .before .before .before .before .before .before .before .before .before .before .before .skim .ensures .goes (c .before .before .before .before .before .before .before .before .before .before .before .before .before .before .before .before .before .before .before .before .before .before .before .before .before .before .before .before .before .before .loop .inv .2) in let h = c .before .before .before .before .before .before .before .before .before .before .before .before .before .before .before .before .before .before .before .before .before .before .before .before .before .skim .ensures .short in rw (c .refused .ensures) (ran-full u (omega arith) (c .before .before .before .before .before .before .before .before .before .before .before .before .step .ensures) (c .before .before .before .next .given .1) (c .before .if1 .taken))
+returns c =
+    let at-step = c .before .before .before .before .before .before .before .before .before .before .before .before in
+    let at-skim = at-step .before .before .before .before .before .before .before .before .before .before .before .before in
+    let at-loop = at-skim .before .before .before .before .before in
+    let u = at-skim .skim .ensures .goes (at-loop .loop .inv .2) in
+    let h = at-skim .skim .ensures .short in
+    rw (c .refused .ensures) (ran-full u (omega arith) (at-step .step .ensures) (c .before .before .before .next .given .1) (c .before .if1 .taken))
 
 add-n : tie.Need-add-n Inv-loop μ-loop
-add-n c = let u = c .before .before .before .before .before .before .before .before .before .before .before .before .before .before .before .before .before .before .before .before .before .before .before .before .skim .ensures .goes (c .before .before .before .before .before .before .before .before .before .before .before .before .before .before .before .before .before .before .before .before .before .before .before .before .before .before .before .before .before .loop .inv .2) in let h = c .before .before .before .before .before .before .before .before .before .before .before .before .before .before .before .before .before .before .before .before .before .before .before .before .skim .ensures .short in let f = u .fuel in let g = u .good .tidy .size in omega arith
+add-n c =
+    let at-skim = c .before .before .before .before .before .before .before .before .before .before .before .before .before .before .before .before .before .before .before .before .before .before .before in
+    let at-loop = at-skim .before .before .before .before .before in
+    let u = at-skim .skim .ensures .goes (at-loop .loop .inv .2) in
+    let h = at-skim .skim .ensures .short in
+    let f = u .fuel in
+    let g = u .good .tidy .size in
+    omega arith
 
 loop-less : tie.Need-loop-less Inv-loop μ-loop
-loop-less c = let l = c .before .before .before .before .before .before .before .before .before .before .before .before .before .before .before .before .before .before .before .before .before .before .before .before .skim .ensures .less in let h = c .before .before .before .before .before .before .before .before .before .before .before .before .before .before .before .before .before .before .before .before .before .before .before .before .skim .ensures .short in omega arith
+loop-less c =
+    let at-skim = c .before .before .before .before .before .before .before .before .before .before .before .before .before .before .before .before .before .before .before .before .before .before .before in
+    let l = at-skim .skim .ensures .less in
+    let h = at-skim .skim .ensures .short in
+    omega arith
 
 loop-again : tie.Need-loop-again Inv-loop μ-loop
-loop-again c = let u = c .before .before .before .before .before .before .before .before .before .before .before .before .before .before .before .before .before .before .before .before .before .before .before .before .skim .ensures .goes (c .before .before .before .before .before .before .before .before .before .before .before .before .before .before .before .before .before .before .before .before .before .before .before .before .before .before .before .before .before .loop .inv .2) in let h = c .before .before .before .before .before .before .before .before .before .before .before .before .before .before .before .before .before .before .before .before .before .before .before .before .skim .ensures .short in let i = c .before .before .before .before .before .before .before .before .before .before .before .before .before .before .before .before .before .before .before .before .before .before .before .before .before .before .before .before .before .loop .inv in let k = c .before .before .before .before .before .before .before .before .before .before .before .before .before .before .before .before .before .before .before .before .before .before .before .before .skim .kept in let q = c .before .before .before .before .before .before .before .before .before .before .before .step .kept in (omega arith, omega arith, underway-more u (omega arith) (c .before .before .before .before .before .before .before .before .before .before .before .step .ensures) (c .before .before .next .given .1) (c .if1 .left) (omega arith))
+loop-again c =
+    let at-step = c .before .before .before .before .before .before .before .before .before .before .before in
+    let at-skim = at-step .before .before .before .before .before .before .before .before .before .before .before .before in
+    let at-loop = at-skim .before .before .before .before .before in
+    let u = at-skim .skim .ensures .goes (at-loop .loop .inv .2) in
+    let h = at-skim .skim .ensures .short in
+    let i = at-loop .loop .inv in
+    let k = at-skim .skim .kept in
+    let q = at-step .step .kept in
+    (omega arith, omega arith, underway-more u (omega arith) (at-step .step .ensures) (c .before .before .next .given .1) (c .if1 .left) (omega arith))
 
 enum-known-next-2 : tie.Need-enum-known-next-2 Inv-loop μ-loop
 enum-known-next-2 c = search needs
 
 loop-less-2 : tie.Need-loop-less-2 Inv-loop μ-loop
-loop-less-2 c = let l = c .before .before .before .before .before .before .before .before .before .before .before .before .before .before .before .before .before .before .before .before .before .before .before .skim .ensures .less in let h = c .before .before .before .before .before .before .before .before .before .before .before .before .before .before .before .before .before .before .before .before .before .before .before .skim .ensures .short in omega arith
+loop-less-2 c =
+    let at-skim = c .before .before .before .before .before .before .before .before .before .before .before .before .before .before .before .before .before .before .before .before .before .before in
+    let l = at-skim .skim .ensures .less in
+    let h = at-skim .skim .ensures .short in
+    omega arith
 
 loop-again-2 : tie.Need-loop-again-2 Inv-loop μ-loop
-loop-again-2 c = let u = c .before .before .before .before .before .before .before .before .before .before .before .before .before .before .before .before .before .before .before .before .before .before .before .skim .ensures .goes (c .before .before .before .before .before .before .before .before .before .before .before .before .before .before .before .before .before .before .before .before .before .before .before .before .before .before .before .before .loop .inv .2) in let h = c .before .before .before .before .before .before .before .before .before .before .before .before .before .before .before .before .before .before .before .before .before .before .before .skim .ensures .short in let i = c .before .before .before .before .before .before .before .before .before .before .before .before .before .before .before .before .before .before .before .before .before .before .before .before .before .before .before .before .loop .inv in let k = c .before .before .before .before .before .before .before .before .before .before .before .before .before .before .before .before .before .before .before .before .before .before .before .skim .kept in let q = c .before .before .before .before .before .before .before .before .before .before .step .kept in (omega arith, omega arith, underway-quiet u (omega arith) (c .before .before .before .before .before .before .before .before .before .before .step .ensures) (c .before .next2 .given .1) (omega arith))
+loop-again-2 c =
+    let at-step = c .before .before .before .before .before .before .before .before .before .before in
+    let at-skim = at-step .before .before .before .before .before .before .before .before .before .before .before .before in
+    let at-loop = at-skim .before .before .before .before .before in
+    let u = at-skim .skim .ensures .goes (at-loop .loop .inv .2) in
+    let h = at-skim .skim .ensures .short in
+    let i = at-loop .loop .inv in
+    let k = at-skim .skim .kept in
+    let q = at-step .step .kept in
+    (omega arith, omega arith, underway-quiet u (omega arith) (at-step .step .ensures) (c .before .next2 .given .1) (omega arith))
 
 enum-told : tie.Need-enum-told Inv-loop μ-loop
 enum-told c = search needs
 
 cast-t42 : tie.Need-cast-t42 Inv-loop μ-loop
-cast-t42 c = let u = c .before .before .before .before .before .before .before .before .before .before .before .before .before .before .before .before .before .before .before .before .before .before .skim .ensures .goes (c .before .before .before .before .before .before .before .before .before .before .before .before .before .before .before .before .before .before .before .before .before .before .before .before .before .before .before .loop .inv .2) in let h = c .before .before .before .before .before .before .before .before .before .before .before .before .before .before .before .before .before .before .before .before .before .before .skim .ensures .short in let f = u .fuel in let g = u .good .tidy .size in omega arith
+cast-t42 c =
+    let at-skim = c .before .before .before .before .before .before .before .before .before .before .before .before .before .before .before .before .before .before .before .before .before in
+    let at-loop = at-skim .before .before .before .before .before in
+    let u = at-skim .skim .ensures .goes (at-loop .loop .inv .2) in
+    let h = at-skim .skim .ensures .short in
+    let f = u .fuel in
+    let g = u .good .tidy .size in
+    omega arith
 
 same-length-4 : tie.Need-same-length-4 Inv-loop μ-loop
-same-length-4 c = let i = c .before .before .before .before .before .before .before .before .before .before .before .before .before .before .before .before .before .before .before .before .before .before .before .before .before .before .before .loop .inv .0 in let k = c .before .before .before .before .before .before .before .before .before .before .before .before .before .before .before .before .before .before .before .before .before .before .skim .kept in let q = c .before .before .before .before .before .before .before .before .before .step .kept in omega arith
+same-length-4 c =
+    let at-step = c .before .before .before .before .before .before .before .before .before in
+    let at-skim = at-step .before .before .before .before .before .before .before .before .before .before .before .before in
+    let at-loop = at-skim .before .before .before .before .before in
+    let i = at-loop .loop .inv .0 in
+    let k = at-skim .skim .kept in
+    let q = at-step .step .kept in
+    omega arith
 
 same-length-5 : tie.Need-same-length-5 Inv-loop μ-loop
-same-length-5 c = let p = c .before .before .before .before .before .before .before .before .before .before .before .before .before .before .before .before .before .before .before .before .before .before .before .before .before .before .before .before .before .before .before .put-counts .kept in let i = c .before .before .before .before .before .before .before .before .before .before .before .before .before .before .before .before .before .before .before .before .before .before .before .before .before .before .before .loop .inv .1 in let k = c .before .before .before .before .before .before .before .before .before .before .before .before .before .before .before .before .before .before .before .before .before .before .skim .kept in let q = c .before .before .before .before .before .before .before .before .before .step .kept in omega arith
+same-length-5 c =
+    let at-step = c .before .before .before .before .before .before .before .before .before in
+    let at-skim = at-step .before .before .before .before .before .before .before .before .before .before .before .before in
+    let at-loop = at-skim .before .before .before .before .before in
+    let at-put-counts = at-loop .before .before .before .before in
+    let p = at-put-counts .put-counts .kept in
+    let i = at-loop .loop .inv .1 in
+    let k = at-skim .skim .kept in
+    let q = at-step .step .kept in
+    omega arith
 
 same-length-6 : tie.Need-same-length-6 Inv-loop μ-loop
-same-length-6 c = let l = c .before .before .before .before .before .before .before .before .before .before .before .before .before .before .before .before .before .before .before .before .before .before .before .before .before .before .before .loop .inv .2 .same-length in let k = c .before .before .before .before .before .before .before .before .before .before .before .before .before .before .before .before .before .before .before .before .before .before .skim .kept in let q = c .before .before .before .before .before .before .before .before .before .step .kept in omega arith
+same-length-6 c =
+    let at-step = c .before .before .before .before .before .before .before .before .before in
+    let at-skim = at-step .before .before .before .before .before .before .before .before .before .before .before .before in
+    let at-loop = at-skim .before .before .before .before .before in
+    let l = at-loop .loop .inv .2 .same-length in
+    let k = at-skim .skim .kept in
+    let q = at-step .step .kept in
+    omega arith
 
 returns-2 : tie.Need-returns-2 Inv-loop μ-loop
-returns-2 c = let u = c .before .before .before .before .before .before .before .before .before .before .before .before .before .before .before .before .before .before .before .before .before .before .skim .ensures .goes (c .before .before .before .before .before .before .before .before .before .before .before .before .before .before .before .before .before .before .before .before .before .before .before .before .before .before .before .loop .inv .2) in let h = c .before .before .before .before .before .before .before .before .before .before .before .before .before .before .before .before .before .before .before .before .before .before .skim .ensures .short in ran-done u (omega arith) (c .before .before .before .before .before .before .before .before .before .step .ensures) (c .enum-told .given .1)
+returns-2 c =
+    let at-step = c .before .before .before .before .before .before .before .before .before in
+    let at-skim = at-step .before .before .before .before .before .before .before .before .before .before .before .before in
+    let at-loop = at-skim .before .before .before .before .before in
+    let u = at-skim .skim .ensures .goes (at-loop .loop .inv .2) in
+    let h = at-skim .skim .ensures .short in
+    ran-done u (omega arith) (at-step .step .ensures) (c .enum-told .given .1)
 
 enum-known-stopped : tie.Need-enum-known-stopped Inv-loop μ-loop
 enum-known-stopped c = search needs
 
 cast-refused : tie.Need-cast-refused Inv-loop μ-loop
-cast-refused c = let u = c .before .before .before .before .before .before .before .before .before .before .before .before .before .before .before .before .before .before .before .before .before .before .before .skim .ensures .goes (c .before .before .before .before .before .before .before .before .before .before .before .before .before .before .before .before .before .before .before .before .before .before .before .before .before .before .before .before .loop .inv .2) in let h = c .before .before .before .before .before .before .before .before .before .before .before .before .before .before .before .before .before .before .before .before .before .before .before .skim .ensures .short in let k = stop-place u (omega arith) (c .before .before .before .before .before .before .before .before .before .before .step .ensures) (c .before .stopped .given .1) in omega arith
+cast-refused c =
+    let at-step = c .before .before .before .before .before .before .before .before .before .before in
+    let at-skim = at-step .before .before .before .before .before .before .before .before .before .before .before .before in
+    let at-loop = at-skim .before .before .before .before .before in
+    let u = at-skim .skim .ensures .goes (at-loop .loop .inv .2) in
+    let h = at-skim .skim .ensures .short in
+    let k = stop-place u (omega arith) (at-step .step .ensures) (c .before .stopped .given .1) in
+    omega arith
 
 refused-requires-2 : tie.Need-refused-requires-2 Inv-loop μ-loop
-refused-requires-2 c κs = let u = c .before .before .before .before .before .before .before .before .before .before .before .before .before .before .before .before .before .before .before .before .before .before .before .skim .ensures .goes (c .before .before .before .before .before .before .before .before .before .before .before .before .before .before .before .before .before .before .before .before .before .before .before .before .before .before .before .before .loop .inv .2) in let h = c .before .before .before .before .before .before .before .before .before .before .before .before .before .before .before .before .before .before .before .before .before .before .before .skim .ensures .short in stop-place u (omega arith) (c .before .before .before .before .before .before .before .before .before .before .step .ensures) (c .before .stopped .given .1) .1
+refused-requires-2 c κs =
+    let at-step = c .before .before .before .before .before .before .before .before .before .before in
+    let at-skim = at-step .before .before .before .before .before .before .before .before .before .before .before .before in
+    let at-loop = at-skim .before .before .before .before .before in
+    let u = at-skim .skim .ensures .goes (at-loop .loop .inv .2) in
+    let h = at-skim .skim .ensures .short in
+    stop-place u (omega arith) (at-step .step .ensures) (c .before .stopped .given .1) .1
 
 same-length-7 : tie.Need-same-length-7 Inv-loop μ-loop
-same-length-7 c = let i = c .before .before .before .before .before .before .before .before .before .before .before .before .before .before .before .before .before .before .before .before .before .before .before .before .before .before .before .before .before .loop .inv .0 in let k = c .before .before .before .before .before .before .before .before .before .before .before .before .before .before .before .before .before .before .before .before .before .before .before .before .skim .kept in let q = c .before .before .before .before .before .before .before .before .before .before .before .step .kept in omega arith
+same-length-7 c =
+    let at-step = c .before .before .before .before .before .before .before .before .before .before .before in
+    let at-skim = at-step .before .before .before .before .before .before .before .before .before .before .before .before in
+    let at-loop = at-skim .before .before .before .before .before in
+    let i = at-loop .loop .inv .0 in
+    let k = at-skim .skim .kept in
+    let q = at-step .step .kept in
+    omega arith
 
 same-length-8 : tie.Need-same-length-8 Inv-loop μ-loop
-same-length-8 c = let p = c .before .before .before .before .before .before .before .before .before .before .before .before .before .before .before .before .before .before .before .before .before .before .before .before .before .before .before .before .before .before .before .before .before .put-counts .kept in let i = c .before .before .before .before .before .before .before .before .before .before .before .before .before .before .before .before .before .before .before .before .before .before .before .before .before .before .before .before .before .loop .inv .1 in let k = c .before .before .before .before .before .before .before .before .before .before .before .before .before .before .before .before .before .before .before .before .before .before .before .before .skim .kept in let q = c .before .before .before .before .before .before .before .before .before .before .before .step .kept in omega arith
+same-length-8 c =
+    let at-step = c .before .before .before .before .before .before .before .before .before .before .before in
+    let at-skim = at-step .before .before .before .before .before .before .before .before .before .before .before .before in
+    let at-loop = at-skim .before .before .before .before .before in
+    let at-put-counts = at-loop .before .before .before .before in
+    let p = at-put-counts .put-counts .kept in
+    let i = at-loop .loop .inv .1 in
+    let k = at-skim .skim .kept in
+    let q = at-step .step .kept in
+    omega arith
 
 same-length-9 : tie.Need-same-length-9 Inv-loop μ-loop
-same-length-9 c = let l = c .before .before .before .before .before .before .before .before .before .before .before .before .before .before .before .before .before .before .before .before .before .before .before .before .before .before .before .before .before .loop .inv .2 .same-length in let k = c .before .before .before .before .before .before .before .before .before .before .before .before .before .before .before .before .before .before .before .before .before .before .before .before .skim .kept in let q = c .before .before .before .before .before .before .before .before .before .before .before .step .kept in omega arith
+same-length-9 c =
+    let at-step = c .before .before .before .before .before .before .before .before .before .before .before in
+    let at-skim = at-step .before .before .before .before .before .before .before .before .before .before .before .before in
+    let at-loop = at-skim .before .before .before .before .before in
+    let l = at-loop .loop .inv .2 .same-length in
+    let k = at-skim .skim .kept in
+    let q = at-step .step .kept in
+    omega arith
 
 returns-3 : tie.Need-returns-3 Inv-loop μ-loop
-returns-3 c = let u = c .before .before .before .before .before .before .before .before .before .before .before .before .before .before .before .before .before .before .before .before .before .before .before .before .skim .ensures .goes (c .before .before .before .before .before .before .before .before .before .before .before .before .before .before .before .before .before .before .before .before .before .before .before .before .before .before .before .before .before .loop .inv .2) in let h = c .before .before .before .before .before .before .before .before .before .before .before .before .before .before .before .before .before .before .before .before .before .before .before .before .skim .ensures .short in rw (c .refused2 .ensures) (ran-stop u (omega arith) (c .before .before .before .before .before .before .before .before .before .before .before .step .ensures) (c .before .before .stopped .given .1))
+returns-3 c =
+    let at-step = c .before .before .before .before .before .before .before .before .before .before .before in
+    let at-skim = at-step .before .before .before .before .before .before .before .before .before .before .before .before in
+    let at-loop = at-skim .before .before .before .before .before in
+    let u = at-skim .skim .ensures .goes (at-loop .loop .inv .2) in
+    let h = at-skim .skim .ensures .short in
+    rw (c .refused2 .ensures) (ran-stop u (omega arith) (at-step .step .ensures) (c .before .before .stopped .given .1))
 
 refused-requires-3 : tie.Need-refused-requires-3 Inv-loop μ-loop
-refused-requires-3 c κs = let g = c .before .before .loop .inv .2 .good in omega arith
+refused-requires-3 c κs =
+    let g = c .before .before .loop .inv .2 .good in
+    omega arith
 
 same-length-10 : tie.Need-same-length-10 Inv-loop μ-loop
-same-length-10 c = let l = c .before .before .before .loop .inv .2 .same-length in omega arith
+same-length-10 c =
+    let l = c .before .before .before .loop .inv .2 .same-length in
+    omega arith
 
 same-length-11 : tie.Need-same-length-11 Inv-loop μ-loop
-same-length-11 c = let l = c .before .before .before .loop .inv .2 .same-length in omega arith
+same-length-11 c =
+    let l = c .before .before .before .loop .inv .2 .same-length in
+    omega arith
 
 same-length-12 : tie.Need-same-length-12 Inv-loop μ-loop
-same-length-12 c = let l = c .before .before .before .loop .inv .2 .same-length in omega arith
+same-length-12 c =
+    let l = c .before .before .before .loop .inv .2 .same-length in
+    omega arith
 
 returns-4 : tie.Need-returns-4 Inv-loop μ-loop
 returns-4 c = rw (c .refused3 .ensures) (ran-spent (c .before .before .before .loop .inv .2) (omega arith))
