@@ -1,14 +1,12 @@
 -- What one look at a string's octets tells: that none is above 0x7F, by the numbers that its bucket is made of; and then it is text.
 -- Assumes nothing.
-use mathlib.Core.Path.{_≡_, sym, _∙_}
+use mathlib.Core.Path.{_≡_}
 use mathlib.Core.Bool.{true}
 use mathlib.Core.List.{List}
 use Prim.Native.Nat.{ℕ, _+_, _-_, _*_, _/_, _≤_, _<_}
 use native.Mathlib.Decide.{decLt}
 use native.Mathlib.Omega.{arith}
-use borrow.Author.Tests.{eqb-true}
 use lib.Bits.{bitAnd, bitOr}
-use lib.Dec.{eqb}
 use lib.ListN.{length, getD, take, drop}
 use Rattle.fields.specs.Utf8.{isText}
 use Rattle.fields.specs.WeightContracts.{weight, Small, Low}

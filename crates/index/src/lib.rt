@@ -114,7 +114,7 @@ fn counting(len: usize) -> usize
     COUNTED
 }
 
-// What a look at the octets of a string tells: its bucket, and that it is plain, which is that none is above 0x7F. A long one is not said to be.
+// What one look at the octets of a string tells: its bucket, and whether it is plain: none of them is above 0x7F. A long one is never said to be plain.
 struct Seen {
     bucket: usize,
     plain: bool,
@@ -305,8 +305,8 @@ pub fn enter_in(
     push(index, table, h, n);
 }
 
-// Whether the string of s at place, which is not built in, is an entry, by its chain, that of bucket h. As `find_chained`, of which it is a copy where the reader
-// looks a new string up, so that neither costs a call.
+// Whether the string of s at place, which is not built in, is an entry, by its chain, that of bucket h. The walk of `find_chained` a second time: with one place
+// that calls each of them, both are inlined.
 fn is_listed(
     s: &[u8],
     t: &[u32],
@@ -332,7 +332,7 @@ fn is_listed(
     find_last(s, t, table, n, place, len) != 0
 }
 
-// What became of a string that is to be a new entry.
+// What became of a string that was to be a new entry: it is added, or was there, or has no room.
 pub enum Added {
     Done,
     Known,
@@ -346,7 +346,7 @@ fn narrow(x: usize) -> u32
     x as u32
 }
 
-// The same of the built-in string, which is in no chain.
+// The built-in string, which is in no chain, becomes an entry behind a table's n where it is none yet.
 fn add_built_in(s: &[u8], t: &mut [u32], table: usize, n: u32, place: usize, len: usize) -> Added
     requires { ⌜ (length (now t) ≡ tableWords) × (table < 8) × (n ≤ 256) × (1 ≤ len) × (place + len ≤ length (now s)) × (length (now s) < 0x1_0000_0000) × Inside (now s) (entries (stringAt (tableOf table) (now t)) (768 * table) n) × (same (octetsOf (now s) (builtIn (tableOf table))) (octetsOf (now s) (stretch place len)) ≡ true) ⌝ }
     ensures { λ r. ⌜ ((index : List ℕ) → NewString (now (s .entry)) table n place len (now (t .entry)) index r (now (t .exit)) index) ⌝ }
@@ -361,7 +361,7 @@ fn add_built_in(s: &[u8], t: &mut [u32], table: usize, n: u32, place: usize, len
     Added::Done
 }
 
-// The string of s at place, whose bucket is h, becomes an entry behind a table's n where it is none yet.
+// The same of the string of s at place, whose bucket is h.
 pub fn add_new(
     s: &[u8],
     t: &mut [u32],

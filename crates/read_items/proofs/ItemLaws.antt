@@ -10,7 +10,6 @@ use borrow.Author.Tests.{lt-ltb, le-ltb, le-leb, eq-eqb, ne-eqb}
 use lib.Dec.{ltb, eqb}
 use lib.ListN.{length, getD}
 use Rattle.format.specs.Octets.{Octets}
-use Rattle.format.specs.Numbers.{pick}
 use Rattle.format.specs.Events.{Namespace, Start, Attribute, Text, Comment, Instruction, forNamespace, forStart, forAttribute, forText, forComment, forInstruction, _by_}
 use Rattle.format.specs.Tables.{OTHER-NCNAME, ATTRIBUTE-VALUE, CONTENT-CHARACTER-CHUNK, OTHER-STRING, Vocabulary, link}
 use Rattle.format.specs.Strings.{c15}
@@ -48,6 +47,7 @@ use Rattle.read_items.specs.Items as I
 use Rattle.read_items.specs.Items.{Stand, namePadding, startOf, namespaceAt, elementAt, namedAt, attributeAt, chunkAt, commentAt, instructionAt, otherAt, childAt, declaringAt, itemAt}
 use Rattle.read_items.specs.Steps.{endsAt, padsAt, endAt, byHalves, step}
 use Rattle.read_items.specs.Contracts.{Lent, standOf, Good, Met, Meets}
+use Rattle.read_items.specs.HeadContracts.{startBy, attributeBy}
 use Rattle.read_items.specs.ItemContracts.{Stopped, NameThere, namedRecord, startStep, startRecords, StartsBy}
 use Rattle.read_items.proofs.StepLaws.{refuse, tell}
 use Rattle.read_items.proofs.Fields.{asString, id-not, id-is, string-not, string-is, name-not, name-is, declared-not, declared-is, moved-good, name-there}
@@ -149,9 +149,9 @@ module _ (b : ℕ) (l : b < 64) where
     unfolding namePadding
     padding-none e = let y : b / 4 ≡ 14 → ⊥ = λ x. e (omega arith) in rw (ne-eqb _ _ below, ne-eqb _ _ y)
 
-padding-lone : (b : ℕ) → 0x38 ≤ b → b < 0x3C → b % 4 ≡ 2 → namePadding b ≡ true
+pub padding-known : (b : ℕ) → 0x38 ≤ b → b < 0x3C → (b ≡ 0x38 → ⊥) → namePadding b ≡ true
 unfolding namePadding
-padding-lone b l o x = let p : b / 8 ≡ 7 = omega arith in let q : b / 4 ≡ 14 = omega arith in rw (p, q, x)
+padding-known b l o x = let p : b / 8 ≡ 7 = omega arith in let q : b / 4 ≡ 14 = omega arith in let y : b % 4 ≡ 0 → ⊥ = λ z. x (omega arith) in rw (p, q, ne-eqb _ _ y)
 
 -- ---- declarations
 module _ {s : Octets} {st : State} {n : ℕ} {a b : Lent} (k : ℕ) (l : Bool) {r : Declaration}
@@ -174,10 +174,6 @@ module _ {s : Octets} {st : State} {n : ℕ} {a b : Lent} (k : ℕ) (l : Bool) {
       (into-got _ (i .is) ∙ rw (mode-declaring l))
 
 -- ---- a Start
--- A Start whose name is read: depth (13) behind the name's own faults.
-unfoldable pub startBy : ℕ → Bool → F.State Located → S.Got NameRead → I.Step
-startBy k l v g = I.into g λ x next w. pick (ltb (v .level) (link .depth)) (I.more k (Start (x .name) by forStart (x .how)) (I.octet next (F.opened v w l))) (I.stop 13 k)
-
 start-shallow : (k : ℕ) (l : Bool) (v : F.State Located) (g : S.Got NameRead) → v .level < 32 → startOf link k l v g ≡ startBy k l v g
 unfolding startBy link
 start-shallow k l v (S.got x next w) h = rw (lt-ltb _ _ h)
@@ -226,7 +222,7 @@ module _ (s : Octets) (k b : ℕ) (l : Bool) (v : F.State Located) where
         unfolding elementAt mayStart
         element-lone e =
             let x : b % 4 ≡ 2 = omega arith in
-            let f : 0x3C ≤ b = elim (decLt b 0x3C) [ yes o ↦ absurd (true≢false (sym (padding-lone b h o x) ∙ sym u)) | no o ↦ omega arith ] in
+            let f : 0x3C ≤ b = elim (decLt b 0x3C) [ yes o ↦ absurd (true≢false (sym (padding-known b h o (λ z. omega arith)) ∙ sym u)) | no o ↦ omega arith ] in
             rw (← u, ← m, le-ltb _ _ h, le-leb _ _ f, eq-eqb _ _ x)
 
         module _ (n : b / 1 % 4 ≡ 2 → ⊥) where
@@ -277,13 +273,6 @@ module _ (s : Octets) (k : ℕ) (l : Bool) (v : F.State Located) where
         named-start e d = rw (lt-ltb _ _ h, named, lt-ltb _ _ o, ← e) (start-shallow k l v (nameAt link ofElement s (getD s k 0) k (v .tables)) d)
 
 -- ---- attributes
--- The name, and then the value.
-abbrev pub attributeBy : Octets → ℕ → F.State Located → I.Step
-attributeBy s k v =
-    I.into (nameAt link ofAttribute s (getD s k 0) k (v .tables))
-    λ x k₁ w₁. I.into (valueAt link s ATTRIBUTE-VALUE k₁ w₁)
-    λ y k₂ w₂. I.more k (Attribute (x .name) (y .string) by forAttribute (x .how) (y .how)) (I.octet k₂ (F.moved v w₂ (F.listing true)))
-
 module _ (s : Octets) (k : ℕ) (v : F.State Located) where
   pub attribute-missing : length s ≤ k → attributeAt link s k v ≡ I.stop 2 k
   unfolding attributeAt
@@ -409,9 +398,9 @@ module _ (s : Octets) (k : ℕ) (l : Bool) (v : F.State Located) where
   declaring-more e = rw (ne-eqb _ _ e)
 
 -- ---- an item, by the mode's number
-pub declaring-shallow : {s : Octets} {st : State} {a : Lent} → Good s st a → 3 ≤ st .mode → st .level < 32
+pub shallow-declaring : (level mode : ℕ) → level + coming mode ≤ 32 → 3 ≤ mode → level < 32
 unfolding coming
-declaring-shallow g h = let z = rw (le-leb _ _ h) at (g .shallow) in omega arith
+shallow-declaring level mode g h = let z = rw (le-leb _ _ h) at g in omega arith
 
 module _ (s : Octets) (k : ℕ) (v : F.State Located) (m : ℕ) where
   pub item-child : m ≡ 0 → itemAt link s k v (modeOf m) ≡ childAt link s k v

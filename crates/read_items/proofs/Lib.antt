@@ -2,4 +2,5 @@ pub mod StepLaws
 pub mod Fields
 pub mod EndLaws
 pub mod ItemLaws
+pub mod HeadLaws
 pub mod Places

@@ -3,3 +3,4 @@ pub mod Items
 pub mod Steps
 pub mod Contracts
 pub mod ItemContracts
+pub mod HeadContracts

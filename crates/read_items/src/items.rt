@@ -1,15 +1,19 @@
 // Items: one step from where the reader stands, by the first octet of what stands there.
 ghost use mathlib.Core.Path.{_≡_};
-ghost use Prim.Native.Nat.{_<_, _≤_};
+ghost use mathlib.Core.Bool.{false};
+ghost use Prim.Native.Nat.{_+_, _<_, _≤_};
+ghost use Rattle.format.specs.Octets.{Octets};
 ghost use lib.ListN.{length, getD};
 ghost use lib.Dec.{ltb};
 ghost use Rattle.format.specs.Numbers.{pick};
 ghost use Rattle.format.specs.Tables.{link};
-ghost use Rattle.states.specs.States.{modeOf};
-ghost use Rattle.read_items.specs.Items.{namePadding, elementAt, namedAt, namespaceAt, attributeAt, chunkAt, commentAt, instructionAt, childAt, declaringAt, itemAt};
+ghost use Rattle.states.specs.declared.State.{State};
+ghost use Rattle.states.specs.States.{modeOf, coming};
+ghost use Rattle.read_items.specs.Items.{namePadding, elementAt, namedAt, namespaceAt, attributeAt, chunkAt, commentAt, instructionAt, childAt, itemAt};
 ghost use Rattle.read_items.specs.Steps.{step};
 ghost use Rattle.read_items.specs.Contracts.{lent, Good, Meets, Met};
 ghost use Rattle.read_items.specs.ItemContracts.{Named, NameThere, StartsBy, Stopped, namedRecord, otherStep};
+ghost use Rattle.read_items.specs.HeadContracts.{spotAt, SpotNamed, namedBy, Tells};
 ghost use Rattle.events.specs.Kept.{kept};
 ghost use Rattle.read_names.specs.Contracts.{nameStringsAt};
 use crate::Step;
@@ -229,7 +233,7 @@ fn instruction_at(
     }
 }
 
-// The declaration at octet k, of an element whose attribute bit is a.
+// A declaration, of an element whose attribute bit is that of x.
 fn namespace_at(
     st: State,
     s: &[u8],
@@ -238,12 +242,12 @@ fn namespace_at(
     index: &mut [u8],
     records: &mut [u32],
     n: usize,
-    k: usize,
-    a: bool,
+    x: Spot,
 ) -> Step
-    requires { ⌜ (Good (now s) st (lent (now t) (now counts) (now index) (now records))) × (k ≤ length (now s)) × (st .level < 32) ⌝ }
-    ensures { λ r. ⌜ Meets (now (s .entry)) st n (lent (now (t .entry)) (now (counts .entry)) (now (index .entry)) (now (records .entry))) r (lent (now (t .exit)) (now (counts .exit)) (now (index .exit)) (now (records .exit))) (λ v. namespaceAt link (now (s .entry)) k v a) ⌝ }
+    requires { ⌜ (Good (now s) st (lent (now t) (now counts) (now index) (now records))) × (x .at ≤ length (now s)) × (st .level < 32) ⌝ }
+    ensures { λ r. ⌜ Meets (now (s .entry)) st n (lent (now (t .entry)) (now (counts .entry)) (now (index .entry)) (now (records .entry))) r (lent (now (t .exit)) (now (counts .exit)) (now (index .exit)) (now (records .exit))) (λ v. namespaceAt link (now (s .entry)) (x .at) v (x .listing)) ⌝ }
 {
+    let k = x.at;
     match read_names::declared(s, t, counts, index, k) {
         Declaration::Refused(number, place) => stop(number, place),
         Declaration::Got(prefix, namespace, next) => {
@@ -252,13 +256,13 @@ fn namespace_at(
                 read_names::string_at(t, NAMESPACE_NAME, namespace),
             );
             events::keep(records, n, e);
-            Step::More(st.moved(next, states::declaring(a)), k)
+            Step::More(st.moved(next, states::declaring(x.listing)), k)
         }
     }
 }
 
-// An element by its first octet, at k, whose attribute bit is a and other six bits are b: a number; or declarations, 1110 00, or a name in parts.
-fn element_at(
+// A name that is read here: an element's, whose attribute bit is that of x, or an attribute's, and then its value.
+fn named(
     st: State,
     s: &[u8],
     t: &mut [u32],
@@ -266,106 +270,29 @@ fn element_at(
     index: &mut [u8],
     records: &mut [u32],
     n: usize,
-    k: usize,
-    b: u8,
-    a: bool,
+    x: Spot,
 ) -> Step
-    requires { ⌜ (Good (now s) st (lent (now t) (now counts) (now index) (now records))) × (k < length (now s)) × (b < 64) ⌝ }
-    ensures { λ r. ⌜ Meets (now (s .entry)) st n (lent (now (t .entry)) (now (counts .entry)) (now (index .entry)) (now (records .entry))) r (lent (now (t .exit)) (now (counts .exit)) (now (index .exit)) (now (records .exit))) (elementAt link (now (s .entry)) k b a) ⌝ }
+    requires { ⌜ (Good (now s) st (lent (now t) (now counts) (now index) (now records))) × SpotNamed (now s) x ⌝ }
+    ensures { λ r. ⌜ Meets (now (s .entry)) st n (lent (now (t .entry)) (now (counts .entry)) (now (index .entry)) (now (records .entry))) r (lent (now (t .exit)) (now (counts .exit)) (now (index .exit)) (now (records .exit))) (namedBy (now (s .entry)) x) ⌝ }
 {
-    if name_padding(b) {
-        return stop(PADDING, k);
+    let k = x.at;
+    let read = read_names::name(s, t, counts, index, x.table, k, x.first);
+    if x.table == ELEMENT_NAME {
+        return start_of(st, t, records, n, k, x.listing, read);
     }
-    if !st.may_start() {
-        return stop(STRUCTURE, k);
-    }
-    if b < 0x38 {
-        let r = read_names::numbered(s, counts, ELEMENT_NAME, k);
-        return start_of(st, t, records, n, k, a, r);
-    }
-    // A prefix without a namespace.
-    if bits(b, 7, 8) == 2 {
-        return stop(STRUCTURE, k);
-    }
-    if State::LEVELS <= st.level {
-        return stop(DEPTH, k);
-    }
-    if b == 0x38 {
-        return namespace_at(st, s, t, counts, index, records, n, k + 1, a);
-    }
-    let r = read_names::in_parts(s, t, counts, index, ELEMENT_NAME, k, b);
-    start_of(st, t, records, n, k, a, r)
-}
-
-// The name behind the declarations, whose first octet is k: 00, then a number or parts; 1110 is no name.
-fn named_at(
-    st: State,
-    s: &[u8],
-    t: &mut [u32],
-    counts: &mut [u32],
-    index: &mut [u8],
-    records: &mut [u32],
-    n: usize,
-    k: usize,
-    a: bool,
-) -> Step
-    requires { ⌜ (Good (now s) st (lent (now t) (now counts) (now index) (now records))) × (k ≤ length (now s)) × (st .level < 32) ⌝ }
-    ensures { λ r. ⌜ Meets (now (s .entry)) st n (lent (now (t .entry)) (now (counts .entry)) (now (index .entry)) (now (records .entry))) r (lent (now (t .exit)) (now (counts .exit)) (now (index .exit)) (now (records .exit))) (namedAt link (now (s .entry)) k a) ⌝ }
-{
-    if s.len() <= k {
-        return stop(TRUNCATED, k);
-    }
-    let o = s[k];
-    if bits(o, 3, 6) == 14 {
-        return stop(CODE, k);
-    }
-    if bits(o, 1, 2) != 0 {
-        return stop(PADDING, k);
-    }
-    if name_padding(o) {
-        return stop(PADDING, k);
-    }
-    let r = read_names::name(s, t, counts, index, ELEMENT_NAME, k, o);
-    start_of(st, t, records, n, k, a, r)
-}
-
-// An attribute at octet k: 0, its name and its value.
-fn attribute_at(
-    st: State,
-    s: &[u8],
-    t: &mut [u32],
-    counts: &mut [u32],
-    index: &mut [u8],
-    records: &mut [u32],
-    n: usize,
-    k: usize,
-) -> Step
-    requires { ⌜ (Good (now s) st (lent (now t) (now counts) (now index) (now records))) × (k ≤ length (now s)) ⌝ }
-    ensures { λ r. ⌜ Meets (now (s .entry)) st n (lent (now (t .entry)) (now (counts .entry)) (now (index .entry)) (now (records .entry))) r (lent (now (t .exit)) (now (counts .exit)) (now (index .exit)) (now (records .exit))) (attributeAt link (now (s .entry)) k) ⌝ }
-{
-    if s.len() <= k {
-        return stop(TRUNCATED, k);
-    }
-    let o = s[k];
-    if bits(o, 1, 1) != 0 {
-        return stop(CODE, k);
-    }
-    if bits(o, 2, 6) == 31 {
-        return stop(PADDING, k);
-    }
-    match read_names::name(s, t, counts, index, ATTRIBUTE_NAME, k, o) {
+    match read {
         Entry::Refused(number, place) => stop(number, place),
         Entry::Got(name, behind) => match value(s, t, counts, ATTRIBUTE_VALUE, behind) {
             Field::Refused(number, place) => stop(number, place),
-            Field::Got(x, next) => {
-                keep_named(t, records, n, ATTRIBUTE_NAME, name, Kind::Attribute, x);
+            Field::Got(v, next) => {
+                keep_named(t, records, n, ATTRIBUTE_NAME, name, Kind::Attribute, v);
                 Step::More(st.moved(next, State::LISTED), k)
             }
         },
     }
 }
 
-// A child by its first octet, k: 0 element, 10 chunk, which is inside elements only, E1 instruction, E2 comment.
+// A child that is no element by its first octet, k: 10 chunk, which is inside elements only, E1 instruction, E2 comment.
 fn child_at(
     st: State,
     s: &[u8],
@@ -376,20 +303,14 @@ fn child_at(
     n: usize,
     k: usize,
 ) -> Step
-    requires { ⌜ (Good (now s) st (lent (now t) (now counts) (now index) (now records))) × (k ≤ length (now s)) ⌝ }
+    requires { ⌜ (Good (now s) st (lent (now t) (now counts) (now index) (now records))) × (k ≤ length (now s)) × (k < length (now s) → 0x80 ≤ getD (now s) k 0) ⌝ }
     ensures { λ r. ⌜ Meets (now (s .entry)) st n (lent (now (t .entry)) (now (counts .entry)) (now (index .entry)) (now (records .entry))) r (lent (now (t .exit)) (now (counts .exit)) (now (index .exit)) (now (records .exit))) (childAt link (now (s .entry)) k) ⌝ }
 {
     if s.len() <= k {
         return stop(TRUNCATED, k);
     }
     let o = s[k];
-    let code = bits(o, 1, 2);
-    // One place that calls element_at, so that it is inlined.
-    if code < 2 {
-        let b = bits(o, 3, 8);
-        return element_at(st, s, t, counts, index, records, n, k, b, code == 1);
-    }
-    if code == 2 {
+    if bits(o, 1, 2) == 2 {
         if st.level == 0 {
             return stop(CODE, k);
         }
@@ -404,28 +325,165 @@ fn child_at(
     other_at(st.level, o, k)
 }
 
-// Behind a declaration: F0 and the name, or another declaration.
-fn declaring_at(
-    st: State,
-    s: &[u8],
-    t: &mut [u32],
-    counts: &mut [u32],
-    index: &mut [u8],
-    records: &mut [u32],
-    n: usize,
-    k: usize,
-    a: bool,
-) -> Step
-    requires { ⌜ (Good (now s) st (lent (now t) (now counts) (now index) (now records))) × (k ≤ length (now s)) × (st .level < 32) ⌝ }
-    ensures { λ r. ⌜ Meets (now (s .entry)) st n (lent (now (t .entry)) (now (counts .entry)) (now (index .entry)) (now (records .entry))) r (lent (now (t .exit)) (now (counts .exit)) (now (index .exit)) (now (records .exit))) (declaringAt link (now (s .entry)) k a) ⌝ }
-{
-    if octet(s, k) == 0xF0 {
-        return named_at(st, s, t, counts, index, records, n, k + 1, a);
-    }
-    namespace_at(st, s, t, counts, index, records, n, k, a)
+// What an item's first octets say of it, in numbers: where it starts; a refusal's number; a name's table and what of its first octet starts it; an element's
+// attribute bit.
+pub struct Spot {
+    at: usize,
+    number: u32,
+    table: usize,
+    first: u8,
+    listing: bool,
 }
 
-// The item at octet k, by where the reader is.
+// What stands there: a refusal, a name, a declaration, or a child that is no element. One place reads names, so that it is inlined; and all variants
+// have one layout, so that nothing is moved.
+pub enum Head {
+    Stop(Spot),
+    Named(Spot),
+    Declared(Spot),
+    Child(Spot),
+}
+
+fn refusal(number: u32, at: usize) -> Head
+    ensures { λ r. ⌜ r ≡ Head.Stop (spotAt at number 0 0 false) ⌝ }
+{
+    Head::Stop(Spot {
+        at,
+        number,
+        table: 0,
+        first: 0,
+        listing: false,
+    })
+}
+
+fn name_head(table: usize, at: usize, first: u8, listing: bool) -> Head
+    ensures { λ r. ⌜ r ≡ Head.Named (spotAt at 0 table first listing) ⌝ }
+{
+    Head::Named(Spot {
+        at,
+        number: 0,
+        table,
+        first,
+        listing,
+    })
+}
+
+fn declared_head(at: usize, listing: bool) -> Head
+    ensures { λ r. ⌜ r ≡ Head.Declared (spotAt at 0 0 0 listing) ⌝ }
+{
+    Head::Declared(Spot {
+        at,
+        number: 0,
+        table: 0,
+        first: 0,
+        listing,
+    })
+}
+
+// An element by its first octet, at k, whose attribute bit is a and other six bits are b: a number; or declarations, 1110 00, or a name in parts.
+fn element_head(st: State, k: usize, b: u8, a: bool) -> Head
+    requires { ⌜ (b < 64) × (k < 16384) ⌝ }
+    ensures { λ r. ⌜ ((s : Octets) → k < length s → Tells s st r (elementAt link s k b a)) ⌝ }
+{
+    if name_padding(b) {
+        return refusal(PADDING, k);
+    }
+    if !st.may_start() {
+        return refusal(STRUCTURE, k);
+    }
+    if b < 0x38 {
+        return name_head(ELEMENT_NAME, k, b, a);
+    }
+    // A prefix without a namespace.
+    if bits(b, 7, 8) == 2 {
+        return refusal(STRUCTURE, k);
+    }
+    if State::LEVELS <= st.level {
+        return refusal(DEPTH, k);
+    }
+    if b == 0x38 {
+        return declared_head(k + 1, a);
+    }
+    name_head(ELEMENT_NAME, k, b, a)
+}
+
+// The name behind the declarations, whose first octet is k: 00, then a number or parts; 1110 is no name.
+fn named_head(s: &[u8], k: usize, a: bool) -> Head
+    ensures { λ r. ⌜ ((st : State) → st .level < 32 → Tells (now (s .entry)) st r (namedAt link (now (s .entry)) k a)) ⌝ }
+{
+    if s.len() <= k {
+        return refusal(TRUNCATED, k);
+    }
+    let o = s[k];
+    if bits(o, 3, 6) == 14 {
+        return refusal(CODE, k);
+    }
+    if bits(o, 1, 2) != 0 {
+        return refusal(PADDING, k);
+    }
+    if name_padding(o) {
+        return refusal(PADDING, k);
+    }
+    name_head(ELEMENT_NAME, k, o, a)
+}
+
+// An attribute at octet k: 0, its name and its value.
+fn attribute_head(s: &[u8], k: usize) -> Head
+    ensures { λ r. ⌜ ((st : State) → Tells (now (s .entry)) st r (attributeAt link (now (s .entry)) k)) ⌝ }
+{
+    if s.len() <= k {
+        return refusal(TRUNCATED, k);
+    }
+    let o = s[k];
+    if bits(o, 1, 1) != 0 {
+        return refusal(CODE, k);
+    }
+    if bits(o, 2, 6) == 31 {
+        return refusal(PADDING, k);
+    }
+    name_head(ATTRIBUTE_NAME, k, o, false)
+}
+
+// A child at octet k: 0 element, or another.
+fn child_head(st: State, s: &[u8], k: usize) -> Head
+    requires { ⌜ (k ≤ length (now s)) × (length (now s) ≤ 16384) ⌝ }
+    ensures { λ r. ⌜ Tells (now (s .entry)) st r (childAt link (now (s .entry)) k) ⌝ }
+{
+    if k < s.len() {
+        let o = s[k];
+        let code = bits(o, 1, 2);
+        if code < 2 {
+            return element_head(st, k, bits(o, 3, 8), code == 1);
+        }
+    }
+    Head::Child(Spot {
+        at: k,
+        number: 0,
+        table: 0,
+        first: 0,
+        listing: false,
+    })
+}
+
+// The item at octet k, by where the reader is; behind a declaration F0 and the name, or another declaration.
+fn head_at(st: State, s: &[u8], k: usize) -> Head
+    requires { ⌜ (k ≤ length (now s)) × (length (now s) ≤ 16384) × (st .level + coming (st .mode) ≤ 32) ⌝ }
+    ensures { λ r. ⌜ Tells (now (s .entry)) st r (λ v. itemAt link (now (s .entry)) k v (modeOf (st .mode))) ⌝ }
+{
+    if st.mode == State::CONTENT {
+        return child_head(st, s, k);
+    }
+    if st.mode < State::DECLARING {
+        return attribute_head(s, k);
+    }
+    let a = st.mode != State::DECLARING;
+    if octet(s, k) == 0xF0 {
+        return named_head(s, k + 1, a);
+    }
+    declared_head(k, a)
+}
+
+// The item at octet k.
 fn item_at(
     st: State,
     s: &[u8],
@@ -439,23 +497,12 @@ fn item_at(
     requires { ⌜ (Good (now s) st (lent (now t) (now counts) (now index) (now records))) × (k ≤ length (now s)) ⌝ }
     ensures { λ r. ⌜ Meets (now (s .entry)) st n (lent (now (t .entry)) (now (counts .entry)) (now (index .entry)) (now (records .entry))) r (lent (now (t .exit)) (now (counts .exit)) (now (index .exit)) (now (records .exit))) (λ v. itemAt link (now (s .entry)) k v (modeOf (st .mode))) ⌝ }
 {
-    if st.mode == State::CONTENT {
-        return child_at(st, s, t, counts, index, records, n, k);
+    match head_at(st, s, k) {
+        Head::Stop(x) => stop(x.number, x.at),
+        Head::Named(x) => named(st, s, t, counts, index, records, n, x),
+        Head::Declared(x) => namespace_at(st, s, t, counts, index, records, n, x),
+        Head::Child(x) => child_at(st, s, t, counts, index, records, n, x.at),
     }
-    if st.mode < State::DECLARING {
-        return attribute_at(st, s, t, counts, index, records, n, k);
-    }
-    declaring_at(
-        st,
-        s,
-        t,
-        counts,
-        index,
-        records,
-        n,
-        k,
-        st.mode != State::DECLARING,
-    )
 }
 
 // An end, or the item at the next octet behind padding that is right. An event is kept in record n, where there is one.

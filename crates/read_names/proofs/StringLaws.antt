@@ -24,7 +24,6 @@ use Rattle.fields.proofs.Bounds.{field-got}
 use Rattle.tables.specs.declared.Counts.{Counts}
 use Rattle.tables.specs.declared.Row.{Row}
 use Rattle.tables.specs.Located.{Located, empty, stretch, octetsOf}
-use Rattle.tables.specs.Search.{numberIn}
 use Rattle.tables.specs.Rows.{tableOf, builtIn, stringAt, entries, vocabulary}
 use Rattle.tables.specs.Kept.{unlisted, countOf, stored, rowAt, Inside}
 use Rattle.tables.proofs.Search.{octets-stretch}

@@ -37,7 +37,8 @@ same-length-3 c = search needs
 
 returns-3 : tie.Need-returns-3
 returns-3 c =
-    let p = c .before .before .before .before .before .before .before .before .before .before .before .before .pre in
+    let at-start = c .before .before .before .before .before .before .before .before .before .before .before .before in
+    let p = at-start .pre in
     let n1 = c .before .before .before .before .narrow .ensures in
     let n2 = c .before .before .before .narrow2 .ensures in
     λ index. (

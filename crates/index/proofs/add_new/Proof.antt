@@ -65,14 +65,21 @@ same-length-7 c = search needs
 
 returns-4 : tie.Need-returns-4
 returns-4 c =
-    let p = c .before .before .before .before .before .before .before .before .before .before .before .before .before .before .before .before .before .before .before .before .before .pre in
-    let n1 = c .before .before .before .before .before .before .before .before .before .narrow .ensures in
+    let at-narrow = c .before .before .before .before .before .before .before .before .before in
+    let at-if2 = at-narrow .before .before .before in
+    let at-is-listed = at-if2 .before in
+    let at-if1 = at-is-listed .before .before .before in
+    let at-is-built-in = at-if1 .before in
+    let at-start = at-is-built-in .before .before .before .before in
+    let p = at-start .pre in
+    let room = c .before .before .before .before .if4 .taken in
+    let n1 = at-narrow .narrow .ensures in
     let n2 = c .before .before .before .before .before .before .before .before .narrow2 .ensures in
-    let new = sym (c .before .before .before .before .before .before .before .before .before .before .before .before .before .is-listed .ensures) ∙ c .before .before .before .before .before .before .before .before .before .before .before .before .if2 .left in (
+    let new = sym (at-is-listed .is-listed .ensures) ∙ at-if2 .if2 .left in (
       new,
-      omega arith,
-      string-added _ _ _ _ _ _ _ (p .2) (omega arith) (p .0) (p .5) (p .4) _ _ (rw (n1, n2) at (c .before .before .before .before .before .before .before .add .ensures))
-          (rw (c .before .before .push .ensures, p .8) (string-entered _ _ _ _ _ _ _ (p .2) (omega arith) (p .0) (p .5) (p .4) (omega arith) (string-new _ new) (sym (c .before .before .before .before .before .before .before .before .before .before .before .before .before .before .before .before .before .is-built-in .ensures) ∙ c .before .before .before .before .before .before .before .before .before .before .before .before .before .before .before .before .if1 .left))),
+      omega (arith, room),
+      string-added _ _ _ _ _ _ _ (p .2) (omega (arith, room)) (p .0) (p .5) (p .4) _ _ (rw (n1, n2) at (c .before .before .before .before .before .before .before .add .ensures))
+          (rw (c .before .before .push .ensures, p .8) (string-entered _ _ _ _ _ _ _ (p .2) (omega (arith, room)) (p .0) (p .5) (p .4) (omega (arith, room)) (string-new _ new) (sym (at-is-built-in .is-built-in .ensures) ∙ at-if1 .if1 .left))),
     )
 
 same-length-8 : tie.Need-same-length-8
@@ -83,10 +90,12 @@ same-length-9 c = search needs
 
 returns-5 : tie.Need-returns-5
 returns-5 c =
-    let p = c .before .before .before .before .before .before .before .before .before .before .before .before .before .before .before .before .before .pre in
+    let at-is-listed = c .before .before .before .before .before .before .before .before .before in
+    let at-start = at-is-listed .before .before .before .before .before .before .before .before in
+    let p = at-start .pre in
     let n1 = c .before .before .before .before .before .narrow .ensures in
     let n2 = c .before .before .before .before .narrow2 .ensures in (
-      sym (c .before .before .before .before .before .before .before .before .before .is-listed .ensures) ∙ c .before .before .before .before .before .before .before .before .if2 .left,
+      sym (at-is-listed .is-listed .ensures) ∙ c .before .before .before .before .before .before .before .before .if2 .left,
       omega arith,
       string-added _ _ _ _ _ _ _ (p .2) (omega arith) (p .0) (p .5) (p .4) _ _ (rw (n1, n2) at (c .before .before .before .add .ensures)) (string-last _ _ _ _ _ _ _ (p .2) (omega arith) (p .0) (p .5) (p .4) (omega arith)),
     )

@@ -1,7 +1,6 @@
 -- `bucket_of` meets its contract: a look tells it.
 -- Assumes nothing.
 use borrow.Author.Needs.{needs}
-use native.Mathlib.Omega.{arith}
 use Rattle.index.proofs.bucket_of.Statement.{statement}
 use Rattle.index.proofs.bucket_of.Tie as tie
 

@@ -56,7 +56,8 @@ spread-requires c κs = search needs
 returns : tie.Need-returns
 unfolding highBits
 returns c =
-    let a = c .before .before .before .before .before .before .before .before .before .args in
+    let at-start = c .before .before .before .before .before .before .before .before .before in
+    let a = at-start .args in
     let o1 = c .before .before .before .before .before .octet .ensures in
     let o2 = c .before .before .before .octet2 .ensures in
     let o3 = c .before .octet3 .ensures in (

@@ -3,7 +3,7 @@
 use borrow.Author.Needs.{needs}
 use native.Mathlib.Omega.{arith}
 use mathlib.Core.Path.{_≡_}
-use Prim.Native.Nat.{_+_, _-_, _/_, _%_, _≤_, _<_}
+use Prim.Native.Nat.{_+_, _-_, _/_, _%_, _<_}
 use Rattle.fields.specs.WeightContracts.{Low}
 use Rattle.fields.proofs.Low.{highBits}
 use Rattle.tables.specs.Located.{stretch, octetsOf}

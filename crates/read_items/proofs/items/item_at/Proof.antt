@@ -1,16 +1,57 @@
--- `item_at` meets its contract, by the mode.
+-- `item_at` meets its contract, by what the first octets say.
 -- Assumes nothing.
-use native.Mathlib.Omega.{arith}
 use borrow.Author.Needs.{needs}
-use Rattle.read_items.proofs.StepLaws.{met-by}
-use Rattle.read_items.proofs.ItemLaws.{declaring-shallow, item-child, item-attribute, item-declaring}
+use Rattle.read_items.proofs.StepLaws.{met-by, refuse-here}
 use Rattle.read_items.proofs.items.item_at.Statement.{statement}
 use Rattle.read_items.proofs.items.item_at.Tie as tie
 
+head-at-requires : tie.Need-head-at-requires
+head-at-requires c κs =
+    let p = c .before .before .before .before .before .pre in
+    (p .1, p .0 .tidy .size, p .0 .shallow)
+
+enum-known-x : tie.Need-enum-known-x
+enum-known-x c = search needs
+
+stop-requires : tie.Need-stop-requires
+stop-requires c κs = search needs
+
+enum-known-x-2 : tie.Need-enum-known-x-2
+enum-known-x-2 c = search needs
+
+named-requires : tie.Need-named-requires
+named-requires c κs =
+    let at-start = c .before .before .before .before .before .before .before .before .before .before .before .before .before in
+    let p = at-start .pre in
+    let t = rw (c .before .before .before .before .before .x2 .given .1) at (c .before .before .before .before .before .before .before .head-at .ensures) in
+    (p .0, t .stands)
+
+enum-known-x-3 : tie.Need-enum-known-x-3
+enum-known-x-3 c = search needs
+
+namespace-at-requires : tie.Need-namespace-at-requires
+namespace-at-requires c κs =
+    let at-start = c .before .before .before .before .before .before .before .before .before .before .before .before .before in
+    let p = at-start .pre in
+    let t = rw (c .before .before .before .before .before .x3 .given .1) at (c .before .before .before .before .before .before .before .head-at .ensures) in
+    (p .0, t .stands .0, t .stands .1)
+
+enum-known-x-4 : tie.Need-enum-known-x-4
+enum-known-x-4 c = search needs
+
 child-at-requires : tie.Need-child-at-requires
 child-at-requires c κs =
-    let at-start = c .before .before .before .before .before .before .before .before .before .before .before in
-    at-start .pre
+    let at-start = c .before .before .before .before .before .before .before .before .before .before .before .before .before in
+    let p = at-start .pre in
+    let t = rw (c .before .before .before .before .before .x4 .given .1) at (c .before .before .before .before .before .before .before .head-at .ensures) in
+    (p .0, t .stands .0, t .stands .1)
+
+returns : tie.Need-returns
+returns c =
+    let at-start = c .before .before .before .before .before .before .before .before .before .before in
+    let p = at-start .pre in
+    let t = rw (c .before .before .x .given .1) at (c .before .before .before .before .head-at .ensures) in
+    rw (c .stop .ensures .0) (refuse-here (p .0) (c .stop .ensures .1) (t .is _))
 
 same-length : tie.Need-same-length
 same-length c = search needs
@@ -24,15 +65,12 @@ same-length-3 c = search needs
 same-length-4 : tie.Need-same-length-4
 same-length-4 c = search needs
 
-returns : tie.Need-returns
-returns c =
-    let at-child-at = c .before .before .before .before .before .before .before .before in
-    met-by (at-child-at .child-at .ensures) (item-child _ _ _ _ (omega arith))
-
-attribute-at-requires : tie.Need-attribute-at-requires
-attribute-at-requires c κs =
-    let at-start = c .before .before .before .before .before .before .before .before .before .before .before .before .before in
-    at-start .pre
+returns-2 : tie.Need-returns-2
+returns-2 c =
+    let at-x2 = c .before .before .before .before .before .before .before .before .before .before .before .before .before .before in
+    let at-head-at = at-x2 .before .before in
+    let t = rw (at-x2 .x2 .given .1) at (at-head-at .head-at .ensures) in
+    met-by (c .before .before .before .before .before .before .before .before .named .ensures) (t .is _)
 
 same-length-5 : tie.Need-same-length-5
 same-length-5 c = search needs
@@ -46,15 +84,12 @@ same-length-7 c = search needs
 same-length-8 : tie.Need-same-length-8
 same-length-8 c = search needs
 
-returns-2 : tie.Need-returns-2
-returns-2 c =
-    let at-attribute-at = c .before .before .before .before .before .before .before .before in
-    met-by (at-attribute-at .attribute-at .ensures) (item-attribute _ _ _ _ (omega arith) (omega arith))
-
-declaring-at-requires : tie.Need-declaring-at-requires
-declaring-at-requires c κs =
-    let at-start = c .before .before .before .before .before .before .before .before .before .before .before .before .before .before in
-    (at-start .pre .0, at-start .pre .1, declaring-shallow (at-start .pre .0) (omega arith))
+returns-3 : tie.Need-returns-3
+returns-3 c =
+    let at-x3 = c .before .before .before .before .before .before .before .before .before .before .before .before .before .before in
+    let at-head-at = at-x3 .before .before in
+    let t = rw (at-x3 .x3 .given .1) at (at-head-at .head-at .ensures) in
+    met-by (c .before .before .before .before .before .before .before .before .namespace-at .ensures) (t .is _)
 
 same-length-9 : tie.Need-same-length-9
 same-length-9 c = search needs
@@ -68,30 +103,39 @@ same-length-11 c = search needs
 same-length-12 : tie.Need-same-length-12
 same-length-12 c = search needs
 
-returns-3 : tie.Need-returns-3
-returns-3 c =
-    let at-declaring-at = c .before .before .before .before .before .before .before .before in
-    met-by (at-declaring-at .declaring-at .ensures) (item-declaring _ _ _ _ (omega arith))
+returns-4 : tie.Need-returns-4
+returns-4 c =
+    let at-x4 = c .before .before .before .before .before .before .before .before .before .before .before .before .before .before in
+    let at-head-at = at-x4 .before .before in
+    let t = rw (at-x4 .x4 .given .1) at (at-head-at .head-at .ensures) in
+    met-by (c .before .before .before .before .before .before .before .before .child-at .ensures) (t .is _)
 
 pub item-at-spec : {M : Type 1} → statement M
 item-at-spec =
     tie.close
     (tie.spec
+    head-at-requires
+    enum-known-x
+    stop-requires
+    enum-known-x-2
+    named-requires
+    enum-known-x-3
+    namespace-at-requires
+    enum-known-x-4
     child-at-requires
+    returns
     same-length
     same-length-2
     same-length-3
     same-length-4
-    returns
-    attribute-at-requires
+    returns-2
     same-length-5
     same-length-6
     same-length-7
     same-length-8
-    returns-2
-    declaring-at-requires
+    returns-3
     same-length-9
     same-length-10
     same-length-11
     same-length-12
-    returns-3)
+    returns-4)

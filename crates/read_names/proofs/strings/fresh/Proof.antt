@@ -1,6 +1,5 @@
 -- `fresh` meets its contract: each way out is a case of the definition, and leaves the tables and their index in order.
 -- Assumes nothing.
-use mathlib.Core.Path.{sym, _∙_}
 use native.Mathlib.Omega.{arith}
 use borrow.Author.Needs.{needs}
 use borrow.Author.Tests.{not-true, not-false}
@@ -45,8 +44,9 @@ slice-read-count c = search needs
 
 add-new-requires : tie.Need-add-new-requires
 add-new-requires c κs =
-    let at-start = c .before .before .before .before .before .before .before .before .before .before .before .before .before .before .before in
-    let b = begins _ _ _ 2 _ _ (c .before .before .before .before .before .before .before .before .before .before .length .ensures) (c .before .before .before .before .before .before .before .before .n .given .1) in
+    let at-length = c .before .before .before .before .before .before .before .before .before .before in
+    let at-start = at-length .before .before .before .before .before in
+    let b = begins _ _ _ 2 _ _ (at-length .length .ensures) (c .before .before .before .before .before .before .before .before .n .given .1) in
     let z = at-start .pre .0 .size in (
       at-start .pre .0 .room,
       at-start .pre .0 .indexed .size,
@@ -76,15 +76,10 @@ add-counts c =
     let l = new .1 in omega arith
 
 mul-counts : tie.Need-mul-counts
-mul-counts c =
-    let l = c .before .before .before .before .before .before .before .before .before .before .before .before .before .before .before .before .before .before .before .before .before .before .pre .1 in omega arith
+mul-counts c = search needs
 
 slice-write-counts : tie.Need-slice-write-counts
-slice-write-counts c =
-    let at-start = c .before .before .before .before .before .before .before .before .before .before .before .before .before .before .before .before .before .before .before .before .before .before in
-    let l = at-start .pre .1 in
-    let ten = at-start .pre .0 .ten in
-    omega arith
+slice-write-counts c = search needs
 
 add-t29 : tie.Need-add-t29
 add-t29 c =
@@ -92,9 +87,7 @@ add-t29 c =
     let l = new .1 in omega arith
 
 add-t30 : tie.Need-add-t30
-add-t30 c =
-    let b = begins _ _ _ 2 _ _ (c .before .before .before .before .before .before .before .before .before .before .before .before .before .before .before .before .before .length .ensures) (c .before .before .before .before .before .before .before .before .before .before .before .before .before .before .before .n .given .1) in
-    omega arith
+add-t30 c = search needs
 
 returns-3 : tie.Need-returns-3
 returns-3 c =
@@ -109,9 +102,13 @@ same-length-2 c = search needs
 
 returns-4 : tie.Need-returns-4
 returns-4 c =
-    let at-start = c .before .before .before .before .before .before .before .before .before .before .before .before .before .before .before .before .before .before .before .before .before .before in
-    let b = begins _ _ _ 2 _ _ (c .before .before .before .before .before .before .before .before .before .before .before .before .before .before .before .before .before .length .ensures) (c .before .before .before .before .before .before .before .before .before .before .before .before .before .before .before .n .given .1) in
-    new-known _ _ _ _ _ _ (at-start .pre .0) (let l = at-start .pre .1 in omega arith) (at-start .pre .2) _ (c .before .before .before .before .before .before .before .before .before .before .before .before .before .before .before .before .before .length .ensures) _ _ (c .before .before .before .before .before .before .before .before .before .before .before .before .before .before .before .n .given .1) _ (omega arith) (c .before .before .before .before .before .before .before .before .before .before .before .before .mark .ensures .2) (not-false _ (c .before .before .before .before .before .before .before .before .before .before .if2 .left)) _ _ (rw (c .enum-told .given .1) at (c .before .before .before .before .before .before .add-new .ensures))
+    let at-if2 = c .before .before .before .before .before .before .before .before .before .before in
+    let at-mark = at-if2 .before .before in
+    let at-n = at-mark .before .before .before in
+    let at-length = at-n .before .before in
+    let at-start = at-length .before .before .before .before .before in
+    let b = begins _ _ _ 2 _ _ (at-length .length .ensures) (at-n .n .given .1) in
+    new-known _ _ _ _ _ _ (at-start .pre .0) (let l = at-start .pre .1 in omega arith) (at-start .pre .2) _ (at-length .length .ensures) _ _ (at-n .n .given .1) _ (omega arith) (at-mark .mark .ensures .2) (not-false _ (at-if2 .if2 .left)) _ _ (rw (c .enum-told .given .1) at (c .before .before .before .before .before .before .add-new .ensures))
 
 same-length-3 : tie.Need-same-length-3
 same-length-3 c = search needs
@@ -121,9 +118,13 @@ same-length-4 c = search needs
 
 returns-5 : tie.Need-returns-5
 returns-5 c =
-    let at-start = c .before .before .before .before .before .before .before .before .before .before .before .before .before .before .before .before .before .before .before .before .before .before in
-    let b = begins _ _ _ 2 _ _ (c .before .before .before .before .before .before .before .before .before .before .before .before .before .before .before .before .before .length .ensures) (c .before .before .before .before .before .before .before .before .before .before .before .before .before .before .before .n .given .1) in
-    new-full _ _ _ _ _ _ (at-start .pre .0) (let l = at-start .pre .1 in omega arith) (at-start .pre .2) _ (c .before .before .before .before .before .before .before .before .before .before .before .before .before .before .before .before .before .length .ensures) _ _ (c .before .before .before .before .before .before .before .before .before .before .before .before .before .before .before .n .given .1) _ (omega arith) (c .before .before .before .before .before .before .before .before .before .before .before .before .mark .ensures .2) (not-false _ (c .before .before .before .before .before .before .before .before .before .before .if2 .left)) _ _ (rw (c .enum-told2 .given .1) at (c .before .before .before .before .before .before .add-new .ensures))
+    let at-if2 = c .before .before .before .before .before .before .before .before .before .before in
+    let at-mark = at-if2 .before .before in
+    let at-n = at-mark .before .before .before in
+    let at-length = at-n .before .before in
+    let at-start = at-length .before .before .before .before .before in
+    let b = begins _ _ _ 2 _ _ (at-length .length .ensures) (at-n .n .given .1) in
+    new-full _ _ _ _ _ _ (at-start .pre .0) (let l = at-start .pre .1 in omega arith) (at-start .pre .2) _ (at-length .length .ensures) _ _ (at-n .n .given .1) _ (omega arith) (at-mark .mark .ensures .2) (not-false _ (at-if2 .if2 .left)) _ _ (rw (c .enum-told2 .given .1) at (c .before .before .before .before .before .before .add-new .ensures))
 
 same-length-5 : tie.Need-same-length-5
 same-length-5 c = search needs
@@ -136,9 +137,13 @@ same-length-7 c = search needs
 
 returns-6 : tie.Need-returns-6
 returns-6 c =
-    let at-start = c .before .before .before .before .before .before .before .before .before .before .before .before .before .before .before .before .before .before .before .before .before .before in
-    let b = begins _ _ _ 2 _ _ (c .before .before .before .before .before .before .before .before .before .before .before .before .before .before .before .before .before .length .ensures) (c .before .before .before .before .before .before .before .before .before .before .before .before .before .before .before .n .given .1) in
-    new-done _ _ _ _ _ _ (at-start .pre .0) (let l = at-start .pre .1 in omega arith) (at-start .pre .2) _ (c .before .before .before .before .before .before .before .before .before .before .before .before .before .before .before .before .before .length .ensures) _ _ (c .before .before .before .before .before .before .before .before .before .before .before .before .before .before .before .n .given .1) _ (omega arith) (c .before .before .before .before .before .before .before .before .before .before .before .before .mark .ensures .2) (not-false _ (c .before .before .before .before .before .before .before .before .before .before .if2 .left)) _ _ (rw (c .enum-told3 .given .1) at (c .before .before .before .before .before .before .add-new .ensures))
+    let at-if2 = c .before .before .before .before .before .before .before .before .before .before in
+    let at-mark = at-if2 .before .before in
+    let at-n = at-mark .before .before .before in
+    let at-length = at-n .before .before in
+    let at-start = at-length .before .before .before .before .before in
+    let b = begins _ _ _ 2 _ _ (at-length .length .ensures) (at-n .n .given .1) in
+    new-done _ _ _ _ _ _ (at-start .pre .0) (let l = at-start .pre .1 in omega arith) (at-start .pre .2) _ (at-length .length .ensures) _ _ (at-n .n .given .1) _ (omega arith) (at-mark .mark .ensures .2) (not-false _ (at-if2 .if2 .left)) _ _ (rw (c .enum-told3 .given .1) at (c .before .before .before .before .before .before .add-new .ensures))
 
 pub fresh-spec : {M : Type 1} → statement M
 fresh-spec =

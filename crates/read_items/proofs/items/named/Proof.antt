@@ -1,0 +1,227 @@
+-- `named` meets its contract: an element by its name's answer, an attribute by those of name and value.
+-- Assumes nothing.
+use native.Mathlib.Omega.{arith}
+use borrow.Author.Needs.{needs}
+use mathlib.Core.Path.{refl}
+use Rattle.tables.specs.Rows.{tableOf}
+use Rattle.read_items.specs.Contracts.{lent}
+use Rattle.read_items.proofs.Fields.{near, entry-named}
+use Rattle.read_items.proofs.ItemLaws.{start-met, attribute-refused, value-refused, attribute-more, attribute-there}
+use Rattle.read_items.proofs.HeadLaws.{attribute-table, name-element, name-attribute, named-element, named-attribute}
+use Rattle.read_items.proofs.items.named.Statement.{statement}
+use Rattle.read_items.proofs.items.named.Tie as tie
+
+name-requires : tie.Need-name-requires
+name-requires c κs =
+    let p = c .before .before .before .before .before .before .before .before .pre in
+    (p .0 .tidy, p .1 .inside, p .1 .low, p .1 .high)
+
+start-of-requires : tie.Need-start-of-requires
+start-of-requires c κs =
+    let at-name = c .before .before .before .before .before .before .before .before .before .before in
+    let at-start = at-name .before .before .before .before .before .before .before .before .before in
+    let a = at-start .args in
+    let last = at-name .name .last .1 in
+    let read = name-element (a .s .now) (a .counts .now) (a .t .now) _ _ _ (at-name .name .result) (last .1 .0) (last .0) (last .1 .1 .0) (c .before .before .if1 .taken) (at-name .name .ensures) in
+    entry-named (a .s .now) (a .counts .now) (a .t .now) (last .1 .0) (last .0) (last .1 .1 .0) 8 (at-name .name .result) (omega arith) (omega arith) (read .1) (read .2)
+
+same-length : tie.Need-same-length
+same-length c = search needs
+
+same-length-2 : tie.Need-same-length-2
+same-length-2 c = search needs
+
+same-length-3 : tie.Need-same-length-3
+same-length-3 c = search needs
+
+same-length-4 : tie.Need-same-length-4
+same-length-4 c = search needs
+
+returns : tie.Need-returns
+returns c =
+    let at-name = c .before .before .before .before .before .before .before .before .before .before .before .before .before in
+    let at-start = at-name .before .before .before .before .before .before .before .before .before in
+    let a = at-start .args in
+    let last = at-name .name .last .1 in
+    let read = name-element (a .s .now) (a .counts .now) (a .t .now) _ _ _ (at-name .name .result) (last .1 .0) (last .0) (last .1 .1 .0) (c .before .before .before .before .before .if1 .taken) (at-name .name .ensures) in
+    start-met _ _ _ (at-name .name .result) (read .0) (read .1) (c .before .before .start-of .ensures) (named-element _ (a .x) _ (c .before .before .before .before .before .if1 .taken))
+
+enum-known-read : tie.Need-enum-known-read
+enum-known-read c = search needs
+
+stop-requires : tie.Need-stop-requires
+stop-requires c κs = search needs
+
+enum-known-read-2 : tie.Need-enum-known-read-2
+enum-known-read-2 c = search needs
+
+value-requires : tie.Need-value-requires
+value-requires c κs =
+    let at-name = c .before .before .before .before .before .before .before .before .before .before .before .before .before in
+    let at-start = at-name .before .before .before .before .before .before .before .before .before in
+    let a = at-start .args in
+    let last = at-name .name .last .1 in
+    let nine = attribute-table _ _ (at-start .pre .1) (c .before .before .before .before .before .if1 .left) in
+    let read = name-attribute (a .s .now) (a .counts .now) (a .t .now) _ _ _ (at-name .name .result) (last .1 .0) (last .0) (last .1 .1 .0) nine (at-start .pre .1 .octet nine) (at-name .name .ensures) in
+    let there = rw (c .before .before .before .read2 .given .1) at (read .1) in
+    let tidy = there .0 .tidy in
+    (tidy .room, tidy .ten, tidy .size, there .0 .within, omega arith, omega arith, tidy .counted 5)
+
+enum-known-number : tie.Need-enum-known-number
+enum-known-number c = search needs
+
+stop-requires-2 : tie.Need-stop-requires-2
+stop-requires-2 c κs = search needs
+
+enum-known-v : tie.Need-enum-known-v
+enum-known-v c = search needs
+
+keep-named-requires : tie.Need-keep-named-requires
+keep-named-requires c κs =
+    let at-value = c .before .before .before .before .before .before .before .before .before in
+    let at-read2 = at-value .before .before .before .before in
+    let at-if1 = at-read2 .before .before in
+    let at-name = at-if1 .before .before .before .before .before .before .before .before in
+    let at-start = at-name .before .before .before .before .before .before .before .before .before in
+    let a = at-start .args in
+    let last = at-name .name .last .1 in
+    let nine = attribute-table _ _ (at-start .pre .1) (at-if1 .if1 .left) in
+    let read = name-attribute (a .s .now) (a .counts .now) (a .t .now) _ _ _ (at-name .name .result) (last .1 .0) (last .0) (last .1 .1 .0) nine (at-start .pre .1 .octet nine) (at-name .name .ensures) in
+    let there = rw (at-read2 .read2 .given .1) at (read .1) in
+    let said = at-value .value .ensures _ (there .0 .tidy) in
+    attribute-there (a .s .now) (lent (a .t .now) (a .counts .now) (a .index .now) (a .records .now)) (lent (last .0) (last .1 .0) (last .1 .1 .0) (a .records .now))
+    (lent (at-value .value .last .1 .0) (at-value .value .last .1 .1 .0) (last .1 .1 .0) (a .records .now)) (at-read2 .read2 .given .1) (read .1) (read .2) (c .before .before .before .v .given .1) (said .1)
+
+moved-requires : tie.Need-moved-requires
+moved-requires c κs =
+    let at-value = c .before .before .before .before .before .before .before .before .before .before .before .before in
+    let at-read2 = at-value .before .before .before .before in
+    let at-if1 = at-read2 .before .before in
+    let at-name = at-if1 .before .before .before .before .before .before .before .before in
+    let at-start = at-name .before .before .before .before .before .before .before .before .before in
+    let a = at-start .args in
+    let last = at-name .name .last .1 in
+    let nine = attribute-table _ _ (at-start .pre .1) (at-if1 .if1 .left) in
+    let read = name-attribute (a .s .now) (a .counts .now) (a .t .now) _ _ _ (at-name .name .result) (last .1 .0) (last .0) (last .1 .1 .0) nine (at-start .pre .1 .octet nine) (at-name .name .ensures) in
+    let there = rw (at-read2 .read2 .given .1) at (read .1) in
+    let said = at-value .value .ensures _ (there .0 .tidy) in
+    let left = rw (c .before .before .before .before .before .before .v .given .1) at (said .1) in
+    near (left .tidy) (left .within)
+
+same-length-5 : tie.Need-same-length-5
+same-length-5 c = search needs
+
+same-length-6 : tie.Need-same-length-6
+same-length-6 c = search needs
+
+same-length-7 : tie.Need-same-length-7
+same-length-7 c = search needs
+
+returns-2 : tie.Need-returns-2
+returns-2 c =
+    let at-name = c .before .before .before .before .before .before .before .before .before .before .before .before in
+    let at-start = at-name .before .before .before .before .before .before .before .before .before in
+    let a = at-start .args in
+    let last = at-name .name .last .1 in
+    let nine = attribute-table _ _ (at-start .pre .1) (c .before .before .before .before .if1 .left) in
+    let read = name-attribute (a .s .now) (a .counts .now) (a .t .now) _ _ _ (at-name .name .result) (last .1 .0) (last .0) (last .1 .1 .0) nine (at-start .pre .1 .octet nine) (at-name .name .ensures) in
+    rw (c .stop .ensures .0) (attribute-refused _ (named-attribute _ (a .x) _ nine) (c .before .before .read .given .1) (c .stop .ensures .1) refl (read .0) (read .1))
+
+same-length-8 : tie.Need-same-length-8
+same-length-8 c = search needs
+
+same-length-9 : tie.Need-same-length-9
+same-length-9 c = search needs
+
+same-length-10 : tie.Need-same-length-10
+same-length-10 c = search needs
+
+returns-3 : tie.Need-returns-3
+unfolding tableOf
+returns-3 c =
+    let at-read2 = c .before .before .before .before .before .before .before .before .before .before .before .before in
+    let at-if1 = at-read2 .before .before in
+    let at-name = at-if1 .before .before .before .before .before .before .before .before in
+    let at-start = at-name .before .before .before .before .before .before .before .before .before in
+    let a = at-start .args in
+    let last = at-name .name .last .1 in
+    let nine = attribute-table _ _ (at-start .pre .1) (at-if1 .if1 .left) in
+    let read = name-attribute (a .s .now) (a .counts .now) (a .t .now) _ _ _ (at-name .name .result) (last .1 .0) (last .0) (last .1 .1 .0) nine (at-start .pre .1 .octet nine) (at-name .name .ensures) in
+    let there = rw (at-read2 .read2 .given .1) at (read .1) in
+    let said = c .before .before .before .before .before .before .before .before .value .ensures _ (there .0 .tidy) in
+    rw (c .stop2 .ensures .0) (value-refused _ (named-attribute _ (a .x) _ nine) (lent (last .0) (last .1 .0) (last .1 .1 .0) (a .records .now)) (at-read2 .read2 .given .1) (read .0) (read .1) (read .2) said (c .before .before .number .given .1) (c .stop2 .ensures .1) refl)
+
+same-length-11 : tie.Need-same-length-11
+same-length-11 c =
+    let at-value = c .before .before .before .before .before .before .before .before .before .before .before .before .before in
+    let at-read2 = at-value .before .before .before .before in
+    let at-if1 = at-read2 .before .before in
+    let at-name = at-if1 .before .before .before .before .before .before .before .before in
+    let at-start = at-name .before .before .before .before .before .before .before .before .before in
+    let a = at-start .args in
+    let last = at-name .name .last .1 in
+    let nine = attribute-table _ _ (at-start .pre .1) (at-if1 .if1 .left) in
+    let read = name-attribute (a .s .now) (a .counts .now) (a .t .now) _ _ _ (at-name .name .result) (last .1 .0) (last .0) (last .1 .1 .0) nine (at-start .pre .1 .octet nine) (at-name .name .ensures) in
+    let there = rw (at-read2 .read2 .given .1) at (read .1) in
+    let said = at-value .value .ensures _ (there .0 .tidy) in
+    let left = rw (c .before .before .before .before .before .before .before .v .given .1) at (said .1) in
+    omega (arith, left .tidy .room, at-start .pre .0 .tidy .room)
+
+same-length-12 : tie.Need-same-length-12
+same-length-12 c = search needs
+
+same-length-13 : tie.Need-same-length-13
+same-length-13 c = search needs
+
+same-length-14 : tie.Need-same-length-14
+same-length-14 c = search needs
+
+returns-4 : tie.Need-returns-4
+unfolding tableOf
+returns-4 c =
+    let at-value = c .before .before .before .before .before .before .before .before .before .before .before .before .before in
+    let at-read2 = at-value .before .before .before .before in
+    let at-if1 = at-read2 .before .before in
+    let at-name = at-if1 .before .before .before .before .before .before .before .before in
+    let at-start = at-name .before .before .before .before .before .before .before .before .before in
+    let a = at-start .args in
+    let last = at-name .name .last .1 in
+    let nine = attribute-table _ _ (at-start .pre .1) (at-if1 .if1 .left) in
+    let read = name-attribute (a .s .now) (a .counts .now) (a .t .now) _ _ _ (at-name .name .result) (last .1 .0) (last .0) (last .1 .1 .0) nine (at-start .pre .1 .octet nine) (at-name .name .ensures) in
+    let there = rw (at-read2 .read2 .given .1) at (read .1) in
+    let said = at-value .value .ensures _ (there .0 .tidy) in
+    rw (c .moved .ensures) (attribute-more _ (named-attribute _ (a .x) _ nine) (lent (last .0) (last .1 .0) (last .1 .1 .0) (a .records .now)) (at-read2 .read2 .given .1) (read .0) (read .1) (read .2) said (c .before .before .before .before .before .before .before .v .given .1) (at-start .pre .0) (c .before .before .before .keep-named .ensures))
+
+pub named-spec : {M : Type 1} → statement M
+named-spec =
+    tie.close
+    (tie.spec
+    name-requires
+    start-of-requires
+    same-length
+    same-length-2
+    same-length-3
+    same-length-4
+    returns
+    enum-known-read
+    stop-requires
+    enum-known-read-2
+    value-requires
+    enum-known-number
+    stop-requires-2
+    enum-known-v
+    keep-named-requires
+    moved-requires
+    same-length-5
+    same-length-6
+    same-length-7
+    returns-2
+    same-length-8
+    same-length-9
+    same-length-10
+    returns-3
+    same-length-11
+    same-length-12
+    same-length-13
+    same-length-14
+    returns-4)
