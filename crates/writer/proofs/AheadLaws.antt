@@ -45,7 +45,7 @@ declared-past : (es : List Event) → beginsWith 1 es ≡ true → announced es 
 declared-past [] h = clash h
 declared-past (e ∷ es) h = announced-on e es (declared-kind (e .kind) h)
 
-attribute-first : (es : List Event) → attributeNext es ≡ beginsWith 3 es
+pub attribute-first : (es : List Event) → attributeNext es ≡ beginsWith 3 es
 attribute-first [] = refl
 attribute-first (e ∷ es) = by (e .kind)
   where

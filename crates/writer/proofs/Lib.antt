@@ -9,3 +9,6 @@ pub mod StepLaws
 pub mod RunLaws
 pub mod PhaseLaws
 pub mod WordLaws
+pub mod KnownLaws
+pub mod LaneLaws
+pub mod RideLaws

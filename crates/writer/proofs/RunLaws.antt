@@ -45,7 +45,7 @@ use Rattle.writer.proofs.OutputLaws.{held-length, held-whole, document-
 use Rattle.writer.proofs.AheadLaws.{announced-on}
 
 -- ---- the attribute bit
-bit-started : (a b : Bool) → Foretold (F.afterStart a) b
+pub bit-started : (a b : Bool) → Foretold (F.afterStart a) b
 bit-started true b = tt
 bit-started false b = tt
 
@@ -99,7 +99,7 @@ module _ (text : List ℕ) (room at : ℕ) (v : F.State Located) (e : Event) (es
     unfolding run verdict itemOf halvesFor
     run-on h = ap (λ (n : ℕ). elim n [ zero ↦ plus wrote (halvesFor text room bit at v e) rest | suc k ↦ refusal (suc k) i ]) h
 
-    behind-on : (hs : List ℕ) → verdict text room bit at v e ≡ 0 → behind hs (run link text room at v i (e ∷ es)) room ≡ behind (hs ++ halvesFor text room bit at v e) rest room
+    pub behind-on : (hs : List ℕ) → verdict text room bit at v e ≡ 0 → behind hs (run link text room at v i (e ∷ es)) room ≡ behind (hs ++ halvesFor text room bit at v e) rest room
     behind-on hs h = ap (λ (x : Result). behind hs x room) (run-on h) ∙ behind-plus wrote hs (halvesFor text room bit at v e) rest room
 
     run-stop : (n : ℕ) → verdict text room bit at v e ≡ n → 1 ≤ n → run link text room at v i (e ∷ es) ≡ refusal n i

@@ -11,3 +11,5 @@ pub mod AheadContracts
 pub mod StepContracts
 pub mod ItemContracts
 pub mod RunContracts
+pub mod LaneContracts
+pub mod RideContracts

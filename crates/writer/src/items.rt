@@ -56,7 +56,7 @@ fn is_attribute(kind: Kind) -> bool
 }
 
 // The bit of an element's first octet that announces attributes.
-fn attribute_bit(a: bool) -> u8
+pub fn attribute_bit(a: bool) -> u8
     ensures { λ r. ⌜ (r ≡ 64 * bit a) × (r ≤ 64) ⌝ }
 {
     if a {

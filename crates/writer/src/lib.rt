@@ -2,9 +2,11 @@
 // May depend on format, fields, tables, index, states, walk, events and write_names.
 mod ahead;
 mod items;
+mod lane;
 mod output;
 mod records;
 mod run;
+mod steps;
 pub mod write;
 
 pub use run::write_words;

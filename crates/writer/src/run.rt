@@ -1,5 +1,5 @@
-// A run: the header, then the events one by one, then the document's end. What is decided is decided by value, in the functions over a `Phase`; `written` and
-// `write` take the records out of words and of a row. The writer for C is such a run.
+// A run: the header, then the events one by one, then the document's end. What is decided is decided by value, in the functions over a `Phase`; `write` takes the
+// records out of a row, and `steps` out of words. The writer for C is such a run.
 ghost use mathlib.Core.Path.{_≡_};
 ghost use mathlib.Core.Bool.{_&&_};
 ghost use mathlib.Core.List.{List};
@@ -16,11 +16,13 @@ ghost use Rattle.writer.specs.Events.{isContent};
 ghost use Rattle.writer.specs.Writing.{Leaves, writeOf};
 ghost use Rattle.writer.specs.Words.{answerWord, leaving, writeWords};
 ghost use Rattle.writer.specs.RunContracts.{Finishes, goesOn, fromMode, lookFrom, bitOf, Going, Steady, Bounded, Turns, Ends, Settles};
+ghost use Rattle.writer.specs.RideContracts.{Through};
 use crate::Answer;
 use crate::Step;
 use crate::ahead;
 use crate::items::step;
 use crate::output;
+use crate::steps::steps;
 use events::Event;
 use events::RECORD;
 use format::refusals::EVENT;
@@ -80,7 +82,7 @@ pub fn prepared(text: &[u8], out: &mut [u8], t: &mut [u32]) -> Phase
 }
 
 // Among declarations no record is looked at a second time: their bit is known.
-fn look_from(mode: usize, i: usize, n: usize) -> usize
+pub fn look_from(mode: usize, i: usize, n: usize) -> usize
     ensures { λ r. ⌜ r ≡ fromMode (modeOf mode) i n ⌝ }
 {
     if State::DECLARING <= mode {
@@ -89,7 +91,7 @@ fn look_from(mode: usize, i: usize, n: usize) -> usize
     i
 }
 
-fn bit(mode: usize, a: bool) -> bool
+pub fn bit(mode: usize, a: bool) -> bool
     ensures { λ r. ⌜ r ≡ bitOf (modeOf mode) a ⌝ }
 {
     if mode < State::DECLARING {
@@ -144,6 +146,17 @@ impl Phase {
         }
     }
 
+    // All the records of words.
+    fn through(self, records: &[u32], text: &[u8], out: &mut [u8], t: &mut [u32]) -> Phase
+        requires { ⌜ Going (recordsOf (now records)) (now text) (length (now out)) (length (now t)) 0 self (now out) (now t) (replicate slots 0) ⌝ }
+        ensures { λ r. ⌜ Through (recordsOf (now (records .entry))) (now (text .entry)) (length (now (out .entry))) (length (now (t .entry))) r (now (out .exit)) (now (t .exit)) ⌝ }
+    {
+        match self {
+            Phase::Onward(st, counts) => steps(records, text, out, t, st, counts),
+            Phase::Halted(number, event) => Phase::Halted(number, event),
+        }
+    }
+
     // No further record is to be written.
     fn ended(self, out: &mut [u8], i: usize) -> Answer
         requires { ⌜ Bounded i self ⌝ }
@@ -170,27 +183,13 @@ impl Phase {
     }
 }
 
-// The records of words, one by one.
+// The records of words.
 fn written(records: &[u32], text: &[u8], out: &mut [u8], t: &mut [u32]) -> Answer
     ensures { λ r. ⌜ Leaves r (now (out .exit)) (now (t .exit)) (writeOf link (recordsOf (now (records .entry))) (now (text .entry)) (length (now (out .entry))) (length (now (t .entry)))) ⌝ }
 {
-    let mut index = [0u8; index::SLOTS];
-    let mut p = prepared(text, out, t);
-    let mut i = 0;
-    while p.goes_on(i, records.len() / RECORD) {
-        let a = ahead::announced_words(records, p.look_from(i, records.len() / RECORD));
-        p = p.turn(
-            text,
-            out,
-            t,
-            &mut index,
-            events::from_words(records, i),
-            a,
-            i,
-        );
-        i += 1;
-    }
-    p.settle(out, t, i)
+    let p = prepared(text, out, t);
+    let q = p.through(records, text, out, t);
+    q.settle(out, t, records.len() / RECORD)
 }
 
 fn number(a: Answer) -> u64

@@ -1,0 +1,39 @@
+-- Contracts of the code, not definitions to be believed. The writer over words: which Starts are remembered, and the quick lane between two steps of a run.
+use Prim.Native.Nat.{ℕ, _*_, _/_, _<_}
+use mathlib.Core.Path.{_≡_}
+use mathlib.Core.List.{List}
+use lib.ListN.{length}
+use Rattle.format.specs.Octets.{Octets, Words}
+use Rattle.format.specs.Numbers.{pick}
+use Rattle.format.specs.Tables.{Vocabulary}
+use Rattle.tables.specs.declared.Counts.{Counts}
+use Rattle.tables.specs.Located.{Located}
+use Rattle.tables.specs.Rows.{vocabulary}
+use Rattle.states.specs.declared.State.{State}
+use Rattle.events.specs.declared.Kind.the-variants.{Start}
+use Rattle.events.specs.declared.Event.{Event}
+use Rattle.events.specs.FromWords.{recordAt, recordsOf}
+use Rattle.writer.specs.declared.lane.Lane.{Lane}
+use Rattle.writer.specs.declared.run.Phase.{Phase}
+use Rattle.writer.specs.RunContracts.{Underway, Going}
+use Rattle.writer.specs.LaneContracts.{Taught, Remembered, Onward}
+
+-- What is remembered is still so, with record i or without it: there are n names of elements then, and if there were fewer before, a Start was that of the last.
+abbrev pub Learns : Words → (i before n : ℕ) → (memory memory′ : Words) → Type 0
+Learns w i before n memory memory′ =
+    (text : Octets) (v : Vocabulary Located) → (before < n → recordAt w (13 * i) .kind ≡ Start → Taught text v (recordAt w (13 * i)) n) → Remembered (recordsOf w) text v memory → Remembered (recordsOf w) text v memory′
+
+-- The state behind the records that the lane took.
+abbrev pub arrivedAt : State → Lane → State
+arrivedAt st l = record { at = l .at; level = l .level; root = st .root; mode = pick (l .listing) 1 (st .mode) }
+
+-- From record i on the lane took those before its next: a run that was underway is so still.
+pub record Rides (w memory : Words) (room i : ℕ) (st : State) (out : Octets) (l : Lane) (out′ : Octets) : Type 0 where
+  pub onward : Onward i (l .i) (length w / 13)
+  pub under : (text : Octets) (cs : Counts) (t index : Octets) → Remembered (recordsOf w) text (vocabulary cs t) memory → Underway text room (recordsOf w) i st cs out t index
+      → Underway text room (recordsOf w) (l .i) (arrivedAt st l) cs out′ t index
+
+-- Behind all the events es, or the first refusal.
+pub record Through (es : List Event) (text : Octets) (room table : ℕ) (p : Phase) (out : Octets) (w : Words) : Type 0 where
+  pub index : Octets
+  pub going : Going es text room table (length es) p out w index
