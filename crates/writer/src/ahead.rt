@@ -13,9 +13,9 @@ use events::is_kind;
 // Kinds by number.
 const NAMESPACE: u32 = 1;
 
-const START: u32 = 2;
+pub const START: u32 = 2;
 
-const ATTRIBUTE: u32 = 3;
+pub const ATTRIBUTE: u32 = 3;
 
 // How far the look at an element's records got: before its Start, right behind it, or to the answer.
 enum Look {

@@ -1,12 +1,14 @@
 // A quick lane over words: Ends, and Starts whose words are those of an earlier one that is remembered with its name's number. Such records need no judging and
 // no search; any other is left to the step.
 ghost use mathlib.Core.Path.{_≡_};
-ghost use mathlib.Core.Bool.{true, false};
+ghost use mathlib.Core.Bool.{true};
 ghost use Prim.Native.Nat.{_+_, _*_, _/_, _^_, _<_, _≤_};
 ghost use lib.ListN.{length, replicate};
 ghost use Rattle.events.specs.Records.{endRecord};
 ghost use Rattle.events.specs.FromWords.{recordAt};
 ghost use Rattle.writer.specs.LaneContracts.{SameWords, Filed, Recalled, Kept, Safe, Passes, Ahead, Started, Ended, Passable, Passed, Onward};
+use crate::ahead::ATTRIBUTE;
+use crate::ahead::START;
 use crate::items::attribute_bit;
 use crate::output::put_end;
 use events::RECORD;
@@ -14,15 +16,14 @@ use events::is_kind;
 use fields::put::put_number;
 use states::State;
 
-// Kinds by number.
-pub const START: u32 = 2;
-
-const ATTRIBUTE: u32 = 3;
-
+// The number of the kind End.
 const END: u32 = 7;
 
 // The bit of an element's first octet with which its name's number begins.
 const NAME_BIT: u32 = 3;
+
+// Octets of a Start by number, at most, with the one that the end before it may leave half filled.
+const START_OCTETS: usize = 5;
 
 // Starts that are remembered, at most.
 pub const SLOTS: usize = 128;
@@ -136,7 +137,7 @@ fn next(w: &[u32], memory: &[u32; SLOTS], l: Lane, room: usize) -> u32
     if l.level == 0 {
         return NOTHING;
     }
-    let octets = l.at / 2 + 5;
+    let octets = l.at / 2 + START_OCTETS;
     if room < octets {
         return NOTHING;
     }
