@@ -1,8 +1,8 @@
 -- The index beside the counts: at the start, and with one entry more.
 -- Assumes nothing.
-use mathlib.Core.Path.{_≡_, refl, sym, _∙_}
+use mathlib.Core.Path.{_≡_, refl, sym, ap, _∙_}
 use mathlib.Core.Bool.{Bool}
-use mathlib.Core.List.{List}
+use mathlib.Core.List.{List, [], _∷_}
 use Prim.Native.Nat.{ℕ, zero, suc, _+_, _*_, _≤_, _<_}
 use native.Mathlib.Omega.{arith}
 use native.Mathlib.Decide.{decLt}
@@ -87,3 +87,30 @@ counts-more c table h =
         | no l ↦ (count-beyond (oneMore c table) k (omega arith) ∙ sym (count-beyond c k (omega arith)))
       ];
     }
+
+-- the counts in ten words
+pub words-listed : (c : List ℕ) → length c ≡ 10 → listed (unlisted c) ≡ c
+words-listed [] h = absurd (omega arith)
+words-listed (a ∷ []) h = absurd (omega arith)
+words-listed (a ∷ b ∷ []) h = absurd (omega arith)
+words-listed (a ∷ b ∷ c ∷ []) h = absurd (omega arith)
+words-listed (a ∷ b ∷ c ∷ d ∷ []) h = absurd (omega arith)
+words-listed (a ∷ b ∷ c ∷ d ∷ e ∷ []) h = absurd (omega arith)
+words-listed (a ∷ b ∷ c ∷ d ∷ e ∷ f ∷ []) h = absurd (omega arith)
+words-listed (a ∷ b ∷ c ∷ d ∷ e ∷ f ∷ g ∷ []) h = absurd (omega arith)
+words-listed (a ∷ b ∷ c ∷ d ∷ e ∷ f ∷ g ∷ i ∷ []) h = absurd (omega arith)
+words-listed (a ∷ b ∷ c ∷ d ∷ e ∷ f ∷ g ∷ i ∷ j ∷ []) h = absurd (omega arith)
+words-listed (a ∷ b ∷ c ∷ d ∷ e ∷ f ∷ g ∷ i ∷ j ∷ k ∷ []) h = refl
+words-listed (a ∷ b ∷ c ∷ d ∷ e ∷ f ∷ g ∷ i ∷ j ∷ k ∷ l ∷ m) h = absurd (omega arith)
+
+module _ (c : List ℕ) (ten : length c ≡ 10) (t : ℕ) where
+  pub count-at : countOf (unlisted c) t ≡ getD c t 0
+  unfolding countOf
+  count-at = ap (λ (l : List ℕ). getD l t 0) (words-listed c ten)
+
+  pub one-more : unlisted (set c t (getD c t 0 + 1)) ≡ oneMore (unlisted c) t
+  unfolding countOf oneMore
+  one-more = sym (ap (λ (l : List ℕ). unlisted (set l t (getD l t 0 + 1))) (words-listed c ten))
+
+  pub one-more-words : t < 10 → OneMore t (getD c t 0) (countOf (unlisted c)) (countOf (unlisted (set c t (getD c t 0 + 1))))
+  one-more-words h = rw (one-more, ← count-at) (counts-more (unlisted c) t h)

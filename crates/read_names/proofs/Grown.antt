@@ -1,6 +1,6 @@
 -- Counts and tables in lent words: an entry more, and what stays when there is one.
 -- Assumes nothing.
-use mathlib.Core.Path.{_≡_, refl, sym, ap, _∙_}
+use mathlib.Core.Path.{_≡_, refl, ap, _∙_}
 use mathlib.Core.Bool.{true, false}
 use mathlib.Core.List.{List, [], _∷_}
 use Prim.Native.Nat.{ℕ, zero, suc, _+_, _-_, _*_, _≤_, _<_}
@@ -11,43 +11,15 @@ use lib.ListN.{length, getD, set}
 use Rattle.format.specs.Tables.{StringTable, Triple, names}
 use Rattle.tables.specs.declared.Counts.{Counts}
 use Rattle.tables.specs.Rows.{tableOf, stringAt, tripleAt, vocabulary}
-use Rattle.tables.specs.Kept.{nameTableOf, tripleOf, listed, unlisted, countOf, oneMore, Counted, rowAt, stored}
+use Rattle.tables.specs.Kept.{nameTableOf, tripleOf, unlisted, countOf, Counted, rowAt, stored}
 use Rattle.tables.proofs.Laws.{length-names, name-nth}
-use Rattle.index.specs.Indexed.{OneMore}
 use Rattle.index.proofs.Entered.{row-kept, word-kept}
-use Rattle.index.proofs.Counted.{counts-more}
+use Rattle.index.proofs.Counted.{one-more-words}
 use Rattle.events.specs.Records.{eventString}
 use Rattle.read_names.specs.Names.{noTriple}
 use Rattle.read_names.specs.Contracts.{Ranged, searched, Tidy, Grown, eventStringAt, eventStringsAt, nameStringsAt, IdLeft}
 use Rattle.read_names.specs.declared.Entry.{Entry}
 use Rattle.read_names.specs.declared.Entry.the-variants.{Got as Numbered, Refused as NotNumbered}
-
--- ---- counts in words
-words-listed : (c : List ℕ) → length c ≡ 10 → listed (unlisted c) ≡ c
-words-listed [] h = absurd (omega arith)
-words-listed (a ∷ []) h = absurd (omega arith)
-words-listed (a ∷ b ∷ []) h = absurd (omega arith)
-words-listed (a ∷ b ∷ c ∷ []) h = absurd (omega arith)
-words-listed (a ∷ b ∷ c ∷ d ∷ []) h = absurd (omega arith)
-words-listed (a ∷ b ∷ c ∷ d ∷ e ∷ []) h = absurd (omega arith)
-words-listed (a ∷ b ∷ c ∷ d ∷ e ∷ f ∷ []) h = absurd (omega arith)
-words-listed (a ∷ b ∷ c ∷ d ∷ e ∷ f ∷ g ∷ []) h = absurd (omega arith)
-words-listed (a ∷ b ∷ c ∷ d ∷ e ∷ f ∷ g ∷ i ∷ []) h = absurd (omega arith)
-words-listed (a ∷ b ∷ c ∷ d ∷ e ∷ f ∷ g ∷ i ∷ j ∷ []) h = absurd (omega arith)
-words-listed (a ∷ b ∷ c ∷ d ∷ e ∷ f ∷ g ∷ i ∷ j ∷ k ∷ []) h = refl
-words-listed (a ∷ b ∷ c ∷ d ∷ e ∷ f ∷ g ∷ i ∷ j ∷ k ∷ l ∷ m) h = absurd (omega arith)
-
-module _ (c : List ℕ) (ten : length c ≡ 10) (t : ℕ) where
-  pub count-at : countOf (unlisted c) t ≡ getD c t 0
-  unfolding countOf
-  count-at = ap (λ (l : List ℕ). getD l t 0) (words-listed c ten)
-
-  pub one-more : unlisted (set c t (getD c t 0 + 1)) ≡ oneMore (unlisted c) t
-  unfolding countOf oneMore
-  one-more = sym (ap (λ (l : List ℕ). unlisted (set l t (getD l t 0 + 1))) (words-listed c ten))
-
-  pub one-more-words : t < 10 → OneMore t (getD c t 0) (countOf (unlisted c)) (countOf (unlisted (set c t (getD c t 0 + 1))))
-  one-more-words h = rw (one-more, ← count-at) (counts-more (unlisted c) t h)
 
 -- ---- the tables that are searched
 pub searched-string : (t : ℕ) → t < 5 → searched t ≡ true

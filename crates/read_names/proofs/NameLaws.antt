@@ -48,7 +48,8 @@ use Rattle.read_names.specs.Names.{NameRead, prefixBit, namespaceBit, na
 use Rattle.read_names.specs.Contracts.{Ranged, searched, Tidy, Grown, Left, eventStringAt, eventStringsAt, nameStringsAt, Seen, IdLeft, Positive, idSeen, optionalSeen, seenName, nameSeen, declaredSeen}
 use Rattle.read_names.specs.StringContracts.{heldOf}
 use Rattle.read_names.specs.NameContracts.{newName, seenNumber, NewRow}
-use Rattle.read_names.proofs.Grown.{count-at, one-more, one-more-words, grown-none, grown-on, grown-stored, string-stays, InRange, name-at, name-ranged}
+use Rattle.index.proofs.Counted.{count-at, one-more, one-more-words}
+use Rattle.read_names.proofs.Grown.{grown-none, grown-on, grown-stored, string-stays, InRange, name-at, name-ranged}
 use Rattle.read_names.proofs.StringLaws.{tests, ranged-kept}
 
 -- ---- a table's layout

@@ -45,7 +45,8 @@ use Rattle.read_names.specs.Strings as S
 use Rattle.read_names.specs.Strings.{got, refused, then, number, spelling, IdRead, StringRead, idAt, optionalAt, numberBit, spelledAt, literalAt, valueAt}
 use Rattle.read_names.specs.Contracts.{Ranged, searched, Tidy, Left, eventStringAt, Seen, seenId, IdLeft, Positive, seenField, FieldLeft, idSeen, optionalSeen, stringSeen}
 use Rattle.read_names.specs.StringContracts.{BehindWithin, stretchOf, NumberPositive, heldOf, saidOf, addedOf, addedCounts, addedWords, lengthFrom}
-use Rattle.read_names.proofs.Grown.{count-at, one-more, one-more-words, searched-string, searched-not, grown-none, grown-stored}
+use Rattle.index.proofs.Counted.{count-at, one-more, one-more-words}
+use Rattle.read_names.proofs.Grown.{searched-string, searched-not, grown-none, grown-stored}
 
 -- a test of a definition, taken apart
 pub tests : {A : Type 0} (P : A → Type 0) (t : Bool) (a b : A) → (t ≡ true → P a) → (t ≡ false → P b) → P (pick t a b)

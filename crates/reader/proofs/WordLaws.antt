@@ -7,14 +7,15 @@ use Prim.Native.Nat.{ℕ, _+_, _-_, _*_, _/_, _%_, _^_, _≤_}
 use native.Mathlib.Omega.{arith}
 use native.Mathlib.Decide.{ℕ-discrete}
 use borrow.Author.Tests.{eq-eqb, ne-eqb}
-use lib.ListN.{length, drop, drop-of-length-le, replicate, length-append, length-map, length-replicate, replicate-append-replicate}
-use lib.Seq.{drop-at, drop-cons, sets-eq}
+use lib.ListN.{length, drop, replicate, length-append, length-map, length-replicate, replicate-append-replicate}
+use lib.Seq.{drop-at, sets-eq}
 use Rattle.format.specs.Tables.{link}
 use Rattle.tables.specs.declared.Counts.{Counts}
 use Rattle.tables.specs.Counts.{tableWords, countsOf, entryWords, wordsOf}
 use Rattle.tables.specs.Rows.{vocabulary}
 use Rattle.tables.specs.Kept.{listed, unlisted, Clean}
 use Rattle.tables.proofs.Laws.{counts-are}
+use Rattle.index.proofs.Counted.{words-listed}
 use Rattle.events.specs.declared.Event.{Event}
 use Rattle.events.specs.Records.{blank}
 use Rattle.events.specs.Words.{recordWords, rowWords}
@@ -96,13 +97,6 @@ accepted-words r n d w v (accepted es m) e h g k = λ i. leaving (word i) (recor
         k ∙ sets-eq (eventWords es) (replicate r 0) 0 (rw (length-replicate {A = ℕ} r 0) (omega arith)) ∙ ap (λ (q : List ℕ). eventWords es ++ q) (rw y (drop-zeros r (13 * length es) f))
         ∙ sym (filled es r (omega (arith, count₀)))
 
--- ten words are those of their counts
-ten-words : (l : List ℕ) → length l ≡ 10 → l ≡ listed (unlisted l)
-ten-words l e =
-    let z : length l ≤ 10 = omega arith in
-    drop-cons l 0 0 (omega arith)
-    ∙ rw (drop-cons l 1 0 (omega arith), drop-cons l 2 0 (omega arith), drop-cons l 3 0 (omega arith), drop-cons l 4 0 (omega arith), drop-cons l 5 0 (omega arith), drop-cons l 6 0 (omega arith), drop-cons l 7 0 (omega arith), drop-cons l 8 0 (omega arith), drop-cons l 9 0 (omega arith), drop-of-length-le l z)
-
 -- ---- by cases
 module _ (s : List ℕ) (r t c : ℕ) where
   pub words-size : false ≡ sized link s → nothing 1 r t c ≡ readWords link s r t c
@@ -141,4 +135,4 @@ module _ (s : List ℕ) (r t c : ℕ) where
             let h : n ≤ 32769 = rw q at (p .small) in
             let x : n * 2 ^ 32 % 2 ^ 64 ≡ n * 2 ^ 32 = omega arith in
             let k : v′ ≡ keptFrom (replicate r 0) 0 (reading link s (r / 13)) = rw (q, z) at (p .keeps (rw (z, length-replicate {A = ℕ} r 0) (omega arith))) in
-            rw x (ap (leaving (n * 2 ^ 32) v′ w′) (ten-words c′ (g .1)) ∙ accepted-words r n (unlisted c′) w′ v′ (reading link s (r / 13)) f (g .0) (g .2) k ∙ fields-first)
+            rw x (ap (leaving (n * 2 ^ 32) v′ w′) (sym (words-listed c′ (g .1))) ∙ accepted-words r n (unlisted c′) w′ v′ (reading link s (r / 13)) f (g .0) (g .2) k ∙ fields-first)

@@ -25,6 +25,10 @@ stateOf st v = record { tables = v; level = st .level; root = rootOf (st .root);
 unfoldable pub coming : ℕ → ℕ
 coming m = pick (leb 3 m) 1 0
 
+-- The last octet that a state is moved to, so that no sum wraps: a writer may stand behind the 16,384 octets of a document, by those of one event, until this is refused.
+abbrev pub farthest : ℕ
+farthest = 200000
+
 -- Before the first item of a body.
 abbrev pub fresh : (body : ℕ) → State
 fresh body = record { at = 2 * body; level = 0; root = 0; mode = 0 }

@@ -2,9 +2,9 @@
 // May depend on format and tables (for specs/).
 ghost use mathlib.Core.Path.{_≡_};
 ghost use mathlib.Core.Bool.{not, _||_};
-ghost use Prim.Native.Nat.{_≤_, _<_};
+ghost use Prim.Native.Nat.{_*_, _≤_, _<_};
 ghost use lib.Dec.{ltb};
-ghost use Rattle.states.specs.States.{fresh, movedTo, openedAt, afterEnd, afterStart, declaringMode, rootOf};
+ghost use Rattle.states.specs.States.{farthest, fresh, movedTo, openedAt, afterEnd, afterStart, declaringMode, rootOf};
 
 // `at` is in halves of an octet; `root` is not 0 once there was a root. Four words without a gap: a struct with gaps is moved in pieces, at every step.
 pub struct State {
@@ -44,7 +44,7 @@ impl State {
 
     // At the octet `next`, which for a writer may lie behind what a document has room for.
     pub fn moved(self, next: usize, mode: usize) -> State
-        requires { ⌜ next ≤ 200000 ⌝ }
+        requires { ⌜ next ≤ farthest ⌝ }
         ensures { λ r. ⌜ r ≡ movedTo self next mode ⌝ }
     {
         State {
@@ -57,7 +57,7 @@ impl State {
 
     // An element more, whose attribute bit is a.
     pub fn opened(self, next: usize, a: bool) -> State
-        requires { ⌜ (next ≤ 200000) × (self .level < 32) ⌝ }
+        requires { ⌜ (next ≤ farthest) × (self .level < 32) ⌝ }
         ensures { λ r. ⌜ r ≡ openedAt self next a ⌝ }
     {
         State {
@@ -70,7 +70,7 @@ impl State {
 
     // Behind an end, among children at a level.
     pub fn behind_end(self, level: usize) -> State
-        requires { ⌜ self .at ≤ 400000 ⌝ }
+        requires { ⌜ self .at ≤ 2 * farthest ⌝ }
         ensures { λ r. ⌜ r ≡ afterEnd self level ⌝ }
     {
         State {

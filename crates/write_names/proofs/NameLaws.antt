@@ -8,32 +8,34 @@ use Prim.Native.Nat.{ℕ, suc, _+_, _*_, _≤_, _<_}
 use native.Mathlib.Omega.{arith}
 use borrow.Author.Tests.{eq-eqb, ne-eqb}
 use lib.Dec.{eqb}
-use lib.ListN.{length, set}
+use lib.ListN.{length, getD, set}
 use Rattle.format.specs.Numbers.{pick, spell}
 use Rattle.format.specs.Events.{Name, How, Choice}
 use Rattle.format.specs.Tables.{StringTable, PREFIX, NAMESPACE-NAME, LOCAL-NAME, NameTable, ELEMENT-NAME, ATTRIBUTE-NAME, Triple, Vocabulary, strings, names, adding, addingName, link}
 use Rattle.format.specs.Names.{has, NameLayout, ofElement, ofAttribute}
 use Rattle.fields.specs.PutContracts.{Puts}
 use Rattle.fields.proofs.Puts.{puts-append, puts-octet}
-use Rattle.tables.specs.declared.Counts.{Counts}
 use Rattle.tables.specs.declared.Row.{Row}
 use Rattle.tables.specs.Located.{Located, octetsOf}
 use Rattle.tables.specs.Search.{numberIn, numberOfTriple}
-use Rattle.tables.specs.Rows.{tableOf, tripleAt, entries, vocabulary}
-use Rattle.tables.specs.Kept.{nameTableOf, countOf, layoutOf, tripleOf}
+use Rattle.tables.specs.Rows.{tableOf, tripleAt, entries}
+use Rattle.tables.specs.Kept.{nameTableOf, layoutOf, tripleOf}
 use Rattle.tables.proofs.Adding.{names-adding}
-use Rattle.tables.proofs.Laws.{length-strings, length-names, names-are, name-number-within}
+use Rattle.tables.proofs.Laws.{name-number-within}
+use Rattle.index.specs.Indexed.{slots, NamesIndexed}
+use Rattle.index.proofs.Counted.{count-at}
 use Rattle.events.specs.declared.EventString.{EventString}
 use Rattle.events.specs.declared.EventString.the-variants.{Absent, Empty, Stretch, XmlPrefix, XmlNamespace}
 use Rattle.events.specs.Records.{locatedOf, optionalOf}
 use Rattle.events.specs.Words.{stringTag}
-use Rattle.write_names.specs.declared.Here.{Here}
+use Rattle.write_names.specs.declared.Sought.{Sought}
+use Rattle.write_names.specs.declared.naming.Numbers.{Numbers}
 use Rattle.write_names.specs.declared.Parts.{Parts}
 use Rattle.write_names.specs.declared.Wrote as W
 use Rattle.write_names.specs.declared.Wrote.the-variants.{Put, Full}
 use Rattle.write_names.specs.Choices.{Wrote, writeId, writeOptional, writeName, within}
-use Rattle.write_names.specs.Contracts.{InOrder, heldAs, namedOf, Held, numberThen, tripleFor, nameHeldAs, Tripled, pairBehind, declaredBy, Stands, Meets}
-use Rattle.write_names.proofs.Order.{name-more, order-name, grows-on, grows-id, grows-optional, grows-name, within-grown, full-name}
+use Rattle.write_names.specs.Contracts.{stringMost, pairMost, nameMost, tablesIn, InOrder, heldAs, Looked, namedOf, Held, numberThen, tripleFor, nameHeldAs, Proper, New, Tripled, pairBehind, declaredBy, Stands, Meets}
+use Rattle.write_names.proofs.Order.{entries-count, triples-are, triples-count, counted-at, name-more, order-name, grows-on, grows-id, grows-optional, grows-name, within-grown, full-name}
 use Rattle.write_names.proofs.StringLaws.{held-is, stands-put}
 
 -- ---- a string's number once it is written
@@ -125,42 +127,60 @@ layout-table t = by (eqb t 8)
     by true = refl
     by false = refl
 
-module _ (text w : List ℕ) (c : Counts) (x : Parts) (k : Row) (held : Held text (vocabulary c w) x k) (is : 1 ≤ stringTag (x .local)) {a b d : ℕ}
-    (prefix : a ≡ numberThen (countOf c 0) (x .prefix) (k .a)) (namespace : b ≡ numberThen (countOf c 1) (x .namespace) (k .b)) (local : d ≡ numberThen (countOf c 2) (x .local) (k .c)) where
-  triple-is : record { prefix = a; namespace = b; local = d } ≡ tripleFor text (vocabulary c w) (namedOf x)
+module _ (text c w ix : List ℕ) (order : InOrder text c w ix) (x : Parts) (k : Row) (held : Held text (tablesIn c w) x k) (is : 1 ≤ stringTag (x .local)) {a b d : ℕ}
+    (prefix : a ≡ numberThen (getD c 0 0) (x .prefix) (k .a)) (namespace : b ≡ numberThen (getD c 1 0) (x .namespace) (k .b)) (local : d ≡ numberThen (getD c 2 0) (x .local) (k .c)) where
+  triple-is : record { prefix = a; namespace = b; local = d } ≡ tripleFor text (tablesIn c w) (namedOf x)
   unfolding tripleFor tableOf
   triple-is =
-      let v = vocabulary c w in
+      let v = tablesIn c w in
       let v₁ = writeOptional text PREFIX v (optionalOf (x .prefix)) .tables in
       let v₂ = writeOptional text NAMESPACE-NAME v₁ (optionalOf (x .namespace)) .tables in
       let k₁ = namespaces-kept text v (optionalOf (x .prefix)) in
       let k₂ = locals-kept text v (optionalOf (x .prefix)) (optionalOf (x .namespace)) in
-      let p = then-optional text PREFIX v (x .prefix) _ _ (length-strings c w 0 (omega arith)) (held .prefix) in
-      let n = then-optional text NAMESPACE-NAME v₁ (x .namespace) _ _ (ap length k₁ ∙ length-strings c w 1 (omega arith)) (held .namespace ∙ sym (held-by text NAMESPACE-NAME v₁ v (x .namespace) k₁)) in
-      let l = then-id text LOCAL-NAME v₂ (x .local) _ _ (ap length k₂ ∙ length-strings c w 2 (omega arith)) (held .local ∙ sym (held-by text LOCAL-NAME v₂ v (x .local) k₂)) is in
+      let n₀ = entries-count c w (order .ten) 0 (omega arith) in
+      let n₁ = entries-count c w (order .ten) 1 (omega arith) in
+      let n₂ = entries-count c w (order .ten) 2 (omega arith) in
+      let p = then-optional text PREFIX v (x .prefix) _ _ n₀ (held .prefix) in
+      let n = then-optional text NAMESPACE-NAME v₁ (x .namespace) _ _ (ap length k₁ ∙ n₁) (held .namespace ∙ sym (held-by text NAMESPACE-NAME v₁ v (x .namespace) k₁)) in
+      let l = then-id text LOCAL-NAME v₂ (x .local) _ _ (ap length k₂ ∙ n₂) (held .local ∙ sym (held-by text LOCAL-NAME v₂ v (x .local) k₂)) is in
       rw (prefix, namespace, local, p, n, l)
 
--- what is found of a name: its strings' numbers k, those that they have then, and its own
-pub name-found : (text w : List ℕ) (c : Counts) (x : Parts) {k₁ k₂ k₃ a b d : ℕ} → 1 ≤ stringTag (x .local) → (k₁ ≡ heldAs text (tableOf 0) (vocabulary c w) (x .prefix)) × (k₁ ≤ 256)
-    → (k₂ ≡ heldAs text (tableOf 1) (vocabulary c w) (x .namespace)) × (k₂ ≤ 256) → (k₃ ≡ heldAs text (tableOf 2) (vocabulary c w) (x .local)) × (k₃ ≤ 256)
-    → a ≡ numberThen (countOf c 0) (x .prefix) k₁ → b ≡ numberThen (countOf c 1) (x .namespace) k₂ → d ≡ numberThen (countOf c 2) (x .local) k₃ → (t n m : ℕ) → 8 ≤ t → t < 10
-    → m ≡ countOf c t → n ≡ numberOfTriple (entries (tripleAt w) (768 * t) m) (record { prefix = a; namespace = b; local = d })
-    → Held text (vocabulary c w) x (record { a = k₁; b = k₂; c = k₃ }) × (record { prefix = a; namespace = b; local = d } ≡ tripleFor text (vocabulary c w) (namedOf x))
-    × (n ≡ nameHeldAs (layoutOf t) text (vocabulary c w) (namedOf x))
-unfolding nameHeldAs tableOf
-name-found text w c x {k₁} {k₂} {k₃} is p n l a b d t m e low high em found =
-    let held : Held text (vocabulary c w) x (record { a = k₁; b = k₂; c = k₃ }) = record { prefix = p .0; namespace = n .0; local = l .0; few = (p .1, n .1, l .1) } in
-    let triple = triple-is text w c x _ held is a b d in
-    (held, triple, rw (layout-table t, names-are c w t low high, ← em, ← triple) found)
+-- what `find_name` asks
+pub names-ready : (text c w ix : List ℕ) (t : ℕ) → InOrder text c w ix → 8 ≤ t → t < 10
+    → (length w ≡ 7680) × (length ix ≡ slots) × (t < 10) × (getD c t 0 ≤ 256) × NamesIndexed w ix t (getD c t 0)
+names-ready text c w ix t order low high =
+    let k = count-at c (order .ten) t in
+    let indexed = order .indexed .ofNames t low high refl in
+    (order .room, order .indexed .size, high, counted-at text c w ix t order, rw k at indexed)
 
-pub name-few : (text w ix : List ℕ) (c : Counts) (t : ℕ) → InOrder text c w ix → (n m : ℕ) (x : Triple) → 8 ≤ t → t < 10 → m ≡ countOf c t → n ≡ numberOfTriple (entries (tripleAt w) (768 * t) m) x
-    → n ≤ 256
-name-few text w ix c t order n m x low high em is =
-    let q : n ≡ numberOfTriple (names (vocabulary c w) (nameTableOf t)) x = rw (names-are c w t low high, ← em) is in
-    let l = name-number-within (names (vocabulary c w) (nameTableOf t)) x in
-    let f = length-names c w t low high in
-    let g = order .counted t in
-    omega arith
+-- what is found of a name: its strings' numbers, those that they have then, and its own
+module _ (text c w ix : List ℕ) (order : InOrder text c w ix) (x : Parts) (proper : Proper text x) {k₁ k₂ k₃ a b d n : ℕ}
+    (p₁ : (k₁ ≡ heldAs text (tableOf 0) (tablesIn c w) (x .prefix)) × (k₁ ≤ 256)) (p₂ : (k₂ ≡ heldAs text (tableOf 1) (tablesIn c w) (x .namespace)) × (k₂ ≤ 256))
+    (p₃ : (k₃ ≡ heldAs text (tableOf 2) (tablesIn c w) (x .local)) × (k₃ ≤ 256)) (q₁ : a ≡ numberThen (getD c 0 0) (x .prefix) k₁) (q₂ : b ≡ numberThen (getD c 1 0) (x .namespace) k₂)
+    (q₃ : d ≡ numberThen (getD c 2 0) (x .local) k₃)
+    (found : n ≡ numberOfTriple (entries (tripleAt w) (768 * (x .table)) (getD c (x .table) 0)) (record { prefix = a; namespace = b; local = d })) where
+  strings-found : Held text (tablesIn c w) x (record { a = k₁; b = k₂; c = k₃ })
+  unfolding tableOf
+  strings-found = record { prefix = p₁ .0; namespace = p₂ .0; local = p₃ .0; few = (p₁ .1, p₂ .1, p₃ .1) }
+
+  triple-found : record { prefix = a; namespace = b; local = d } ≡ tripleFor text (tablesIn c w) (namedOf x)
+  triple-found = triple-is text c w ix order x _ strings-found (proper .6) q₁ q₂ q₃
+
+  pub name-found : n ≡ nameHeldAs (layoutOf (x .table)) text (tablesIn c w) (namedOf x)
+  unfolding nameHeldAs
+  name-found = rw (layout-table (x .table), triples-are c w (order .ten) (x .table) (proper .0) (proper .1), ← triple-found) found
+
+  pub name-few : n ≤ 256
+  name-few =
+      let y : Triple = record { prefix = a; namespace = b; local = d } in
+      let q : n ≡ numberOfTriple (names (tablesIn c w) (nameTableOf (x .table))) y = rw (triples-are c w (order .ten) (x .table) (proper .0) (proper .1)) found in
+      let l = name-number-within (names (tablesIn c w) (nameTableOf (x .table))) y in
+      let f = triples-count c w (order .ten) (x .table) (proper .0) (proper .1) in
+      let g = counted-at text c w ix (x .table) order in
+      omega arith
+
+  pub name-new : n ≡ 0 → New text (tablesIn c w) x (record { found = record { a = k₁; b = k₂; c = k₃ }; then = record { a = a; b = b; c = d } })
+  name-new z = record { held = strings-found; is = triple-found; new = sym z ∙ name-found }
 
 -- ---- what a name is written as
 module _ (q : NameLayout) (lead : ℕ) (text : List ℕ) (v : Vocabulary Located) (x : Name Located) where
@@ -190,13 +210,13 @@ module _ (q : NameLayout) (lead : ℕ) (text : List ℕ) (v : Vocabulary Located
     unfolding writeName pairBehind tripleFor
     parts-words = let z = number-is in rw (z, ← new)
 
-pub name-numbered : (text w ix : List ℕ) (c : Counts) (t lead : ℕ) (order : InOrder text c w ix) (x : Parts) (n : ℕ) → n ≡ nameHeldAs (layoutOf t) text (vocabulary c w) (namedOf x) → (n ≡ 0 → ⊥)
-    → {out out′ : List ℕ} {at r : ℕ} → Puts out at r out′ (spell (layoutOf t .numberForms) lead n) × (r ≤ at + 4)
-    → Stands text out at 49168 (record { at = r; counts = c }) out′ w ix (writeName (layoutOf t) lead text (vocabulary c w) (namedOf x) .octets)
-    (writeName (layoutOf t) lead text (vocabulary c w) (namedOf x) .tables)
-name-numbered text w ix c t lead order x n is ne p =
-    rw (numbered-octets (layoutOf t) lead text (vocabulary c w) (namedOf x) n is ne, numbered-words (layoutOf t) lead text (vocabulary c w) (namedOf x) n is ne)
-    (stands-put text w ix c order (p .0) (let l = p .1 in omega arith))
+pub name-numbered : (text c w ix : List ℕ) (order : InOrder text c w ix) (x : Parts) (n : ℕ) → n ≡ nameHeldAs (layoutOf (x .table)) text (tablesIn c w) (namedOf x) → (n ≡ 0 → ⊥)
+    → {out out′ : List ℕ} {at r : ℕ} → Puts out at r out′ (spell (layoutOf (x .table) .numberForms) (x .lead) n) × (r ≤ at + 4)
+    → Stands text out at nameMost r out′ c w ix (writeName (layoutOf (x .table)) (x .lead) text (tablesIn c w) (namedOf x))
+name-numbered text c w ix order x n is ne p =
+    let o = numbered-octets (layoutOf (x .table)) (x .lead) text (tablesIn c w) (namedOf x) n is ne in
+    let v = numbered-words (layoutOf (x .table)) (x .lead) text (tablesIn c w) (namedOf x) n is ne in
+    stands-put text c w ix order _ (rw o (p .0)) (let l = p .1 in omega arith) (sym v)
 
 -- ---- a prefix and a namespace behind an octet
 module _ (text : List ℕ) (v : Vocabulary Located) (b : ℕ) (p n : Option Located) where
@@ -204,22 +224,28 @@ module _ (text : List ℕ) (v : Vocabulary Located) (b : ℕ) (p n : Option Loca
   unfolding pairBehind tableOf
   pair-full e = within-grown (grows-optional text NAMESPACE-NAME _ n) e
 
-  pub pair-behind : (out : List ℕ) (at : ℕ) {out₁ out₂ w₁ i₁ : List ℕ} → out₁ ≡ set out at b → (h : Here)
-      → Stands text out₁ (at + 1) 16389 h out₂ w₁ i₁ (writeOptional text (tableOf 0) v p .octets) (writeOptional text (tableOf 0) v p .tables)
-      → (r : W.Wrote) (out₃ w₂ i₂ : List ℕ) → Meets text out₂ (h .at) 16389 r out₃ w₂ i₂ (writeOptional text (tableOf 1) (vocabulary (h .counts) w₁) n)
-      → Meets text out at 32779 r out₃ w₂ i₂ (pairBehind b text v p n)
+  pub pair-behind : (out : List ℕ) (at h : ℕ) {out₁ out₂ c₁ w₁ i₁ : List ℕ} → out₁ ≡ set out at b → Stands text out₁ (at + 1) stringMost h out₂ c₁ w₁ i₁ (writeOptional text (tableOf 0) v p)
+      → (r : W.Wrote) (out₃ c₂ w₂ i₂ : List ℕ) → Meets text out₂ h stringMost r out₃ c₂ w₂ i₂ (writeOptional text (tableOf 1) (tablesIn c₁ w₁) n)
+      → Meets text out at pairMost r out₃ c₂ w₂ i₂ (pairBehind b text v p n)
   unfolding pairBehind tableOf
-  pair-behind out at e h s Full out₃ w₂ i₂ m = rw (s .tables) at m
-  pair-behind out at e h s (Put r) out₃ w₂ i₂ m =
+  pair-behind out at h e s Full out₃ c₂ w₂ i₂ m = rw (s .tables) at m
+  pair-behind out at h e s (Put r) out₃ c₂ w₂ i₂ m =
       let f = s .few in
       let g = m .few in
       let q = rw (s .tables) at m in
       record { puts = puts-octet e (puts-append (s .puts) (q .puts)); few = omega arith; tables = q .tables; order = q .order }
 
-pub pair-held : (text w : List ℕ) (c : Counts) (v : Vocabulary Located) (p : Option Located) (n : EventString) (k : ℕ) → vocabulary c w ≡ writeOptional text (tableOf 0) v p .tables
-    → k ≡ heldAs text NAMESPACE-NAME v n → k ≡ heldAs text (tableOf 1) (vocabulary c w) n
+-- the namespace's number is the same once the prefix is written
+pair-held : (text c w : List ℕ) (v : Vocabulary Located) (p : Option Located) (n : EventString) (k : ℕ) → tablesIn c w ≡ writeOptional text (tableOf 0) v p .tables
+    → k ≡ heldAs text (tableOf 1) v n → k ≡ heldAs text (tableOf 1) (tablesIn c w) n
 unfolding tableOf
-pair-held text w c v p n k is held = rw is (held ∙ sym (held-by text NAMESPACE-NAME (writeOptional text PREFIX v p .tables) v n (namespaces-kept text v p)))
+pair-held text c w v p n k is held = rw is (held ∙ sym (held-by text NAMESPACE-NAME (writeOptional text PREFIX v p .tables) v n (namespaces-kept text v p)))
+
+pub pair-looked : (text c w ix : List ℕ) → InOrder text c w ix → (c₁ w₁ i₁ : List ℕ) → InOrder text c₁ w₁ i₁ → (p : Option Located) (x : Sought) → x .table ≡ 1 → tablesIn c₁ w₁ ≡ writeOptional text (tableOf 0) (tablesIn c w) p .tables → Looked text c w x
+    → Looked text c₁ w₁ x
+pair-looked text c w ix order c₁ w₁ i₁ order₁ p x e is (small, suits, held, few) =
+    let k : x .number ≡ heldAs text (tableOf 1) (tablesIn c w) (x .string) = rw e at held in
+    (small, suits, rw e (pair-held text c₁ w₁ (tablesIn c w) p (x .string) (x .number) is k), few)
 
 pub declared-is : (text : List ℕ) (v : Vocabulary Located) (p n : Option Located) {a b : ℕ} → a ≡ has p → b ≡ has n → declaredBy text v p n ≡ pairBehind (0xCC + 2 * a + b) text v p n
 unfolding declaredBy
@@ -229,54 +255,58 @@ declared-is text v p n a b = rw (a, b)
 abbrev begun : ℕ → List ℕ → Vocabulary Located → Parts → Wrote Choice
 begun b text v x = pairBehind b text v (optionalOf (x .prefix)) (optionalOf (x .namespace))
 
-pub local-held : (text w : List ℕ) (c : Counts) (v : Vocabulary Located) (b : ℕ) (p n : Option Located) (l : EventString) (k : ℕ) → vocabulary c w ≡ pairBehind b text v p n .tables
-    → k ≡ heldAs text LOCAL-NAME v l → k ≡ heldAs text (tableOf 2) (vocabulary c w) l
+pub local-held : (text c w ix : List ℕ) → InOrder text c w ix → (v : Vocabulary Located) (b : ℕ) (p n : Option Located) (l : EventString) (k : ℕ) → tablesIn c w ≡ pairBehind b text v p n .tables
+    → k ≡ heldAs text LOCAL-NAME v l → k ≡ heldAs text (tableOf 2) (tablesIn c w) l
 unfolding tableOf pairBehind
-local-held text w c v b p n l k is held =
+local-held text c w ix order v b p n l k is held =
     rw is (held ∙ sym (held-by text LOCAL-NAME (writeOptional text NAMESPACE-NAME (writeOptional text PREFIX v p .tables) n .tables) v l (locals-kept text v p n)))
 
-module _ (text : List ℕ) (v : Vocabulary Located) (t lead b : ℕ) (x : Parts) (new : 0 ≡ nameHeldAs (layoutOf t) text v (namedOf x)) where
-  words-are : writeName (layoutOf t) lead text v (namedOf x) .tables
-      ≡ addingName (writeId text LOCAL-NAME (begun b text v x .tables) (locatedOf (x .local)) .tables) (nameTableOf t) (tripleFor text v (namedOf x))
-  words-are = rw (← layout-table t) (parts-words (layoutOf t) lead text v (namedOf x) new b)
+module _ (text : List ℕ) (v : Vocabulary Located) (b : ℕ) (x : Parts) (k : Numbers) (new : New text v x k) where
+  words-are : writeName (layoutOf (x .table)) (x .lead) text v (namedOf x) .tables
+      ≡ addingName (writeId text LOCAL-NAME (begun b text v x .tables) (locatedOf (x .local)) .tables) (nameTableOf (x .table)) (tripleOf (k .then))
+  words-are = rw (← layout-table (x .table), new .is) (parts-words (layoutOf (x .table)) (x .lead) text v (namedOf x) (new .new) b)
 
-  pub parts-full : within link (begun b text v x .tables) ≡ false → within link (writeName (layoutOf t) lead text v (namedOf x) .tables) ≡ false
-  parts-full e = rw words-are (within-grown (grows-on (grows-id text LOCAL-NAME _ (locatedOf (x .local))) (grows-name _ (nameTableOf t) _)) e)
+  pub parts-full : within link (begun b text v x .tables) ≡ false → within link (writeName (layoutOf (x .table)) (x .lead) text v (namedOf x) .tables) ≡ false
+  parts-full e = rw words-are (within-grown (grows-on (grows-id text LOCAL-NAME _ (locatedOf (x .local))) (grows-name _ (nameTableOf (x .table)) _)) e)
 
-  module _ {out : List ℕ} {at : ℕ} (h : Here) {out₁ w₁ i₁ : List ℕ} (stands : Stands text out at 32779 h out₁ w₁ i₁ (begun b text v x .octets) (begun b text v x .tables)) where
-    pub local-full : within link (writeId text (tableOf 2) (vocabulary (h .counts) w₁) (locatedOf (x .local)) .tables) ≡ false
-        → within link (writeName (layoutOf t) lead text v (namedOf x) .tables) ≡ false
+  module _ {out : List ℕ} {at h : ℕ} {out₁ c₁ w₁ i₁ : List ℕ} (stands : Stands text out at pairMost h out₁ c₁ w₁ i₁ (begun b text v x)) where
+    pub local-full : within link (writeId text (tableOf 2) (tablesIn c₁ w₁) (locatedOf (x .local)) .tables) ≡ false
+        → within link (writeName (layoutOf (x .table)) (x .lead) text v (namedOf x) .tables) ≡ false
     unfolding tableOf
-    local-full e = rw words-are (within-grown (grows-name _ (nameTableOf t) _) (rw (stands .tables) at e))
+    local-full e = rw words-are (within-grown (grows-name _ (nameTableOf (x .table)) _) (rw (stands .tables) at e))
 
-    pub parts-behind : b ≡ lead + layoutOf t .inPartsBits + 2 * has (optionalOf (x .prefix)) + has (optionalOf (x .namespace)) → 8 ≤ t → t < 10 → (l : Here) (out₂ w₂ i₂ : List ℕ)
-        → Stands text out₁ (h .at) 16389 l out₂ w₂ i₂ (writeId text (tableOf 2) (vocabulary (h .counts) w₁) (locatedOf (x .local)) .octets)
-        (writeId text (tableOf 2) (vocabulary (h .counts) w₁) (locatedOf (x .local)) .tables)
-        → (y : Row) → tripleOf y ≡ tripleFor text v (namedOf x) → (r : W.Wrote) (w₃ i₃ : List ℕ) → Tripled l w₂ i₂ t y r w₃ i₃
-        → Meets text out at 49168 r out₂ w₃ i₃ (writeName (layoutOf t) lead text v (namedOf x))
-    unfolding tableOf
-    parts-behind eb low high l out₂ w₂ i₂ s y ey Full w₃ i₃ full =
-        let q = rw (stands .tables) at s in
-        let n = length-names (l .counts) w₂ t low high in
-        rw (words-are, ← q .tables) (full-name (vocabulary (l .counts) w₂) (nameTableOf t) (tripleFor text v (namedOf x)) (omega arith))
-    parts-behind eb low high l out₂ w₂ i₂ s y ey (Put r) w₃ i₃ (room, er, e) =
-        let q = rw (stands .tables) at s in
-        let f = stands .few in
-        let g = s .few in
-        rw (parts-octets (layoutOf t) lead text v (namedOf x) new b eb, words-are, ← q .tables, ← ey, er)
-        (record {
-          puts = puts-append (stands .puts) (q .puts);
-          few = omega arith;
-          tables = rw (e text .words) (name-more text (l .counts) w₂ i₂ t (s .order) room (tripleOf y) low high);
-          order = order-name text (l .counts) w₂ i₂ t (s .order) room (tripleOf y) low high w₃ i₃ (e text);
-        })
+    module _ (proper : Proper text x) {l : ℕ} {out₂ c₂ w₂ i₂ : List ℕ} (then : Stands text out₁ h stringMost l out₂ c₂ w₂ i₂ (writeId text (tableOf 2) (tablesIn c₁ w₁) (locatedOf (x .local)))) where
+      tables-then : tablesIn c₂ w₂ ≡ writeId text LOCAL-NAME (begun b text v x .tables) (locatedOf (x .local)) .tables
+      unfolding tableOf
+      tables-then = then .tables ∙ rw (stands .tables)
 
-    -- the strings leave the names as they are, so the name is new then too
-    pub triple-new : 8 ≤ t → t < 10 → (l : Here) {out₂ w₂ i₂ : List ℕ}
-        → Stands text out₁ (h .at) 16389 l out₂ w₂ i₂ (writeId text (tableOf 2) (vocabulary (h .counts) w₁) (locatedOf (x .local)) .octets)
-        (writeId text (tableOf 2) (vocabulary (h .counts) w₁) (locatedOf (x .local)) .tables)
-        → (y : Row) → tripleOf y ≡ tripleFor text v (namedOf x) → 0 ≡ numberOfTriple (entries (tripleAt w₂) (768 * t) (countOf (l .counts) t)) (tripleOf y)
-    unfolding tableOf pairBehind nameHeldAs
-    triple-new low high l {out₂} {w₂} {i₂} s y ey =
-        let q = rw (stands .tables) at s in
-        rw (ey, ← names-are (l .counts) w₂ t low high, q .tables, names-kept text v (nameTableOf t) (optionalOf (x .prefix)) (optionalOf (x .namespace)) (locatedOf (x .local)), ← layout-table t) new
+      pub parts-behind : b ≡ x .lead + layoutOf (x .table) .inPartsBits + 2 * has (optionalOf (x .prefix)) + has (optionalOf (x .namespace)) → (r : W.Wrote) (c₃ w₃ i₃ : List ℕ)
+          → Tripled l c₂ w₂ i₂ (x .table) (k .then) r c₃ w₃ i₃ → Meets text out at nameMost r out₂ c₃ w₃ i₃ (writeName (layoutOf (x .table)) (x .lead) text v (namedOf x))
+      unfolding tableOf
+      parts-behind eb Full c₃ w₃ i₃ full =
+          let n = triples-count c₂ w₂ (then .order .ten) (x .table) (proper .0) (proper .1) in
+          rw (words-are, ← tables-then) (full-name (tablesIn c₂ w₂) (nameTableOf (x .table)) (tripleOf (k .then)) (omega arith))
+      parts-behind eb (Put r) c₃ w₃ i₃ (er, room, ec, e) =
+          let q = rw (stands .tables) at (then .puts) in
+          let f = stands .few in
+          let g = then .few in
+          let o = parts-octets (layoutOf (x .table)) (x .lead) text v (namedOf x) (new .new) b eb in
+          rw (er, ec)
+          (record {
+            puts = rw o (puts-append (stands .puts) q);
+            few = omega arith;
+            tables = rw (words-are, ← tables-then, e text .words) (name-more text c₂ w₂ i₂ (x .table) (then .order) room (tripleOf (k .then)) (proper .0) (proper .1));
+            order = order-name text c₂ w₂ i₂ (x .table) (then .order) room (tripleOf (k .then)) (proper .0) (proper .1) w₃ i₃ (e text);
+          })
+
+      -- the strings leave the names as they are, so the name is new then too
+      pub triple-new : 0 ≡ numberOfTriple (entries (tripleAt w₂) (768 * (x .table)) (getD c₂ (x .table) 0)) (tripleOf (k .then))
+      unfolding pairBehind nameHeldAs
+      triple-new =
+          rw (
+            new .is,
+            ← triples-are c₂ w₂ (then .order .ten) (x .table) (proper .0) (proper .1),
+            tables-then,
+            names-kept text v (nameTableOf (x .table)) (optionalOf (x .prefix)) (optionalOf (x .namespace)) (locatedOf (x .local)),
+            ← layout-table (x .table),
+          ) (new .new)

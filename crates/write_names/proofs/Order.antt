@@ -4,28 +4,27 @@ use mathlib.Core.Path.{_≡_, refl, _∙_}
 use mathlib.Core.Bool.{Bool, true, false}
 use mathlib.Core.Option.{Option, none, some}
 use mathlib.Core.List.{List, [], _∷_, map}
-use Prim.Native.Nat.{ℕ, zero, suc, _+_, _≤_, _<_}
+use Prim.Native.Nat.{ℕ, zero, suc, _+_, _*_, _≤_, _<_}
 use native.Mathlib.Omega.{arith}
 use borrow.Author.Tests.{leb-true, le-leb}
 use lib.Dec.{eqb}
-use lib.ListN.{length, replicate, length-append, length-replicate}
+use lib.ListN.{length, getD, set, replicate, length-append, length-set, length-replicate}
 use Rattle.format.specs.Numbers.{pick}
 use Rattle.format.specs.Events.{How}
 use Rattle.format.specs.Tables.{StringTable, PREFIX, NAMESPACE-NAME, LOCAL-NAME, OTHER-NCNAME, NameTable, ELEMENT-NAME, ATTRIBUTE-NAME, Triple, Vocabulary, strings, names, adding, addingName, starting, link}
-use Rattle.tables.specs.declared.Counts.{Counts}
 use Rattle.tables.specs.Located.{Located, stretch, builtInPrefix, builtInNamespace, octetsOf, start}
 use Rattle.tables.specs.Search.{numberIn}
 use Rattle.tables.specs.Counts.{countsOf}
-use Rattle.tables.specs.Rows.{tableOf, place, vocabulary}
-use Rattle.tables.specs.Kept.{nameTableOf, countOf, oneMore, stored}
+use Rattle.tables.specs.Rows.{tableOf, place, stringAt, tripleAt, entries}
+use Rattle.tables.specs.Kept.{nameTableOf, listed, unlisted, countOf, stored}
 use Rattle.tables.proofs.Adding.{extended, adding-is}
-use Rattle.tables.proofs.Laws.{length-strings, length-names, counted-start, counted-more, string-added, name-added, clean-start, clean-string, clean-name, inside-start, inside-string, inside-name, vocabulary-start}
+use Rattle.tables.proofs.Laws.{strings-are, names-are, length-strings, length-names, counted-start, counted-more, string-added, name-added, clean-start, clean-string, clean-name, inside-start, inside-string, inside-name, vocabulary-start}
 use Rattle.tables.proofs.Found.{both-true}
 use Rattle.tables.proofs.Rooms.{stored-length}
 use Rattle.index.specs.Indexed.{slots, StringEntered, NameEntered}
-use Rattle.index.proofs.Counted.{indexed-start, counts-more}
+use Rattle.index.proofs.Counted.{indexed-start, count-at, one-more, one-more-words}
 use Rattle.write_names.specs.Choices.{Wrote, writeId, writeOptional, within}
-use Rattle.write_names.specs.Contracts.{Begins, every, InOrder}
+use Rattle.write_names.specs.Contracts.{tablesIn, Begins, every, InOrder}
 
 -- ---- in order
 begins-extended : (b : Bool) (x y : Located) (l : List Located) → Begins x l → Begins x (extended b l y)
@@ -39,51 +38,81 @@ unfolding addingName
 begins-named p n v ELEMENT-NAME x a b = (a, b)
 begins-named p n v ATTRIBUTE-NAME x a b = (a, b)
 
-module _ (text : List ℕ) (c : Counts) (w ix : List ℕ) (t : ℕ) (order : InOrder text c w ix) (room : countOf c t < 256) where
-  module _ (p n : ℕ) (small : t < 8) (some : 0 < n) (lies : p + n ≤ length text) where
-    pub string-more : vocabulary (oneMore c t) (stored w t (countOf c t) p n 0) ≡ adding (vocabulary c w) (tableOf t) (stretch p n)
-    string-more = string-added c w t (order .counted) room (order .room) p n small some
+-- the entries of a table of strings, and of a table of names, are as many as their count says
+module _ (c w : List ℕ) (ten : length c ≡ 10) (t : ℕ) where
+  pub entries-are : t < 8 → strings (tablesIn c w) (tableOf t) ≡ entries (stringAt (tableOf t) w) (768 * t) (getD c t 0)
+  entries-are small = strings-are (unlisted c) w t small ∙ rw (count-at c ten t)
 
-    pub order-string : (v iv : List ℕ) → StringEntered text t (countOf c t) p n w ix v iv → InOrder text (oneMore c t) v iv
+  pub entries-count : t < 8 → length (strings (tablesIn c w) (tableOf t)) ≡ getD c t 0
+  entries-count small = length-strings (unlisted c) w t small ∙ count-at c ten t
+
+  pub triples-are : 8 ≤ t → t < 10 → names (tablesIn c w) (nameTableOf t) ≡ entries (tripleAt w) (768 * t) (getD c t 0)
+  triples-are low high = names-are (unlisted c) w t low high ∙ rw (count-at c ten t)
+
+  pub triples-count : 8 ≤ t → t < 10 → length (names (tablesIn c w) (nameTableOf t)) ≡ getD c t 0
+  triples-count low high = length-names (unlisted c) w t low high ∙ count-at c ten t
+
+pub counted-at : (text c w ix : List ℕ) (t : ℕ) → InOrder text c w ix → getD c t 0 ≤ 256
+counted-at text c w ix t order = let n = count-at c (order .ten) t in let f = order .counted t in omega arith
+
+module _ (text c w ix : List ℕ) (t : ℕ) (order : InOrder text c w ix) (room : getD c t 0 < 256) where
+  abbrev then-counts : List ℕ
+  then-counts = set c t (getD c t 0 + 1)
+
+  few : countOf (unlisted c) t < 256
+  few = rw (count-at c (order .ten) t) room
+
+  module _ (p n : ℕ) (small : t < 8) (some : 0 < n) (lies : p + n ≤ length text) where
+    pub string-more : tablesIn then-counts (stored w t (getD c t 0) p n 0) ≡ adding (tablesIn c w) (tableOf t) (stretch p n)
+    string-more =
+        let k = count-at c (order .ten) t in
+        rw (one-more c (order .ten) t) (rw k at (string-added (unlisted c) w t (order .counted) few (order .room) p n small some))
+
+    pub order-string : (v iv : List ℕ) → StringEntered text t (getD c t 0) p n w ix v iv → InOrder text then-counts v iv
     order-string v iv e =
-        let i = e .keeps .still every (countOf c) (countOf (oneMore c t)) (counts-more c t (omega arith)) (order .indexed) in
-        let more : vocabulary (oneMore c t) v ≡ adding (vocabulary c w) (tableOf t) (stretch p n) = rw (e .words) string-more in
+        let k = count-at c (order .ten) t in
+        let more : tablesIn then-counts v ≡ adding (tablesIn c w) (tableOf t) (stretch p n) = rw (e .words) string-more in
         record {
           size = order .size;
-          room = rw (e .words) (stored-length w t (countOf c t) p n 0 ∙ order .room);
-          counted = counted-more c t (omega arith) room (order .counted);
-          clean = rw (e .words) (clean-string c w t (order .counted) room (order .room) p n small some (order .clean));
-          inside = rw more (inside-string text (vocabulary c w) (tableOf t) (stretch p n) (order .inside) lies);
-          prefix = rw (more, adding-is (vocabulary c w) (tableOf t) (stretch p n)) (begins-extended (eqb (place (tableOf t)) 0) builtInPrefix (stretch p n) (vocabulary c w .prefixes) (order .prefix));
-          namespace = rw (more, adding-is (vocabulary c w) (tableOf t) (stretch p n)) (begins-extended (eqb (place (tableOf t)) 1) builtInNamespace (stretch p n) (vocabulary c w .namespaces) (order .namespace));
-          indexed = i;
+          ten = length-set c t (getD c t 0 + 1) ∙ order .ten;
+          room = rw (e .words) (stored-length w t (getD c t 0) p n 0 ∙ order .room);
+          counted = rw (one-more c (order .ten) t) (counted-more (unlisted c) t (omega arith) few (order .counted));
+          clean = rw (e .words, one-more c (order .ten) t) (rw k at (clean-string (unlisted c) w t (order .counted) few (order .room) p n small some (order .clean)));
+          inside = rw more (inside-string text (tablesIn c w) (tableOf t) (stretch p n) (order .inside) lies);
+          prefix = rw (more, adding-is (tablesIn c w) (tableOf t) (stretch p n)) (begins-extended (eqb (place (tableOf t)) 0) builtInPrefix (stretch p n) (tablesIn c w .prefixes) (order .prefix));
+          namespace = rw (more, adding-is (tablesIn c w) (tableOf t) (stretch p n)) (begins-extended (eqb (place (tableOf t)) 1) builtInNamespace (stretch p n) (tablesIn c w .namespaces) (order .namespace));
+          indexed = e .keeps .still every (countOf (unlisted c)) (countOf (unlisted then-counts)) (one-more-words c (order .ten) t (omega arith)) (order .indexed);
         }
 
   module _ (x : Triple) (low : 8 ≤ t) (high : t < 10) where
-    pub name-more : vocabulary (oneMore c t) (stored w t (countOf c t) (x .prefix) (x .namespace) (x .local)) ≡ addingName (vocabulary c w) (nameTableOf t) x
-    name-more = name-added c w t (order .counted) room (order .room) x low high
+    pub name-more : tablesIn then-counts (stored w t (getD c t 0) (x .prefix) (x .namespace) (x .local)) ≡ addingName (tablesIn c w) (nameTableOf t) x
+    name-more =
+        let k = count-at c (order .ten) t in
+        rw (one-more c (order .ten) t) (rw k at (name-added (unlisted c) w t (order .counted) few (order .room) x low high))
 
-    pub order-name : (v iv : List ℕ) → NameEntered text t (countOf c t) x w ix v iv → InOrder text (oneMore c t) v iv
+    pub order-name : (v iv : List ℕ) → NameEntered text t (getD c t 0) x w ix v iv → InOrder text then-counts v iv
     order-name v iv e =
-        let i = e .keeps .still every (countOf c) (countOf (oneMore c t)) (counts-more c t high) (order .indexed) in
-        let more : vocabulary (oneMore c t) v ≡ addingName (vocabulary c w) (nameTableOf t) x = rw (e .words) name-more in
+        let k = count-at c (order .ten) t in
+        let more : tablesIn then-counts v ≡ addingName (tablesIn c w) (nameTableOf t) x = rw (e .words) name-more in
         record {
           size = order .size;
-          room = rw (e .words) (stored-length w t (countOf c t) (x .prefix) (x .namespace) (x .local) ∙ order .room);
-          counted = counted-more c t high room (order .counted);
-          clean = rw (e .words) (clean-name c w t (order .counted) room (order .room) x low high (order .clean));
-          inside = rw more (inside-name text (vocabulary c w) (nameTableOf t) x (order .inside));
-          prefix = rw more (begins-named builtInPrefix builtInNamespace (vocabulary c w) (nameTableOf t) x (order .prefix) (order .namespace) .0);
-          namespace = rw more (begins-named builtInPrefix builtInNamespace (vocabulary c w) (nameTableOf t) x (order .prefix) (order .namespace) .1);
-          indexed = i;
+          ten = length-set c t (getD c t 0 + 1) ∙ order .ten;
+          room = rw (e .words) (stored-length w t (getD c t 0) (x .prefix) (x .namespace) (x .local) ∙ order .room);
+          counted = rw (one-more c (order .ten) t) (counted-more (unlisted c) t high few (order .counted));
+          clean = rw (e .words, one-more c (order .ten) t) (rw k at (clean-name (unlisted c) w t (order .counted) few (order .room) x low high (order .clean)));
+          inside = rw more (inside-name text (tablesIn c w) (nameTableOf t) x (order .inside));
+          prefix = rw more (begins-named builtInPrefix builtInNamespace (tablesIn c w) (nameTableOf t) x (order .prefix) (order .namespace) .0);
+          namespace = rw more (begins-named builtInPrefix builtInNamespace (tablesIn c w) (nameTableOf t) x (order .prefix) (order .namespace) .1);
+          indexed = e .keeps .still every (countOf (unlisted c)) (countOf (unlisted then-counts)) (one-more-words c (order .ten) t high) (order .indexed);
         }
 
-pub order-start : (text ix : List ℕ) → length text ≤ 16384 → ix ≡ replicate slots 0 → InOrder text (countsOf (start link)) (replicate 7680 0) ix
-unfolding start starting link
+pub order-start : (text ix : List ℕ) → length text ≤ 16384 → ix ≡ replicate slots 0 → InOrder text (listed (countsOf (start link))) (replicate 7680 0) ix
+unfolding start starting link countsOf
 order-start text ix h zeros =
     let is = vocabulary-start (replicate 7680 0) refl refl in
     record {
       size = h;
+      ten = refl;
       room = length-replicate {A = ℕ} 7680 0;
       counted = counted-start;
       clean = clean-start;
@@ -201,28 +230,28 @@ within-grown {v} {w} g e =
     omega arith
 
 -- tables in order are within
-pub within-order : (text : List ℕ) (c : Counts) (w ix : List ℕ) → InOrder text c w ix → within link (vocabulary c w) ≡ true
+pub within-order : (text c w ix : List ℕ) → InOrder text c w ix → within link (tablesIn c w) ≡ true
 unfolding within link strings tableOf names nameTableOf
 within-order text c w ix order =
-    let l₀ = length-strings c w 0 (omega arith) in
-    let l₁ = length-strings c w 1 (omega arith) in
-    let l₂ = length-strings c w 2 (omega arith) in
-    let l₃ = length-strings c w 3 (omega arith) in
-    let l₈ = length-names c w 8 (omega arith) (omega arith) in
-    let l₉ = length-names c w 9 (omega arith) (omega arith) in
-    let c₀ = order .counted 0 in
-    let c₁ = order .counted 1 in
-    let c₂ = order .counted 2 in
-    let c₃ = order .counted 3 in
-    let c₈ = order .counted 8 in
-    let c₉ = order .counted 9 in
+    let l₀ = entries-count c w (order .ten) 0 (omega arith) in
+    let l₁ = entries-count c w (order .ten) 1 (omega arith) in
+    let l₂ = entries-count c w (order .ten) 2 (omega arith) in
+    let l₃ = entries-count c w (order .ten) 3 (omega arith) in
+    let l₈ = triples-count c w (order .ten) 8 (omega arith) (omega arith) in
+    let l₉ = triples-count c w (order .ten) 9 (omega arith) (omega arith) in
+    let c₀ = counted-at text c w ix 0 order in
+    let c₁ = counted-at text c w ix 1 order in
+    let c₂ = counted-at text c w ix 2 order in
+    let c₃ = counted-at text c w ix 3 order in
+    let c₈ = counted-at text c w ix 8 order in
+    let c₉ = counted-at text c w ix 9 order in
     rw (
-      le-leb (length (vocabulary c w .prefixes)) 256 (omega arith),
-      le-leb (length (vocabulary c w .namespaces)) 256 (omega arith),
-      le-leb (length (vocabulary c w .locals)) 256 (omega arith),
-      le-leb (length (vocabulary c w .ncnames)) 256 (omega arith),
-      le-leb (length (vocabulary c w .elements)) 256 (omega arith),
-      le-leb (length (vocabulary c w .attributes)) 256 (omega arith),
+      le-leb (length (tablesIn c w .prefixes)) 256 (omega arith),
+      le-leb (length (tablesIn c w .namespaces)) 256 (omega arith),
+      le-leb (length (tablesIn c w .locals)) 256 (omega arith),
+      le-leb (length (tablesIn c w .ncnames)) 256 (omega arith),
+      le-leb (length (tablesIn c w .elements)) 256 (omega arith),
+      le-leb (length (tablesIn c w .attributes)) 256 (omega arith),
     )
 
 -- an entry behind 256 others

@@ -7,7 +7,7 @@ use mathlib.Core.List.{List, [], _∷_, map}
 use Prim.Native.Nat.{ℕ, suc, _+_, _*_, _≤_, _<_}
 use native.Mathlib.Omega.{arith}
 use borrow.Author.Tests.{eq-eqb, ne-eqb, lt-leb, le-leb, le-ltb, lt-ltb}
-use lib.ListN.{length, set, take, drop, length-map}
+use lib.ListN.{length, getD, set, take, drop, length-map}
 use Rattle.format.specs.Numbers.{lengths, numbers, c25, spell}
 use Rattle.format.specs.Events.{spelled, numbered}
 use Rattle.format.specs.Tables.{StringTable, CONTENT-CHARACTER-CHUNK, Vocabulary, strings, adding, link}
@@ -16,25 +16,26 @@ use Rattle.format.specs.Names.{has, ofElement, ofAttribute}
 use Rattle.fields.specs.PutContracts.{Puts}
 use Rattle.fields.proofs.Laws.{case}
 use Rattle.fields.proofs.Puts.{puts-nothing, puts-one, puts-append}
-use Rattle.tables.specs.declared.Counts.{Counts}
 use Rattle.tables.specs.Located.{Located, stretch, builtInPrefix, builtInNamespace, octetsOf}
 use Rattle.tables.specs.Search.{lowest, numberIn}
 use Rattle.tables.proofs.Search.{octets-stretch, length-octets}
-use Rattle.tables.specs.Rows.{tableOf, stringAt, entries, vocabulary}
-use Rattle.tables.specs.Kept.{countOf, oneMore, Inside, layoutOf}
-use Rattle.tables.proofs.Laws.{strings-are, length-strings, number-within, inside-table}
+use Rattle.tables.specs.Rows.{tableOf, stringAt, entries}
+use Rattle.tables.specs.Kept.{unlisted, Inside, layoutOf}
+use Rattle.tables.proofs.Laws.{number-within, inside-table}
 use Rattle.index.specs.Indexed.{slots, StringsIndexed, StringEntered}
+use Rattle.index.proofs.Counted.{count-at}
 use Rattle.events.specs.declared.EventString.{EventString}
 use Rattle.events.specs.declared.EventString.the-variants.{Absent, Empty, Stretch, XmlPrefix, XmlNamespace}
 use Rattle.events.specs.Records.{locatedOf, optionalOf}
 use Rattle.events.specs.Words.{stringTag, stringPlace, stringSize}
 use Rattle.tables.proofs.Found.{same-refl}
-use Rattle.write_names.specs.declared.Here.{Here}
 use Rattle.write_names.specs.declared.Wrote as W
 use Rattle.write_names.specs.declared.Wrote.the-variants.{Put, Full}
+use Rattle.write_names.specs.declared.Sought.{Sought}
+use Rattle.write_names.specs.declared.Spelling.{Spelling}
 use Rattle.write_names.specs.Choices.{Wrote, writeId, writeOptional, writeLiteral, writeValue, worthAdding, within}
-use Rattle.write_names.specs.Contracts.{Begins, InOrder, Suits, Fills, Spells, heldAs, spelledOctets, spelledTables, Stands, Meets}
-use Rattle.write_names.proofs.Order.{string-more, order-string, full-string}
+use Rattle.write_names.specs.Contracts.{stringMost, tablesIn, Begins, InOrder, Suits, Fills, Spells, heldAs, Looked, spelledAs, Stands, Meets}
+use Rattle.write_names.proofs.Order.{entries-are, entries-count, counted-at, string-more, order-string, full-string}
 
 -- ---- a string of an event
 pub has-none : (x : EventString) → stringTag x ≡ 0 → (0 ≡ has (optionalOf x)) × (0 ≤ 1)
@@ -90,55 +91,58 @@ unfolding numberIn lowest
 first-is text x [] h = absurd h
 first-is text x (y ∷ l) h = rw (h, same-refl (octetsOf text x))
 
-module _ (text w ix : List ℕ) (c : Counts) (t : ℕ) (order : InOrder text c w ix) (x : EventString) where
-  pub held-absent : x ≡ Absent → (0 ≡ heldAs text (tableOf t) (vocabulary c w) x) × (0 ≤ 256)
+module _ (text c w ix : List ℕ) (t : ℕ) (order : InOrder text c w ix) (x : EventString) where
+  pub held-absent : x ≡ Absent → (0 ≡ heldAs text (tableOf t) (tablesIn c w) x) × (0 ≤ 256)
   unfolding heldAs
   held-absent e = rw e (refl, omega arith)
 
-  pub held-empty : x ≡ Empty → Suits text t x → (0 ≡ heldAs text (tableOf t) (vocabulary c w) x) × (0 ≤ 256)
+  pub held-empty : x ≡ Empty → Suits text t x → (0 ≡ heldAs text (tableOf t) (tablesIn c w) x) × (0 ≤ 256)
   held-empty e s = absurd (rw e at s)
 
-  pub held-stretch : (p n a b m r : ℕ) → x ≡ Stretch p n → a ≡ p → b ≡ n → m ≡ countOf c t → t < 8
-      → r ≡ numberIn (map (octetsOf text) (entries (stringAt (tableOf t) w) (768 * t) m)) (octetsOf text (stretch a b))
-      → (r ≡ heldAs text (tableOf t) (vocabulary c w) x) × (r ≤ 256)
+  pub held-stretch : (p n a b r : ℕ) → x ≡ Stretch p n → a ≡ p → b ≡ n → t < 8
+      → r ≡ numberIn (map (octetsOf text) (entries (stringAt (tableOf t) w) (768 * t) (getD c t 0))) (octetsOf text (stretch a b))
+      → (r ≡ heldAs text (tableOf t) (tablesIn c w) x) × (r ≤ 256)
   unfolding heldAs
-  held-stretch p n a b m r e ea eb em small is =
-      let q : r ≡ numberIn (map (octetsOf text) (strings (vocabulary c w) (tableOf t))) (octetsOf text (stretch p n)) = rw (strings-are c w t small, ← em, ← ea, ← eb) is in
-      let l = number-within (map (octetsOf text) (strings (vocabulary c w) (tableOf t))) (octetsOf text (stretch p n)) in
-      let k = length-map (strings (vocabulary c w) (tableOf t)) (octetsOf text) in
-      let f = length-strings c w t small in
-      let g = order .counted t in
+  held-stretch p n a b r e ea eb small is =
+      let q : r ≡ numberIn (map (octetsOf text) (strings (tablesIn c w) (tableOf t))) (octetsOf text (stretch p n)) = rw (entries-are c w (order .ten) t small, ← ea, ← eb) is in
+      let l = number-within (map (octetsOf text) (strings (tablesIn c w) (tableOf t))) (octetsOf text (stretch p n)) in
+      let k = length-map (strings (tablesIn c w) (tableOf t)) (octetsOf text) in
+      let f = entries-count c w (order .ten) t small in
+      let g = counted-at text c w ix t order in
       (rw e q, omega arith)
 
-  pub held-prefix : x ≡ XmlPrefix → Suits text t x → (1 ≡ heldAs text (tableOf t) (vocabulary c w) x) × (1 ≤ 256)
+  pub held-prefix : x ≡ XmlPrefix → Suits text t x → (1 ≡ heldAs text (tableOf t) (tablesIn c w) x) × (1 ≤ 256)
   unfolding heldAs tableOf strings
   held-prefix e s =
       let z : t ≡ 0 = rw e at s in
-      (rw (e, z) (first-is text builtInPrefix (vocabulary c w .prefixes) (order .prefix)), omega arith)
+      (rw (e, z) (first-is text builtInPrefix (tablesIn c w .prefixes) (order .prefix)), omega arith)
 
-  pub held-namespace : x ≡ XmlNamespace → Suits text t x → (1 ≡ heldAs text (tableOf t) (vocabulary c w) x) × (1 ≤ 256)
+  pub held-namespace : x ≡ XmlNamespace → Suits text t x → (1 ≡ heldAs text (tableOf t) (tablesIn c w) x) × (1 ≤ 256)
   unfolding heldAs tableOf strings
   held-namespace e s =
       let z : t ≡ 1 = rw e at s in
-      (rw (e, z) (first-is text builtInNamespace (vocabulary c w .namespaces) (order .namespace)), omega arith)
+      (rw (e, z) (first-is text builtInNamespace (tablesIn c w .namespaces) (order .namespace)), omega arith)
 
 -- what `find` asks
-pub find-ready : (text w ix : List ℕ) (c : Counts) (t : ℕ) → InOrder text c w ix → t < 8 → (x : EventString) (p n m : ℕ) → x ≡ Stretch p n → Suits text t x → m ≡ countOf c t
-    → (length w ≡ 7680) × (length ix ≡ slots) × (t < 8) × (m ≤ 256) × (p + n ≤ length text) × Inside text (entries (stringAt (tableOf t) w) (768 * t) m) × StringsIndexed text w ix t m
-find-ready text w ix c t order small x p n m e s em =
+pub find-ready : (text c w ix : List ℕ) (t : ℕ) → InOrder text c w ix → t < 8 → (x : EventString) (p n : ℕ) → x ≡ Stretch p n → Suits text t x
+    → (length w ≡ 7680) × (length ix ≡ slots) × (t < 8) × (getD c t 0 ≤ 256) × (p + n ≤ length text) × Inside text (entries (stringAt (tableOf t) w) (768 * t) (getD c t 0))
+    × StringsIndexed text w ix t (getD c t 0)
+find-ready text c w ix t order small x p n e s =
     let q : (0 < n) × (p + n ≤ length text) = rw e at s in
-    let k = order .counted t in
-    (order .room, order .indexed .size, small, omega arith, q .1, rw em (inside-table text c w t small (order .inside)), rw em (order .indexed .ofStrings t small refl))
+    let k = count-at c (order .ten) t in
+    let inside = inside-table text (unlisted c) w t small (order .inside) in
+    let indexed = order .indexed .ofStrings t small refl in
+    (order .room, order .indexed .size, small, counted-at text c w ix t order, q .1, rw k at inside, rw k at indexed)
 
 -- a string that has no number is a stretch
-module _ (text w ix : List ℕ) (c : Counts) (t : ℕ) (order : InOrder text c w ix) where
-  pub new-stretch : (x : EventString) → Suits text t x → 1 ≤ stringTag x → 0 ≡ heldAs text (tableOf t) (vocabulary c w) x
+module _ (text c w ix : List ℕ) (t : ℕ) (order : InOrder text c w ix) where
+  pub new-stretch : (x : EventString) → Suits text t x → 1 ≤ stringTag x → 0 ≡ heldAs text (tableOf t) (tablesIn c w) x
       → (x ≡ Stretch (stringPlace x) (stringSize x)) × (0 < stringSize x) × (stringPlace x + stringSize x ≤ length text)
   new-stretch Absent s h e = absurd (omega arith)
   new-stretch Empty s h e = absurd s
   new-stretch (Stretch p n) s h e = (refl, s .0, s .1)
-  new-stretch XmlPrefix s h e = let q = held-prefix text w ix c t order XmlPrefix refl s .0 in absurd (omega arith)
-  new-stretch XmlNamespace s h e = let q = held-namespace text w ix c t order XmlNamespace refl s .0 in absurd (omega arith)
+  new-stretch XmlPrefix s h e = let q = held-prefix text c w ix t order XmlPrefix refl s .0 in absurd (omega arith)
+  new-stretch XmlNamespace s h e = let q = held-namespace text c w ix t order XmlNamespace refl s .0 in absurd (omega arith)
 
 pub held-is : (text : List ℕ) (t : StringTable) (v : Vocabulary Located) (x : EventString) → 1 ≤ stringTag x → heldAs text t v x ≡ numberIn (map (octetsOf text) (strings v t)) (octetsOf text (locatedOf x))
 unfolding heldAs octetsOf
@@ -151,7 +155,7 @@ held-is text t v XmlNamespace h = refl
 -- ---- a spelled string
 pub puts-spelled : (n lead : ℕ) (text : List ℕ) (place size : ℕ) {at r q : ℕ} {out out₁ out₂ : List ℕ} → place + size ≤ length text → length text ≤ 16384
     → Puts out at r out₁ (spell (lengths n) lead size) × (r ≤ at + 5) → Puts out₁ r q out₂ (take size (drop place text))
-    → Puts out at q out₂ (withLength (lengths n) lead (octetsOf text (stretch place size))) × (q ≤ at + 16389)
+    → Puts out at q out₂ (withLength (lengths n) lead (octetsOf text (stretch place size))) × (q ≤ at + stringMost)
 puts-spelled n lead text place size h short a b =
     let l = length-octets text place size h in
     let c = rw (← octets-stretch text place size) at b in
@@ -159,27 +163,28 @@ puts-spelled n lead text place size h short a b =
     let m = a .1 in
     (rw l (puts-append (a .0) c), omega arith)
 
--- ---- an entry more
-pub added-is : (text : List ℕ) (h : Here) (t n p m : ℕ) (d : Counts) (w ix v iv : List ℕ) → d ≡ oneMore (h .counts) t → n ≡ countOf (h .counts) t → StringEntered text t n p m w ix v iv
-    → (_≡_ {A = Here} (record { at = h .at; counts = d }) (record { at = h .at; counts = oneMore (h .counts) t })) × StringEntered text t (countOf (h .counts) t) p m w ix v iv
-added-is text h t n p m d w ix v iv ed en e = (rw ed, rw (← en) e)
-
 -- what `enter_in` asks: a string that has no number is not in its table
-pub added-new : (text w : List ℕ) (c : Counts) (t n p m : ℕ) → t < 8 → n ≡ countOf c t → 0 ≡ numberIn (map (octetsOf text) (strings (vocabulary c w) (tableOf t))) (octetsOf text (stretch p m))
-    → 0 ≡ numberIn (map (octetsOf text) (entries (stringAt (tableOf t) w) (768 * t) n)) (octetsOf text (stretch p m))
-added-new text w c t n p m small en new = rw (en, ← strings-are c w t small) new
+pub added-new : (text c w ix : List ℕ) (t p m : ℕ) → InOrder text c w ix → t < 8 → 0 ≡ numberIn (map (octetsOf text) (strings (tablesIn c w) (tableOf t))) (octetsOf text (stretch p m))
+    → 0 ≡ numberIn (map (octetsOf text) (entries (stringAt (tableOf t) w) (768 * t) (getD c t 0))) (octetsOf text (stretch p m))
+added-new text c w ix t p m order small new = rw (← entries-are c w (order .ten) t small) new
 
 -- ---- what was put stands for the definition
-module _ (text w ix : List ℕ) (c : Counts) (order : InOrder text c w ix) {out out′ o : List ℕ} {at r most : ℕ} where
-  pub stands-put : Puts out at r out′ o → r ≤ at + most → Stands text out at most (record { at = r; counts = c }) out′ w ix o (vocabulary c w)
-  stands-put p h = record { puts = p; few = h; tables = refl; order = order }
+module _ (text c w ix : List ℕ) (order : InOrder text c w ix) {H : Type 0} (d : Wrote H) {out out′ : List ℕ} {at r most : ℕ} where
+  pub stands-put : Puts out at r out′ (d .octets) → r ≤ at + most → tablesIn c w ≡ d .tables → Stands text out at most r out′ c w ix d
+  stands-put p h e = record { puts = p; few = h; tables = e; order = order }
 
   -- and the string at a place became an entry
-  pub stands-added : (t p n : ℕ) → t < 8 → countOf c t < 256 → 0 < n → p + n ≤ length text → (h : Here) (v iv : List ℕ)
-      → (h ≡ record { at = r; counts = oneMore c t }) × StringEntered text t (countOf c t) p n w ix v iv → Puts out at r out′ o → r ≤ at + most
-      → Stands text out at most h out′ v iv o (adding (vocabulary c w) (tableOf t) (stretch p n))
-  stands-added t p n small room full lies h v iv e q l =
-      rw (e .0) (record { puts = q; few = l; tables = rw (e .1 .words) (string-more text c w ix t order room p n small full lies); order = order-string text c w ix t order room p n small full lies v iv (e .1) })
+  pub stands-added : (t p n : ℕ) → t < 8 → getD c t 0 < 256 → 0 < n → p + n ≤ length text → (c′ v iv : List ℕ)
+      → (c′ ≡ set c t (getD c t 0 + 1)) × StringEntered text t (getD c t 0) p n w ix v iv → Puts out at r out′ (d .octets) → r ≤ at + most
+      → adding (tablesIn c w) (tableOf t) (stretch p n) ≡ d .tables → Stands text out at most r out′ c′ v iv d
+  stands-added t p n small room full lies c′ v iv e q l is =
+      rw (e .0)
+      (record {
+        puts = q;
+        few = l;
+        tables = rw (e .1 .words) (string-more text c w ix t order room p n small full lies) ∙ is;
+        order = order-string text c w ix t order room p n small full lies v iv (e .1);
+      })
 
 -- ---- an identifying string: k is its number
 module _ (text : List ℕ) (t : StringTable) (v : Vocabulary Located) (x : Located) (k : ℕ) (is : k ≡ numberIn (map (octetsOf text) (strings v t)) (octetsOf text x)) where
@@ -191,52 +196,57 @@ module _ (text : List ℕ) (t : StringTable) (v : Vocabulary Located) (x : Locat
   unfolding writeId
   spelled-is z = rw (← is, z)
 
-module _ (text w ix : List ℕ) (c : Counts) (t : ℕ) (order : InOrder text c w ix) (x : EventString) (k : ℕ) (there : 1 ≤ stringTag x) (suits : Suits text t x)
-    (held : k ≡ heldAs text (tableOf t) (vocabulary c w) x) where
-  held-number : k ≡ numberIn (map (octetsOf text) (strings (vocabulary c w) (tableOf t))) (octetsOf text (locatedOf x))
-  held-number = held ∙ held-is text (tableOf t) (vocabulary c w) x there
+module _ (text c w ix : List ℕ) (order : InOrder text c w ix) (x : Sought) (there : 1 ≤ stringTag (x .string)) (looked : Looked text c w x) where
+  held-number : x .number ≡ numberIn (map (octetsOf text) (strings (tablesIn c w) (tableOf (x .table)))) (octetsOf text (locatedOf (x .string)))
+  held-number = looked .2 ∙ held-is text (tableOf (x .table)) (tablesIn c w) (x .string) there
 
-  pub id-numbered : (k ≡ 0 → ⊥) → {out out′ : List ℕ} {at r : ℕ} → Puts out at r out′ (spell c25 0x80 k) × (r ≤ at + 3)
-      → Stands text out at 16389 (record { at = r; counts = c }) out′ w ix (writeId text (tableOf t) (vocabulary c w) (locatedOf x) .octets) (writeId text (tableOf t) (vocabulary c w) (locatedOf x) .tables)
-  id-numbered n p = rw (numbered-is text (tableOf t) (vocabulary c w) (locatedOf x) k held-number n) (stands-put text w ix c order (p .0) (let l = p .1 in omega arith))
+  pub id-numbered : (x .number ≡ 0 → ⊥) → {out out′ : List ℕ} {at r : ℕ} → Puts out at r out′ (spell c25 0x80 (x .number)) × (r ≤ at + 3)
+      → Stands text out at stringMost r out′ c w ix (writeId text (tableOf (x .table)) (tablesIn c w) (locatedOf (x .string)))
+  id-numbered n p =
+      rw (numbered-is text (tableOf (x .table)) (tablesIn c w) (locatedOf (x .string)) (x .number) held-number n)
+      (stands-put text c w ix order _ (p .0) (let l = p .1 in omega arith) refl)
 
-  pub id-full : k ≡ 0 → t < 4 → 256 ≤ countOf c t → within link (writeId text (tableOf t) (vocabulary c w) (locatedOf x) .tables) ≡ false
-  id-full z small full =
-      let l = length-strings c w t (omega arith) in
-      rw (spelled-is text (tableOf t) (vocabulary c w) (locatedOf x) k held-number z) (full-string (vocabulary c w) t (locatedOf x) small (omega arith))
+  pub id-full : x .number ≡ 0 → 256 ≤ getD c (x .table) 0 → within link (writeId text (tableOf (x .table)) (tablesIn c w) (locatedOf (x .string)) .tables) ≡ false
+  id-full z full =
+      let small = looked .0 in
+      let l = entries-count c w (order .ten) (x .table) (omega arith) in
+      rw (spelled-is text (tableOf (x .table)) (tablesIn c w) (locatedOf (x .string)) (x .number) held-number z) (full-string (tablesIn c w) (x .table) (locatedOf (x .string)) small (omega arith))
 
-  pub id-stretch : k ≡ 0 → (0 < stringSize x) × (stringPlace x + stringSize x ≤ length text)
-  id-stretch z = let f = new-stretch text w ix c t order x suits there (sym z ∙ held) in (f .1, f .2)
+  module _ (z : x .number ≡ 0) where
+    is-stretch : (x .string ≡ Stretch (stringPlace (x .string)) (stringSize (x .string))) × (0 < stringSize (x .string)) × (stringPlace (x .string) + stringSize (x .string) ≤ length text)
+    is-stretch = new-stretch text c w ix (x .table) order (x .string) (looked .1) there (sym z ∙ looked .2)
 
-  id-located : k ≡ 0 → (p n : ℕ) → p ≡ stringPlace x → n ≡ stringSize x → locatedOf x ≡ stretch p n
-  id-located z p n ep en = ap locatedOf (new-stretch text w ix c t order x suits there (sym z ∙ held) .0) ∙ rw (ep, en)
+    pub id-stretch : (0 < stringSize (x .string)) × (stringPlace (x .string) + stringSize (x .string) ≤ length text)
+    id-stretch = (is-stretch .1, is-stretch .2)
 
-  pub id-new : k ≡ 0 → (p n : ℕ) → p ≡ stringPlace x → n ≡ stringSize x → 0 ≡ numberIn (map (octetsOf text) (strings (vocabulary c w) (tableOf t))) (octetsOf text (stretch p n))
-  id-new z p n ep en = rw (← id-located z p n ep en) (sym z ∙ held-number)
+    module _ (p n : ℕ) (ep : p ≡ stringPlace (x .string)) (en : n ≡ stringSize (x .string)) where
+      id-located : locatedOf (x .string) ≡ stretch p n
+      id-located = ap locatedOf (is-stretch .0) ∙ rw (ep, en)
 
-  pub id-added : k ≡ 0 → t < 8 → countOf c t < 256 → (p n : ℕ) → p ≡ stringPlace x → n ≡ stringSize x → (h : Here) (v iv : List ℕ) {out out′ : List ℕ} {at r : ℕ}
-      → (h ≡ record { at = r; counts = oneMore c t }) × StringEntered text t (countOf c t) p n w ix v iv
-      → Puts out at r out′ (withLength (lengths 2) 0 (octetsOf text (stretch p n))) × (r ≤ at + 16389)
-      → Stands text out at 16389 h out′ v iv (writeId text (tableOf t) (vocabulary c w) (locatedOf x) .octets) (writeId text (tableOf t) (vocabulary c w) (locatedOf x) .tables)
-  id-added z small room p n ep en h v iv e q =
-      let f = id-stretch z in
-      let y = id-located z p n ep en in
-      rw (spelled-is text (tableOf t) (vocabulary c w) (locatedOf x) k held-number z, y)
-      (stands-added text w ix c order t p n small room (let a = f .0 in omega arith) (let a = f .1 in omega arith) h v iv e (q .0) (q .1))
+      pub id-new : 0 ≡ numberIn (map (octetsOf text) (strings (tablesIn c w) (tableOf (x .table)))) (octetsOf text (stretch p n))
+      id-new = rw (← id-located) (sym z ∙ held-number)
+
+      pub id-added : getD c (x .table) 0 < 256 → (c′ v iv : List ℕ) {out out′ : List ℕ} {at r : ℕ}
+          → (c′ ≡ set c (x .table) (getD c (x .table) 0 + 1)) × StringEntered text (x .table) (getD c (x .table) 0) p n w ix v iv
+          → Puts out at r out′ (withLength (lengths 2) 0 (octetsOf text (stretch p n))) × (r ≤ at + stringMost)
+          → Stands text out at stringMost r out′ c′ v iv (writeId text (tableOf (x .table)) (tablesIn c w) (locatedOf (x .string)))
+      id-added room c′ v iv e q =
+          let small = looked .0 in
+          let f = id-stretch in
+          rw (spelled-is text (tableOf (x .table)) (tablesIn c w) (locatedOf (x .string)) (x .number) held-number z, id-located)
+          (stands-added text c w ix order _ (x .table) p n (omega arith) room (let a = f .0 in omega arith) (let a = f .1 in omega arith) c′ v iv e (q .0) (q .1) refl)
 
 -- ---- one that may be absent
-module _ (text w ix : List ℕ) (c : Counts) (t : ℕ) (order : InOrder text c w ix) (x : EventString) where
-  pub optional-absent : stringTag x ≡ 0 → (h : Here) (out : List ℕ) → h .counts ≡ c
-      → Stands text out (h .at) 16389 h out w ix (writeOptional text (tableOf t) (vocabulary c w) (optionalOf x) .octets) (writeOptional text (tableOf t) (vocabulary c w) (optionalOf x) .tables)
+module _ (text c w ix : List ℕ) (t : ℕ) (order : InOrder text c w ix) (x : EventString) where
+  pub optional-absent : stringTag x ≡ 0 → (out : List ℕ) (at : ℕ) → Stands text out at stringMost at out c w ix (writeOptional text (tableOf t) (tablesIn c w) (optionalOf x))
   unfolding writeOptional
-  optional-absent e h out ec =
-      rw (absent x e) (record { puts = puts-nothing refl; few = omega arith; tables = ap (λ (d : Counts). vocabulary d w) ec; order = rw ec order })
+  optional-absent e out at = rw (absent x e) (record { puts = puts-nothing refl; few = omega arith; tables = refl; order = order })
 
-  pub optional-there : (stringTag x ≡ 0 → ⊥) → (r : W.Wrote) (out out′ v iv : List ℕ) (at : ℕ) → Meets text out at 16389 r out′ v iv (writeId text (tableOf t) (vocabulary c w) (locatedOf x))
-      → Meets text out at 16389 r out′ v iv (writeOptional text (tableOf t) (vocabulary c w) (optionalOf x))
+  pub optional-there : (stringTag x ≡ 0 → ⊥) → (r : W.Wrote) (out out′ c′ v iv : List ℕ) (at : ℕ) → Meets text out at stringMost r out′ c′ v iv (writeId text (tableOf t) (tablesIn c w) (locatedOf x))
+      → Meets text out at stringMost r out′ c′ v iv (writeOptional text (tableOf t) (tablesIn c w) (optionalOf x))
   unfolding writeOptional
-  optional-there n (Put h) out out′ v iv at m = rw (there x (omega arith)) m
-  optional-there n Full out out′ v iv at m = rw (there x (omega arith)) m
+  optional-there n (Put h) out out′ c′ v iv at m = rw (there x (omega arith)) (record { puts = m .puts; few = m .few; tables = m .tables; order = m .order })
+  optional-there n Full out out′ c′ v iv at m = rw (there x (omega arith)) m
 
 -- ---- a value, comment, content or chunk
 pub fills-empty : (text : List ℕ) (x : EventString) → Fills text x → stringSize x ≡ 0 → x ≡ Empty
@@ -274,7 +284,7 @@ literal-new text t v x spells p n ep en new =
     let y : locatedOf x ≡ stretch p n = f .0 ∙ rw (ep, en) in
     rw (← y) (new ∙ held-is text t v x (f .3))
 
-module _ (text w ix : List ℕ) (c : Counts) (t : ℕ) (order : InOrder text c w ix) (x : EventString) (spells : Spells text x) (small : t < 8) (bit lead add : ℕ)
+module _ (text c w ix : List ℕ) (order : InOrder text c w ix) (x : EventString) (spells : Spells text x) (q : Spelling) (small : q .table < 8)
     (p n : ℕ) (ep : p ≡ stringPlace x) (en : n ≡ stringSize x) where
   located : locatedOf x ≡ stretch p n
   located = spells-stretch text x spells .0 ∙ rw (ep, en)
@@ -282,92 +292,83 @@ module _ (text w ix : List ℕ) (c : Counts) (t : ℕ) (order : InOrder text c w
   sized : length (octetsOf text (stretch p n)) ≡ n
   sized = let f = spells-stretch text x spells in let l = f .2 in length-octets text p n (omega arith)
 
-  worth-long : 5 < n → worthAdding link (strings (vocabulary c w) (tableOf t)) (octetsOf text (stretch p n)) ≡ false
+  worth-long : 5 < n → worthAdding link (strings (tablesIn c w) (tableOf (q .table))) (octetsOf text (stretch p n)) ≡ false
   unfolding worthAdding
   worth-long h = rw (sized, lt-leb n 5 h)
 
-  worth-full : n ≤ 5 → 256 ≤ countOf c t → worthAdding link (strings (vocabulary c w) (tableOf t)) (octetsOf text (stretch p n)) ≡ false
+  worth-full : n ≤ 5 → 256 ≤ getD c (q .table) 0 → worthAdding link (strings (tablesIn c w) (tableOf (q .table))) (octetsOf text (stretch p n)) ≡ false
   unfolding worthAdding link
-  worth-full h full = rw (sized, le-leb n 5 h, length-strings c w t small, le-ltb _ _ full)
+  worth-full h full = rw (sized, le-leb n 5 h, entries-count c w (order .ten) (q .table) small, le-ltb _ _ full)
 
-  worth-more : n ≤ 5 → countOf c t < 256 → worthAdding link (strings (vocabulary c w) (tableOf t)) (octetsOf text (stretch p n)) ≡ true
+  worth-more : n ≤ 5 → getD c (q .table) 0 < 256 → worthAdding link (strings (tablesIn c w) (tableOf (q .table))) (octetsOf text (stretch p n)) ≡ true
   unfolding worthAdding link
-  worth-more h room = rw (sized, le-leb n 5 h, length-strings c w t small, lt-ltb _ _ room)
+  worth-more h room = rw (sized, le-leb n 5 h, entries-count c w (order .ten) (q .table) small, lt-ltb _ _ room)
 
   -- one that is not added
-  pub literal-kept : (n ≤ 5 → 256 ≤ countOf c t) → {out out′ : List ℕ} {at r : ℕ} → Puts out at r out′ (withLength (lengths bit) lead (octetsOf text (stretch p n))) × (r ≤ at + 16389)
-      → Stands text out at 16389 (record { at = r; counts = c }) out′ w ix (spelledOctets bit lead add text (strings (vocabulary c w) (tableOf t)) (locatedOf x)) (spelledTables text (tableOf t) (vocabulary c w) (locatedOf x))
-  unfolding spelledOctets spelledTables
-  literal-kept why q =
-      let z : lead + add * 0 ≡ lead = omega arith in
-      rw (located, case 5 n worth-long (λ l. worth-full l (why l)), z) (stands-put text w ix c order (q .0) (q .1))
+  pub literal-kept : (n ≤ 5 → 256 ≤ getD c (q .table) 0) → {out out′ : List ℕ} {at r : ℕ}
+      → Puts out at r out′ (withLength (lengths (q .bit)) (q .lead) (octetsOf text (stretch p n))) × (r ≤ at + stringMost)
+      → Stands text out at stringMost r out′ c w ix (spelledAs q text (tablesIn c w) (locatedOf x))
+  unfolding spelledAs
+  literal-kept why g =
+      let z : q .lead + q .add * 0 ≡ q .lead = omega arith in
+      rw (located, case 5 n worth-long (λ l. worth-full l (why l)), z) (stands-put text c w ix order _ (g .0) (g .1) refl)
 
-  pub literal-added : n ≤ 5 → countOf c t < 256 → (b : ℕ) → b ≡ lead + add → (h : Here) (v iv : List ℕ) {out out′ : List ℕ} {at r : ℕ}
-      → (h ≡ record { at = r; counts = oneMore c t }) × StringEntered text t (countOf c t) p n w ix v iv
-      → Puts out at r out′ (withLength (lengths bit) b (octetsOf text (stretch p n))) × (r ≤ at + 16389)
-      → Stands text out at 16389 h out′ v iv (spelledOctets bit lead add text (strings (vocabulary c w) (tableOf t)) (locatedOf x)) (spelledTables text (tableOf t) (vocabulary c w) (locatedOf x))
-  unfolding spelledOctets spelledTables
-  literal-added l room b eb h v iv e q =
-      let z : lead + add * 1 ≡ b = omega arith in
+  pub literal-added : n ≤ 5 → getD c (q .table) 0 < 256 → (b : ℕ) → b ≡ q .lead + q .add → (c′ v iv : List ℕ) {out out′ : List ℕ} {at r : ℕ}
+      → (c′ ≡ set c (q .table) (getD c (q .table) 0 + 1)) × StringEntered text (q .table) (getD c (q .table) 0) p n w ix v iv
+      → Puts out at r out′ (withLength (lengths (q .bit)) b (octetsOf text (stretch p n))) × (r ≤ at + stringMost)
+      → Stands text out at stringMost r out′ c′ v iv (spelledAs q text (tablesIn c w) (locatedOf x))
+  unfolding spelledAs
+  literal-added l room b eb c′ v iv e g =
+      let z : q .lead + q .add * 1 ≡ b = omega arith in
       let f = spells-stretch text x spells in
       rw (located, worth-more l room, z)
-      (stands-added text w ix c order t p n small room (let a = f .1 in omega arith) (let a = f .2 in omega arith) h v iv e (q .0) (q .1))
+      (stands-added text c w ix order _ (q .table) p n small room (let a = f .1 in omega arith) (let a = f .2 in omega arith) c′ v iv e (g .0) (g .1) refl)
 
 -- k is the number that the table has for it
-module _ (text w ix : List ℕ) (c : Counts) (t : ℕ) (order : InOrder text c w ix) (x : EventString) (k : ℕ) (held : k ≡ heldAs text (tableOf t) (vocabulary c w) x) where
+module _ (text c w ix : List ℕ) (t : ℕ) (order : InOrder text c w ix) (x : EventString) (k : ℕ) (held : k ≡ heldAs text (tableOf t) (tablesIn c w) x) where
   module _ (spells : Spells text x) (q : Layout) where
-    number-is : k ≡ numberIn (map (octetsOf text) (strings (vocabulary c w) (tableOf t))) (octetsOf text (locatedOf x))
-    number-is = held ∙ held-is text (tableOf t) (vocabulary c w) x (spells-stretch text x spells .3)
+    number-is : k ≡ numberIn (map (octetsOf text) (strings (tablesIn c w) (tableOf t))) (octetsOf text (locatedOf x))
+    number-is = held ∙ held-is text (tableOf t) (tablesIn c w) x (spells-stretch text x spells .3)
 
-    literal-numbered : (k ≡ 0 → ⊥) → {out out′ : List ℕ} {at r : ℕ} → Puts out at r out′ (spell (q .numberForms) (q .numberedBits) k) → r ≤ at + 16389
-        → Stands text out at 16389 (record { at = r; counts = c }) out′ w ix (writeLiteral link q text (tableOf t) (vocabulary c w) (locatedOf x) .octets)
-        (writeLiteral link q text (tableOf t) (vocabulary c w) (locatedOf x) .tables)
+    literal-numbered : (k ≡ 0 → ⊥) → {out out′ : List ℕ} {at r : ℕ} → Puts out at r out′ (spell (q .numberForms) (q .numberedBits) k) → r ≤ at + stringMost
+        → Stands text out at stringMost r out′ c w ix (writeLiteral link q text (tableOf t) (tablesIn c w) (locatedOf x))
     unfolding writeLiteral
-    literal-numbered n p l = rw (← number-is, ne-eqb k 0 n) (stands-put text w ix c order p l)
+    literal-numbered n p l = rw (← number-is, ne-eqb k 0 n) (stands-put text c w ix order _ p l refl)
 
-    literal-spelled : k ≡ 0 → {out out′ v iv : List ℕ} {at : ℕ} (h : Here)
-        → Stands text out at 16389 h out′ v iv (spelledOctets (q .lengthBit) (q .spelledBits) (q .addBit) text (strings (vocabulary c w) (tableOf t)) (locatedOf x))
-        (spelledTables text (tableOf t) (vocabulary c w) (locatedOf x))
-        → Stands text out at 16389 h out′ v iv (writeLiteral link q text (tableOf t) (vocabulary c w) (locatedOf x) .octets) (writeLiteral link q text (tableOf t) (vocabulary c w) (locatedOf x) .tables)
-    unfolding writeLiteral spelledOctets spelledTables
-    literal-spelled z h p = rw (← number-is, z) p
+    literal-spelled : k ≡ 0
+        → spelledAs (record { table = t; bit = q .lengthBit; lead = q .spelledBits; add = q .addBit }) text (tablesIn c w) (locatedOf x) ≡ writeLiteral link q text (tableOf t) (tablesIn c w) (locatedOf x)
+    unfolding writeLiteral spelledAs
+    literal-spelled z = rw (← number-is, z)
 
-  module _ (fills : Fills text x) where
-    value-is : (stringSize x ≡ 0 → ⊥) → writeValue link text (tableOf t) (vocabulary c w) (locatedOf x) ≡ writeLiteral link c14 text (tableOf t) (vocabulary c w) (locatedOf x)
+  module _ (fills : Fills text x) (n : stringSize x ≡ 0 → ⊥) where
+    value-is : writeValue link text (tableOf t) (tablesIn c w) (locatedOf x) ≡ writeLiteral link c14 text (tableOf t) (tablesIn c w) (locatedOf x)
     unfolding writeValue
-    value-is n =
+    value-is =
         let f = spells-stretch text x (fills-spells text x fills n) in
         let l = f .1 in
         rw (f .0, length-octets text (stringPlace x) (stringSize x) (f .2), ne-eqb (stringSize x) 0 n)
 
-    pub value-numbered : (stringSize x ≡ 0 → ⊥) → (k ≡ 0 → ⊥) → {out out′ : List ℕ} {at r : ℕ} → Puts out at r out′ (spell c25 0x80 k) × (r ≤ at + 3)
-        → Stands text out at 16389 (record { at = r; counts = c }) out′ w ix (writeValue link text (tableOf t) (vocabulary c w) (locatedOf x) .octets)
-        (writeValue link text (tableOf t) (vocabulary c w) (locatedOf x) .tables)
+    pub value-numbered : (k ≡ 0 → ⊥) → {out out′ : List ℕ} {at r : ℕ} → Puts out at r out′ (spell c25 0x80 k) × (r ≤ at + 3)
+        → Stands text out at stringMost r out′ c w ix (writeValue link text (tableOf t) (tablesIn c w) (locatedOf x))
     unfolding c14
-    value-numbered n m p = rw (value-is n) (literal-numbered (fills-spells text x fills n) c14 m (p .0) (let l = p .1 in omega arith))
+    value-numbered m p = rw value-is (literal-numbered (fills-spells text x fills n) c14 m (p .0) (let l = p .1 in omega arith))
 
-    pub value-spelled : (stringSize x ≡ 0 → ⊥) → k ≡ 0 → {out out′ v iv : List ℕ} {at : ℕ} (h : Here)
-        → Stands text out at 16389 h out′ v iv (spelledOctets 5 0 0x40 text (strings (vocabulary c w) (tableOf t)) (locatedOf x)) (spelledTables text (tableOf t) (vocabulary c w) (locatedOf x))
-        → Stands text out at 16389 h out′ v iv (writeValue link text (tableOf t) (vocabulary c w) (locatedOf x) .octets) (writeValue link text (tableOf t) (vocabulary c w) (locatedOf x) .tables)
+    pub value-spelled : k ≡ 0 → spelledAs (record { table = t; bit = 5; lead = 0; add = 0x40 }) text (tablesIn c w) (locatedOf x) ≡ writeValue link text (tableOf t) (tablesIn c w) (locatedOf x)
     unfolding c14
-    value-spelled n z h p = rw (value-is n) (literal-spelled (fills-spells text x fills n) c14 z h p)
+    value-spelled z = rw value-is (literal-spelled (fills-spells text x fills n) c14 z)
 
-pub value-empty : (text w ix : List ℕ) (c : Counts) (t : ℕ) (order : InOrder text c w ix) (x : EventString) (fills : Fills text x) → stringSize x ≡ 0 → {out out′ : List ℕ} {at : ℕ} → out′ ≡ set out at 0xFF
-    → Stands text out at 16389 (record { at = at + 1; counts = c }) out′ w ix (writeValue link text (tableOf t) (vocabulary c w) (locatedOf x) .octets)
-    (writeValue link text (tableOf t) (vocabulary c w) (locatedOf x) .tables)
+pub value-empty : (text c w ix : List ℕ) (t : ℕ) (order : InOrder text c w ix) (x : EventString) (fills : Fills text x) → stringSize x ≡ 0 → {out out′ : List ℕ} {at : ℕ} → out′ ≡ set out at 0xFF
+    → Stands text out at stringMost (at + 1) out′ c w ix (writeValue link text (tableOf t) (tablesIn c w) (locatedOf x))
 unfolding writeValue octetsOf
-value-empty text w ix c t order x fills z e = rw (fills-empty text x fills z) (stands-put text w ix c order (puts-one e) (omega arith))
+value-empty text c w ix t order x fills z e = rw (fills-empty text x fills z) (stands-put text c w ix order _ (puts-one e) (omega arith) refl)
 
-module _ (text w ix : List ℕ) (c : Counts) (order : InOrder text c w ix) (x : EventString) (spells : Spells text x) (k : ℕ) (held : k ≡ heldAs text (tableOf 6) (vocabulary c w) x) where
+module _ (text c w ix : List ℕ) (order : InOrder text c w ix) (x : EventString) (spells : Spells text x) (k : ℕ) (held : k ≡ heldAs text (tableOf 6) (tablesIn c w) x) where
   pub chunk-numbered : (k ≡ 0 → ⊥) → {out out′ : List ℕ} {at r : ℕ} → Puts out at r out′ (spell (numbers 4) 0xA0 k) × (r ≤ at + 4)
-      → Stands text out at 16389 (record { at = r; counts = c }) out′ w ix (writeLiteral link c15 text CONTENT-CHARACTER-CHUNK (vocabulary c w) (locatedOf x) .octets)
-      (writeLiteral link c15 text CONTENT-CHARACTER-CHUNK (vocabulary c w) (locatedOf x) .tables)
+      → Stands text out at stringMost r out′ c w ix (writeLiteral link c15 text CONTENT-CHARACTER-CHUNK (tablesIn c w) (locatedOf x))
   unfolding c15 tableOf
-  chunk-numbered n p = literal-numbered text w ix c 6 order x k held spells c15 n (p .0) (let l = p .1 in omega arith)
+  chunk-numbered n p = literal-numbered text c w ix 6 order x k held spells c15 n (p .0) (let l = p .1 in omega arith)
 
-  pub chunk-spelled : k ≡ 0 → {out out′ v iv : List ℕ} {at : ℕ} (h : Here)
-      → Stands text out at 16389 h out′ v iv (spelledOctets 7 0x80 0x10 text (strings (vocabulary c w) (tableOf 6)) (locatedOf x)) (spelledTables text (tableOf 6) (vocabulary c w) (locatedOf x))
-      → Stands text out at 16389 h out′ v iv (writeLiteral link c15 text CONTENT-CHARACTER-CHUNK (vocabulary c w) (locatedOf x) .octets)
-      (writeLiteral link c15 text CONTENT-CHARACTER-CHUNK (vocabulary c w) (locatedOf x) .tables)
+  pub chunk-spelled : k ≡ 0
+      → spelledAs (record { table = 6; bit = 7; lead = 0x80; add = 0x10 }) text (tablesIn c w) (locatedOf x) ≡ writeLiteral link c15 text CONTENT-CHARACTER-CHUNK (tablesIn c w) (locatedOf x)
   unfolding c15 tableOf
-  chunk-spelled z h p = literal-spelled text w ix c 6 order x k held spells c15 z h p
+  chunk-spelled z = literal-spelled text c w ix 6 order x k held spells c15 z

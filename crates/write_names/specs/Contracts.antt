@@ -1,35 +1,56 @@
--- Contracts of the code, not definitions to be believed. How the code's answers stand for the choices' definition: tables in lent words are the vocabulary that they hold.
-use Prim.Native.Nat.{ℕ, suc, _+_, _*_, _<_, _≤_}
+-- Contracts of the code, not definitions to be believed. How the code's answers stand for the choices' definition: tables and counts in lent words are the vocabulary that they hold.
+use Prim.Native.Nat.{ℕ, suc, _+_, _-_, _*_, _^_, _<_, _≤_}
 use mathlib.Core.Path.{_≡_}
 use mathlib.Core.Bool.{Bool, true, false}
 use mathlib.Core.Option.{Option}
 use mathlib.Core.List.{List, [], _∷_, _++_, map}
-use lib.ListN.{length}
+use lib.ListN.{length, getD, set}
 use lib.Dec.{eqb}
 use Rattle.format.specs.Octets.{Octets, Words}
 use Rattle.format.specs.Numbers.{pick, lengths}
-use Rattle.format.specs.Events.{Name, How, Choice, forNamespace}
+use Rattle.format.specs.Events.{Name, How, spelled, Choice, forNamespace}
 use Rattle.format.specs.Tables.{StringTable, PREFIX, NAMESPACE-NAME, LOCAL-NAME, Triple, Vocabulary, strings, names, link}
 use Rattle.format.specs.Strings.{withLength, bit, keeping}
 use Rattle.format.specs.Names.{has, NameLayout}
 use Rattle.fields.specs.PutContracts.{Puts}
-use Rattle.tables.specs.declared.Counts.{Counts}
 use Rattle.tables.specs.declared.Row.{Row}
 use Rattle.tables.specs.Located.{Located, builtInPrefix, builtInNamespace, octetsOf}
 use Rattle.tables.specs.Counts.{tableWords}
 use Rattle.tables.specs.Search.{numberIn, numberOfTriple}
-use Rattle.tables.specs.Rows.{vocabulary}
-use Rattle.tables.specs.Kept.{countOf, oneMore, tripleOf, Counted, Clean, AllInside}
+use Rattle.tables.specs.Rows.{tableOf, vocabulary}
+use Rattle.tables.specs.Kept.{unlisted, countOf, tripleOf, layoutOf, Counted, Clean, AllInside}
 use Rattle.index.specs.Indexed.{Indexed, NameEntered}
 use Rattle.events.specs.declared.EventString.{EventString}
 use Rattle.events.specs.declared.EventString.the-variants.{Absent, Empty, Stretch, XmlPrefix, XmlNamespace}
 use Rattle.events.specs.Records.{locatedOf, optionalOf}
 use Rattle.events.specs.Words.{stringTag}
-use Rattle.write_names.specs.declared.Here.{Here}
 use Rattle.write_names.specs.declared.Wrote as W
 use Rattle.write_names.specs.declared.Wrote.the-variants.{Put, Full}
+use Rattle.write_names.specs.declared.Sought.{Sought}
+use Rattle.write_names.specs.declared.Spelling.{Spelling}
 use Rattle.write_names.specs.declared.Parts.{Parts}
+use Rattle.write_names.specs.declared.naming.Numbers.{Numbers}
 use Rattle.write_names.specs.Choices.{Wrote, writeId, writeOptional, worthAdding, within}
+
+-- ---- how many octets
+-- A spelled string has at most 5 octets of length and the 16,384 of a text area; a prefix and a namespace follow an octet, and a name's third string follows these.
+abbrev pub stringMost : ℕ
+stringMost = 16389
+
+abbrev pub pairMost : ℕ
+pairMost = 1 + 2 * stringMost
+
+abbrev pub nameMost : ℕ
+nameMost = pairMost + stringMost
+
+-- The last place where a string begins, so that no sum wraps. A writer begins an event at most two octets behind the 16,384 of a document, and its last string behind a name.
+abbrev pub lastPlace : ℕ
+lastPlace = 100000
+
+-- ---- tables in lent words
+-- The vocabulary of the words of the counts and those of the tables.
+abbrev pub tablesIn : (c w : Words) → Vocabulary Located
+tablesIn c w = vocabulary (unlisted c) w
 
 -- A list begins with x.
 abbrev pub Begins : Located → List Located → Type 0
@@ -40,17 +61,19 @@ Begins x (y ∷ ys) = y ≡ x
 abbrev pub every : ℕ → Bool
 every table = true
 
--- The tables of a text area in lent words are in order, and indexed.
-pub record InOrder (text : Octets) (c : Counts) (w : Words) (index : Octets) : Type 0 where
+-- The tables of a text area in lent words are in order, and indexed: c are the words of the counts, w those of the tables.
+pub record InOrder (text : Octets) (c w : Words) (index : Octets) : Type 0 where
   pub size : length text ≤ 16384
+  pub ten : length c ≡ 10
   pub room : length w ≡ tableWords
-  pub counted : Counted c
-  pub clean : Clean c w
-  pub inside : AllInside text (vocabulary c w)
-  pub prefix : Begins builtInPrefix (vocabulary c w .prefixes)
-  pub namespace : Begins builtInNamespace (vocabulary c w .namespaces)
-  pub indexed : Indexed every text (countOf c) w index
+  pub counted : Counted (unlisted c)
+  pub clean : Clean (unlisted c) w
+  pub inside : AllInside text (tablesIn c w)
+  pub prefix : Begins builtInPrefix (tablesIn c w .prefixes)
+  pub namespace : Begins builtInNamespace (tablesIn c w .namespaces)
+  pub indexed : Indexed every text (countOf (unlisted c)) w index
 
+-- ---- strings
 -- The string of an event is one that a table of identifying strings may hold: a stretch that is not empty and lies in the text area, or the table's built-in one.
 abbrev pub Suits : Octets → ℕ → EventString → Type 0
 Suits text table Absent = Unit {0}
@@ -83,13 +106,21 @@ heldAs text t v (Stretch p n) = numberIn (map (octetsOf text) (strings v t)) (oc
 heldAs text t v XmlPrefix = numberIn (map (octetsOf text) (strings v t)) (octetsOf text builtInPrefix)
 heldAs text t v XmlNamespace = numberIn (map (octetsOf text) (strings v t)) (octetsOf text builtInNamespace)
 
--- A spelled string of C.14 or C.15: its length from bit `bit` behind the bits `lead`, and `add` more where it is added; and the tables then.
-unfoldable pub spelledOctets : (bit lead add : ℕ) → Octets → List Located → Located → Octets
-spelledOctets n lead add text table x = withLength (lengths n) (lead + add * bit (worthAdding link table (octetsOf text x))) (octetsOf text x)
+-- A string was looked up in one of the tables of identifying strings, that of its number.
+abbrev pub Looked : Octets → (c w : Words) → Sought → Type 0
+Looked text c w x = (x .table < 4) × Suits text (x .table) (x .string) × (x .number ≡ heldAs text (tableOf (x .table)) (tablesIn c w) (x .string)) × (x .number ≤ 256)
 
-unfoldable pub spelledTables : Octets → StringTable → Vocabulary Located → Located → Vocabulary Located
-spelledTables text t v x = keeping (worthAdding link (strings v t) (octetsOf text x)) v t x
+-- A spelling leaves the length its bits, the add bit counted.
+abbrev pub Fitting : Spelling → Type 0
+Fitting q = (q .table < 8) × (1 ≤ q .bit) × (q .bit ≤ 7) × (q .lead + q .add + 2 ^ (9 - q .bit) ≤ 256)
 
+-- A string of C.14 or C.15, spelled so.
+unfoldable pub spelledAs : Spelling → Octets → Vocabulary Located → Located → Wrote How
+spelledAs q text v x =
+    let added : Bool = worthAdding link (strings v (tableOf (q .table))) (octetsOf text x) in
+    record { octets = withLength (lengths (q .bit)) (q .lead + q .add * bit added) (octetsOf text x); how = spelled added; number = 0; tables = keeping added v (tableOf (q .table)) x }
+
+-- ---- names
 -- The name of three strings.
 abbrev pub namedOf : Parts → Name Located
 namedOf x = record { prefix = optionalOf (x .prefix); namespace = optionalOf (x .namespace); local = locatedOf (x .local) }
@@ -115,12 +146,22 @@ tripleFor text v x =
 unfoldable pub nameHeldAs : NameLayout → Octets → Vocabulary Located → Name Located → ℕ
 nameHeldAs q text v x = numberOfTriple (names v (q .table)) (tripleFor text v x)
 
+-- What a name is written from: its table and its lead, and its strings, of which the local name is there.
+abbrev pub Proper : Octets → Parts → Type 0
+Proper text x =
+    (8 ≤ x .table) × (x .table < 10) × (x .lead ≤ 0x80) × Suits text 0 (x .prefix) × Suits text 1 (x .namespace) × Suits text 2 (x .local) × (1 ≤ stringTag (x .local))
+
+-- Its table does not hold it, and k are its strings' numbers.
+pub record New (text : Octets) (v : Vocabulary Located) (x : Parts) (k : Numbers) : Type 0 where
+  pub held : Held text v x (k .found)
+  pub is : tripleOf (k .then) ≡ tripleFor text v (namedOf x)
+  pub new : 0 ≡ nameHeldAs (layoutOf (x .table)) text v (namedOf x)
+
 -- A row became an entry of its table; or the table is full.
-abbrev pub Tripled : Here → Words → (index : Octets) (table : ℕ) → Row → W.Wrote → Words → (index′ : Octets) → Type 0
-Tripled h w index table x (Put r) w′ index′ =
-    (countOf (h .counts) table < 256) × (r ≡ record { at = h .at; counts = oneMore (h .counts) table })
-    × ((text : Octets) → NameEntered text table (countOf (h .counts) table) (tripleOf x) w index w′ index′)
-Tripled h w index table x Full w′ index′ = 256 ≤ countOf (h .counts) table
+abbrev pub Tripled : (at : ℕ) (c w : Words) (index : Octets) (table : ℕ) → Row → W.Wrote → (c′ w′ : Words) (index′ : Octets) → Type 0
+Tripled at c w index table x (Put r) c′ w′ index′ =
+    (r ≡ at) × (getD c table 0 < 256) × (c′ ≡ set c table (getD c table 0 + 1)) × ((text : Octets) → NameEntered text table (getD c table 0) (tripleOf x) w index w′ index′)
+Tripled at c w index table x Full c′ w′ index′ = 256 ≤ getD c table 0
 
 -- A prefix and a namespace behind the octet `first`; a namespace declaration (C.12) begins with 110011pn.
 unfoldable pub pairBehind : (first : ℕ) → Octets → Vocabulary Located → (prefix namespace : Option Located) → Wrote Choice
@@ -132,14 +173,15 @@ pairBehind first text v p n =
 unfoldable pub declaredBy : Octets → Vocabulary Located → (prefix namespace : Option Located) → Wrote Choice
 declaredBy text v p n = pairBehind (0xCC + 2 * has p + has n) text v p n
 
--- What was put from `at` on stands for the definition's octets, and the tables are the definition's; at most `most` octets were put.
-pub record Stands (text out : Octets) (at most : ℕ) (h : Here) (out′ : Octets) (w : Words) (index octets : Octets) (v : Vocabulary Located) : Type 0 where
-  pub puts : Puts out at (h .at) out′ octets
-  pub few : h .at ≤ at + most
-  pub tables : vocabulary (h .counts) w ≡ v
-  pub order : InOrder text (h .counts) w index
+-- ---- what was put
+-- What was put from `at` to r stands for the definition's octets, and the tables are the definition's; at most `most` octets were put.
+pub record Stands {H : Type 0} (text out : Octets) (at most r : ℕ) (out′ : Octets) (c w : Words) (index : Octets) (d : Wrote H) : Type 0 where
+  pub puts : Puts out at r out′ (d .octets)
+  pub few : r ≤ at + most
+  pub tables : tablesIn c w ≡ d .tables
+  pub order : InOrder text c w index
 
 -- Or a table is full, and the definition's has an entry too many.
-abbrev pub Meets : {H : Type 0} → Octets → Octets → (at most : ℕ) → W.Wrote → Octets → Words → (index : Octets) → Wrote H → Type 0
-Meets text out at most (Put h) out′ w index d = Stands text out at most h out′ w index (d .octets) (d .tables)
-Meets text out at most Full out′ w index d = within link (d .tables) ≡ false
+abbrev pub Meets : {H : Type 0} → Octets → Octets → (at most : ℕ) → W.Wrote → Octets → (c w : Words) (index : Octets) → Wrote H → Type 0
+Meets text out at most (Put r) out′ c w index d = Stands text out at most r out′ c w index d
+Meets text out at most Full out′ c w index d = within link (d .tables) ≡ false

@@ -5,7 +5,7 @@ mod naming;
 ghost use mathlib.Core.Path.{_≡_};
 ghost use mathlib.Core.List.{map};
 ghost use Prim.Native.Nat.{_+_, _^_, _-_, _<_, _≤_};
-ghost use lib.ListN.{length};
+ghost use lib.ListN.{length, getD, set};
 ghost use Rattle.format.specs.Numbers.{lengths, spell};
 ghost use Rattle.format.specs.Tables.{strings, link, CONTENT-CHARACTER-CHUNK};
 ghost use Rattle.format.specs.Strings.{withLength, c15};
@@ -13,13 +13,13 @@ ghost use Rattle.format.specs.Names.{has};
 ghost use Rattle.fields.specs.PutContracts.{Puts};
 ghost use Rattle.tables.specs.Located.{stretch, octetsOf};
 ghost use Rattle.tables.specs.Search.{numberIn};
-ghost use Rattle.tables.specs.Rows.{tableOf, vocabulary};
-ghost use Rattle.tables.specs.Kept.{countOf, oneMore, layoutOf};
+ghost use Rattle.tables.specs.Rows.{tableOf};
+ghost use Rattle.tables.specs.Kept.{layoutOf};
 ghost use Rattle.index.specs.Indexed.{StringEntered};
 ghost use Rattle.events.specs.Records.{locatedOf, optionalOf};
 ghost use Rattle.events.specs.Words.{stringTag};
 ghost use Rattle.write_names.specs.Choices.{writeId, writeOptional, writeLiteral, writeValue};
-ghost use Rattle.write_names.specs.Contracts.{InOrder, Suits, Fills, heldAs, Spells, spelledOctets, spelledTables, Stands, Meets};
+ghost use Rattle.write_names.specs.Contracts.{stringMost, lastPlace, tablesIn, InOrder, Suits, Fills, heldAs, Looked, Spells, Fitting, spelledAs, Stands, Meets};
 use events::EventString;
 use fields::put::put;
 use fields::put::put_length;
@@ -28,34 +28,54 @@ use fields::put::put_number_at_bit_2;
 use fields::put::put_part;
 use format::table::CONTENT_CHARACTER_CHUNK;
 use format::table::ELEMENT_NAME;
+pub use naming::declared;
+pub use naming::name;
 use tables::Counts;
 
 // A value, comment, content or chunk that is not longer is added to its table.
 const SHORT: u32 = 5;
 
-// Where the next octet goes, and how many entries the tables have there.
-pub struct Here {
-    pub at: usize,
-    pub counts: Counts,
-}
-
-// Behind what was put; or a table is full that must take an entry more.
+// The place behind what was put; or a table is full that must take an entry more.
 pub enum Wrote {
-    Put(Here),
+    Put(usize),
     Full,
 }
 
-// A name's strings.
+// A string that was looked up in its table, and its number there; 0 where it has none.
+pub struct Sought {
+    pub table: usize,
+    pub string: EventString,
+    pub number: u32,
+}
+
+// How a string of a table is spelled: its length from bit `bit` behind the bits `lead`, and `add` more where it is added to the table.
+pub struct Spelling {
+    pub table: usize,
+    pub bit: u32,
+    pub lead: u8,
+    pub add: u8,
+}
+
+// A name of table 8 or 9: the bits before it, and its strings.
 pub struct Parts {
+    pub table: usize,
+    pub lead: u8,
     pub prefix: EventString,
     pub namespace: EventString,
     pub local: EventString,
 }
 
 // The number of a string in its table; 0 where it has none, or there is no string.
-fn number_of(text: &[u8], t: &[u32], index: &[u8], c: Counts, table: usize, x: EventString) -> u32
-    requires { ⌜ (InOrder (now text) c (now t) (now index)) × (table < 8) × Suits (now text) table x ⌝ }
-    ensures { λ r. ⌜ (r ≡ heldAs (now (text .entry)) (tableOf table) (vocabulary c (now (t .entry))) x) × (r ≤ 256) ⌝ }
+fn number_of(
+    text: &[u8],
+    t: &[u32],
+    counts: &[u32],
+    index: &[u8],
+    table: usize,
+    x: EventString,
+) -> u32
+    requires { ⌜ InOrder (now text) (now counts) (now t) (now index) × (table < 8) × Suits (now text) table x ⌝ }
+    ensures { λ r. ⌜ (r ≡ heldAs (now (text .entry)) (tableOf table) (tablesIn (now (counts .entry)) (now (t .entry))) x) × (r ≤ 256) ⌝ }
 {
     match x {
         EventString::Absent => 0,
@@ -65,7 +85,7 @@ fn number_of(text: &[u8], t: &[u32], index: &[u8], c: Counts, table: usize, x: E
             t,
             index,
             table,
-            c.of(table),
+            counts[table],
             place as usize,
             size as usize,
         ),
@@ -84,8 +104,8 @@ fn spelled(
     place: u32,
     size: u32,
 ) -> usize
-    requires { ⌜ (at ≤ 1000000) × (1 ≤ bit) × (bit ≤ 7) × (lead + 2 ^ (9 - bit) ≤ 256) × (0 < size) × (place + size ≤ length (now text)) × (length (now text) ≤ 16384) ⌝ }
-    ensures { λ r. ⌜ Puts (now (out .entry)) at r (now (out .exit)) (withLength (lengths bit) lead (octetsOf (now (text .entry)) (stretch place size))) × (r ≤ at + 16389) ⌝ }
+    requires { ⌜ (at ≤ lastPlace) × (1 ≤ bit) × (bit ≤ 7) × (lead + 2 ^ (9 - bit) ≤ 256) × (0 < size) × (place + size ≤ length (now text)) × (length (now text) ≤ 16384) ⌝ }
+    ensures { λ r. ⌜ Puts (now (out .entry)) at r (now (out .exit)) (withLength (lengths bit) lead (octetsOf (now (text .entry)) (stretch place size))) × (r ≤ at + stringMost) ⌝ }
 {
     let n = size as usize;
     let behind = put_length(out, at, bit, lead, n);
@@ -114,7 +134,7 @@ fn in_parts(table: usize) -> u8
 
 // The number of a name of table 8 or 9, C.27 or C.25.
 fn put_name_number(out: &mut [u8], at: usize, table: usize, lead: u8, n: u32) -> usize
-    requires { ⌜ (at ≤ 1000000) × (lead ≤ 0x80) × (1 ≤ n) × (n ≤ 256) ⌝ }
+    requires { ⌜ (at ≤ lastPlace) × (lead ≤ 0x80) × (1 ≤ n) × (n ≤ 256) ⌝ }
     ensures { λ r. ⌜ Puts (now (out .entry)) at r (now (out .exit)) (spell (layoutOf table .numberForms) lead n) × (r ≤ at + 4) ⌝ }
 {
     if table == ELEMENT_NAME {
@@ -123,183 +143,178 @@ fn put_name_number(out: &mut [u8], at: usize, table: usize, lead: u8, n: u32) ->
     put_number_at_bit_2(out, at, lead, n)
 }
 
-impl Here {
-    // The string at a place, which its table does not hold, becomes an entry of it.
-    fn added(
-        mut self,
-        text: &[u8],
-        t: &mut [u32],
-        index: &mut [u8],
-        table: usize,
-        place: u32,
-        size: u32,
-    ) -> Here
-        requires { ⌜ (InOrder (now text) (self .counts) (now t) (now index)) × (table < 8) × (countOf (self .counts) table < 256) × (0 < size) × (place + size ≤ length (now text)) × (0 ≡ numberIn (map (octetsOf (now text)) (strings (vocabulary (self .counts) (now t)) (tableOf table))) (octetsOf (now text) (stretch place size))) ⌝ }
-        ensures { λ r. ⌜ (r ≡ record { at = self .at; counts = oneMore (self .counts) table }) × StringEntered (now (text .entry)) table (countOf (self .counts) table) place size (now (t .entry)) (now (index .entry)) (now (t .exit)) (now (index .exit)) ⌝ }
-    {
-        let h = index::bucket_of(text, place as usize, size as usize);
-        index::enter_in(
-            text,
-            t,
-            index,
-            table,
-            self.counts.of(table),
-            place,
-            size,
-            0,
-            h,
-        );
-        self.counts = self.counts.more(table);
-        self
-    }
+// The string at a place, which its table does not hold, becomes an entry of it.
+fn added(
+    text: &[u8],
+    t: &mut [u32],
+    counts: &mut [u32],
+    index: &mut [u8],
+    table: usize,
+    place: u32,
+    size: u32,
+)
+    requires { ⌜ InOrder (now text) (now counts) (now t) (now index) × (table < 8) × (getD (now counts) table 0 < 256) × (0 < size) × (place + size ≤ length (now text)) × (0 ≡ numberIn (map (octetsOf (now text)) (strings (tablesIn (now counts) (now t)) (tableOf table))) (octetsOf (now text) (stretch place size))) ⌝ }
+    ensures { λ _. ⌜ (now (counts .exit) ≡ set (now (counts .entry)) table (getD (now (counts .entry)) table 0 + 1)) × StringEntered (now (text .entry)) table (getD (now (counts .entry)) table 0) place size (now (t .entry)) (now (index .entry)) (now (t .exit)) (now (index .exit)) ⌝ }
+{
+    let h = index::bucket_of(text, place as usize, size as usize);
+    let n = counts[table];
+    index::enter_in(text, t, index, table, n, place, size, 0, h);
+    counts[table] = n + 1;
+}
 
-    // C.13: an identifying string, whose number is k. Without one it is spelled and added.
-    fn id(
-        mut self,
-        text: &[u8],
-        t: &mut [u32],
-        index: &mut [u8],
-        out: &mut [u8],
-        table: usize,
-        x: EventString,
-        k: u32,
-    ) -> Wrote
-        requires { ⌜ (InOrder (now text) (self .counts) (now t) (now index)) × (self .at ≤ 900000) × (table < 4) × Suits (now text) table x × (1 ≤ stringTag x) × (k ≡ heldAs (now text) (tableOf table) (vocabulary (self .counts) (now t)) x) × (k ≤ 256) ⌝ }
-        ensures { λ r. ⌜ Meets (now (text .entry)) (now (out .entry)) (self .at) 16389 r (now (out .exit)) (now (t .exit)) (now (index .exit)) (writeId (now (text .entry)) (tableOf table) (vocabulary (self .counts) (now (t .entry))) (locatedOf x)) ⌝ }
-    {
-        if k != 0 {
-            self.at = put_number_at_bit_2(out, self.at, 0x80, k);
-            return Wrote::Put(self);
-        }
-        if Counts::ENTRIES <= self.counts.of(table) {
-            return Wrote::Full;
-        }
-        let place = x.place();
-        let size = x.size();
-        self.at = spelled(out, self.at, 2, 0, text, place, size);
-        Wrote::Put(self.added(text, t, index, table, place, size))
+// C.13: an identifying string. Without a number it is spelled and added.
+fn id(
+    text: &[u8],
+    t: &mut [u32],
+    counts: &mut [u32],
+    index: &mut [u8],
+    out: &mut [u8],
+    at: usize,
+    x: Sought,
+) -> Wrote
+    requires { ⌜ InOrder (now text) (now counts) (now t) (now index) × (at ≤ lastPlace) × (1 ≤ stringTag (x .string)) × Looked (now text) (now counts) (now t) x ⌝ }
+    ensures { λ r. ⌜ Meets (now (text .entry)) (now (out .entry)) at stringMost r (now (out .exit)) (now (counts .exit)) (now (t .exit)) (now (index .exit)) (writeId (now (text .entry)) (tableOf (x .table)) (tablesIn (now (counts .entry)) (now (t .entry))) (locatedOf (x .string))) ⌝ }
+{
+    if x.number != 0 {
+        return Wrote::Put(put_number_at_bit_2(out, at, 0x80, x.number));
     }
+    let table = x.table;
+    if Counts::ENTRIES <= counts[table] {
+        return Wrote::Full;
+    }
+    let string = x.string;
+    let place = string.place();
+    let size = string.size();
+    let behind = spelled(out, at, 2, 0, text, place, size);
+    added(text, t, counts, index, table, place, size);
+    Wrote::Put(behind)
+}
 
-    // One that may be absent.
-    fn optional(
-        self,
-        text: &[u8],
-        t: &mut [u32],
-        index: &mut [u8],
-        out: &mut [u8],
-        table: usize,
-        x: EventString,
-        k: u32,
-    ) -> Wrote
-        requires { ⌜ (InOrder (now text) (self .counts) (now t) (now index)) × (self .at ≤ 900000) × (table < 4) × Suits (now text) table x × (k ≡ heldAs (now text) (tableOf table) (vocabulary (self .counts) (now t)) x) × (k ≤ 256) ⌝ }
-        ensures { λ r. ⌜ Meets (now (text .entry)) (now (out .entry)) (self .at) 16389 r (now (out .exit)) (now (t .exit)) (now (index .exit)) (writeOptional (now (text .entry)) (tableOf table) (vocabulary (self .counts) (now (t .entry))) (optionalOf x)) ⌝ }
-    {
-        if x.tag() == 0 {
-            return Wrote::Put(self);
-        }
-        self.id(text, t, index, out, table, x, k)
+// One that may be absent.
+fn optional(
+    text: &[u8],
+    t: &mut [u32],
+    counts: &mut [u32],
+    index: &mut [u8],
+    out: &mut [u8],
+    at: usize,
+    x: Sought,
+) -> Wrote
+    requires { ⌜ InOrder (now text) (now counts) (now t) (now index) × (at ≤ lastPlace) × Looked (now text) (now counts) (now t) x ⌝ }
+    ensures { λ r. ⌜ Meets (now (text .entry)) (now (out .entry)) at stringMost r (now (out .exit)) (now (counts .exit)) (now (t .exit)) (now (index .exit)) (writeOptional (now (text .entry)) (tableOf (x .table)) (tablesIn (now (counts .entry)) (now (t .entry))) (optionalOf (x .string))) ⌝ }
+{
+    let string = x.string;
+    if string.tag() == 0 {
+        return Wrote::Put(at);
     }
+    id(text, t, counts, index, out, at, x)
+}
 
-    // C.13: one of the table, by its number or spelled.
-    pub fn identified(
-        self,
-        text: &[u8],
-        t: &mut [u32],
-        index: &mut [u8],
-        out: &mut [u8],
-        table: usize,
-        x: EventString,
-    ) -> Wrote
-        requires { ⌜ (InOrder (now text) (self .counts) (now t) (now index)) × (self .at ≤ 900000) × (table < 4) × Suits (now text) table x × (1 ≤ stringTag x) ⌝ }
-        ensures { λ r. ⌜ Meets (now (text .entry)) (now (out .entry)) (self .at) 16389 r (now (out .exit)) (now (t .exit)) (now (index .exit)) (writeId (now (text .entry)) (tableOf table) (vocabulary (self .counts) (now (t .entry))) (locatedOf x)) ⌝ }
-    {
-        let k = number_of(text, t, index, self.counts, table, x);
-        self.id(text, t, index, out, table, x, k)
-    }
+// C.13: one of the table, by its number or spelled.
+pub fn identified(
+    text: &[u8],
+    t: &mut [u32],
+    counts: &mut [u32],
+    index: &mut [u8],
+    out: &mut [u8],
+    at: usize,
+    table: usize,
+    x: EventString,
+) -> Wrote
+    requires { ⌜ InOrder (now text) (now counts) (now t) (now index) × (at ≤ lastPlace) × (1 ≤ stringTag x) × (table < 4) × Suits (now text) table x ⌝ }
+    ensures { λ r. ⌜ Meets (now (text .entry)) (now (out .entry)) at stringMost r (now (out .exit)) (now (counts .exit)) (now (t .exit)) (now (index .exit)) (writeId (now (text .entry)) (tableOf table) (tablesIn (now (counts .entry)) (now (t .entry))) (locatedOf x)) ⌝ }
+{
+    let number = number_of(text, t, counts, index, table, x);
+    let sought = Sought {
+        table,
+        string: x,
+        number,
+    };
+    id(text, t, counts, index, out, at, sought)
+}
 
-    // C.14 or C.15, spelled: a string of 1 to 5 octets is added where its table has room, and its add bit says so.
-    fn literal(
-        mut self,
-        text: &[u8],
-        t: &mut [u32],
-        index: &mut [u8],
-        out: &mut [u8],
-        table: usize,
-        bit: u32,
-        lead: u8,
-        add: u8,
-        x: EventString,
-    ) -> Here
-        requires { ⌜ (InOrder (now text) (self .counts) (now t) (now index)) × (self .at ≤ 900000) × (table < 8) × (Spells (now text) x) × (0 ≡ heldAs (now text) (tableOf table) (vocabulary (self .counts) (now t)) x) × (1 ≤ bit) × (bit ≤ 7) × (lead + add + 2 ^ (9 - bit) ≤ 256) ⌝ }
-        ensures { λ r. ⌜ Stands (now (text .entry)) (now (out .entry)) (self .at) 16389 r (now (out .exit)) (now (t .exit)) (now (index .exit)) (spelledOctets bit lead add (now (text .entry)) (strings (vocabulary (self .counts) (now (t .entry))) (tableOf table)) (locatedOf x)) (spelledTables (now (text .entry)) (tableOf table) (vocabulary (self .counts) (now (t .entry))) (locatedOf x)) ⌝ }
-    {
-        let place = x.place();
-        let size = x.size();
-        if SHORT < size {
-            self.at = spelled(out, self.at, bit, lead, text, place, size);
-            return self;
-        }
-        if Counts::ENTRIES <= self.counts.of(table) {
-            self.at = spelled(out, self.at, bit, lead, text, place, size);
-            return self;
-        }
-        self.at = spelled(out, self.at, bit, lead + add, text, place, size);
-        self.added(text, t, index, table, place, size)
+// C.14 or C.15, spelled: a string of 1 to 5 octets is added where its table has room, and its add bit says so.
+fn literal(
+    text: &[u8],
+    t: &mut [u32],
+    counts: &mut [u32],
+    index: &mut [u8],
+    out: &mut [u8],
+    at: usize,
+    q: Spelling,
+    x: EventString,
+) -> usize
+    requires { ⌜ InOrder (now text) (now counts) (now t) (now index) × (at ≤ lastPlace) × Spells (now text) x × (0 ≡ heldAs (now text) (tableOf (q .table)) (tablesIn (now counts) (now t)) x) × Fitting q ⌝ }
+    ensures { λ r. ⌜ Stands (now (text .entry)) (now (out .entry)) at stringMost r (now (out .exit)) (now (counts .exit)) (now (t .exit)) (now (index .exit)) (spelledAs q (now (text .entry)) (tablesIn (now (counts .entry)) (now (t .entry))) (locatedOf x)) ⌝ }
+{
+    let place = x.place();
+    let size = x.size();
+    let table = q.table;
+    if SHORT < size {
+        return spelled(out, at, q.bit, q.lead, text, place, size);
     }
+    if Counts::ENTRIES <= counts[table] {
+        return spelled(out, at, q.bit, q.lead, text, place, size);
+    }
+    let behind = spelled(out, at, q.bit, q.lead + q.add, text, place, size);
+    added(text, t, counts, index, table, place, size);
+    behind
+}
 
-    // C.14: a value, comment or content. FF is the empty string.
-    pub fn value(
-        mut self,
-        text: &[u8],
-        t: &mut [u32],
-        index: &mut [u8],
-        out: &mut [u8],
-        table: usize,
-        x: EventString,
-    ) -> Here
-        requires { ⌜ (InOrder (now text) (self .counts) (now t) (now index)) × (self .at ≤ 900000) × (table < 8) × (Fills (now text) x) ⌝ }
-        ensures { λ r. ⌜ Stands (now (text .entry)) (now (out .entry)) (self .at) 16389 r (now (out .exit)) (now (t .exit)) (now (index .exit)) (writeValue link (now (text .entry)) (tableOf table) (vocabulary (self .counts) (now (t .entry))) (locatedOf x) .octets) (writeValue link (now (text .entry)) (tableOf table) (vocabulary (self .counts) (now (t .entry))) (locatedOf x) .tables) ⌝ }
-    {
-        if x.size() == 0 {
-            put(out, self.at, 0xFF);
-            self.at += 1;
-            return self;
-        }
-        let k = number_of(text, t, index, self.counts, table, x);
-        if k != 0 {
-            self.at = put_number_at_bit_2(out, self.at, 0x80, k);
-            return self;
-        }
-        self.literal(text, t, index, out, table, 5, 0, 0x40, x)
+// C.14: a value, comment or content. FF is the empty string.
+pub fn value(
+    text: &[u8],
+    t: &mut [u32],
+    counts: &mut [u32],
+    index: &mut [u8],
+    out: &mut [u8],
+    at: usize,
+    table: usize,
+    x: EventString,
+) -> usize
+    requires { ⌜ InOrder (now text) (now counts) (now t) (now index) × (at ≤ lastPlace) × (table < 8) × Fills (now text) x ⌝ }
+    ensures { λ r. ⌜ Stands (now (text .entry)) (now (out .entry)) at stringMost r (now (out .exit)) (now (counts .exit)) (now (t .exit)) (now (index .exit)) (writeValue link (now (text .entry)) (tableOf table) (tablesIn (now (counts .entry)) (now (t .entry))) (locatedOf x)) ⌝ }
+{
+    if x.size() == 0 {
+        put(out, at, 0xFF);
+        return at + 1;
     }
+    let k = number_of(text, t, counts, index, table, x);
+    if k != 0 {
+        return put_number_at_bit_2(out, at, 0x80, k);
+    }
+    let q = Spelling {
+        table,
+        bit: 5,
+        lead: 0,
+        add: 0x40,
+    };
+    literal(text, t, counts, index, out, at, q, x)
+}
 
-    // C.15: a chunk.
-    pub fn chunk(
-        mut self,
-        text: &[u8],
-        t: &mut [u32],
-        index: &mut [u8],
-        out: &mut [u8],
-        x: EventString,
-    ) -> Here
-        requires { ⌜ (InOrder (now text) (self .counts) (now t) (now index)) × (self .at ≤ 900000) × (Spells (now text) x) ⌝ }
-        ensures { λ r. ⌜ Stands (now (text .entry)) (now (out .entry)) (self .at) 16389 r (now (out .exit)) (now (t .exit)) (now (index .exit)) (writeLiteral link c15 (now (text .entry)) CONTENT-CHARACTER-CHUNK (vocabulary (self .counts) (now (t .entry))) (locatedOf x) .octets) (writeLiteral link c15 (now (text .entry)) CONTENT-CHARACTER-CHUNK (vocabulary (self .counts) (now (t .entry))) (locatedOf x) .tables) ⌝ }
-    {
-        let k = number_of(text, t, index, self.counts, CONTENT_CHARACTER_CHUNK, x);
-        if k != 0 {
-            self.at = put_number(out, self.at, 4, 0xA0, k);
-            return self;
-        }
-        self.literal(
-            text,
-            t,
-            index,
-            out,
-            CONTENT_CHARACTER_CHUNK,
-            7,
-            0x80,
-            0x10,
-            x,
-        )
+// C.15: a chunk.
+pub fn chunk(
+    text: &[u8],
+    t: &mut [u32],
+    counts: &mut [u32],
+    index: &mut [u8],
+    out: &mut [u8],
+    at: usize,
+    x: EventString,
+) -> usize
+    requires { ⌜ InOrder (now text) (now counts) (now t) (now index) × (at ≤ lastPlace) × Spells (now text) x ⌝ }
+    ensures { λ r. ⌜ Stands (now (text .entry)) (now (out .entry)) at stringMost r (now (out .exit)) (now (counts .exit)) (now (t .exit)) (now (index .exit)) (writeLiteral link c15 (now (text .entry)) CONTENT-CHARACTER-CHUNK (tablesIn (now (counts .entry)) (now (t .entry))) (locatedOf x)) ⌝ }
+{
+    let table = CONTENT_CHARACTER_CHUNK;
+    let k = number_of(text, t, counts, index, table, x);
+    if k != 0 {
+        return put_number(out, at, 4, 0xA0, k);
     }
+    let q = Spelling {
+        table,
+        bit: 7,
+        lead: 0x80,
+        add: 0x10,
+    };
+    literal(text, t, counts, index, out, at, q, x)
 }

@@ -16,8 +16,11 @@ enum-told-2 c = search needs
 enum-known-x : tie.Need-enum-known-x
 enum-known-x c = search needs
 
-of-requires : tie.Need-of-requires
-of-requires c κs = search needs
+mul-find : tie.Need-mul-find
+mul-find c = search needs
+
+shared-slice-read-find : tie.Need-shared-slice-read-find
+shared-slice-read-find c = search needs
 
 cast-find : tie.Need-cast-find
 cast-find c = search needs
@@ -26,7 +29,9 @@ cast-find-2 : tie.Need-cast-find-2
 cast-find-2 c = search needs
 
 find-requires : tie.Need-find-requires
-find-requires c κs = find-ready _ _ _ _ _ (c .before .before .before .before .before .before .before .pre .0) (c .before .before .before .before .before .before .before .pre .1) _ _ _ _ (c .before .before .x .given .1) (c .before .before .before .before .before .before .before .pre .2) (c .of .ensures)
+find-requires c κs =
+    let at-start = c .before .before .before .before .before .before .before .before in
+    find-ready _ _ _ _ _ (at-start .pre .0) (at-start .pre .1) _ _ _ (c .before .before .x .given .1) (at-start .pre .2)
 
 enum-told-3 : tie.Need-enum-told-3
 enum-told-3 c = search needs
@@ -35,19 +40,27 @@ enum-told-4 : tie.Need-enum-told-4
 enum-told-4 c = search needs
 
 returns : tie.Need-returns
-returns c = held-absent _ _ _ _ _ (c .before .before .before .before .before .pre .0) _ (c .enum-told .given .1)
+returns c = held-absent _ _ _ _ _ (c .before .before .before .before .before .before .pre .0) _ (c .enum-told .given .1)
 
 returns-2 : tie.Need-returns-2
-returns-2 c = held-empty _ _ _ _ _ (c .before .before .before .before .before .pre .0) _ (c .enum-told2 .given .1) (c .before .before .before .before .before .pre .2)
+returns-2 c =
+    let at-start = c .before .before .before .before .before .before in
+    held-empty _ _ _ _ _ (at-start .pre .0) _ (c .enum-told2 .given .1) (at-start .pre .2)
 
 returns-3 : tie.Need-returns-3
-returns-3 c = held-stretch _ _ _ _ _ (c .before .before .before .before .before .before .before .before .pre .0) _ _ _ _ _ _ _ (c .before .before .before .x .given .1) refl refl (c .before .of .ensures) (omega arith) (c .find .ensures)
+returns-3 c =
+    let at-start = c .before .before .before .before .before .before .before .before .before in
+    held-stretch _ _ _ _ _ (at-start .pre .0) _ _ _ _ _ _ (c .before .before .before .x .given .1) refl refl (omega arith) (c .find .ensures)
 
 returns-4 : tie.Need-returns-4
-returns-4 c = held-prefix _ _ _ _ _ (c .before .before .before .before .before .pre .0) _ (c .enum-told3 .given .1) (c .before .before .before .before .before .pre .2)
+returns-4 c =
+    let at-start = c .before .before .before .before .before .before in
+    held-prefix _ _ _ _ _ (at-start .pre .0) _ (c .enum-told3 .given .1) (at-start .pre .2)
 
 returns-5 : tie.Need-returns-5
-returns-5 c = held-namespace _ _ _ _ _ (c .before .before .before .before .before .pre .0) _ (c .enum-told4 .given .1) (c .before .before .before .before .before .pre .2)
+returns-5 c =
+    let at-start = c .before .before .before .before .before .before in
+    held-namespace _ _ _ _ _ (at-start .pre .0) _ (c .enum-told4 .given .1) (at-start .pre .2)
 
 pub number-of-spec : {M : Type 1} → statement M
 number-of-spec =
@@ -56,7 +69,8 @@ number-of-spec =
     enum-told
     enum-told-2
     enum-known-x
-    of-requires
+    mul-find
+    shared-slice-read-find
     cast-find
     cast-find-2
     find-requires

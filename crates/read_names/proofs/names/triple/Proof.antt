@@ -3,7 +3,7 @@
 use borrow.Author.Needs.{needs}
 use native.Mathlib.Omega.{arith}
 use Rattle.read_names.proofs.NameLaws.{names-indexed, words-unnamed, name-held, name-full, name-new}
-use Rattle.read_names.proofs.Grown.{count-at}
+use Rattle.index.proofs.Counted.{count-at}
 use Rattle.tables.specs.Kept.{tripleOf}
 use Rattle.read_names.proofs.names.triple.Statement.{statement}
 use Rattle.read_names.proofs.names.triple.Tie as tie

@@ -3,7 +3,7 @@
 use native.Mathlib.Omega.{arith}
 use borrow.Author.Needs.{needs}
 use Rattle.read_names.proofs.StringLaws.{held-not, held-beyond, held-entry}
-use Rattle.read_names.proofs.Grown.{count-at}
+use Rattle.index.proofs.Counted.{count-at}
 use Rattle.read_names.proofs.strings.held.Statement.{statement}
 use Rattle.read_names.proofs.strings.held.Tie as tie
 

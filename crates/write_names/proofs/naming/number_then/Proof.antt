@@ -1,7 +1,7 @@
 -- `number_then` meets its contract: the number that the string has, none, or the next one of its table.
 -- Assumes nothing.
-use native.Mathlib.Omega.{arith}
 use borrow.Author.Needs.{needs}
+use native.Mathlib.Omega.{arith}
 use Rattle.write_names.proofs.NameLaws.{then-held, then-absent, then-next}
 use Rattle.write_names.proofs.naming.number_then.Statement.{statement}
 use Rattle.write_names.proofs.naming.number_then.Tie as tie
@@ -15,19 +15,18 @@ tag-requires c κs = search needs
 returns-2 : tie.Need-returns-2
 returns-2 c = then-absent _ _ _ (omega arith) (omega arith)
 
-of-requires : tie.Need-of-requires
-of-requires c κs = search needs
-
 add-result : tie.Need-add-result
-add-result c =
-    let n = c .of .ensures in
-    omega arith
+add-result c = search needs
 
 returns-3 : tie.Need-returns-3
-returns-3 c =
-    let n = c .of .ensures in
-    rw n (then-next _ _ _ (omega arith) (omega arith))
+returns-3 c = then-next _ _ _ (omega arith) (omega arith)
 
 pub number-then-spec : {M : Type 1} → statement M
 number-then-spec =
-    tie.close (tie.spec returns tag-requires returns-2 of-requires add-result returns-3)
+    tie.close
+    (tie.spec
+    returns
+    tag-requires
+    returns-2
+    add-result
+    returns-3)

@@ -1,0 +1,51 @@
+-- `optional` meets its contract: a law for each way out.
+-- Assumes nothing.
+use borrow.Author.Needs.{needs}
+use native.Mathlib.Omega.{arith}
+use Rattle.write_names.proofs.StringLaws.{optional-absent, optional-there}
+use Rattle.write_names.proofs.optional.Statement.{statement}
+use Rattle.write_names.proofs.optional.Tie as tie
+
+tag-requires : tie.Need-tag-requires
+tag-requires c κs = search needs
+
+returns : tie.Need-returns
+returns c =
+    let at-start = c .before .before .before .before .before .before .before in
+    optional-absent _ _ _ _ _ (at-start .pre .0) (at-start .args .x .string) (omega arith) _ _
+
+id-requires : tie.Need-id-requires
+id-requires c κs =
+    let at-start = c .before .before .before .before .before .before .before .before .before .before .before in
+    (at-start .pre .0, at-start .pre .1, omega arith, at-start .pre .2)
+
+same-length : tie.Need-same-length
+same-length c = search needs
+
+same-length-2 : tie.Need-same-length-2
+same-length-2 c = search needs
+
+same-length-3 : tie.Need-same-length-3
+same-length-3 c = search needs
+
+same-length-4 : tie.Need-same-length-4
+same-length-4 c = search needs
+
+returns-2 : tie.Need-returns-2
+returns-2 c =
+    let at-id = c .before .before .before .before .before .before .before .before in
+    let at-start = at-id .before .before .before .before .before .before .before .before .before .before .before .before in
+    optional-there _ _ _ _ _ (at-start .pre .0) (at-start .args .x .string) (omega arith) (at-id .id .result) _ _ _ _ _ _ (at-id .id .ensures)
+
+pub optional-spec : {M : Type 1} → statement M
+optional-spec =
+    tie.close
+    (tie.spec
+    tag-requires
+    returns
+    id-requires
+    same-length
+    same-length-2
+    same-length-3
+    same-length-4
+    returns-2)
