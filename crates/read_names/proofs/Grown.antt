@@ -14,7 +14,7 @@ use Rattle.tables.specs.Rows.{tableOf, stringAt, tripleAt, vocabulary}
 use Rattle.tables.specs.Kept.{nameTableOf, tripleOf, unlisted, countOf, Counted, rowAt, stored}
 use Rattle.tables.proofs.Laws.{length-names, name-nth}
 use Rattle.index.proofs.Entered.{row-kept, word-kept}
-use Rattle.index.proofs.Counted.{one-more-words}
+use Rattle.index.proofs.Counted.{count-at, one-more-words}
 use Rattle.events.specs.Records.{eventString}
 use Rattle.read_names.specs.Names.{noTriple}
 use Rattle.read_names.specs.Contracts.{Ranged, searched, Tidy, Grown, eventStringAt, eventStringsAt, nameStringsAt, IdLeft}
