@@ -1,6 +1,6 @@
 -- A law for each way out of the functions that write an item, on plain values.
 -- Assumes nothing.
-use mathlib.Core.Path.{_≡_, refl, subst, _∙_}
+use mathlib.Core.Path.{_≡_, refl, sym, subst, _∙_}
 use mathlib.Core.Bool.{Bool, true, false, not, _&&_}
 use mathlib.Core.List.{List, _++_, map}
 use Prim.Native.Nat.{ℕ, _+_, _-_, _*_, _/_, _≤_, _<_, min}
@@ -23,15 +23,14 @@ use Rattle.fields.proofs.Forms.{Ordered}
 use Rattle.fields.proofs.Numbers.{numbers-ordered, c25-ordered}
 use Rattle.fields.proofs.Puts.{puts-one, puts-append}
 use Rattle.fields.proofs.RoundTrip.{some-first}
-use Rattle.tables.specs.declared.Counts.{Counts}
 use Rattle.tables.specs.Located.{Located, octetsOf}
 use Rattle.tables.specs.Search.{numberIn, numberOfTriple}
 use Rattle.tables.proofs.Search.{length-octets}
-use Rattle.tables.specs.Rows.{tableOf, vocabulary}
+use Rattle.tables.specs.Rows.{tableOf}
 use Rattle.tables.specs.Kept.{nameTableOf, layoutOf}
-use Rattle.tables.proofs.Laws.{length-strings, length-names, number-within, name-number-within}
+use Rattle.tables.proofs.Laws.{number-within, name-number-within}
 use Rattle.states.specs.declared.State.{State}
-use Rattle.states.specs.States.{modeOf, stateOf, coming, movedTo, openedAt, afterEnd, declaringMode}
+use Rattle.states.specs.States.{farthest, modeOf, stateOf, coming, movedTo, openedAt, afterEnd, declaringMode}
 use Rattle.states.proofs.Modes.{mode-content, mode-listed, mode-declaring, after-mode, after-coming, coming-low, declaring-coming, root-one}
 use Rattle.events.specs.declared.EventString.{EventString}
 use Rattle.events.specs.declared.EventString.the-variants.{Absent, Empty, Stretch, XmlPrefix, XmlNamespace}
@@ -39,13 +38,13 @@ use Rattle.events.specs.declared.Kind.{Kind}
 use Rattle.events.specs.declared.Kind.the-variants.{Namespace, Start, Attribute, Chunk, Comment, Instruction, End}
 use Rattle.events.specs.declared.Event.{Event}
 use Rattle.events.specs.Records.{locatedOf, optionalOf}
-use Rattle.events.specs.Words.{stringTag, stringPlace, stringSize}
-use Rattle.write_names.specs.declared.Here.{Here}
+use Rattle.events.specs.Words.{stringPlace, stringSize}
 use Rattle.write_names.specs.declared.Wrote as W
 use Rattle.write_names.specs.declared.Wrote.the-variants.{Put, Full}
 use Rattle.write_names.specs.declared.Parts.{Parts}
 use Rattle.write_names.specs.Choices.{Wrote, writeId, writeOptional, writeName, writeLiteral, writeValue, worthAdding, within}
-use Rattle.write_names.specs.Contracts.{InOrder, Suits, Fills, Spells, namedOf, tripleFor, pairBehind, declaredBy, Stands, Meets}
+use Rattle.write_names.specs.Contracts.{stringMost, pairMost, nameMost, tablesIn, InOrder, Suits, Fills, Spells, namedOf, tripleFor, Proper, pairBehind, declaredBy, Stands, Meets}
+use Rattle.write_names.proofs.Order.{entries-count, triples-count, counted-at}
 use Rattle.write_names.proofs.NameLaws.{names-kept}
 use Rattle.write_names.proofs.StringLaws.{spells-suits, spells-stretch}
 use Rattle.tables.proofs.Found.{clash}
@@ -55,7 +54,7 @@ use Rattle.writer.specs.Items.{WroteItem, beforeDeclaration, beforeName,
 use Rattle.writer.specs.Writing.{isAttribute, isEnd, fits}
 use Rattle.writer.specs.OutputContracts.{endOctet}
 use Rattle.writer.specs.StepContracts.{known}
-use Rattle.writer.specs.ItemContracts.{owes, listEnded, endPut, Fit, landing, Near, Lands, holding}
+use Rattle.writer.specs.ItemContracts.{owes, listEnded, endPut, partsOf, Fit, landing, Near, Lands, holding}
 use Rattle.writer.proofs.WellMade.{stretch-lies, Named, by-kind}
 use Rattle.writer.proofs.ModeLaws.{declares}
 
@@ -89,11 +88,11 @@ module _ (text : List ℕ) where
   value-fills XmlPrefix e = clash e
   value-fills XmlNamespace e = clash e
 
-  pub name-ready : (e : Event) (name : Parts) → name ≡ record { prefix = e .prefix; namespace = e .namespace; local = e .name } → Named text e
-      → Suits text 0 (name .prefix) × Suits text 1 (name .namespace) × Suits text 2 (name .local) × (1 ≤ stringTag (name .local))
-  name-ready e name is n =
+  pub name-ready : (table lead : ℕ) (e : Event) (name : Parts) → name ≡ partsOf table lead e → 8 ≤ table → table < 10 → lead ≤ 0x80 → Named text e → Proper text name
+  name-ready table lead e name is low high bits n =
       let s = stretch-spells (e .name) (n .local) in
-      rw is (prefix-suits (e .prefix) (n .prefix), namespace-suits (e .namespace) (n .namespace), spells-suits text 2 (e .name) s, spells-stretch text (e .name) s .3)
+      rw is
+      (low, high, bits, prefix-suits (e .prefix) (n .prefix), namespace-suits (e .namespace) (n .namespace), spells-suits text 2 (e .name) s, spells-stretch text (e .name) s .3)
 
 -- ---- the end of an attribute list, and the room
 module _ (st : State) (e : Event) (out : List ℕ) where
@@ -115,50 +114,54 @@ pub octet-aligned : (at : ℕ) → (at + 1) / 2 ≡ aligned at / 2
 unfolding aligned
 octet-aligned at = omega arith
 
-module _ (text : List ℕ) (room : ℕ) (st : State) (cs : Counts) where
-  pub held-over : min room 16384 < (st .at + 1) / 2 → Stop 14 ≡ holding text room st cs
+module _ (text : List ℕ) (room : ℕ) (st : State) where
+  pub held-over : min room 16384 < (st .at + 1) / 2 → Stop 14 ≡ holding text room st
   unfolding holding fits link
   held-over h = rw (← (octet-aligned (st .at)), lt-leb _ _ h)
 
-  pub held-fitting : (st .at + 1) / 2 ≤ room → (st .at + 1) / 2 ≤ 16384 → On st cs ≡ holding text room st cs
+  pub held-fitting : (st .at + 1) / 2 ≤ room → (st .at + 1) / 2 ≤ 16384 → On st ≡ holding text room st
   unfolding holding fits link
   held-fitting h l = rw (← (octet-aligned (st .at)), le-leb _ _ (le-min h l))
 
 -- ---- octets put behind others
-stands-behind : {text out out₁ out′ w ix xs ys : List ℕ} {v : Vocabulary Located} {at r most : ℕ} {h : Here} (k : ℕ) → Puts out at r out₁ xs → r ≤ at + k
-    → Stands text out₁ r most h out′ w ix ys v → Stands text out at (k + most) h out′ w ix (xs ++ ys) v
-stands-behind k p l s = let f = s .few in record { puts = puts-append p (s .puts); few = omega arith; tables = s .tables; order = s .order }
+module _ {text out out′ c w ix : List ℕ} {H K : Type 0} (d : Wrote H) (d′ : Wrote K) {at most h : ℕ} where
+  stands-as : d′ .octets ≡ d .octets → d′ .tables ≡ d .tables → Stands text out at most h out′ c w ix d → Stands text out at most h out′ c w ix d′
+  stands-as o v s = record { puts = rw o (s .puts); few = s .few; tables = s .tables ∙ sym v; order = s .order }
+
+  stands-behind : {out₁ xs : List ℕ} {r : ℕ} (k : ℕ) → Puts out at r out₁ xs → r ≤ at + k → d′ .octets ≡ xs ++ d .octets → d′ .tables ≡ d .tables → Stands text out₁ r most h out′ c w ix d
+      → Stands text out at (k + most) h out′ c w ix d′
+  stands-behind k p l o v s = let f = s .few in record { puts = rw o (puts-append p (s .puts)); few = omega arith; tables = s .tables ∙ sym v; order = s .order }
 
 -- ---- the state behind an item
 abbrev asWrote : WroteItem → Wrote Choice
 asWrote d = record { octets = d .octets; how = d .choice; number = 0; tables = d .state .tables }
 
-module _ (text : List ℕ) (a : Bool) (st : State) (cs : Counts) (out w : List ℕ) (e : E.Event Located) (item : isEnd e ≡ false) (next : ℕ → State) (even : (k : ℕ) → next k .at ≡ 2 * k)
-    (state : (k : ℕ) → stateOf (next k) (writeItem link text a (known st cs w) e .state .tables) ≡ writeItem link text a (known st cs w) e .state)
+module _ (text : List ℕ) (a : Bool) (st : State) (c out w : List ℕ) (e : E.Event Located) (item : isEnd e ≡ false) (next : ℕ → State) (even : (k : ℕ) → next k .at ≡ 2 * k)
+    (state : (k : ℕ) → stateOf (next k) (writeItem link text a (known st c w) e .state .tables) ≡ writeItem link text a (known st c w) e .state)
     (shallow : (k : ℕ) → next k .level + coming (next k .mode) ≤ 32) where
-  lands : (most : ℕ) (r : W.Wrote) (out′ w′ ix′ : List ℕ) → 1 ≤ length (writeItem link text a (known st cs w) e .octets)
-      → Meets text out (aligned (st .at) / 2) most r out′ w′ ix′ (asWrote (writeItem link text a (known st cs w) e)) → Near r → Lands text a st cs out w e (landing next r) out′ w′ ix′
-  lands most (Put h) out′ w′ ix′ some s n =
-      let z : 2 * h .at / 2 ≡ h .at = omega arith in
+  lands : (most : ℕ) (r : W.Wrote) (out′ c′ w′ ix′ : List ℕ) → 1 ≤ length (writeItem link text a (known st c w) e .octets)
+      → Meets text out (aligned (st .at) / 2) most r out′ c′ w′ ix′ (asWrote (writeItem link text a (known st c w) e)) → Near r → Lands text a st c out w e (landing next r) out′ c′ w′ ix′
+  lands most (Put h) out′ c′ w′ ix′ some s n =
+      let z : 2 * h / 2 ≡ h = omega arith in
       record {
-        laid = rw (item, even (h .at), z) (s .puts, refl, some);
-        near = let d = even (h .at) in omega arith;
-        state = rw (s .tables) (state (h .at));
+        laid = rw (item, even h, z) (s .puts, refl, some);
+        near = let d = even h in omega arith;
+        state = rw (s .tables) (state h);
         order = s .order;
-        shallow = shallow (h .at);
+        shallow = shallow h;
       }
-  lands most Full out′ w′ ix′ some s n = (refl, s)
+  lands most Full out′ c′ w′ ix′ some s n = (refl, s)
 
   -- octets stand before what was put last
   lands-behind : {H : Type 0} (d : Wrote H) {xs out₁ : List ℕ} {at : ℕ} (most : ℕ) → Puts out (aligned (st .at) / 2) at out₁ xs → at ≤ aligned (st .at) / 2 + 1
-      → writeItem link text a (known st cs w) e .octets ≡ xs ++ d .octets → writeItem link text a (known st cs w) e .state .tables ≡ d .tables → (r : W.Wrote) (out′ w′ ix′ : List ℕ)
-      → 1 ≤ length (writeItem link text a (known st cs w) e .octets) → Meets text out₁ at most r out′ w′ ix′ d → Near r → Lands text a st cs out w e (landing next r) out′ w′ ix′
-  lands-behind d most p l o s (Put h) out′ w′ ix′ some m n = lands (1 + most) (Put h) out′ w′ ix′ some (rw (o, s) (stands-behind 1 p l m)) n
-  lands-behind d most p l o s Full out′ w′ ix′ some m n = (refl, rw s m)
+      → writeItem link text a (known st c w) e .octets ≡ xs ++ d .octets → writeItem link text a (known st c w) e .state .tables ≡ d .tables → (r : W.Wrote) (out′ c′ w′ ix′ : List ℕ)
+      → 1 ≤ length (writeItem link text a (known st c w) e .octets) → Meets text out₁ at most r out′ c′ w′ ix′ d → Near r → Lands text a st c out w e (landing next r) out′ c′ w′ ix′
+  lands-behind d most p l o s (Put h) out′ c′ w′ ix′ some m n = lands (1 + most) (Put h) out′ c′ w′ ix′ some (stands-behind d _ 1 p l o s m) n
+  lands-behind d most p l o s Full out′ c′ w′ ix′ some m n = (refl, rw s m)
 
-pub meets-near : {H : Type 0} (text out : List ℕ) (at most : ℕ) (r : W.Wrote) (out′ w′ ix′ : List ℕ) (d : Wrote H) → at + most ≤ 200000 → Meets text out at most r out′ w′ ix′ d → Near r
-meets-near text out at most (Put h) out′ w′ ix′ d l s = let f = s .few in omega arith
-meets-near text out at most Full out′ w′ ix′ d l s = tt
+pub meets-near : {H : Type 0} (text out : List ℕ) (at most : ℕ) (r : W.Wrote) (out′ c′ w′ ix′ : List ℕ) (d : Wrote H) → at + most ≤ farthest → Meets text out at most r out′ c′ w′ ix′ d → Near r
+meets-near text out at most (Put h) out′ c′ w′ ix′ d l s = let f = s .few in omega arith
+meets-near text out at most Full out′ c′ w′ ix′ d l s = tt
 
 -- ---- an item has an octet
 sizes-4 : 256 ≤ sizes (numbers 4)
@@ -228,14 +231,19 @@ module _ (text : List ℕ) (t : StringTable) (v : Vocabulary Located) (x : Locat
   value-within : within link (writeValue link text t v x .tables) ≡ within link v
   value-within = value-by _ _ refl refl
 
-value-behind : {text out out₁ out₂ w₁ i₁ w₂ i₂ xs : List ℕ} {v : Vocabulary Located} {at m : ℕ} {h g : Here} (t : StringTable) (y : Located) → Stands text out at m h out₁ w₁ i₁ xs v
-    → Stands text out₁ (h .at) 16389 g out₂ w₂ i₂ (writeValue link text t (vocabulary (h .counts) w₁) y .octets) (writeValue link text t (vocabulary (h .counts) w₁) y .tables)
-    → Stands text out at (m + 16389) g out₂ w₂ i₂ (xs ++ writeValue link text t v y .octets) (writeValue link text t v y .tables)
-value-behind {m = m} t y s r = stands-behind m (s .puts) (s .few) (rw (s .tables) at r)
+-- a value behind something else
+abbrev andValue : {H : Type 0} → List ℕ → StringTable → Wrote H → Located → Wrote E.How
+andValue text t d y =
+    let v : Wrote E.How = writeValue link text t (d .tables) y in
+    record { octets = d .octets ++ v .octets; how = v .how; number = 0; tables = v .tables }
+
+value-behind : {H : Type 0} {text out out₁ out₂ c₁ w₁ i₁ c₂ w₂ i₂ : List ℕ} {at m h g : ℕ} (d : Wrote H) (t : StringTable) (y : Located) → Stands text out at m h out₁ c₁ w₁ i₁ d
+    → Stands text out₁ h stringMost g out₂ c₂ w₂ i₂ (writeValue link text t (tablesIn c₁ w₁) y) → Stands text out at (m + stringMost) g out₂ c₂ w₂ i₂ (andValue text t d y)
+value-behind {text = text} {m = m} d t y s r = stands-behind (writeValue link text t (d .tables) y) _ m (s .puts) (s .few) refl refl (rw (s .tables) at r)
 
 -- ---- a kind that was found out
-pub kind-fits : {text w ix : List ℕ} {st : State} {cs : Counts} {e : Event} {k : Kind} → e .kind ≡ k → Fit text st cs w ix (e .kind) e → Fit text st cs w ix k e
-kind-fits {text} {w} {ix} {st} {cs} {e} q f = subst (λ (x : Kind). Fit text st cs w ix x e) q f
+pub kind-fits : {text c w ix : List ℕ} {st : State} {e : Event} {k : Kind} → e .kind ≡ k → Fit text st c w ix (e .kind) e → Fit text st c w ix k e
+kind-fits {text} {c} {w} {ix} {st} {e} q f = subst (λ (x : Kind). Fit text st c w ix x e) q f
 
 -- ---- an element more
 room-by : (level : ℕ) (b : Bool) → level + pick b 1 0 ≤ 32 → (not b && leb (link .depth) level) ≡ false → level < 32
@@ -247,118 +255,112 @@ element-room : (level m : ℕ) → level + coming m ≤ 32 → (not (isDeclaring
 unfolding coming
 element-room level m s r = room-by level (leb 3 m) s (rw (declares m) at r)
 
-pub start-room : {text w ix : List ℕ} {st : State} {cs : Counts} {e : Event} → Fit text st cs w ix Start e → st .level < 32
+pub start-room : {text c w ix : List ℕ} {st : State} {e : Event} → Fit text st c w ix Start e → st .level < 32
 unfolding eventOf
 start-room {st = st} fit = element-room (st .level) (st .mode) (fit .shallow) (fit .roomy)
 
 -- ---- each kind
-module _ (text : List ℕ) (a : Bool) (st : State) (cs : Counts) (w : List ℕ) (e : Event) where
-  pub chunk-lands : {ix : List ℕ} → Fit text st cs w ix Chunk e → {at : ℕ} → (at ≡ aligned (st .at) / 2) × (at ≤ 16385) → {out out′ w′ ix′ : List ℕ} {h : Here}
-      → Stands text out at 16389 h out′ w′ ix′ (writeLiteral link c15 text CONTENT-CHARACTER-CHUNK (vocabulary cs w) (locatedOf (e .value)) .octets)
-      (writeLiteral link c15 text CONTENT-CHARACTER-CHUNK (vocabulary cs w) (locatedOf (e .value)) .tables)
-      → Lands text a st cs out w (eventOf Chunk e) (landing (λ k. movedTo st k (st .mode)) (Put h)) out′ w′ ix′
+module _ (text : List ℕ) (a : Bool) (st : State) (c w : List ℕ) (e : Event) where
+  pub chunk-lands : {ix : List ℕ} → Fit text st c w ix Chunk e → {at : ℕ} → (at ≡ aligned (st .at) / 2) × (at ≤ 16385) → {out out′ c′ w′ ix′ : List ℕ} {h : ℕ}
+      → Stands text out at stringMost h out′ c′ w′ ix′ (writeLiteral link c15 text CONTENT-CHARACTER-CHUNK (tablesIn c w) (locatedOf (e .value)))
+      → Lands text a st c out w (eventOf Chunk e) (landing (λ k. movedTo st k (st .mode)) (Put h)) out′ c′ w′ ix′
   unfolding eventOf writeItem tableOf
-  chunk-lands fit q {out′ = out′} {w′ = w′} {ix′ = ix′} {h = h} s =
-      let n = length-strings cs w 6 (omega arith) in
-      let c = fit .order .counted 6 in
-      let o = chunk-by text (vocabulary cs w) (locatedOf (e .value)) (spelled-some text (e .value) (stretch-spells text (e .value) (by-kind text e Chunk (fit .made) .2))) (omega arith) _ refl in
-      lands text a st cs _ w (eventOf Chunk e) refl (λ k. movedTo st k (st .mode)) (λ k. refl) (λ k. refl) (λ k. fit .shallow) 16389 (Put h) out′ w′ ix′ o (rw (← (q .0)) s) (let b = q .1 in let f = s .few in omega arith)
+  chunk-lands fit q {out′ = out′} {c′ = c′} {w′ = w′} {ix′ = ix′} {h = h} s =
+      let n = entries-count c w (fit .order .ten) 6 (omega arith) in
+      let l = counted-at text c w _ 6 (fit .order) in
+      let o = chunk-by text (tablesIn c w) (locatedOf (e .value)) (spelled-some text (e .value) (stretch-spells text (e .value) (by-kind text e Chunk (fit .made) .2))) (omega arith) _ refl in
+      lands text a st c _ w (eventOf Chunk e) refl (λ k. movedTo st k (st .mode)) (λ k. refl) (λ k. refl) (λ k. fit .shallow) stringMost (Put h) out′ c′ w′ ix′ o
+      (rw (← (q .0)) (stands-as _ _ refl refl s)) (let b = q .1 in let f = s .few in omega arith)
 
-  pub comment-lands : {ix : List ℕ} → Fit text st cs w ix Comment e → {at : ℕ} → (at ≡ aligned (st .at) / 2) × (at ≤ 16385) → {out out₁ out′ w′ ix′ : List ℕ} {h : Here} → out₁ ≡ set out at 0xE2
-      → Stands text out₁ (at + 1) 16389 h out′ w′ ix′ (writeValue link text (tableOf 7) (vocabulary cs w) (locatedOf (e .value)) .octets)
-      (writeValue link text (tableOf 7) (vocabulary cs w) (locatedOf (e .value)) .tables)
-      → Lands text a st cs out w (eventOf Comment e) (landing (λ k. movedTo st k (st .mode)) (Put h)) out′ w′ ix′
+  pub comment-lands : {ix : List ℕ} → Fit text st c w ix Comment e → {at : ℕ} → (at ≡ aligned (st .at) / 2) × (at ≤ 16385) → {out out₁ out′ c′ w′ ix′ : List ℕ} {h : ℕ} → out₁ ≡ set out at 0xE2
+      → Stands text out₁ (at + 1) stringMost h out′ c′ w′ ix′ (writeValue link text (tableOf 7) (tablesIn c w) (locatedOf (e .value)))
+      → Lands text a st c out w (eventOf Comment e) (landing (λ k. movedTo st k (st .mode)) (Put h)) out′ c′ w′ ix′
   unfolding eventOf writeItem tableOf
-  comment-lands fit q {out′ = out′} {w′ = w′} {ix′ = ix′} {h = h} p s =
-      lands text a st cs _ w (eventOf Comment e) refl (λ k. movedTo st k (st .mode)) (λ k. refl) (λ k. refl) (λ k. fit .shallow) 16390 (Put h) out′ w′ ix′ (omega arith) (rw (← (q .0)) (stands-behind 1 (puts-one p) (omega arith) s))
-      (let b = q .1 in let f = s .few in omega arith)
+  comment-lands fit q {out′ = out′} {c′ = c′} {w′ = w′} {ix′ = ix′} {h = h} p s =
+      lands text a st c _ w (eventOf Comment e) refl (λ k. movedTo st k (st .mode)) (λ k. refl) (λ k. refl) (λ k. fit .shallow) (1 + stringMost) (Put h) out′ c′ w′ ix′ (omega arith)
+      (rw (← (q .0)) (stands-behind _ _ 1 (puts-one p) (omega arith) refl refl s)) (let b = q .1 in let f = s .few in omega arith)
 
-  pub instruction-full : within link (writeId text (tableOf 3) (vocabulary cs w) (locatedOf (e .name)) .tables) ≡ false
-      → within link (writeItem link text a (known st cs w) (eventOf Instruction e) .state .tables) ≡ false
+  pub instruction-full : within link (writeId text (tableOf 3) (tablesIn c w) (locatedOf (e .name)) .tables) ≡ false
+      → within link (writeItem link text a (known st c w) (eventOf Instruction e) .state .tables) ≡ false
   unfolding eventOf writeItem tableOf adding within
   instruction-full f = value-within text OTHER-STRING _ (locatedOf (e .value)) refl ∙ f
 
-  pub instruction-lands : {ix : List ℕ} → Fit text st cs w ix Instruction e → {at : ℕ} → (at ≡ aligned (st .at) / 2) × (at ≤ 16385) → {out out₁ out₂ out′ w₁ i₁ w′ ix′ : List ℕ} {h g : Here} → out₁ ≡ set out at 0xE1
-      → Stands text out₁ (at + 1) 16389 h out₂ w₁ i₁ (writeId text (tableOf 3) (vocabulary cs w) (locatedOf (e .name)) .octets)
-      (writeId text (tableOf 3) (vocabulary cs w) (locatedOf (e .name)) .tables)
-      → Stands text out₂ (h .at) 16389 g out′ w′ ix′ (writeValue link text (tableOf 7) (vocabulary (h .counts) w₁) (locatedOf (e .value)) .octets)
-      (writeValue link text (tableOf 7) (vocabulary (h .counts) w₁) (locatedOf (e .value)) .tables)
-      → Lands text a st cs out w (eventOf Instruction e) (landing (λ k. movedTo st k (st .mode)) (Put g)) out′ w′ ix′
+  pub instruction-lands : {ix : List ℕ} → Fit text st c w ix Instruction e → {at : ℕ} → (at ≡ aligned (st .at) / 2) × (at ≤ 16385) → {out out₁ out₂ out′ c₁ w₁ i₁ c′ w′ ix′ : List ℕ} {h g : ℕ}
+      → out₁ ≡ set out at 0xE1 → Stands text out₁ (at + 1) stringMost h out₂ c₁ w₁ i₁ (writeId text (tableOf 3) (tablesIn c w) (locatedOf (e .name)))
+      → Stands text out₂ h stringMost g out′ c′ w′ ix′ (writeValue link text (tableOf 7) (tablesIn c₁ w₁) (locatedOf (e .value)))
+      → Lands text a st c out w (eventOf Instruction e) (landing (λ k. movedTo st k (st .mode)) (Put g)) out′ c′ w′ ix′
   unfolding eventOf writeItem tableOf
-  instruction-lands fit q {out′ = out′} {w′ = w′} {ix′ = ix′} {g = g} p s r =
-      lands text a st cs _ w (eventOf Instruction e) refl (λ k. movedTo st k (st .mode)) (λ k. refl) (λ k. refl) (λ k. fit .shallow) 32779 (Put g) out′ w′ ix′ (omega arith)
-      (rw (← (q .0)) (stands-behind 1 (puts-one p) (omega arith) (value-behind OTHER-STRING _ s r)))
-      (let b = q .1 in let f = s .few in let k = r .few in omega arith)
+  instruction-lands fit q {out′ = out′} {c′ = c′} {w′ = w′} {ix′ = ix′} {g = g} p s r =
+      lands text a st c _ w (eventOf Instruction e) refl (λ k. movedTo st k (st .mode)) (λ k. refl) (λ k. refl) (λ k. fit .shallow) (1 + (stringMost + stringMost)) (Put g) out′ c′ w′ ix′
+      (omega arith) (rw (← (q .0)) (stands-behind _ _ 1 (puts-one p) (omega arith) refl refl (value-behind _ OTHER-STRING _ s r))) (let b = q .1 in let f = s .few in let k = r .few in omega arith)
 
-  pub declare-lands : {ix : List ℕ} → Fit text st cs w ix Namespace e → {at₀ at : ℕ} {out out₁ : List ℕ} → (at₀ ≡ aligned (st .at) / 2) × (at₀ ≤ 16385)
-      → Puts out at₀ at out₁ (beforeDeclaration (modeOf (st .mode)) a) × (at ≤ at₀ + 1) → (r : W.Wrote) (out′ w′ ix′ : List ℕ)
-      → Meets text out₁ at 32779 r out′ w′ ix′ (declaredBy text (vocabulary cs w) (optionalOf (e .prefix)) (optionalOf (e .namespace)))
-      → Lands text a st cs out w (eventOf Namespace e) (landing (λ k. movedTo st k (declaringMode a)) r) out′ w′ ix′
+  pub declare-lands : {ix : List ℕ} → Fit text st c w ix Namespace e → {at₀ at : ℕ} {out out₁ : List ℕ} → (at₀ ≡ aligned (st .at) / 2) × (at₀ ≤ 16385)
+      → Puts out at₀ at out₁ (beforeDeclaration (modeOf (st .mode)) a) × (at ≤ at₀ + 1) → (r : W.Wrote) (out′ c′ w′ ix′ : List ℕ)
+      → Meets text out₁ at pairMost r out′ c′ w′ ix′ (declaredBy text (tablesIn c w) (optionalOf (e .prefix)) (optionalOf (e .namespace)))
+      → Lands text a st c out w (eventOf Namespace e) (landing (λ k. movedTo st k (declaringMode a)) r) out′ c′ w′ ix′
   unfolding eventOf writeItem declaredBy pairBehind
-  declare-lands fit q p r out′ w′ ix′ m =
+  declare-lands fit q p r out′ c′ w′ ix′ m =
       let s = element-room (st .level) (st .mode) (fit .shallow) (fit .roomy) in
       let b = q .1 in
       let l = p .1 in
-      let n = meets-near text _ _ 32779 r out′ w′ ix′ _ (omega arith) m in
-      let c = declaring-coming a in
-      lands-behind text a st cs _ w (eventOf Namespace e) refl (λ k. movedTo st k (declaringMode a)) (λ k. refl) (λ k. rw (mode-declaring a)) (λ k. omega arith) _ 32779 (rw (q .0) at (p .0)) (rw (q .0) at l) refl refl r out′ w′ ix′
-      (simp length-append (omega arith)) m n
+      let n = meets-near text _ _ pairMost r out′ c′ w′ ix′ _ (omega arith) m in
+      let coming-on = declaring-coming a in
+      lands-behind text a st c _ w (eventOf Namespace e) refl (λ k. movedTo st k (declaringMode a)) (λ k. refl) (λ k. rw (mode-declaring a)) (λ k. omega arith) _ pairMost (rw (q .0) at (p .0)) (rw (q .0) at l)
+      refl refl r out′ c′ w′ ix′ (simp length-append (omega arith)) m n
 
-  module _ {ix : List ℕ} (fit : Fit text st cs w ix Start e) {at₀ at lead : ℕ} {out out₁ : List ℕ} (q : (at₀ ≡ aligned (st .at) / 2) × (at₀ ≤ 16385))
+  module _ {ix : List ℕ} (fit : Fit text st c w ix Start e) {at₀ at lead : ℕ} {out out₁ : List ℕ} (q : (at₀ ≡ aligned (st .at) / 2) × (at₀ ≤ 16385))
       (p : Puts out at₀ at out₁ (beforeName (modeOf (st .mode))) × (at ≤ at₀ + 1)) (lead-is : lead ≡ nameLead (modeOf (st .mode)) a) where
-    start-some : 1 ≤ length (writeItem link text a (known st cs w) (eventOf Start e) .octets)
+    start-some : 1 ≤ length (writeItem link text a (known st c w) (eventOf Start e) .octets)
     unfolding eventOf writeItem layoutOf nameTableOf ofElement
     start-some =
-        let n = length-names cs w 8 (omega arith) (omega arith) in
-        let c = fit .order .counted 8 in
-        let o = name-by (layoutOf 8) (nameLead (modeOf (st .mode)) a) text (vocabulary cs w) (nameOf e) (wide-name 8) (omega arith) _ refl in
+        let n = triples-count c w (fit .order .ten) 8 (omega arith) (omega arith) in
+        let l = counted-at text c w ix 8 (fit .order) in
+        let o = name-by (layoutOf 8) (nameLead (modeOf (st .mode)) a) text (tablesIn c w) (nameOf e) (wide-name 8) (omega arith) _ refl in
         simp length-append (omega arith)
 
-    pub start-lands : (name : Parts) → name ≡ record { prefix = e .prefix; namespace = e .namespace; local = e .name } → (r : W.Wrote) (out′ w′ ix′ : List ℕ)
-        → Meets text out₁ at 49168 r out′ w′ ix′ (writeName (layoutOf 8) lead text (vocabulary cs w) (namedOf name))
-        → Lands text a st cs out w (eventOf Start e) (landing (λ k. openedAt st k a) r) out′ w′ ix′
+    pub start-lands : (name : Parts) → name ≡ partsOf 8 lead e → (r : W.Wrote) (out′ c′ w′ ix′ : List ℕ)
+        → Meets text out₁ at nameMost r out′ c′ w′ ix′ (writeName (layoutOf (name .table)) (name .lead) text (tablesIn c w) (namedOf name))
+        → Lands text a st c out w (eventOf Start e) (landing (λ k. openedAt st k a) r) out′ c′ w′ ix′
     unfolding eventOf writeItem layoutOf
-    start-lands name is r out′ w′ ix′ m =
+    start-lands name is r out′ c′ w′ ix′ m =
         let s = start-room fit in
         let b = q .1 in
         let l = p .1 in
-        let n = meets-near text _ _ 49168 r out′ w′ ix′ _ (omega arith) m in
-        let c = after-coming a in
-        lands-behind text a st cs _ w (eventOf Start e) refl (λ k. openedAt st k a) (λ k. refl) (λ k. rw (root-one, after-mode a, add-one)) (λ k. omega arith) _ 49168 (rw (q .0) at (p .0)) (rw (q .0) at l) refl refl r out′ w′ ix′
-        start-some (rw (lead-is, is) at m) n
+        let n = meets-near text _ _ nameMost r out′ c′ w′ ix′ _ (omega arith) m in
+        let coming-on = after-coming a in
+        lands-behind text a st c _ w (eventOf Start e) refl (λ k. openedAt st k a) (λ k. refl) (λ k. rw (root-one, after-mode a, add-one)) (λ k. omega arith) _ nameMost (rw (q .0) at (p .0)) (rw (q .0) at l)
+        refl refl r out′ c′ w′ ix′ start-some (rw (is, lead-is) at m) n
 
-  module _ {ix : List ℕ} (fit : Fit text st cs w ix Attribute e) (name : Parts) (is : name ≡ record { prefix = e .prefix; namespace = e .namespace; local = e .name }) where
-    attribute-some : 1 ≤ length (writeItem link text a (known st cs w) (eventOf Attribute e) .octets)
+  module _ {ix : List ℕ} (fit : Fit text st c w ix Attribute e) (name : Parts) (is : name ≡ partsOf 9 0 e) where
+    attribute-some : 1 ≤ length (writeItem link text a (known st c w) (eventOf Attribute e) .octets)
     unfolding eventOf writeItem layoutOf nameTableOf ofAttribute
     attribute-some =
-        let n = length-names cs w 9 (omega arith) (omega arith) in
-        let c = fit .order .counted 9 in
-        let o = name-by (layoutOf 9) 0 text (vocabulary cs w) (nameOf e) (wide-name 9) (omega arith) _ refl in
+        let n = triples-count c w (fit .order .ten) 9 (omega arith) (omega arith) in
+        let l = counted-at text c w ix 9 (fit .order) in
+        let o = name-by (layoutOf 9) 0 text (tablesIn c w) (nameOf e) (wide-name 9) (omega arith) _ refl in
         simp length-append (omega arith)
 
-    pub attribute-full : within link (writeName (layoutOf 9) 0 text (vocabulary cs w) (namedOf name) .tables) ≡ false
-        → within link (writeItem link text a (known st cs w) (eventOf Attribute e) .state .tables) ≡ false
+    pub attribute-full : within link (writeName (layoutOf (name .table)) (name .lead) text (tablesIn c w) (namedOf name) .tables) ≡ false
+        → within link (writeItem link text a (known st c w) (eventOf Attribute e) .state .tables) ≡ false
     unfolding eventOf writeItem layoutOf adding within
     attribute-full f = value-within text ATTRIBUTE-VALUE _ (locatedOf (e .value)) refl ∙ rw is at f
 
-    pub attribute-lands : {at : ℕ} → (at ≡ aligned (st .at) / 2) × (at ≤ 16385) → {out out₁ out′ w₁ i₁ w′ ix′ : List ℕ} {h g : Here}
-        → Stands text out at 49168 h out₁ w₁ i₁ (writeName (layoutOf 9) 0 text (vocabulary cs w) (namedOf name) .octets)
-        (writeName (layoutOf 9) 0 text (vocabulary cs w) (namedOf name) .tables)
-        → Stands text out₁ (h .at) 16389 g out′ w′ ix′ (writeValue link text (tableOf 5) (vocabulary (h .counts) w₁) (locatedOf (e .value)) .octets)
-        (writeValue link text (tableOf 5) (vocabulary (h .counts) w₁) (locatedOf (e .value)) .tables)
-        → Lands text a st cs out w (eventOf Attribute e) (landing (λ k. movedTo st k 2) (Put g)) out′ w′ ix′
+    pub attribute-lands : {at : ℕ} → (at ≡ aligned (st .at) / 2) × (at ≤ 16385) → {out out₁ out′ c₁ w₁ i₁ c′ w′ ix′ : List ℕ} {h g : ℕ}
+        → Stands text out at nameMost h out₁ c₁ w₁ i₁ (writeName (layoutOf (name .table)) (name .lead) text (tablesIn c w) (namedOf name))
+        → Stands text out₁ h stringMost g out′ c′ w′ ix′ (writeValue link text (tableOf 5) (tablesIn c₁ w₁) (locatedOf (e .value)))
+        → Lands text a st c out w (eventOf Attribute e) (landing (λ k. movedTo st k 2) (Put g)) out′ c′ w′ ix′
     unfolding eventOf writeItem layoutOf tableOf
-    attribute-lands q {out′ = out′} {w′ = w′} {ix′ = ix′} {g = g} s r =
+    attribute-lands q {out′ = out′} {c′ = c′} {w′ = w′} {ix′ = ix′} {g = g} s r =
         let b = q .1 in
         let f = s .few in
         let k = r .few in
         let d = fit .shallow in
-        let c = coming-low 2 (omega arith) in
-        lands text a st cs _ w (eventOf Attribute e) refl (λ k. movedTo st k 2) (λ k. refl) (λ k. rw mode-listed) (λ k. omega arith) 65557 (Put g) out′ w′ ix′ attribute-some
-        (rw (← (q .0)) (value-behind ATTRIBUTE-VALUE _ (rw is at s) r)) (omega arith)
+        let l = coming-low 2 (omega arith) in
+        lands text a st c _ w (eventOf Attribute e) refl (λ k. movedTo st k 2) (λ k. refl) (λ k. rw mode-listed) (λ k. omega arith) (nameMost + stringMost) (Put g) out′ c′ w′ ix′ attribute-some
+        (rw (← (q .0)) (stands-as _ _ refl refl (value-behind _ ATTRIBUTE-VALUE _ (rw is at s) r))) (omega arith)
 
-pub end-lands : (text : List ℕ) (a : Bool) (st : State) (cs : Counts) (w ix : List ℕ) → InOrder text cs w ix → st .at ≤ 32769 → st .level ≤ 32 → {out out′ : List ℕ}
-    → out′ ≡ set out (st .at / 2) (endOctet (st .at)) → Lands text a st cs out w E.End (On (afterEnd st (st .level - 1)) cs) out′ w ix
+pub end-lands : (text : List ℕ) (a : Bool) (st : State) (c w ix : List ℕ) → InOrder text c w ix → st .at ≤ 32769 → st .level ≤ 32 → {out out′ : List ℕ} → out′ ≡ set out (st .at / 2) (endOctet (st .at))
+    → Lands text a st c out w E.End (On (afterEnd st (st .level - 1))) out′ c w ix
 unfolding writeItem
-end-lands text a st cs w ix order l d p =
-    record { laid = (refl, p); near = omega arith; state = rw mode-content; order = order; shallow = let c = coming-low 0 (omega arith) in omega arith }
+end-lands text a st c w ix order l d p =
+    record { laid = (refl, p); near = omega arith; state = rw mode-content; order = order; shallow = let k = coming-low 0 (omega arith) in omega arith }

@@ -13,7 +13,9 @@ use Rattle.format.specs.Document.{header}
 use Rattle.tables.specs.declared.Counts.{Counts}
 use Rattle.tables.specs.Located.{start}
 use Rattle.tables.specs.Counts.{countsOf, tableWords}
+use Rattle.tables.specs.Kept.{listed, unlisted}
 use Rattle.index.specs.Indexed.{slots}
+use Rattle.index.proofs.Counted.{words-listed}
 use Rattle.states.specs.declared.State.{State}
 use Rattle.states.specs.States.{modeOf, fresh}
 use Rattle.events.specs.declared.Event.{Event}
@@ -64,15 +66,26 @@ pub bounded-onward : (i : ℕ) {p : Phase} {st : State} {cs : Counts} → p ≡ 
 bounded-onward i q h = rw q at h
 
 module _ (text : List ℕ) (room table i : ℕ) (out w ix : List ℕ) (e : Event) (a : Bool) (out′ w′ ix′ : List ℕ) where
-  module _ (st : State) (cs : Counts) (p : Phase) (q : p ≡ Onward st cs) (b : Bool) (f : b ≡ bitOf (modeOf (st .mode)) a) (r : Step) (s : Steps text room b st cs out w e r out′ w′ ix′) where
-    pub turn-on : (next : State) (cs′ : Counts) → r ≡ On next cs′ → Turns text room table i p out w ix e a (Onward next cs′) out′ w′ ix′
-    turn-on next cs′ o =
-        rw q (λ es g d c. (g .0, g .1, underway-on (g .2) d (f ∙ bit-chosen (modeOf (st .mode)) a i es (g .2 .bit-known) c) r out′ w′ ix′ s o))
+  module _ (st : State) (cs : Counts) (p : Phase) (q : p ≡ Onward st cs) {c : List ℕ} (qc : c ≡ listed cs) (b : Bool) (f : b ≡ bitOf (modeOf (st .mode)) a) (r : Step) (c′ : List ℕ)
+      (s : Steps text room b st c out w e r out′ c′ w′ ix′) where
+    stepped : Steps text room b st (listed cs) out w e r out′ c′ w′ ix′
+    stepped = rw qc at s
+
+    pub turn-on : (next : State) (cs′ : Counts) → r ≡ On next → cs′ ≡ unlisted c′ → Turns text room table i p out w ix e a (Onward next cs′) out′ w′ ix′
+    turn-on next cs′ o k =
+        rw q
+        (λ es g d c.
+        let u = underway-on (g .2) d (f ∙ bit-chosen (modeOf (st .mode)) a i es (g .2 .bit-known) c) r out′ c′ w′ ix′ stepped o in
+        (g .0, g .1, rw (k, words-listed c′ (u .ready .order .ten)) u))
 
     pub turn-stop : (n : ℕ) → r ≡ Stop n → Turns text room table i p out w ix e a (Halted n i) out′ w′ ix′
     unfolding link
     turn-stop n o =
-        rw q (λ es g d c. ap (λ (k : ℕ). refusing n i room k) (g .1) ∙ run-refused (g .2) d (f ∙ bit-chosen (modeOf (st .mode)) a i es (g .2 .bit-known) c) r out′ w′ ix′ s o ∙ run-is es text room table (g .0) (g .1))
+        rw q
+        (λ es g d c.
+        ap (λ (k : ℕ). refusing n i room k) (g .1)
+        ∙ run-refused (g .2) d (f ∙ bit-chosen (modeOf (st .mode)) a i es (g .2 .bit-known) c) r out′ c′ w′ ix′ stepped o
+        ∙ run-is es text room table (g .0) (g .1))
 
   pub turn-halted : (p : Phase) (k n : ℕ) → p ≡ Halted k n → Turns text room table i p out w ix e a (Halted k n) out w ix
   turn-halted p k n q = rw q (λ es g d c. g)

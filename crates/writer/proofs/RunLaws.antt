@@ -121,11 +121,11 @@ held-room q h = rw q at h
 
 -- ---- a run of the events es, with `room` octets of output
 module _ (text : List ℕ) (room : ℕ) (es : List Event) where
-  start-known : (w : List ℕ) → w ≡ replicate tableWords 0 → known (fresh (length (header link))) (countsOf (start link)) w ≡ beginning (start link)
+  start-known : (w : List ℕ) → w ≡ replicate tableWords 0 → known (fresh (length (header link))) (listed (countsOf (start link))) w ≡ beginning (start link)
   unfolding beginning modeOf rootOf
   start-known w e = rw (e, vocabulary-start (replicate tableWords 0) (getD-replicate {A = ℕ} tableWords 1 0 0 (lit< tt)) (getD-replicate {A = ℕ} tableWords 769 0 0 (lit< tt)))
 
-  pub underway-start : length text ≤ 16384 → {out w ix : List ℕ} → Holds room [] (2 * length (header link)) out → w ≡ replicate tableWords 0 → ix ≡ replicate slots 0 → Underway text room es 0 (fresh (length (header link))) (countsOf (start link)) out w ix
+  pub underway-start : length text ≤ 16384 → {out w ix : List ℕ} → Holds room [] (2 * length (header link)) out → w ≡ replicate tableWords 0 → ix ≡ replicate slots 0 → Underway text room es 0 (fresh (length (header link))) (listed (countsOf (start link))) out w ix
   unfolding writing
   underway-start h {out} {w} {ix} o e z =
       record {
@@ -137,44 +137,45 @@ module _ (text : List ℕ) (room : ℕ) (es : List Event) where
         leads = rw (start-known w e) (behind-none (run link text room (2 * length (header link)) (beginning (start link)) 0 es) room);
       }
 
-module _ {text : List ℕ} {room : ℕ} {es : List Event} {i : ℕ} {st : State} {cs : Counts} {out w ix : List ℕ} (u : Underway text room es i st cs out w ix) where
+module _ {text : List ℕ} {room : ℕ} {es : List Event} {i : ℕ} {st : State} {c out w ix : List ℕ} (u : Underway text room es i st c out w ix) where
   pub underway-number : i ≤ 32768
   underway-number = let l = u .ready .at in let m = u .small in omega arith
 
   -- a step with the next event
-  module _ {e : Event} (d : drop i es ≡ e ∷ drop (suc i) es) {a : Bool} (b : a ≡ announced (drop i es)) (r : Step) (out′ w′ ix′ : List ℕ) (p : Steps text room a st cs out w e r out′ w′ ix′) where
-    leads-here : behind (u .hs) (run link text room (st .at) (known st cs w) i (e ∷ drop (suc i) es)) room ≡ outcome link (writing link text room es) room
+  module _ {e : Event} (d : drop i es ≡ e ∷ drop (suc i) es) {a : Bool} (b : a ≡ announced (drop i es)) (r : Step) (out′ c′ w′ ix′ : List ℕ) (p : Steps text room a st c out w e r out′ c′ w′ ix′) where
+    leads-here : behind (u .hs) (run link text room (st .at) (known st c w) i (e ∷ drop (suc i) es)) room ≡ outcome link (writing link text room es) room
     leads-here = rw d at (u .leads)
 
-    stepped : Steps text room (announced (e ∷ drop (suc i) es)) st cs out w e r out′ w′ ix′
+    stepped : Steps text room (announced (e ∷ drop (suc i) es)) st c out w e r out′ c′ w′ ix′
     stepped = rw (b ∙ ap announced d) at p
 
-    pub underway-on : {next : State} {cs′ : Counts} → r ≡ On next cs′ → Underway text room es (i + 1) next cs′ out′ w′ ix′
-    underway-on {next} {cs′} q =
+    pub underway-on : {next : State} → r ≡ On next → Underway text room es (i + 1) next c′ out′ w′ ix′
+    underway-on {next} q =
         let g = rw q at stepped in
         let l = u .small in
         let o = g .onward in
-        let k = halvesFor text room (announced (e ∷ drop (suc i) es)) (st .at) (known st cs w) e in
+        let k = halvesFor text room (announced (e ∷ drop (suc i) es)) (st .at) (known st c w) e in
         let grown = g .grown (u .hs) (u .holds) in
-        let m : modeOf (next .mode) ≡ itemOf text (announced (e ∷ drop (suc i) es)) (known st cs w) e .state .mode = ap (λ (v : F.State Located). v .mode) (g .state) in
+        let m : modeOf (next .mode) ≡ itemOf text (announced (e ∷ drop (suc i) es)) (known st c w) e .state .mode = ap (λ (v : F.State Located). v .mode) (g .state) in
         record {
           hs = u .hs ++ k;
           holds = rw (grown .place) (grown .holds);
           ready = g .ready;
-          bit-known = rw (m, add-one i) (bit-next text room (st .at) (known st cs w) e (drop (suc i) es) (g .judged));
+          bit-known = rw (m, add-one i) (bit-next text room (st .at) (known st c w) e (drop (suc i) es) (g .judged));
           small = omega arith;
-          leads = rw (g .state, grown .place, add-one i) (sym (behind-on text room (st .at) (known st cs w) e (drop (suc i) es) i (u .hs) (g .judged)) ∙ leads-here);
+          leads = rw (g .state, grown .place, add-one i) (sym (behind-on text room (st .at) (known st c w) e (drop (suc i) es) i (u .hs) (g .judged)) ∙ leads-here);
         }
 
     pub run-refused : {n : ℕ} → r ≡ Stop n → refusing n i room tableWords ≡ outcome link (writing link text room es) room
     run-refused {n} q =
         let g = rw q at stepped in
-        sym (ap (λ (x : Result). behind (u .hs) x room) (run-stop text room (st .at) (known st cs w) e (drop (suc i) es) i n (g .0) (g .1))) ∙ leads-here
+        sym (ap (λ (x : Result). behind (u .hs) x room) (run-stop text room (st .at) (known st c w) e (drop (suc i) es) i n (g .0) (g .1))) ∙ leads-here
 
-  -- the end behind the last event
-  pub run-finished : length es ≤ i → (r : Answer) (out′ : List ℕ) → Finishes room st cs out i r out′ → remains room tableWords r out′ w ≡ outcome link (writing link text room es) room
-  unfolding run
-  run-finished l r out′ f = f text w ix (u .hs) (u .ready) (u .holds) ∙ (rw (drop-of-length-le es l) at (u .leads))
+-- the end behind the last event
+pub run-finished : {text : List ℕ} {room : ℕ} {es : List Event} {i : ℕ} {st : State} {cs : Counts} {out w ix : List ℕ} → Underway text room es i st (listed cs) out w ix → length es ≤ i
+    → (r : Answer) (out′ : List ℕ) → Finishes room st cs out i r out′ → remains room tableWords r out′ w ≡ outcome link (writing link text room es) room
+unfolding run
+run-finished {text = text} {es = es} {w = w} {ix = ix} u l r out′ f = f text w ix (u .hs) (u .ready) (u .holds) ∙ (rw (drop-of-length-le es l) at (u .leads))
 
 -- ---- the document's end
 module _ (text : List ℕ) (room at : ℕ) where

@@ -13,7 +13,6 @@ use Rattle.format.specs.Events as E
 use Rattle.format.specs.Tables.{link}
 use Rattle.format.specs.Items as F
 use Rattle.format.specs.Document.{aligned}
-use Rattle.tables.specs.declared.Counts.{Counts}
 use Rattle.tables.specs.Located.{Located}
 use Rattle.states.specs.declared.State.{State}
 use Rattle.states.specs.States.{modeOf}
@@ -35,13 +34,13 @@ use Rattle.writer.proofs.Faults.{Faultless, fault-none, fault-most, jud
 use Rattle.writer.proofs.OutputLaws.{length-pad, length-halves, end-written, item-written, end-written-behind-list, item-written-behind-list}
 
 -- ---- refused before anything is written
-pub step-fault : (text : List ℕ) (room : ℕ) (a : Bool) (st : State) (cs : Counts) (w : List ℕ) (e : Event) (n : ℕ) → n ≡ faultOf text (known st cs w) e → (n ≡ 0 → ⊥)
-    → (verdict text room a (st .at) (known st cs w) e ≡ n) × (1 ≤ n) × (n ≤ 16)
+pub step-fault : (text : List ℕ) (room : ℕ) (a : Bool) (st : State) (c w : List ℕ) (e : Event) (n : ℕ) → n ≡ faultOf text (known st c w) e → (n ≡ 0 → ⊥)
+    → (verdict text room a (st .at) (known st c w) e ≡ n) × (1 ≤ n) × (n ≤ 16)
 unfolding verdict
-step-fault text room a st cs w e zero q ne = absurd (ne refl)
-step-fault text room a st cs w e (suc n) q ne =
-    let l = fault-most text (known st cs w) e in
-    (judge-fault text (known st cs w) e room (st .at) _ _ n (sym q), omega arith, omega arith)
+step-fault text room a st c w e zero q ne = absurd (ne refl)
+step-fault text room a st c w e (suc n) q ne =
+    let l = fault-most text (known st c w) e in
+    (judge-fault text (known st c w) e room (st .at) _ _ n (sym q), omega arith, omega arith)
 
 -- ---- the halves of an end or an item, behind an end that is owed or not
 module _ (text : List ℕ) (room at : ℕ) (v : F.State Located) (e : E.Event Located) (d : WroteItem) (out out′ : List ℕ) (next : ℕ) where
@@ -98,79 +97,79 @@ unfolding fits link aligned
 fits-bound text room at f = let l = leb-true (aligned at / 2) (min room 16384) f in let m = min-le-right room 16384 in omega arith
 
 -- ---- what a step comes to
-module _ (text : List ℕ) (st : State) (cs : Counts) (w : List ℕ) (e : Event) where
-  fit-by : {ix : List ℕ} (b : Bool) → owes st e ≡ b → Ready text st cs w ix → Faultless text (known st cs w) e → Fit text (listEnded b st) cs w ix (e .kind) e
+module _ (text : List ℕ) (st : State) (c w : List ℕ) (e : Event) where
+  fit-by : {ix : List ℕ} (b : Bool) → owes st e ≡ b → Ready text st c w ix → Faultless text (known st c w) e → Fit text (listEnded b st) c w ix (e .kind) e
   unfolding owes
   fit-by true o r f =
       let l = both-true (isListing (modeOf (st .mode))) _ o .0 in
       let at = r .at in
       let s = r .shallow in
-      let c = coming-low 0 (omega arith) in
+      let k = coming-low 0 (omega arith) in
       record {
         order = r .order;
         at = omega arith;
         shallow = omega arith;
         made = f .made;
         roomy = rw (mode-content, opens-behind (modeOf (st .mode)) (eventOf (e .kind) e) l) (f .shallow);
-        inside = end-inside (known st cs w) _ (f .goes);
+        inside = end-inside (known st c w) _ (f .goes);
       }
   fit-by false o r f =
       let at = r .at in
-      record { order = r .order; at = omega arith; shallow = r .shallow; made = f .made; roomy = f .shallow; inside = end-inside (known st cs w) _ (f .goes) }
+      record { order = r .order; at = omega arith; shallow = r .shallow; made = f .made; roomy = f .shallow; inside = end-inside (known st c w) _ (f .goes) }
 
-  pub step-fit : {ix : List ℕ} → Ready text st cs w ix → faultOf text (known st cs w) e ≡ 0 → {next : State} → next ≡ listEnded (owes st e) st → Fit text next cs w ix (e .kind) e
-  step-fit r f q = rw q (fit-by (owes st e) refl r (fault-none text (known st cs w) e f))
+  pub step-fit : {ix : List ℕ} → Ready text st c w ix → faultOf text (known st c w) e ≡ 0 → {next : State} → next ≡ listEnded (owes st e) st → Fit text next c w ix (e .kind) e
+  step-fit r f q = rw q (fit-by (owes st e) refl r (fault-none text (known st c w) e f))
 
   module _ (a : Bool) where
-    item-by : (b : Bool) → owes st e ≡ b → writeItem link text a (known (listEnded b st) cs w) (eventOf (e .kind) e) ≡ itemOf text a (known st cs w) e
+    item-by : (b : Bool) → owes st e ≡ b → writeItem link text a (known (listEnded b st) c w) (eventOf (e .kind) e) ≡ itemOf text a (known st c w) e
     unfolding itemOf settled owes
     item-by true o = rw (o, mode-content)
     item-by false o = rw o
 
-    module _ (f : faultOf text (known st cs w) e ≡ 0) where
+    module _ (f : faultOf text (known st c w) e ≡ 0) where
       -- a table is full
-      full-by : (b : Bool) (o : owes st e ≡ b) (room : ℕ) → within link (writeItem link text a (known (listEnded b st) cs w) (eventOf (e .kind) e) .state .tables) ≡ false
-          → verdict text room a (st .at) (known st cs w) e ≡ 12
+      full-by : (b : Bool) (o : owes st e ≡ b) (room : ℕ) → within link (writeItem link text a (known (listEnded b st) c w) (eventOf (e .kind) e) .state .tables) ≡ false
+          → verdict text room a (st .at) (known st c w) e ≡ 12
       unfolding verdict
-      full-by b o room h = judge-none text (known st cs w) e room (st .at) _ _ f ∙ rw (← (item-by b o), h)
+      full-by b o room h = judge-none text (known st c w) e room (st .at) _ _ f ∙ rw (← (item-by b o), h)
 
       -- the item is written
-      module _ (b : Bool) (o : owes st e ≡ b) (room : ℕ) (next : State) (cs′ : Counts) (out out′ w′ ix′ : List ℕ)
-          (landed : Landed text a (listEnded b st) cs (endPut b out (st .at)) w (eventOf (e .kind) e) next cs′ out′ w′ ix′) where
-        laid-by : Laid (isEnd (eventOf (e .kind) e)) (endPut b out (st .at)) (pick b (st .at + 1) (st .at)) (next .at) out′ (itemOf text a (known st cs w) e .octets)
+      module _ (b : Bool) (o : owes st e ≡ b) (room : ℕ) (next : State) (out out′ c′ w′ ix′ : List ℕ)
+          (landed : Landed text a (listEnded b st) c (endPut b out (st .at)) w (eventOf (e .kind) e) next out′ c′ w′ ix′) where
+        laid-by : Laid (isEnd (eventOf (e .kind) e)) (endPut b out (st .at)) (pick b (st .at + 1) (st .at)) (next .at) out′ (itemOf text a (known st c w) e .octets)
         laid-by = rw (← (item-by b o), ← (ended-at st b)) (landed .laid)
 
-        reached : next .at ≡ st .at + length (halvesFor text room a (st .at) (known st cs w) e)
+        reached : next .at ≡ st .at + length (halvesFor text room a (st .at) (known st c w) e)
         unfolding halvesFor owes
-        reached = laid-length text room (st .at) (known st cs w) (eventOf (e .kind) e) (itemOf text a (known st cs w) e) out out′ (next .at) b o _ refl laid-by
+        reached = laid-length text room (st .at) (known st c w) (eventOf (e .kind) e) (itemOf text a (known st c w) e) out out′ (next .at) b o _ refl laid-by
 
-        fits-by : (c : Bool) → fits link text room (next .at) ≡ c → verdict text room a (st .at) (known st cs w) e ≡ pick c 0 14
+        fits-by : (b : Bool) → fits link text room (next .at) ≡ b → verdict text room a (st .at) (known st c w) e ≡ pick b 0 14
         unfolding verdict
-        fits-by c q =
-            judge-none text (known st cs w) e room (st .at) _ _ f
-            ∙ rw (← (item-by b o), ← (landed .state), within-order text cs′ w′ ix′ (landed .order), ← reached, q)
+        fits-by d q =
+            judge-none text (known st c w) e room (st .at) _ _ f
+            ∙ rw (← (item-by b o), ← (landed .state), within-order text c′ w′ ix′ (landed .order), ← reached, q)
 
-        went-by : fits link text room (next .at) ≡ true → Went text room a st cs out w e next cs′ out′ w′ ix′
+        went-by : fits link text room (next .at) ≡ true → Went text room a st c out w e next out′ c′ w′ ix′
         unfolding halvesFor owes
         went-by q =
             record {
               judged = fits-by true q;
               state = landed .state ∙ rw (item-by b o);
-              grown = laid-grown text room (st .at) (known st cs w) (eventOf (e .kind) e) (itemOf text a (known st cs w) e) out out′ (next .at) b o _ refl laid-by;
+              grown = laid-grown text room (st .at) (known st c w) (eventOf (e .kind) e) (itemOf text a (known st c w) e) out out′ (next .at) b o _ refl laid-by;
               ready = record { order = landed .order; at = fits-bound text room (next .at) q; shallow = landed .shallow };
-              onward = laid-onward text room (st .at) (known st cs w) (eventOf (e .kind) e) (itemOf text a (known st cs w) e) out out′ (next .at) b (isEnd (eventOf (e .kind) e)) laid-by;
+              onward = laid-onward text room (st .at) (known st c w) (eventOf (e .kind) e) (itemOf text a (known st c w) e) out out′ (next .at) b (isEnd (eventOf (e .kind) e)) laid-by;
             }
 
-        steps-by : (c : Bool) → fits link text room (next .at) ≡ c → Steps text room a st cs out w e (pick c (On next cs′) (Stop 14)) out′ w′ ix′
+        steps-by : (b : Bool) → fits link text room (next .at) ≡ b → Steps text room a st c out w e (pick b (On next) (Stop 14)) out′ c′ w′ ix′
         steps-by true q = went-by q
         steps-by false q = (fits-by false q, omega arith, omega arith)
 
       module _ (room : ℕ) (st₁ : State) (out out₁ : List ℕ) (ended : (st₁ ≡ listEnded (owes st e) st) × (out₁ ≡ endPut (owes st e) out (st .at))) where
-        pub step-full : (n : ℕ) → (n ≡ 12) × (within link (writeItem link text a (known st₁ cs w) (eventOf (e .kind) e) .state .tables) ≡ false)
-            → (verdict text room a (st .at) (known st cs w) e ≡ n) × (1 ≤ n) × (n ≤ 16)
+        pub step-full : (n : ℕ) → (n ≡ 12) × (within link (writeItem link text a (known st₁ c w) (eventOf (e .kind) e) .state .tables) ≡ false)
+            → (verdict text room a (st .at) (known st c w) e ≡ n) × (1 ≤ n) × (n ≤ 16)
         step-full n h = rw (h .0) (full-by (owes st e) refl room (rw (ended .0) at (h .1)), omega arith, omega arith)
 
-        pub step-held : {next : State} {cs′ : Counts} {out′ w′ ix′ : List ℕ} → Landed text a st₁ cs out₁ w (eventOf (e .kind) e) next cs′ out′ w′ ix′ → (r : Step) (n : ℕ) → n ≡ room
-            → r ≡ holding text n next cs′ → Steps text room a st cs out w e r out′ w′ ix′
+        pub step-held : {next : State} {out′ c′ w′ ix′ : List ℕ} → Landed text a st₁ c out₁ w (eventOf (e .kind) e) next out′ c′ w′ ix′ → (r : Step) (n : ℕ) → n ≡ room
+            → r ≡ holding text n next → Steps text room a st c out w e r out′ c′ w′ ix′
         unfolding holding
-        step-held {next} {cs′} {out′} {w′} {ix′} landed r n l h = rw (h, l) (steps-by (owes st e) refl room next cs′ out out′ w′ ix′ (rw (ended .0, ended .1) at landed) _ refl)
+        step-held {next} {out′} {c′} {w′} {ix′} landed r n l h = rw (h, l) (steps-by (owes st e) refl room next out out′ c′ w′ ix′ (rw (ended .0, ended .1) at landed) _ refl)

@@ -12,6 +12,7 @@ use Rattle.format.specs.Items.{Mode, content, declaring, listing}
 use Rattle.format.specs.Document.{header}
 use Rattle.tables.specs.declared.Counts.{Counts}
 use Rattle.tables.specs.Counts.{tableWords}
+use Rattle.tables.specs.Kept.{listed}
 use Rattle.states.specs.declared.State.{State}
 use Rattle.states.specs.States.{modeOf}
 use Rattle.events.specs.declared.Event.{Event}
@@ -40,19 +41,19 @@ abbrev pub remains : (room table : ℕ) → Answer → (out : Octets) (tables : 
 remains room table (Accepted n c) out tables = record { answer = Accepted n c; told = told (Accepted n c); out = out; tables = tables }
 remains room table (Refused n p) out tables = refusing n p room table
 
--- Behind i of the events es; out and w are the output and the table words, beside the index. Each event took a half.
-pub record Underway (text : Octets) (room : ℕ) (es : List Event) (i : ℕ) (st : State) (cs : Counts) (out : Octets) (w : Words) (index : Octets) : Type 0 where
+-- Behind i of the events es; out, c and w are the output and the words of counts and tables, beside the index. Each event took a half.
+pub record Underway (text : Octets) (room : ℕ) (es : List Event) (i : ℕ) (st : State) (c : Words) (out : Octets) (w : Words) (index : Octets) : Type 0 where
   pub hs : Halves
   pub holds : Holds room hs (st .at) out
-  pub ready : Ready text st cs w index
+  pub ready : Ready text st c w index
   pub bit-known : Foretold (modeOf (st .mode)) (announced (drop i es))
   pub small : i ≤ st .at
-  pub leads : behind hs (run link text room (st .at) (known st cs w) i (drop i es)) room ≡ outcome link (writing link text room es) room
+  pub leads : behind hs (run link text room (st .at) (known st c w) i (drop i es)) room ≡ outcome link (writing link text room es) room
 
 -- The document's end behind i events came out as the definition says; out and out′ are the output before and then.
 abbrev pub Finishes : (room : ℕ) → State → Counts → Octets → ℕ → Answer → Octets → Type 0
 Finishes room st cs out i r out′ =
-    (text : Octets) (w : Words) (index : Octets) (hs : Halves) → Ready text st cs w index → Holds room hs (st .at) out → remains room tableWords r out′ w ≡ behind hs (finish link text room (st .at) (known st cs w) i) room
+    (text : Octets) (w : Words) (index : Octets) (hs : Halves) → Ready text st (listed cs) w index → Holds room hs (st .at) out → remains room tableWords r out′ w ≡ behind hs (finish link text room (st .at) (known st (listed cs) w) i) room
 
 -- ---- phases: where a run stands between two records
 -- There is a further record, number i of n, and it is to be written.
@@ -75,12 +76,12 @@ bitOf (listing any) a = a
 
 -- Behind i of the events es, with `room` octets of output and `table` table words lent, which are out and w, and the index.
 abbrev pub Going : List Event → Octets → (room table i : ℕ) → Phase → (out : Octets) (w : Words) (index : Octets) → Type 0
-Going es text room table i (Onward st cs) out w index = (length text ≤ link .octets) × (table ≡ tableWords) × Underway text room es i st cs out w index
+Going es text room table i (Onward st cs) out w index = (length text ≤ link .octets) × (table ≡ tableWords) × Underway text room es i st (listed cs) out w index
 Going es text room table i (Halted k p) out w index = refusing k p room table ≡ writeOf link es text room table
 
 -- What the step with event i asks, and the end behind i events.
 abbrev pub Steady : Octets → ℕ → Phase → Words → (index : Octets) → Type 0
-Steady text i (Onward st cs) w index = Ready text st cs w index × (i ≤ st .at)
+Steady text i (Onward st cs) w index = Ready text st (listed cs) w index × (i ≤ st .at)
 Steady text i (Halted k p) w index = Unit {0}
 
 abbrev pub Bounded : ℕ → Phase → Type 0

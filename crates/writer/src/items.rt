@@ -8,7 +8,7 @@ ghost use Rattle.format.specs.Events as E;
 ghost use Rattle.format.specs.Strings.{bit};
 ghost use Rattle.format.specs.Document.{aligned};
 ghost use Rattle.fields.specs.PutContracts.{Puts};
-ghost use Rattle.states.specs.States.{modeOf, movedTo, openedAt};
+ghost use Rattle.states.specs.States.{farthest, modeOf, movedTo, openedAt};
 ghost use Rattle.events.specs.declared.Event.{Event};
 ghost use Rattle.events.specs.declared.Kind.the-variants.{Namespace, Start, Attribute, Chunk, Comment, Instruction, End};
 ghost use Rattle.write_names.specs.Contracts.{InOrder};
@@ -16,7 +16,7 @@ ghost use Rattle.writer.specs.Events.{eventOf};
 ghost use Rattle.writer.specs.Items.{beforeDeclaration, beforeName, nameLead};
 ghost use Rattle.writer.specs.Writing.{isAttribute};
 ghost use Rattle.writer.specs.StepContracts.{Ready, Steps};
-ghost use Rattle.writer.specs.ItemContracts.{owes, listEnded, endPut, Fit, landing, Near, Lands, holding};
+ghost use Rattle.writer.specs.ItemContracts.{owes, listEnded, endPut, partsOf, Fit, landing, Near, Lands, holding};
 use crate::Step;
 use crate::output::put_end;
 use crate::records::fault;
@@ -32,8 +32,6 @@ use format::table::ELEMENT_NAME;
 use format::table::OTHER_NCNAME;
 use format::table::OTHER_STRING;
 use states::State;
-use tables::Counts;
-use write_names::Here;
 use write_names::Parts;
 use write_names::Wrote;
 
@@ -99,13 +97,16 @@ fn name_lead(mode: usize, a: bool) -> u8
     attribute_bit(a)
 }
 
-fn name_of(e: Event) -> Parts
-    ensures { λ r. ⌜ r ≡ record { prefix = e .prefix; namespace = e .namespace; local = e .name } ⌝ }
+// The name of an event, in a table and behind the bits `lead`.
+fn name_of(e: Event, table: usize, lead: u8) -> Parts
+    ensures { λ r. ⌜ r ≡ partsOf table lead e ⌝ }
 {
     let prefix = e.prefix;
     let namespace = e.namespace;
     let local = e.name;
     Parts {
+        table,
+        lead,
         prefix,
         namespace,
         local,
@@ -125,12 +126,10 @@ fn landed(st: State, mode: usize, w: Wrote) -> Step
     requires { ⌜ Near w ⌝ }
     ensures { λ r. ⌜ r ≡ landing (λ k. movedTo st k mode) w ⌝ }
 {
-    let Wrote::Put(h) = w else {
+    let Wrote::Put(next) = w else {
         return Step::Stop(FULL);
     };
-    let counts = h.counts;
-    let state = st.moved(h.at, mode);
-    Step::On(state, counts)
+    Step::On(st.moved(next, mode))
 }
 
 // Behind an element's name: an element more, whose attribute bit is a.
@@ -138,12 +137,10 @@ fn opened(st: State, a: bool, w: Wrote) -> Step
     requires { ⌜ Near w × (st .level < 32) ⌝ }
     ensures { λ r. ⌜ r ≡ landing (λ k. openedAt st k a) w ⌝ }
 {
-    let Wrote::Put(h) = w else {
+    let Wrote::Put(next) = w else {
         return Step::Stop(FULL);
     };
-    let counts = h.counts;
-    let state = st.opened(h.at, a);
-    Step::On(state, counts)
+    Step::On(st.opened(next, a))
 }
 
 // The end of an attribute list, before a record that is no member of it.
@@ -163,9 +160,9 @@ fn settle(st: State, out: &mut [u8], e: Event) -> State
 }
 
 // The place is behind what fits the output and the limit of a document.
-fn held(st: State, counts: Counts, room: usize) -> Step
-    requires { ⌜ st .at ≤ 400000 ⌝ }
-    ensures { λ r. ⌜ ((text : Octets) → r ≡ holding text room st counts) ⌝ }
+fn held(st: State, room: usize) -> Step
+    requires { ⌜ st .at ≤ 2 * farthest ⌝ }
+    ensures { λ r. ⌜ ((text : Octets) → r ≡ holding text room st) ⌝ }
 {
     let octets = (st.at + 1) / 2;
     if room < octets {
@@ -174,203 +171,209 @@ fn held(st: State, counts: Counts, room: usize) -> Step
     if LONGEST < octets {
         return Step::Stop(ROOM);
     }
-    Step::On(st, counts)
+    Step::On(st)
 }
 
 // An element's end.
-fn close(st: State, counts: Counts, out: &mut [u8]) -> Step
+fn close(st: State, out: &mut [u8]) -> Step
     requires { ⌜ (st .at ≤ 32769) × (0 < st .level) × (st .level ≤ 32) ⌝ }
-    ensures { λ r. ⌜ ((text : Octets) (a : Bool) (w : Words) (index : Octets) → InOrder text counts w index → Lands text a st counts (now (out .entry)) w E.End r (now (out .exit)) w index) ⌝ }
+    ensures { λ r. ⌜ ((text : Octets) (a : Bool) (c w : Words) (index : Octets) → InOrder text c w index → Lands text a st c (now (out .entry)) w E.End r (now (out .exit)) c w index) ⌝ }
 {
     put_end(out, st.at);
-    let state = st.behind_end(st.level - 1);
-    Step::On(state, counts)
+    Step::On(st.behind_end(st.level - 1))
 }
 
 fn chunk(
     st: State,
-    counts: Counts,
     text: &[u8],
     t: &mut [u32],
+    counts: &mut [u32],
     index: &mut [u8],
     out: &mut [u8],
     e: Event,
     a: bool,
 ) -> Step
-    requires { ⌜ Fit (now text) st counts (now t) (now index) Chunk e ⌝ }
-    ensures { λ r. ⌜ Lands (now (text .entry)) a st counts (now (out .entry)) (now (t .entry)) (eventOf Chunk e) r (now (out .exit)) (now (t .exit)) (now (index .exit)) ⌝ }
+    requires { ⌜ Fit (now text) st (now counts) (now t) (now index) Chunk e ⌝ }
+    ensures { λ r. ⌜ Lands (now (text .entry)) a st (now (counts .entry)) (now (out .entry)) (now (t .entry)) (eventOf Chunk e) r (now (out .exit)) (now (counts .exit)) (now (t .exit)) (now (index .exit)) ⌝ }
 {
     let value = e.value;
-    let here = Here {
-        at: octet(st.at),
-        counts,
-    };
-    let h = here.chunk(text, t, index, out, value);
-    landed(st, st.mode, Wrote::Put(h))
+    let next = write_names::chunk(text, t, counts, index, out, octet(st.at), value);
+    landed(st, st.mode, Wrote::Put(next))
 }
 
 fn comment(
     st: State,
-    counts: Counts,
     text: &[u8],
     t: &mut [u32],
+    counts: &mut [u32],
     index: &mut [u8],
     out: &mut [u8],
     e: Event,
     a: bool,
 ) -> Step
-    requires { ⌜ Fit (now text) st counts (now t) (now index) Comment e ⌝ }
-    ensures { λ r. ⌜ Lands (now (text .entry)) a st counts (now (out .entry)) (now (t .entry)) (eventOf Comment e) r (now (out .exit)) (now (t .exit)) (now (index .exit)) ⌝ }
+    requires { ⌜ Fit (now text) st (now counts) (now t) (now index) Comment e ⌝ }
+    ensures { λ r. ⌜ Lands (now (text .entry)) a st (now (counts .entry)) (now (out .entry)) (now (t .entry)) (eventOf Comment e) r (now (out .exit)) (now (counts .exit)) (now (t .exit)) (now (index .exit)) ⌝ }
 {
     let value = e.value;
     let at = octet(st.at);
     put(out, at, 0xE2);
-    let here = Here { at: at + 1, counts };
-    let h = here.value(text, t, index, out, OTHER_STRING, value);
-    landed(st, st.mode, Wrote::Put(h))
+    let next = write_names::value(text, t, counts, index, out, at + 1, OTHER_STRING, value);
+    landed(st, st.mode, Wrote::Put(next))
 }
 
 fn instruction(
     st: State,
-    counts: Counts,
     text: &[u8],
     t: &mut [u32],
+    counts: &mut [u32],
     index: &mut [u8],
     out: &mut [u8],
     e: Event,
     a: bool,
 ) -> Step
-    requires { ⌜ Fit (now text) st counts (now t) (now index) Instruction e ⌝ }
-    ensures { λ r. ⌜ Lands (now (text .entry)) a st counts (now (out .entry)) (now (t .entry)) (eventOf Instruction e) r (now (out .exit)) (now (t .exit)) (now (index .exit)) ⌝ }
+    requires { ⌜ Fit (now text) st (now counts) (now t) (now index) Instruction e ⌝ }
+    ensures { λ r. ⌜ Lands (now (text .entry)) a st (now (counts .entry)) (now (out .entry)) (now (t .entry)) (eventOf Instruction e) r (now (out .exit)) (now (counts .exit)) (now (t .exit)) (now (index .exit)) ⌝ }
 {
     let target = e.name;
     let content = e.value;
     let at = octet(st.at);
     put(out, at, 0xE1);
-    let here = Here { at: at + 1, counts };
-    let Wrote::Put(h) = here.identified(text, t, index, out, OTHER_NCNAME, target) else {
+    let Wrote::Put(behind) = write_names::identified(
+        text,
+        t,
+        counts,
+        index,
+        out,
+        at + 1,
+        OTHER_NCNAME,
+        target,
+    ) else {
         return Step::Stop(FULL);
     };
-    let g = h.value(text, t, index, out, OTHER_STRING, content);
-    landed(st, st.mode, Wrote::Put(g))
+    let next = write_names::value(text, t, counts, index, out, behind, OTHER_STRING, content);
+    landed(st, st.mode, Wrote::Put(next))
 }
 
 // A namespace declaration.
 fn declare(
     st: State,
-    counts: Counts,
     text: &[u8],
     t: &mut [u32],
+    counts: &mut [u32],
     index: &mut [u8],
     out: &mut [u8],
     e: Event,
     a: bool,
 ) -> Step
-    requires { ⌜ Fit (now text) st counts (now t) (now index) Namespace e ⌝ }
-    ensures { λ r. ⌜ Lands (now (text .entry)) a st counts (now (out .entry)) (now (t .entry)) (eventOf Namespace e) r (now (out .exit)) (now (t .exit)) (now (index .exit)) ⌝ }
+    requires { ⌜ Fit (now text) st (now counts) (now t) (now index) Namespace e ⌝ }
+    ensures { λ r. ⌜ Lands (now (text .entry)) a st (now (counts .entry)) (now (out .entry)) (now (t .entry)) (eventOf Namespace e) r (now (out .exit)) (now (counts .exit)) (now (t .exit)) (now (index .exit)) ⌝ }
 {
     let prefix = e.prefix;
     let namespace = e.namespace;
     let at = before_declaration(out, octet(st.at), st.mode, a);
-    let here = Here { at, counts };
-    let w = here.declared(text, t, index, out, prefix, namespace);
+    let w = write_names::declared(text, t, counts, index, out, at, prefix, namespace);
     landed(st, states::declaring(a), w)
 }
 
 fn start(
     st: State,
-    counts: Counts,
     text: &[u8],
     t: &mut [u32],
+    counts: &mut [u32],
     index: &mut [u8],
     out: &mut [u8],
     e: Event,
     a: bool,
 ) -> Step
-    requires { ⌜ Fit (now text) st counts (now t) (now index) Start e ⌝ }
-    ensures { λ r. ⌜ Lands (now (text .entry)) a st counts (now (out .entry)) (now (t .entry)) (eventOf Start e) r (now (out .exit)) (now (t .exit)) (now (index .exit)) ⌝ }
+    requires { ⌜ Fit (now text) st (now counts) (now t) (now index) Start e ⌝ }
+    ensures { λ r. ⌜ Lands (now (text .entry)) a st (now (counts .entry)) (now (out .entry)) (now (t .entry)) (eventOf Start e) r (now (out .exit)) (now (counts .exit)) (now (t .exit)) (now (index .exit)) ⌝ }
 {
     let lead = name_lead(st.mode, a);
     let at = before_name(out, octet(st.at), st.mode);
-    let here = Here { at, counts };
-    let w = here.name(text, t, index, out, ELEMENT_NAME, lead, name_of(e));
+    let w = write_names::name(
+        text,
+        t,
+        counts,
+        index,
+        out,
+        at,
+        name_of(e, ELEMENT_NAME, lead),
+    );
     opened(st, a, w)
 }
 
 fn attribute(
     st: State,
-    counts: Counts,
     text: &[u8],
     t: &mut [u32],
+    counts: &mut [u32],
     index: &mut [u8],
     out: &mut [u8],
     e: Event,
     a: bool,
 ) -> Step
-    requires { ⌜ Fit (now text) st counts (now t) (now index) Attribute e ⌝ }
-    ensures { λ r. ⌜ Lands (now (text .entry)) a st counts (now (out .entry)) (now (t .entry)) (eventOf Attribute e) r (now (out .exit)) (now (t .exit)) (now (index .exit)) ⌝ }
+    requires { ⌜ Fit (now text) st (now counts) (now t) (now index) Attribute e ⌝ }
+    ensures { λ r. ⌜ Lands (now (text .entry)) a st (now (counts .entry)) (now (out .entry)) (now (t .entry)) (eventOf Attribute e) r (now (out .exit)) (now (counts .exit)) (now (t .exit)) (now (index .exit)) ⌝ }
 {
     let value = e.value;
-    let here = Here {
-        at: octet(st.at),
-        counts,
-    };
-    let Wrote::Put(h) = here.name(text, t, index, out, ATTRIBUTE_NAME, 0, name_of(e)) else {
+    let at = octet(st.at);
+    let name = name_of(e, ATTRIBUTE_NAME, 0);
+    let Wrote::Put(behind) = write_names::name(text, t, counts, index, out, at, name) else {
         return Step::Stop(FULL);
     };
-    let g = h.value(text, t, index, out, ATTRIBUTE_VALUE, value);
-    landed(st, State::LISTED, Wrote::Put(g))
+    let next = write_names::value(text, t, counts, index, out, behind, ATTRIBUTE_VALUE, value);
+    landed(st, State::LISTED, Wrote::Put(next))
 }
 
 // The item of an event, with no end owed before it. A blank record is no event, and none is well made.
 fn item(
     st: State,
-    counts: Counts,
     text: &[u8],
     t: &mut [u32],
+    counts: &mut [u32],
     index: &mut [u8],
     out: &mut [u8],
     e: Event,
     a: bool,
 ) -> Step
-    requires { ⌜ Fit (now text) st counts (now t) (now index) (e .kind) e ⌝ }
-    ensures { λ r. ⌜ Lands (now (text .entry)) a st counts (now (out .entry)) (now (t .entry)) (eventOf (e .kind) e) r (now (out .exit)) (now (t .exit)) (now (index .exit)) ⌝ }
+    requires { ⌜ Fit (now text) st (now counts) (now t) (now index) (e .kind) e ⌝ }
+    ensures { λ r. ⌜ Lands (now (text .entry)) a st (now (counts .entry)) (now (out .entry)) (now (t .entry)) (eventOf (e .kind) e) r (now (out .exit)) (now (counts .exit)) (now (t .exit)) (now (index .exit)) ⌝ }
 {
     let kind = e.kind;
     match kind {
-        Kind::Blank => close(st, counts, out),
-        Kind::Namespace => declare(st, counts, text, t, index, out, e, a),
-        Kind::Start => start(st, counts, text, t, index, out, e, a),
-        Kind::Attribute => attribute(st, counts, text, t, index, out, e, a),
-        Kind::Chunk => chunk(st, counts, text, t, index, out, e, a),
-        Kind::Comment => comment(st, counts, text, t, index, out, e, a),
-        Kind::Instruction => instruction(st, counts, text, t, index, out, e, a),
-        Kind::End => close(st, counts, out),
+        Kind::Blank => close(st, out),
+        Kind::Namespace => declare(st, text, t, counts, index, out, e, a),
+        Kind::Start => start(st, text, t, counts, index, out, e, a),
+        Kind::Attribute => attribute(st, text, t, counts, index, out, e, a),
+        Kind::Chunk => chunk(st, text, t, counts, index, out, e, a),
+        Kind::Comment => comment(st, text, t, counts, index, out, e, a),
+        Kind::Instruction => instruction(st, text, t, counts, index, out, e, a),
+        Kind::End => close(st, out),
     }
 }
 
 // One event: judged, then written behind the end that an attribute list owes, then held against the room.
 pub fn step(
     st: State,
-    counts: Counts,
     text: &[u8],
     t: &mut [u32],
+    counts: &mut [u32],
     index: &mut [u8],
     out: &mut [u8],
     e: Event,
     a: bool,
 ) -> Step
-    requires { ⌜ Ready (now text) st counts (now t) (now index) ⌝ }
-    ensures { λ r. ⌜ Steps (now (text .entry)) (length (now (out .entry))) a st counts (now (out .entry)) (now (t .entry)) e r (now (out .exit)) (now (t .exit)) (now (index .exit)) ⌝ }
+    requires { ⌜ Ready (now text) st (now counts) (now t) (now index) ⌝ }
+    ensures { λ r. ⌜ Steps (now (text .entry)) (length (now (out .entry))) a st (now (counts .entry)) (now (out .entry)) (now (t .entry)) e r (now (out .exit)) (now (counts .exit)) (now (t .exit)) (now (index .exit)) ⌝ }
 {
     let fault = fault(st, text, e);
     if fault != 0 {
         return Step::Stop(fault);
     }
     let settled = settle(st, out, e);
-    let r = item(settled, counts, text, t, index, out, e, a);
+    let r = item(settled, text, t, counts, index, out, e, a);
     match r {
-        Step::On(next, more) => held(next, more, out.len()),
+        Step::On(next) => held(next, out.len()),
         Step::Stop(n) => Step::Stop(n),
     }
 }

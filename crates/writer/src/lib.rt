@@ -19,8 +19,8 @@ pub enum Answer {
     Refused(u32, u32),
 }
 
-// Behind an event that was written: where the writer stands, and how many entries the tables have there; or its refusal.
+// Behind an event that was written: where the writer stands; or its refusal.
 pub enum Step {
-    On(State, Counts),
+    On(State),
     Stop(u32),
 }

@@ -137,8 +137,10 @@ impl Phase {
     {
         match self {
             Phase::Onward(st, counts) => {
-                match step(st, counts, text, t, index, out, e, bit(st.mode, a)) {
-                    Step::On(next, more) => Phase::Onward(next, more),
+                let mut words = [0u32; Counts::TABLES];
+                tables::put_counts(&mut words, counts);
+                match step(st, text, t, &mut words, index, out, e, bit(st.mode, a)) {
+                    Step::On(next) => Phase::Onward(next, tables::counts_in(&words)),
                     Step::Stop(number) => Phase::Halted(number, i as u32),
                 }
             }

@@ -13,9 +13,8 @@ octet-requires c κs = search needs
 
 chunk-requires : tie.Need-chunk-requires
 chunk-requires c κs =
-    let pre = c .before .before .before .before .before .before .before .before .pre in
-    let a = c .before .before .before .before .before .before .before .before .args in
-    (pre .order, omega arith, stretch-spells (a .text .now) (a .e .value) (by-kind (a .text .now) (a .e) Chunk (pre .made) .2))
+    let at-start = c .before .before .before .before .before .before .before .before .before .before in
+    (at-start .pre .order, omega arith, stretch-spells (at-start .args .text .now) (at-start .args .e .value) (by-kind (at-start .args .text .now) (at-start .args .e) Chunk (at-start .pre .made) .2))
 
 landed-requires : tie.Need-landed-requires
 landed-requires c κs = search needs
@@ -29,11 +28,15 @@ same-length-2 c = search needs
 same-length-3 : tie.Need-same-length-3
 same-length-3 c = search needs
 
+same-length-4 : tie.Need-same-length-4
+same-length-4 c = search needs
+
 returns : tie.Need-returns
 returns c =
-    let pre = c .before .before .before .before .before .before .before .before .before .before .before .before .before .before .before .before .pre in
-    let octet = c .before .before .before .before .before .before .before .before .before .before .before .octet in
-    rw (c .landed .ensures) (chunk-lands _ _ _ _ _ _ pre (octet .ensures) (c .before .before .before .before .before .before .before .chunk .ensures))
+    let at-chunk = c .before .before .before .before .before .before .before .before .before in
+    let at-octet = at-chunk .before in
+    let at-start = at-octet .before .before .before .before .before .before .before .before .before .before in
+    rw (c .landed .ensures) (chunk-lands _ _ _ _ _ _ (at-start .pre) (at-octet .octet .ensures) (at-chunk .chunk .ensures))
 
 pub chunk-spec : {M : Type 1} → statement M
 chunk-spec =
@@ -45,4 +48,5 @@ chunk-spec =
     same-length
     same-length-2
     same-length-3
+    same-length-4
     returns)

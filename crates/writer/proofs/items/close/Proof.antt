@@ -19,8 +19,14 @@ same-length : tie.Need-same-length
 same-length c = search needs
 
 returns : tie.Need-returns
-returns c = λ text a w ix order. rw (c .behind-end .ensures) (end-lands text a _ _ w ix order (omega arith) (omega arith) (c .before .before .before .before .put-end .ensures))
+returns c = λ text a d w ix order. rw (c .behind-end .ensures) (end-lands text a _ d w ix order (omega arith) (omega arith) (c .before .before .before .before .put-end .ensures))
 
 pub close-spec : {M : Type 1} → statement M
 close-spec =
-    tie.close (tie.spec put-end-requires sub-behind-end behind-end-requires same-length returns)
+    tie.close
+    (tie.spec
+    put-end-requires
+    sub-behind-end
+    behind-end-requires
+    same-length
+    returns)

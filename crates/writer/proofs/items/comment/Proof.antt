@@ -14,14 +14,13 @@ octet-requires c κs = search needs
 put-requires : tie.Need-put-requires
 put-requires c κs = search needs
 
-add-t16 : tie.Need-add-t16
-add-t16 c = search needs
+add-value : tie.Need-add-value
+add-value c = search needs
 
 value-requires : tie.Need-value-requires
 value-requires c κs =
-    let pre = c .before .before .before .before .before .before .before .before .before .before .before .before .pre in
-    let a = c .before .before .before .before .before .before .before .before .before .before .before .before .args in
-    (pre .order, omega arith, omega arith, value-fills (a .text .now) (a .e .value) (by-kind (a .text .now) (a .e) Comment (pre .made) .2))
+    let at-start = c .before .before .before .before .before .before .before .before .before .before .before .before .before .before in
+    (at-start .pre .order, omega arith, omega arith, value-fills (at-start .args .text .now) (at-start .args .e .value) (by-kind (at-start .args .text .now) (at-start .args .e) Comment (at-start .pre .made) .2))
 
 landed-requires : tie.Need-landed-requires
 landed-requires c κs = search needs
@@ -35,12 +34,16 @@ same-length-2 c = search needs
 same-length-3 : tie.Need-same-length-3
 same-length-3 c = search needs
 
+same-length-4 : tie.Need-same-length-4
+same-length-4 c = search needs
+
 returns : tie.Need-returns
 returns c =
-    let pre = c .before .before .before .before .before .before .before .before .before .before .before .before .before .before .before .before .before .before .before .before .pre in
-    let octet = c .before .before .before .before .before .before .before .before .before .before .before .before .before .before .before .octet in
-    let put = c .before .before .before .before .before .before .before .before .before .before .before .before .before .put in
-    rw (c .landed .ensures) (comment-lands _ _ _ _ _ _ pre (octet .ensures) (put .ensures) (c .before .before .before .before .before .before .before .value .ensures))
+    let at-value = c .before .before .before .before .before .before .before .before .before in
+    let at-put = at-value .before .before .before .before .before .before .before in
+    let at-octet = at-put .before .before in
+    let at-start = at-octet .before .before .before .before .before .before in
+    rw (c .landed .ensures) (comment-lands _ _ _ _ _ _ (at-start .pre) (at-octet .octet .ensures) (at-put .put .ensures) (at-value .value .ensures))
 
 pub comment-spec : {M : Type 1} → statement M
 comment-spec =
@@ -48,10 +51,11 @@ comment-spec =
     (tie.spec
     octet-requires
     put-requires
-    add-t16
+    add-value
     value-requires
     landed-requires
     same-length
     same-length-2
     same-length-3
+    same-length-4
     returns)

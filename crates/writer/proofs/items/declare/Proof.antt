@@ -3,6 +3,7 @@
 use borrow.Author.Needs.{needs}
 use native.Mathlib.Omega.{arith}
 use Rattle.events.specs.declared.Kind.the-variants.{Namespace}
+use Rattle.write_names.specs.Contracts.{pairMost}
 use Rattle.writer.proofs.WellMade.{by-kind}
 use Rattle.writer.proofs.ItemLaws.{prefix-suits, namespace-suits, meets-near, declare-lands}
 use Rattle.writer.proofs.items.declare.Statement.{statement}
@@ -16,19 +17,18 @@ before-declaration-requires c κs = search needs
 
 declared-requires : tie.Need-declared-requires
 declared-requires c κs =
-    let pre = c .before .before .before .before .before .before .before .before .before .before .before .before .pre in
-    let a = c .before .before .before .before .before .before .before .before .before .before .before .before .args in
-    (pre .order, omega arith, prefix-suits (a .text .now) (a .e .prefix) (by-kind (a .text .now) (a .e) Namespace (pre .made) .0), namespace-suits (a .text .now) (a .e .namespace) (by-kind (a .text .now) (a .e) Namespace (pre .made) .1))
+    let at-start = c .before .before .before .before .before .before .before .before .before .before .before .before .before .before in
+    (at-start .pre .order, omega arith, prefix-suits (at-start .args .text .now) (at-start .args .e .prefix) (by-kind (at-start .args .text .now) (at-start .args .e) Namespace (at-start .pre .made) .0), namespace-suits (at-start .args .text .now) (at-start .args .e .namespace) (by-kind (at-start .args .text .now) (at-start .args .e) Namespace (at-start .pre .made) .1))
 
 declaring-requires : tie.Need-declaring-requires
 declaring-requires c κs = search needs
 
 landed-requires : tie.Need-landed-requires
 landed-requires c κs =
-    let octet = c .before .before .before .before .before .before .before .before .before .before .before .before .before .before .octet in
-    let before-declaration = c .before .before .before .before .before .before .before .before .before .before .before .before .before .before-declaration in
-    let declared = c .before .before .before .before .before .before .before .declared in
-    meets-near _ _ (before-declaration .result) 32779 (declared .result) _ _ _ _ (omega (arith, octet .ensures .1, before-declaration .ensures .1)) (declared .ensures)
+    let at-declared = c .before .before .before .before .before .before .before .before .before in
+    let at-before-declaration = at-declared .before .before .before .before .before .before .before in
+    let at-octet = at-before-declaration .before in
+    meets-near _ _ (at-before-declaration .before-declaration .result) pairMost (at-declared .declared .result) _ _ _ _ _ (omega (arith, at-octet .octet .ensures .1, at-before-declaration .before-declaration .ensures .1)) (at-declared .declared .ensures)
 
 same-length : tie.Need-same-length
 same-length c = search needs
@@ -39,13 +39,16 @@ same-length-2 c = search needs
 same-length-3 : tie.Need-same-length-3
 same-length-3 c = search needs
 
+same-length-4 : tie.Need-same-length-4
+same-length-4 c = search needs
+
 returns : tie.Need-returns
 returns c =
-    let pre = c .before .before .before .before .before .before .before .before .before .before .before .before .before .before .before .before .before .before .before .before .before .pre in
-    let octet = c .before .before .before .before .before .before .before .before .before .before .before .before .before .before .before .octet in
-    let before-declaration = c .before .before .before .before .before .before .before .before .before .before .before .before .before .before .before-declaration in
-    let declared = c .before .before .before .before .before .before .before .before .declared in
-    rw (c .landed .ensures, c .before .declaring .ensures) (declare-lands _ _ _ _ _ _ pre (octet .ensures) (before-declaration .ensures) (declared .result) _ _ _ (declared .ensures))
+    let at-declared = c .before .before .before .before .before .before .before .before .before .before in
+    let at-before-declaration = at-declared .before .before .before .before .before .before .before in
+    let at-octet = at-before-declaration .before in
+    let at-start = at-octet .before .before .before .before .before .before .before in
+    rw (c .landed .ensures, c .before .declaring .ensures) (declare-lands _ _ _ _ _ _ (at-start .pre) (at-octet .octet .ensures) (at-before-declaration .before-declaration .ensures) (at-declared .declared .result) _ _ _ _ (at-declared .declared .ensures))
 
 pub declare-spec : {M : Type 1} → statement M
 declare-spec =
@@ -59,4 +62,5 @@ declare-spec =
     same-length
     same-length-2
     same-length-3
+    same-length-4
     returns)

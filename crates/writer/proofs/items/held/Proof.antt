@@ -11,13 +11,19 @@ add-octets : tie.Need-add-octets
 add-octets c = search needs
 
 returns : tie.Need-returns
-returns c = λ text. held-over text _ _ _ (omega (arith, min-le-left (c .before .before .args .room) 16384))
+returns c = λ text. held-over text _ _ (omega (arith, min-le-left (c .before .before .args .room) 16384))
 
 returns-2 : tie.Need-returns-2
-returns-2 c = λ text. held-over text _ _ _ (omega (arith, min-le-right (c .before .before .before .args .room) 16384))
+returns-2 c = λ text. held-over text _ _ (omega (arith, min-le-right (c .before .before .before .args .room) 16384))
 
 returns-3 : tie.Need-returns-3
-returns-3 c = λ text. held-fitting text _ _ _ (omega arith) (omega arith)
+returns-3 c = λ text. held-fitting text _ _ (omega arith) (omega arith)
 
 pub held-spec : {M : Type 1} → statement M
-held-spec = tie.close (tie.spec add-octets returns returns-2 returns-3)
+held-spec =
+    tie.close
+    (tie.spec
+    add-octets
+    returns
+    returns-2
+    returns-3)

@@ -16,18 +16,17 @@ octet-requires c κs = search needs
 put-requires : tie.Need-put-requires
 put-requires c κs = search needs
 
-add-t18 : tie.Need-add-t18
-add-t18 c = search needs
+add-identified : tie.Need-add-identified
+add-identified c = search needs
 
 identified-requires : tie.Need-identified-requires
 identified-requires c κs =
-    let a = c .before .before .before .before .before .before .before .before .before .before .before .before .args in
-    let pre = c .before .before .before .before .before .before .before .before .before .before .before .before .pre in
-    let s = stretch-spells (a .text .now) (a .e .name) (by-kind (a .text .now) (a .e) Instruction (pre .made) .1) in
-    (pre .order, omega arith, omega arith, spells-suits (a .text .now) 3 (a .e .name) s, spells-stretch (a .text .now) (a .e .name) s .3)
+    let at-start = c .before .before .before .before .before .before .before .before .before .before .before .before .before .before in
+    let s = stretch-spells (at-start .args .text .now) (at-start .args .e .name) (by-kind (at-start .args .text .now) (at-start .args .e) Instruction (at-start .pre .made) .1) in
+    (at-start .pre .order, omega arith, spells-stretch (at-start .args .text .now) (at-start .args .e .name) s .3, omega arith, spells-suits (at-start .args .text .now) 3 (at-start .args .e .name) s)
 
-enum-known-h : tie.Need-enum-known-h
-enum-known-h c = search needs
+enum-known-behind : tie.Need-enum-known-behind
+enum-known-behind c = search needs
 
 enum-told : tie.Need-enum-told
 enum-told c = search needs
@@ -41,58 +40,71 @@ same-length-2 c = search needs
 same-length-3 : tie.Need-same-length-3
 same-length-3 c = search needs
 
+same-length-4 : tie.Need-same-length-4
+same-length-4 c = search needs
+
 returns : tie.Need-returns
 returns c =
-    let a = c .before .before .before .before .before .before .before .before .before .before .before .before .before .before .before .before .before .before .before .before .before .args in
-    (refl, instruction-full _ _ (a .st) (a .counts) _ (a .e) (rw (c .enum-told .given .1) at (c .before .before .before .before .before .before .before .before .identified .ensures)))
+    let at-identified = c .before .before .before .before .before .before .before .before .before .before in
+    let at-start = at-identified .before .before .before .before .before .before .before .before .before .before .before .before .before .before .before in
+    (refl, instruction-full _ _ (at-start .args .st) (at-start .args .counts .now) _ (at-start .args .e) (rw (c .enum-told .given .1) at (at-identified .identified .ensures)))
 
 value-requires : tie.Need-value-requires
 value-requires c κs =
-    let a = c .before .before .before .before .before .before .before .before .before .before .before .before .before .before .before .before .before .before .before .before .before .before .before .before .before .args in
-    let pre = c .before .before .before .before .before .before .before .before .before .before .before .before .before .before .before .before .before .before .before .before .before .before .before .before .before .pre in
-    let octet = c .before .before .before .before .before .before .before .before .before .before .before .before .before .before .before .before .before .before .before .before .octet in
-    let identified = c .before .before .before .before .before .before .before .before .before .before .before .before .identified in
-    let low = octet .ensures .1 in
-    let stands = rw (c .before .before .before .before .h .given .1) at (identified .ensures) in
+    let at-identified = c .before .before .before .before .before .before .before .before .before .before .before .before .before .before .before in
+    let at-octet = at-identified .before .before .before .before .before .before .before .before .before in
+    let at-start = at-octet .before .before .before .before .before .before in
+    let stands = rw (c .before .before .before .before .before .behind .given .1) at (at-identified .identified .ensures) in
+    let low = at-octet .octet .ensures .1 in
     let few = stands .few in
-    (stands .order, omega arith, omega arith, value-fills (a .text .now) (a .e .value) (by-kind (a .text .now) (a .e) Instruction (pre .made) .2))
+    (stands .order, omega arith, omega arith, value-fills (at-start .args .text .now) (at-start .args .e .value) (by-kind (at-start .args .text .now) (at-start .args .e) Instruction (at-start .pre .made) .2))
 
 landed-requires : tie.Need-landed-requires
 landed-requires c κs =
-    let octet = c .before .before .before .before .before .before .before .before .before .before .before .before .before .before .before .before .before .before .before .before .before .before .before .before .before .before .before .octet in
-    let identified = c .before .before .before .before .before .before .before .before .before .before .before .before .before .before .before .before .before .before .before .identified in
-    let h = c .before .before .before .before .before .before .before .before .before .before .before .h in
-    let stands = rw (h .given .1) at (identified .ensures) in
-    let low = octet .ensures .1 in
+    let at-behind = c .before .before .before .before .before .before .before .before .before .before .before .before .before .before in
+    let at-identified = at-behind .before .before .before .before .before .before .before .before .before .before in
+    let at-octet = at-identified .before .before .before .before .before .before .before .before .before in
+    let stands = rw (at-behind .behind .given .1) at (at-identified .identified .ensures) in
+    let low = at-octet .octet .ensures .1 in
     let few = stands .few in
-    let most = c .before .before .before .before .before .before .value .ensures .few in
+    let most = c .before .before .before .before .before .before .before .before .value .ensures .few in
     omega arith
-
-same-length-4 : tie.Need-same-length-4
-same-length-4 c =
-    let identified = c .before .before .before .before .before .before .before .before .before .before .before .before .before .before .before .before .before .before .before .before .identified in
-    omega (arith, c .before .before .before .before .before .before .before .value .kept, identified .kept)
 
 same-length-5 : tie.Need-same-length-5
 same-length-5 c =
-    let identified = c .before .before .before .before .before .before .before .before .before .before .before .before .before .before .before .before .before .before .before .before .identified in
-    omega (arith, c .before .before .before .before .before .before .before .value .kept, identified .kept)
+    let at-value = c .before .before .before .before .before .before .before .before .before in
+    let at-identified = at-value .before .before .before .before .before .before .before .before .before .before .before .before .before .before .before .before in
+    omega (arith, at-value .value .kept, at-identified .identified .kept)
 
 same-length-6 : tie.Need-same-length-6
 same-length-6 c =
-    let put = c .before .before .before .before .before .before .before .before .before .before .before .before .before .before .before .before .before .before .before .before .before .before .before .before .before .before .put in
-    let identified = c .before .before .before .before .before .before .before .before .before .before .before .before .before .before .before .before .before .before .before .before .identified in
-    omega (arith, c .before .before .before .before .before .before .before .value .kept, identified .kept, put .kept)
+    let at-value = c .before .before .before .before .before .before .before .before .before in
+    let at-identified = at-value .before .before .before .before .before .before .before .before .before .before .before .before .before .before .before .before in
+    omega (arith, at-value .value .kept, at-identified .identified .kept)
+
+same-length-7 : tie.Need-same-length-7
+same-length-7 c =
+    let at-value = c .before .before .before .before .before .before .before .before .before in
+    let at-identified = at-value .before .before .before .before .before .before .before .before .before .before .before .before .before .before .before .before in
+    omega (arith, at-value .value .kept, at-identified .identified .kept)
+
+same-length-8 : tie.Need-same-length-8
+same-length-8 c =
+    let at-value = c .before .before .before .before .before .before .before .before .before in
+    let at-identified = at-value .before .before .before .before .before .before .before .before .before .before .before .before .before .before .before .before in
+    let at-put = at-identified .before .before .before .before .before .before .before in
+    omega (arith, at-value .value .kept, at-identified .identified .kept, at-put .put .kept)
 
 returns-2 : tie.Need-returns-2
 returns-2 c =
-    let pre = c .before .before .before .before .before .before .before .before .before .before .before .before .before .before .before .before .before .before .before .before .before .before .before .before .before .before .before .before .before .before .before .before .before .pre in
-    let octet = c .before .before .before .before .before .before .before .before .before .before .before .before .before .before .before .before .before .before .before .before .before .before .before .before .before .before .before .before .octet in
-    let put = c .before .before .before .before .before .before .before .before .before .before .before .before .before .before .before .before .before .before .before .before .before .before .before .before .before .before .put in
-    let identified = c .before .before .before .before .before .before .before .before .before .before .before .before .before .before .before .before .before .before .before .before .identified in
-    let h = c .before .before .before .before .before .before .before .before .before .before .before .before .h in
-    let stands = rw (h .given .1) at (identified .ensures) in
-    rw (c .landed .ensures) (instruction-lands _ _ _ _ _ _ pre (octet .ensures) (put .ensures) stands (c .before .before .before .before .before .before .before .value .ensures))
+    let at-value = c .before .before .before .before .before .before .before .before .before in
+    let at-behind = at-value .before .before .before .before .before .before in
+    let at-identified = at-behind .before .before .before .before .before .before .before .before .before .before in
+    let at-put = at-identified .before .before .before .before .before .before .before in
+    let at-octet = at-put .before .before in
+    let at-start = at-octet .before .before .before .before .before .before in
+    let stands = rw (at-behind .behind .given .1) at (at-identified .identified .ensures) in
+    rw (c .landed .ensures) (instruction-lands _ _ _ _ _ _ (at-start .pre) (at-octet .octet .ensures) (at-put .put .ensures) stands (at-value .value .ensures))
 
 pub instruction-spec : {M : Type 1} → statement M
 instruction-spec =
@@ -100,17 +112,19 @@ instruction-spec =
     (tie.spec
     octet-requires
     put-requires
-    add-t18
+    add-identified
     identified-requires
-    enum-known-h
+    enum-known-behind
     enum-told
     same-length
     same-length-2
     same-length-3
+    same-length-4
     returns
     value-requires
     landed-requires
-    same-length-4
     same-length-5
     same-length-6
+    same-length-7
+    same-length-8
     returns-2)

@@ -15,10 +15,19 @@ returns : tie.Need-returns
 returns c = rw (c .enum-told .given .1)
 
 moved-requires : tie.Need-moved-requires
-moved-requires c κs = let near = rw (c .before .before .w .given .1) at (c .before .before .before .before .pre) in omega arith
+moved-requires c κs =
+    let near = rw (c .before .w .given .1) at (c .before .before .before .pre) in
+    omega arith
 
 returns-2 : tie.Need-returns-2
-returns-2 c = rw (c .before .before .before .w .given .1, c .moved .ensures)
+returns-2 c = rw (c .before .before .w .given .1, c .moved .ensures)
 
 pub landed-spec : {M : Type 1} → statement M
-landed-spec = tie.close (tie.spec enum-known-w enum-told returns moved-requires returns-2)
+landed-spec =
+    tie.close
+    (tie.spec
+    enum-known-w
+    enum-told
+    returns
+    moved-requires
+    returns-2)

@@ -15,10 +15,19 @@ returns : tie.Need-returns
 returns c = rw (c .enum-told .given .1)
 
 opened-requires : tie.Need-opened-requires
-opened-requires c κs = let near = rw (c .before .before .w .given .1) at (c .before .before .before .before .pre .0) in (omega arith, omega arith)
+opened-requires c κs =
+    let near = rw (c .before .w .given .1) at (c .before .before .before .pre .0) in
+    omega arith
 
 returns-2 : tie.Need-returns-2
-returns-2 c = rw (c .before .before .before .w .given .1, c .opened .ensures)
+returns-2 c = rw (c .before .before .w .given .1, c .opened .ensures)
 
 pub opened-spec : {M : Type 1} → statement M
-opened-spec = tie.close (tie.spec enum-known-w enum-told returns opened-requires returns-2)
+opened-spec =
+    tie.close
+    (tie.spec
+    enum-known-w
+    enum-told
+    returns
+    opened-requires
+    returns-2)

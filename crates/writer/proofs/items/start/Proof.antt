@@ -3,6 +3,7 @@
 use borrow.Author.Needs.{needs}
 use native.Mathlib.Omega.{arith}
 use Rattle.events.specs.declared.Kind.the-variants.{Start}
+use Rattle.write_names.specs.Contracts.{nameMost}
 use Rattle.writer.proofs.WellMade.{by-kind}
 use Rattle.writer.proofs.ItemLaws.{name-ready, meets-near, start-room, start-lands}
 use Rattle.writer.proofs.items.start.Statement.{statement}
@@ -22,17 +23,17 @@ name-of-requires c κs = search needs
 
 name-requires : tie.Need-name-requires
 name-requires c κs =
-    let a = c .before .before .before .before .before .before .before .before .before .before .before .before .before .before .args in
-    let pre = c .before .before .before .before .before .before .before .before .before .before .before .before .before .before .pre in
-    let n = name-ready (a .text .now) (a .e) _ (c .name-of .ensures) (by-kind (a .text .now) (a .e) Start (pre .made) .0) in (pre .order, omega arith, omega arith, omega arith, omega arith, n .0, n .1, n .2, n .3)
+    let at-name-lead = c .before .before .before .before .before .before .before .before .before .before in
+    let at-start = at-name-lead .before .before .before .before .before .before in
+    (at-start .pre .order, omega (arith, c .before .before .before .before .before .before .before .before .octet .ensures .1, c .before .before .before .before .before .before .before .before-name .ensures .1), name-ready (at-start .args .text .now) 8 _ (at-start .args .e) _ (c .name-of .ensures) (omega arith) (omega arith) (omega (arith, at-name-lead .name-lead .ensures .1)) (by-kind (at-start .args .text .now) (at-start .args .e) Start (at-start .pre .made) .0))
 
 opened-requires : tie.Need-opened-requires
 opened-requires c κs =
-    let pre = c .before .before .before .before .before .before .before .before .before .before .before .before .before .before .before .before .before .before .before .before .before .pre in
-    let octet = c .before .before .before .before .before .before .before .before .before .before .before .before .before .before .octet in
-    let before-name = c .before .before .before .before .before .before .before .before .before .before .before .before .before .before-name in
-    let name = c .before .before .before .before .before .before .name in
-    (meets-near _ _ (before-name .result) 49168 (name .result) _ _ _ _ (omega (arith, octet .ensures .1, before-name .ensures .1)) (name .ensures), start-room pre)
+    let at-name = c .before .before .before .before .before .before .before .before in
+    let at-before-name = at-name .before .before .before .before .before .before .before .before in
+    let at-octet = at-before-name .before in
+    let at-start = at-octet .before .before .before .before .before .before .before .before in
+    (meets-near _ _ (at-before-name .before-name .result) nameMost (at-name .name .result) _ _ _ _ _ (omega (arith, at-octet .octet .ensures .1, at-before-name .before-name .ensures .1)) (at-name .name .ensures), start-room (at-start .pre))
 
 same-length : tie.Need-same-length
 same-length c = search needs
@@ -43,15 +44,18 @@ same-length-2 c = search needs
 same-length-3 : tie.Need-same-length-3
 same-length-3 c = search needs
 
+same-length-4 : tie.Need-same-length-4
+same-length-4 c = search needs
+
 returns : tie.Need-returns
 returns c =
-    let pre = c .before .before .before .before .before .before .before .before .before .before .before .before .before .before .before .before .before .before .before .before .before .before .pre in
-    let name-lead = c .before .before .before .before .before .before .before .before .before .before .before .before .before .before .before .before .before .name-lead in
-    let octet = c .before .before .before .before .before .before .before .before .before .before .before .before .before .before .before .octet in
-    let before-name = c .before .before .before .before .before .before .before .before .before .before .before .before .before .before .before-name in
-    let name-of = c .before .before .before .before .before .before .before .before .name-of in
-    let name = c .before .before .before .before .before .before .before .name in
-    rw (c .opened .ensures) (start-lands _ _ _ _ _ _ pre (octet .ensures) (before-name .ensures) (name-lead .ensures .0) _ (name-of .ensures) (name .result) _ _ _ (name .ensures))
+    let at-name = c .before .before .before .before .before .before .before .before .before in
+    let at-name-of = at-name .before in
+    let at-before-name = at-name-of .before .before .before .before .before .before .before in
+    let at-octet = at-before-name .before in
+    let at-name-lead = at-octet .before .before in
+    let at-start = at-name-lead .before .before .before .before .before .before in
+    rw (c .opened .ensures) (start-lands _ _ _ _ _ _ (at-start .pre) (at-octet .octet .ensures) (at-before-name .before-name .ensures) (at-name-lead .name-lead .ensures .0) _ (at-name-of .name-of .ensures) (at-name .name .result) _ _ _ _ (at-name .name .ensures))
 
 pub start-spec : {M : Type 1} → statement M
 start-spec =
@@ -66,4 +70,5 @@ start-spec =
     same-length
     same-length-2
     same-length-3
+    same-length-4
     returns)

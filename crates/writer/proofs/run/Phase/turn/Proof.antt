@@ -1,4 +1,4 @@
--- `Phase::turn` meets its contract: a law for each way out.
+-- `turn` meets its contract: a step over the words of the counts.
 -- Assumes nothing.
 use borrow.Author.Needs.{needs}
 use native.Mathlib.Omega.{arith}
@@ -10,27 +10,44 @@ use Rattle.writer.proofs.run.Phase.turn.Tie as tie
 enum-known-self : tie.Need-enum-known-self
 enum-known-self c = search needs
 
+slice-aggregate-put-counts : tie.Need-slice-aggregate-put-counts
+slice-aggregate-put-counts c = search needs
+
+put-counts-requires : tie.Need-put-counts-requires
+put-counts-requires c κs = search needs
+
+slice-aggregate-step : tie.Need-slice-aggregate-step
+slice-aggregate-step c = search needs
+
 bit-requires : tie.Need-bit-requires
 bit-requires c κs = search needs
 
 step-requires : tie.Need-step-requires
 step-requires c κs =
-    let a = c .before .before .before .before .before .before .before .before .before .before .before .args in
-    let pre = c .before .before .before .before .before .before .before .before .before .before .before .pre in
-    steady-onward (a .text .now) (a .i) (a .t .now) (a .index .now) (c .before .before .before .before .before .self .given .1) pre .0
+    let at-self = c .before .before .before .before .before .before .before .before .before in
+    let at-start = at-self .before .before .before .before .before .before in
+    let steady = steady-onward (at-start .args .text .now) (at-start .args .i) (at-start .args .t .now) (at-start .args .index .now) (at-self .self .given .1) (at-start .pre) in
+    rw (c .before .before .before .before .before .before .put-counts .ensures) (steady .0)
 
 enum-known-next : tie.Need-enum-known-next
 enum-known-next c = search needs
 
+slice-aggregate-counts-in : tie.Need-slice-aggregate-counts-in
+slice-aggregate-counts-in c = search needs
+
+counts-in-requires : tie.Need-counts-in-requires
+counts-in-requires c κs = search needs
+
 enum-known-number : tie.Need-enum-known-number
 enum-known-number c = search needs
 
-cast-t26 : tie.Need-cast-t26
-cast-t26 c =
-    let a′ = c .before .before .before .before .before .before .before .before .before .before .before .before .before .before .before .before .before .before .before .before .before .args in
-    let pre = c .before .before .before .before .before .before .before .before .before .before .before .before .before .before .before .before .before .before .before .before .before .pre in
-    let self = c .before .before .before .before .before .before .before .before .before .before .before .before .before .before .before .self in
-    let b = steady-onward (a′ .text .now) (a′ .i) (a′ .t .now) (a′ .index .now) (self .given .1) pre in let a = b .0 .at in omega arith
+cast-t34 : tie.Need-cast-t34
+cast-t34 c =
+    let at-self = c .before .before .before .before .before .before .before .before .before .before .before .before .before .before .before .before .before .before .before .before in
+    let at-start = at-self .before .before .before .before .before .before in
+    let steady = steady-onward (at-start .args .text .now) (at-start .args .i) (at-start .args .t .now) (at-start .args .index .now) (at-self .self .given .1) (at-start .pre) in
+    let a = steady .0 .at in
+    omega arith
 
 enum-known-self-2 : tie.Need-enum-known-self-2
 enum-known-self-2 c = search needs
@@ -46,11 +63,13 @@ same-length-3 c = search needs
 
 returns : tie.Need-returns
 returns c =
-    let a = c .before .before .before .before .before .before .before .before .before .before .before .before .before .before .before .before .before .before .before .before .before .args in
-    let self = c .before .before .before .before .before .before .before .before .before .before .before .before .before .before .before .self in
-    let bit = c .before .before .before .before .before .before .before .before .before .before .bit in
-    let step = c .before .before .before .before .before .before .before .before .before .step in
-    turn-on (a .text .now) (length (a .out .now)) (length (a .t .now)) (a .i) (a .out .now) (a .t .now) (a .index .now) (a .e) (a .a) (step .last .1 .1 .1 .1 .1 .0) (step .last .1 .1 .1 .0) (step .last .1 .1 .1 .1 .0) _ _ (a .self) (self .given .1) _ (bit .ensures) (step .result) (step .ensures) _ _ (c .before .next .given .1)
+    let at-step = c .before .before .before .before .before .before .before .before .before .before .before .before in
+    let at-bit = at-step .before in
+    let at-put-counts = at-bit .before .before .before .before .before .before in
+    let at-self = at-put-counts .before .before .before in
+    let at-start = at-self .before .before .before .before .before .before in
+    let last = at-step .step .last in
+    turn-on (at-start .args .text .now) (length (at-start .args .out .now)) (length (at-start .args .t .now)) (at-start .args .i) (at-start .args .out .now) (at-start .args .t .now) (at-start .args .index .now) (at-start .args .e) (at-start .args .a) (last .1 .1 .1 .1 .1 .0) (last .1 .1 .0) (last .1 .1 .1 .1 .0) _ _ (at-start .args .self) (at-self .self .given .1) (at-put-counts .put-counts .ensures) _ (at-bit .bit .ensures) (at-step .step .result) (last .1 .1 .1 .0) (at-step .step .ensures) _ _ (c .before .before .before .next .given .1) (c .counts-in .ensures)
 
 same-length-4 : tie.Need-same-length-4
 same-length-4 c = search needs
@@ -63,27 +82,34 @@ same-length-6 c = search needs
 
 returns-2 : tie.Need-returns-2
 returns-2 c =
-    let a = c .before .before .before .before .before .before .before .before .before .before .before .before .before .before .before .before .before .before .before .before .before .args in
-    let self = c .before .before .before .before .before .before .before .before .before .before .before .before .before .before .before .self in
-    let bit = c .before .before .before .before .before .before .before .before .before .before .bit in
-    let step = c .before .before .before .before .before .before .before .before .before .step in
-    turn-stop (a .text .now) (length (a .out .now)) (length (a .t .now)) (a .i) (a .out .now) (a .t .now) (a .index .now) (a .e) (a .a) (step .last .1 .1 .1 .1 .1 .0) (step .last .1 .1 .1 .0) (step .last .1 .1 .1 .1 .0) _ _ (a .self) (self .given .1) _ (bit .ensures) (step .result) (step .ensures) _ (c .before .number .given .1)
+    let at-step = c .before .before .before .before .before .before .before .before .before .before in
+    let at-bit = at-step .before in
+    let at-put-counts = at-bit .before .before .before .before .before .before in
+    let at-self = at-put-counts .before .before .before in
+    let at-start = at-self .before .before .before .before .before .before in
+    let last = at-step .step .last in
+    turn-stop (at-start .args .text .now) (length (at-start .args .out .now)) (length (at-start .args .t .now)) (at-start .args .i) (at-start .args .out .now) (at-start .args .t .now) (at-start .args .index .now) (at-start .args .e) (at-start .args .a) (last .1 .1 .1 .1 .1 .0) (last .1 .1 .0) (last .1 .1 .1 .1 .0) _ _ (at-start .args .self) (at-self .self .given .1) (at-put-counts .put-counts .ensures) _ (at-bit .bit .ensures) (at-step .step .result) (last .1 .1 .1 .0) (at-step .step .ensures) _ (c .before .number .given .1)
 
 returns-3 : tie.Need-returns-3
 returns-3 c =
-    let a = c .before .before .before .before .before .before .before .args in
-    turn-halted (a .text .now) (length (a .out .now)) (length (a .t .now)) (a .i) (a .out .now) (a .t .now) (a .index .now) (a .e) (a .a) (a .out .now) (a .t .now) (a .index .now) _ _ _ (c .before .self2 .given .1)
+    let at-start = c .before .before .before .before .before .before .before in
+    turn-halted (at-start .args .text .now) (length (at-start .args .out .now)) (length (at-start .args .t .now)) (at-start .args .i) (at-start .args .out .now) (at-start .args .t .now) (at-start .args .index .now) (at-start .args .e) (at-start .args .a) (at-start .args .out .now) (at-start .args .t .now) (at-start .args .index .now) _ _ _ (c .before .self2 .given .1)
 
 pub turn-spec : {M : Type 1} → statement M
 turn-spec =
     tie.close
     (tie.spec
     enum-known-self
+    slice-aggregate-put-counts
+    put-counts-requires
+    slice-aggregate-step
     bit-requires
     step-requires
     enum-known-next
+    slice-aggregate-counts-in
+    counts-in-requires
     enum-known-number
-    cast-t26
+    cast-t34
     enum-known-self-2
     same-length
     same-length-2
