@@ -2,8 +2,8 @@
 -- Assumes nothing.
 use mathlib.Core.Path.{_≡_, sym, ap, _∙_}
 use mathlib.Core.Bool.{Bool, true, false, true≢false}
-use mathlib.Core.List.{List, []}
-use Prim.Native.Nat.{ℕ, _+_, _*_, _≤_, _<_}
+use mathlib.Core.List.{List, [], _∷_}
+use Prim.Native.Nat.{ℕ, suc, _+_, _*_, _≤_, _<_}
 use borrow.Author.Tests.{eq-eqb, ne-eqb, le-leb, lt-leb, ltb-true, ltb-false}
 use lib.ListN.{length, getD, drop, replicate}
 use lib.Seq.{drop-cons}
@@ -29,7 +29,7 @@ use Rattle.writer.specs.declared.run.Phase.the-variants.{Onward, Halted}
 use Rattle.writer.specs.Writing.{announced, writing, outcome, refusing, Leaves, writeOf}
 use Rattle.writer.specs.OutputContracts.{Holds}
 use Rattle.writer.specs.StepContracts.{Steps}
-use Rattle.writer.specs.RunContracts.{Foretold, remains, Finishes, goesOn, fromMode, lookFrom, bitOf, Going, Steady, Bounded, Turns, Ends, Settles}
+use Rattle.writer.specs.RunContracts.{Foretold, remains, Finishes, goesOn, fromMode, lookFrom, bitOf, Moving, Going, Steady, Bounded, Turns, Ends, Settles}
 use Rattle.writer.proofs.RunLaws.{five, underway-start, underway-number, underway-on, run-refused, run-finished}
 
 -- ---- before the first record
@@ -65,27 +65,33 @@ steady-onward text i w ix q h = rw q at h
 pub bounded-onward : (i : ℕ) {p : Phase} {st : State} {cs : Counts} → p ≡ Onward st cs → Bounded i p → Bounded i (Onward st cs)
 bounded-onward i q h = rw q at h
 
+-- a step with event i, by the words of the counts
+module _ (es : List Event) (text : List ℕ) (room table i : ℕ) (st : State) (c out w ix : List ℕ) (g : Moving es text room table i st c out w ix) (e : Event) (d : drop i es ≡ e ∷ drop (suc i) es)
+    (a : Bool) (told : a ≡ announced (drop (fromMode (modeOf (st .mode)) i (length es)) es)) (b : Bool) (f : b ≡ bitOf (modeOf (st .mode)) a) (r : Step) (out′ c′ w′ ix′ : List ℕ)
+    (s : Steps text room b st c out w e r out′ c′ w′ ix′) where
+  bit-is : b ≡ announced (drop i es)
+  bit-is = f ∙ bit-chosen (modeOf (st .mode)) a i es (g .2 .bit-known) told
+
+  pub moving-on : {next : State} → r ≡ On next → Moving es text room table (i + 1) next c′ out′ w′ ix′
+  moving-on o = (g .0, g .1, underway-on (g .2) d bit-is r out′ c′ w′ ix′ s o)
+
+  pub moving-stop : {n : ℕ} → r ≡ Stop n → refusing n i room table ≡ writeOf link es text room table
+  unfolding link
+  moving-stop {n} o = ap (λ (k : ℕ). refusing n i room k) (g .1) ∙ run-refused (g .2) d bit-is r out′ c′ w′ ix′ s o ∙ run-is es text room table (g .0) (g .1)
+
+-- the words are those of the counts
+pub moving-kept : {es : List Event} {text : List ℕ} {room table i : ℕ} {st : State} {c out w ix : List ℕ} (cs : Counts) → cs ≡ unlisted c → Moving es text room table i st c out w ix
+    → Moving es text room table i st (listed cs) out w ix
+moving-kept {c = c} cs q g = (g .0, g .1, rw (q, words-listed c (g .2 .ready .order .ten)) (g .2))
+
 module _ (text : List ℕ) (room table i : ℕ) (out w ix : List ℕ) (e : Event) (a : Bool) (out′ w′ ix′ : List ℕ) where
   module _ (st : State) (cs : Counts) (p : Phase) (q : p ≡ Onward st cs) {c : List ℕ} (qc : c ≡ listed cs) (b : Bool) (f : b ≡ bitOf (modeOf (st .mode)) a) (r : Step) (c′ : List ℕ)
       (s : Steps text room b st c out w e r out′ c′ w′ ix′) where
-    stepped : Steps text room b st (listed cs) out w e r out′ c′ w′ ix′
-    stepped = rw qc at s
-
     pub turn-on : (next : State) (cs′ : Counts) → r ≡ On next → cs′ ≡ unlisted c′ → Turns text room table i p out w ix e a (Onward next cs′) out′ w′ ix′
-    turn-on next cs′ o k =
-        rw q
-        (λ es g d c.
-        let u = underway-on (g .2) d (f ∙ bit-chosen (modeOf (st .mode)) a i es (g .2 .bit-known) c) r out′ c′ w′ ix′ stepped o in
-        (g .0, g .1, rw (k, words-listed c′ (u .ready .order .ten)) u))
+    turn-on next cs′ o k = rw q (λ es g d told. moving-kept cs′ k (moving-on es text room table i st c out w ix (rw qc g) e d a told b f r out′ c′ w′ ix′ s o))
 
     pub turn-stop : (n : ℕ) → r ≡ Stop n → Turns text room table i p out w ix e a (Halted n i) out′ w′ ix′
-    unfolding link
-    turn-stop n o =
-        rw q
-        (λ es g d c.
-        ap (λ (k : ℕ). refusing n i room k) (g .1)
-        ∙ run-refused (g .2) d (f ∙ bit-chosen (modeOf (st .mode)) a i es (g .2 .bit-known) c) r out′ c′ w′ ix′ stepped o
-        ∙ run-is es text room table (g .0) (g .1))
+    turn-stop n o = rw q (λ es g d told. moving-stop es text room table i st c out w ix (rw qc g) e d a told b f r out′ c′ w′ ix′ s o)
 
   pub turn-halted : (p : Phase) (k n : ℕ) → p ≡ Halted k n → Turns text room table i p out w ix e a (Halted k n) out w ix
   turn-halted p k n q = rw q (λ es g d c. g)

@@ -1,22 +1,20 @@
 -- The writer over words: a law for each way out of its functions, what a step teaches, and that a ride of the quick lane leaves a run underway.
 -- Assumes nothing.
-use mathlib.Core.Path.{_≡_, refl, sym, ap, _∙_}
+use mathlib.Core.Path.{_≡_, refl, ap, subst, _∙_}
 use mathlib.Core.Bool.{Bool, true, false}
-use mathlib.Core.List.{List}
-use Prim.Native.Nat.{ℕ, _+_, _*_, _/_, _≤_, _<_}
+use mathlib.Core.List.{List, _∷_}
+use Prim.Native.Nat.{ℕ, suc, _+_, _*_, _/_, _≤_, _<_}
 use native.Mathlib.Omega.{arith}
 use borrow.Author.Tests.{ne-eqb, le-ltb}
 use lib.Dec.{eqb}
-use lib.ListN.{length, drop, replicate}
+use lib.ListN.{length, getD, drop, replicate}
 use Rattle.format.specs.Numbers.{pick}
 use Rattle.format.specs.Tables.{Vocabulary, ELEMENT-NAME, names, link}
 use Rattle.format.specs.Items as F
 use Rattle.tables.specs.declared.Counts.{Counts}
 use Rattle.tables.specs.Located.{Located}
-use Rattle.tables.specs.Rows.{vocabulary}
-use Rattle.tables.specs.Kept.{nameTableOf, countOf}
+use Rattle.tables.specs.Kept.{nameTableOf, listed, unlisted}
 use Rattle.tables.proofs.Found.{clash}
-use Rattle.tables.proofs.Laws.{length-names}
 use Rattle.index.specs.Indexed.{slots}
 use Rattle.states.specs.declared.State.{State}
 use Rattle.states.specs.States.{modeOf, rootOf, coming}
@@ -27,7 +25,8 @@ use Rattle.events.specs.declared.Event.{Event}
 use Rattle.events.specs.Words.{kindNumber}
 use Rattle.events.specs.FromWords.{recordAt, recordsOf, beginsWith}
 use Rattle.events.proofs.FromWords.{records-length, record-nth, records-drop}
-use Rattle.write_names.proofs.Order.{within-order}
+use Rattle.write_names.specs.Contracts.{tablesIn}
+use Rattle.write_names.proofs.Order.{triples-count, counted-at, within-order}
 use Rattle.writer.specs.declared.Answer.{Answer}
 use Rattle.writer.specs.declared.lane.Lane.{Lane}
 use Rattle.writer.specs.declared.Step.{Step}
@@ -36,11 +35,11 @@ use Rattle.writer.specs.declared.run.Phase.{Phase}
 use Rattle.writer.specs.declared.run.Phase.the-variants.{Onward, Halted}
 use Rattle.writer.specs.Writing.{announced, Leaves, writeOf}
 use Rattle.writer.specs.StepContracts.{Ready, Steps, known, itemOf, Went}
-use Rattle.writer.specs.RunContracts.{Underway, Going, Bounded, Turns, Settles, goesOn, fromMode, bitOf}
+use Rattle.writer.specs.RunContracts.{Underway, Moving, Going, Bounded, Settles, goesOn, fromMode, bitOf}
 use Rattle.writer.specs.LaneContracts.{Taught, Remembered, Filed, Kept, Safe, OnWay, standing, Passes, Onward as Further}
 use Rattle.writer.specs.RideContracts.{Learns, arrivedAt, Rides, Through}
 use Rattle.writer.proofs.RunLaws.{bit-started, underway-number}
-use Rattle.writer.proofs.PhaseLaws.{turn-on, turn-stop, going-bounded, going-turned, going-settled}
+use Rattle.writer.proofs.PhaseLaws.{moving-on, moving-stop, moving-kept, going-bounded, going-settled}
 use Rattle.writer.proofs.LaneLaws.{remembered-none, remembered-kept, remembered-more, remembered-filed, extends-event, taught-new}
 
 -- ---- a Start that is remembered
@@ -65,22 +64,21 @@ module _ (w : List ℕ) (i : ℕ) (there : i < length w / 13) where
       remembered-more (recordsOf w) text v memory memory′ k q (rw (record-nth w i there) (t l (start-here h))) r
 
 -- ---- what a step teaches
-module _ {text : List ℕ} {room : ℕ} {a : Bool} {st : State} {cs : Counts} {out w : List ℕ} {e : Event} {next : State} {cs′ : Counts} {out′ w′ ix′ : List ℕ}
-    (g : Went text room a st cs out w e next cs′ out′ w′ ix′) where
-  tables-then : vocabulary cs′ w′ ≡ itemOf text a (known st cs w) e .state .tables
+module _ {text : List ℕ} {room : ℕ} {a : Bool} {st : State} {c out w : List ℕ} {e : Event} {next : State} {out′ c′ w′ ix′ : List ℕ} (g : Went text room a st c out w e next out′ c′ w′ ix′) where
+  tables-then : tablesIn c′ w′ ≡ itemOf text a (known st c w) e .state .tables
   tables-then = ap (λ (v : F.State Located). v .tables) (g .state)
 
-  pub step-keeps : (es : List Event) (memory : List ℕ) → Remembered es text (vocabulary cs w) memory → Remembered es text (vocabulary cs′ w′) memory
-  step-keeps es memory r = rw tables-then (remembered-kept es text memory (extends-event text a (known st cs w) e) r)
+  pub step-keeps : (es : List Event) (memory : List ℕ) → Remembered es text (tablesIn c w) memory → Remembered es text (tablesIn c′ w′) memory
+  step-keeps es memory r = rw tables-then (remembered-kept es text memory (extends-event text a (known st c w) e) r)
 
-  pub step-teaches : countOf cs 8 < countOf cs′ 8 → e .kind ≡ Start → Taught text (vocabulary cs′ w′) e (countOf cs′ 8)
+  pub step-teaches : length c ≡ 10 → getD c 8 0 < getD c′ 8 0 → e .kind ≡ Start → Taught text (tablesIn c′ w′) e (getD c′ 8 0)
   unfolding nameTableOf
-  step-teaches l k =
-      let few = g .ready .order .counted 8 in
-      let m = length-names cs w 8 (omega arith) (omega arith) in
-      let n = length-names cs′ w′ 8 (omega arith) (omega arith) in
+  step-teaches ten l k =
+      let few = counted-at text c′ w′ ix′ 8 (g .ready .order) in
+      let m = triples-count c w ten 8 (omega arith) (omega arith) in
+      let n = triples-count c′ w′ (g .ready .order .ten) 8 (omega arith) (omega arith) in
       let z = ap (λ (v : Vocabulary Located). length (names v ELEMENT-NAME)) tables-then in
-      rw (← n, tables-then) (taught-new text a (known st cs w) e room (st .at) (g .judged) k (omega arith) (omega arith))
+      subst (λ (k : ℕ). Taught text (tablesIn c′ w′) e k) n (rw tables-then (taught-new text a (known st c w) e room (st .at) (g .judged) k (omega arith) (omega arith)))
 
 -- ---- a ride
 root-so : (r : ℕ) → (r ≡ 0 → ⊥) → rootOf r ≡ true
@@ -101,24 +99,24 @@ from st i = record { at = st .at; level = st .level; i = i; listing = false }
 
 module _ (w memory : List ℕ) (room i : ℕ) (st : State) (out : List ℕ) where
   pub rides-not : Rides w memory room i st out (from st i) out
-  rides-not = record { onward = record { on = omega arith; inside = λ h. h }; under = λ text cs t ix r u. u }
+  rides-not = record { onward = record { on = omega arith; inside = λ h. h }; under = λ text c t ix r u. u }
 
   module _ (content : st .mode ≡ 0) (root : st .root ≡ 0 → ⊥) where
-    on-way : {text : List ℕ} {cs : Counts} {t ix : List ℕ} → Underway text room (recordsOf w) i st cs out t ix → OnWay text room (recordsOf w) (vocabulary cs t) (from st i) out
-    on-way {text} {cs} {t} u =
-        let z : known st cs t ≡ standing (vocabulary cs t) (from st i) = rw (content, mode-content, root-so (st .root) root) in
+    on-way : {text c t ix : List ℕ} → Underway text room (recordsOf w) i st c out t ix → OnWay text room (recordsOf w) (tablesIn c t) (from st i) out
+    on-way {text} {c} {t} u =
+        let z : known st c t ≡ standing (tablesIn c t) (from st i) = rw (content, mode-content, root-so (st .root) root) in
         record { hs = u .hs; holds = u .holds; small = u .small; leads = rw z at (u .leads) }
 
     pub rides-on : {l : Lane} {out′ : List ℕ} → Safe w memory l → Further i (l .i) (length w / 13) → Passes w memory room (from st i) out l out′ → Rides w memory room i st out l out′
     rides-on {l} {out′} safe on passes =
         record {
           onward = on;
-          under = λ text cs t ix r u.
-              let o = passes text (vocabulary cs t) (within-order text cs t ix (u .ready .order)) r (on-way u) in
+          under = λ text c t ix r u.
+              let o = passes text (tablesIn c t) (within-order text c t ix (u .ready .order)) r (on-way u) in
               let m = mode-arrived (l .listing) (st .mode) content in
-              let c = coming-arrived (l .listing) (st .mode) content in
+              let none = coming-arrived (l .listing) (st .mode) content in
               let deep = safe .level in
-              let z : known (arrivedAt st l) cs t ≡ standing (vocabulary cs t) l = rw (m, root-so (st .root) root) in
+              let z : known (arrivedAt st l) c t ≡ standing (tablesIn c t) l = rw (m, root-so (st .root) root) in
               record {
                 hs = o .hs;
                 holds = o .holds;
@@ -132,76 +130,83 @@ module _ (w memory : List ℕ) (room i : ℕ) (st : State) (out : List ℕ) wher
 -- ---- the loop
 module _ (w text : List ℕ) (room table i : ℕ) where
   -- behind i of the records, with what is remembered
-  pub record Stepping (st : State) (cs : Counts) (out t ix memory : List ℕ) : Type 0 where
-    pub going : Going (recordsOf w) text room table i (Onward st cs) out t ix
-    pub remembered : Remembered (recordsOf w) text (vocabulary cs t) memory
+  pub record Stepping (st : State) (c out t ix memory : List ℕ) : Type 0 where
+    pub moving : Moving (recordsOf w) text room table i st c out t ix
+    pub remembered : Remembered (recordsOf w) text (tablesIn c t) memory
     pub inside : i ≤ length w / 13
 
--- one record further, before anything is learned of it; cs were the counts before it
-pub record Stepped (w text : List ℕ) (room table i : ℕ) (cs : Counts) (st : State) (cs′ : Counts) (out t ix memory : List ℕ) : Type 0 where
-  pub going : Going (recordsOf w) text room table (i + 1) (Onward st cs′) out t ix
-  pub remembered : Remembered (recordsOf w) text (vocabulary cs′ t) memory
-  pub teaches : countOf cs 8 < countOf cs′ 8 → recordAt w (13 * i) .kind ≡ Start → Taught text (vocabulary cs′ t) (recordAt w (13 * i)) (countOf cs′ 8)
+  -- one record further, before anything is learned of it; there were so many names of elements before it
+  pub record Stepped (before : ℕ) (st : State) (c out t ix memory : List ℕ) : Type 0 where
+    pub moving : Moving (recordsOf w) text room table (i + 1) st c out t ix
+    pub remembered : Remembered (recordsOf w) text (tablesIn c t) memory
+    pub teaches : before < getD c 8 0 → recordAt w (13 * i) .kind ≡ Start → Taught text (tablesIn c t) (recordAt w (13 * i)) (getD c 8 0)
 
-pub stepping-start : (w text : List ℕ) (room table n : ℕ) (st : State) (cs : Counts) (out t : List ℕ) → Going (recordsOf w) text room table 0 (Onward st cs) out t (replicate slots 0)
-    → Stepping w text room table 0 st cs out t (replicate slots 0) (replicate n 0)
-stepping-start w text room table n st cs out t g = record { going = g; remembered = remembered-none (recordsOf w) text (vocabulary cs t) n; inside = omega arith }
+pub stepping-start : (w text : List ℕ) (room table n : ℕ) (st : State) (cs : Counts) (c out t : List ℕ) → c ≡ listed cs → Going (recordsOf w) text room table 0 (Onward st cs) out t (replicate slots 0)
+    → Stepping w text room table 0 st c out t (replicate slots 0) (replicate n 0)
+stepping-start w text room table n st cs c out t q g = rw q (record { moving = g; remembered = remembered-none (recordsOf w) text (tablesIn (listed cs) t) n; inside = omega arith })
 
-module _ {w text : List ℕ} {room table i : ℕ} {st : State} {cs : Counts} {out t ix memory : List ℕ} (s : Stepping w text room table i st cs out t ix memory) where
-  pub stepping-ready : Ready text st cs t ix
-  stepping-ready = s .going .2 .ready
+module _ {w text : List ℕ} {room table i : ℕ} {st : State} {c out t ix memory : List ℕ} (s : Stepping w text room table i st c out t ix memory) where
+  pub stepping-ready : Ready text st c t ix
+  stepping-ready = s .moving .2 .ready
+
+  pub stepping-ten : length c ≡ 10
+  stepping-ten = stepping-ready .order .ten
 
   pub stepping-small : i ≤ 32768
-  stepping-small = underway-number (s .going .2)
+  stepping-small = underway-number (s .moving .2)
 
-  module _ (there : i < length w / 13) (long : length out ≡ room) (long′ : length t ≡ table) {n : ℕ} (look : n ≡ fromMode (modeOf (st .mode)) i (length w / 13)) {a : Bool}
-      (told : a ≡ announced (drop n (recordsOf w))) {e : Event} (is : e ≡ recordAt w (13 * i)) {b : Bool} (bit : b ≡ bitOf (modeOf (st .mode)) a) (r : Step) (out′ t′ ix′ : List ℕ)
-      (step : Steps text (length out) b st cs out t e r out′ t′ ix′) where
-    turned : (p : Phase) → Turns text (length out) (length t) i (Onward st cs) out t ix e a p out′ t′ ix′ → Going (recordsOf w) text room table (i + 1) p out′ t′ ix′
-    turned p h =
-        let l = records-length w in
-        going-turned (recordsOf w) text room table i (Onward st cs) out t ix (s .going) long long′ (omega arith) {n = n} (is ∙ sym (record-nth w i there)) (rw l look) told p out′ t′ ix′ h
+  module _ (there : i < length w / 13) (long : length out ≡ room) {n : ℕ} (look : n ≡ fromMode (modeOf (st .mode)) i (length w / 13)) {a : Bool}
+      (told : a ≡ announced (drop n (recordsOf w))) {e : Event} (is : e ≡ recordAt w (13 * i)) {b : Bool} (bit : b ≡ bitOf (modeOf (st .mode)) a) (r : Step) (out′ c′ t′ ix′ : List ℕ)
+      (step : Steps text (length out) b st c out t e r out′ c′ t′ ix′) where
+    here : Steps text room b st c out t e r out′ c′ t′ ix′
+    here = rw long at step
 
-    pub stepped : {next : State} {cs′ : Counts} → r ≡ On next cs′ → Stepped w text room table i cs next cs′ out′ t′ ix′ memory
-    stepped {next} {cs′} q =
-        let g = rw q at step in
+    next-is : drop i (recordsOf w) ≡ e ∷ drop (suc i) (recordsOf w)
+    next-is = rw is (records-drop w i there)
+
+    told-is : a ≡ announced (drop (fromMode (modeOf (st .mode)) i (length (recordsOf w))) (recordsOf w))
+    told-is = told ∙ rw (look, records-length w)
+
+    pub stepped : {next : State} → r ≡ On next → Stepped w text room table i (getD c 8 0) next c′ out′ t′ ix′ memory
+    stepped q =
+        let g = rw q at here in
         record {
-          going = turned (Onward next cs′) (turn-on text (length out) (length t) i out t ix e a out′ t′ ix′ st cs (Onward st cs) refl b bit r step next cs′ q);
+          moving = moving-on (recordsOf w) text room table i st c out t ix (s .moving) e next-is a told-is b bit r out′ c′ t′ ix′ here q;
           remembered = step-keeps g (recordsOf w) memory (s .remembered);
-          teaches = λ l k. rw is at (step-teaches g l (rw is k));
+          teaches = λ l k. rw is at (step-teaches g stepping-ten l (rw is k));
         }
 
     pub step-stopped : {k : ℕ} → r ≡ Stop k → Through (recordsOf w) text room table (Halted k i) out′ t′
-    step-stopped {k} q = record { index = ix′; going = turned (Halted k i) (turn-stop text (length out) (length t) i out t ix e a out′ t′ ix′ st cs (Onward st cs) refl b bit r step k q) }
+    step-stopped q = record { index = ix′; going = moving-stop (recordsOf w) text room table i st c out t ix (s .moving) e next-is a told-is b bit r out′ c′ t′ ix′ here q }
 
 -- the quick lane behind it
-module _ {w text : List ℕ} {room table i : ℕ} {cs : Counts} {st : State} {cs′ : Counts} {out t ix memory : List ℕ} (s : Stepped w text room table i cs st cs′ out t ix memory) where
-  pub stepped-few : countOf cs′ 8 ≤ 256
-  stepped-few = s .going .2 .ready .order .counted 8
+module _ {w text : List ℕ} {room table i before : ℕ} {st : State} {c out t ix memory : List ℕ} (s : Stepped w text room table i before st c out t ix memory) where
+  pub stepped-few : getD c 8 0 ≤ 256
+  stepped-few = counted-at text c t ix 8 (s .moving .2 .ready .order)
 
   pub stepped-safe : (st .at ≤ 32768) × (st .level ≤ 32)
-  stepped-safe = let l = s .going .2 .ready .shallow in (s .going .2 .ready .at, omega arith)
+  stepped-safe = let l = s .moving .2 .ready .shallow in (s .moving .2 .ready .at, omega arith)
 
-  pub stepped-learned : {k n : ℕ} (memory′ : List ℕ) → k ≡ countOf cs 8 → n ≡ countOf cs′ 8 → Learns w i k n memory memory′ → Remembered (recordsOf w) text (vocabulary cs′ t) memory′
-  stepped-learned memory′ p q l = (rw (p, q) at l) text (vocabulary cs′ t) (s .teaches) (s .remembered)
+  pub stepped-learned : (memory′ : List ℕ) → Learns w i before (getD c 8 0) memory memory′ → Remembered (recordsOf w) text (tablesIn c t) memory′
+  stepped-learned memory′ l = l text (tablesIn c t) (s .teaches) (s .remembered)
 
-  pub stepped-filed : (memory′ : List ℕ) → Remembered (recordsOf w) text (vocabulary cs′ t) memory′ → Filed memory′ (length w / 13)
-  stepped-filed memory′ r = remembered-filed (recordsOf w) text (vocabulary cs′ t) memory′ (length w / 13) (records-length w) r
+  pub stepped-filed : (memory′ : List ℕ) → Remembered (recordsOf w) text (tablesIn c t) memory′ → Filed memory′ (length w / 13)
+  stepped-filed memory′ r = remembered-filed (recordsOf w) text (tablesIn c t) memory′ (length w / 13) (records-length w) r
 
-  pub stepping-on : (memory′ : List ℕ) → Remembered (recordsOf w) text (vocabulary cs′ t) memory′ → i < length w / 13 → {room′ : ℕ} → room′ ≡ room → {l : Lane} {out′ : List ℕ}
-      → Rides w memory′ room′ (i + 1) st out l out′ → {st′ : State} → st′ ≡ arrivedAt st l → Stepping w text room table (l .i) st′ cs′ out′ t ix memory′
+  pub stepping-on : (memory′ : List ℕ) → Remembered (recordsOf w) text (tablesIn c t) memory′ → i < length w / 13 → {room′ : ℕ} → room′ ≡ room → {l : Lane} {out′ : List ℕ}
+      → Rides w memory′ room′ (i + 1) st out l out′ → {st′ : State} → st′ ≡ arrivedAt st l → Stepping w text room table (l .i) st′ c out′ t ix memory′
   stepping-on memory′ r h q d z =
-      let g = s .going in
-      rw z (record { going = (g .0, g .1, (rw q at d) .under text cs′ t ix r (g .2)); remembered = r; inside = d .onward .inside (omega arith) })
+      let g = s .moving in
+      rw z (record { moving = (g .0, g .1, (rw q at d) .under text c t ix r (g .2)); remembered = r; inside = d .onward .inside (omega arith) })
 
 -- ---- behind the last record
-pub stepped-through : {w text : List ℕ} {room table i : ℕ} {st : State} {cs : Counts} {out t ix memory : List ℕ} → Stepping w text room table i st cs out t ix memory → length w / 13 ≤ i
+pub stepped-through : {w text : List ℕ} {room table i : ℕ} {st : State} {c out t ix memory : List ℕ} → Stepping w text room table i st c out t ix memory → length w / 13 ≤ i → (cs : Counts) → cs ≡ unlisted c
     → Through (recordsOf w) text room table (Onward st cs) out t
-stepped-through {w} {i = i} {ix = ix} s h =
+stepped-through {w} {i = i} {ix = ix} s h cs q =
     let b = s .inside in
     let n = records-length w in
     let z : i ≡ length (recordsOf w) = omega arith in
-    record { index = ix; going = rw z at (s .going) }
+    record { index = ix; going = rw z at (moving-kept cs q (s .moving)) }
 
 module _ (es : List Event) (text : List ℕ) (room table : ℕ) (out w ix : List ℕ) {p : Phase} where
   pub going-onward : {st : State} {cs : Counts} → p ≡ Onward st cs → Going es text room table 0 p out w ix → Going es text room table 0 (Onward st cs) out w ix

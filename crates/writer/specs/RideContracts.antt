@@ -6,13 +6,12 @@ use lib.ListN.{length}
 use Rattle.format.specs.Octets.{Octets, Words}
 use Rattle.format.specs.Numbers.{pick}
 use Rattle.format.specs.Tables.{Vocabulary}
-use Rattle.tables.specs.declared.Counts.{Counts}
 use Rattle.tables.specs.Located.{Located}
-use Rattle.tables.specs.Rows.{vocabulary}
 use Rattle.states.specs.declared.State.{State}
 use Rattle.events.specs.declared.Kind.the-variants.{Start}
 use Rattle.events.specs.declared.Event.{Event}
 use Rattle.events.specs.FromWords.{recordAt, recordsOf}
+use Rattle.write_names.specs.Contracts.{tablesIn}
 use Rattle.writer.specs.declared.lane.Lane.{Lane}
 use Rattle.writer.specs.declared.run.Phase.{Phase}
 use Rattle.writer.specs.RunContracts.{Underway, Going}
@@ -30,8 +29,8 @@ arrivedAt st l = record { at = l .at; level = l .level; root = st .root; mode = 
 -- From record i on the lane took those before its next: a run that was underway is so still.
 pub record Rides (w memory : Words) (room i : ℕ) (st : State) (out : Octets) (l : Lane) (out′ : Octets) : Type 0 where
   pub onward : Onward i (l .i) (length w / 13)
-  pub under : (text : Octets) (cs : Counts) (t index : Octets) → Remembered (recordsOf w) text (vocabulary cs t) memory → Underway text room (recordsOf w) i st cs out t index
-      → Underway text room (recordsOf w) (l .i) (arrivedAt st l) cs out′ t index
+  pub under : (text : Octets) (c t : Words) (index : Octets) → Remembered (recordsOf w) text (tablesIn c t) memory → Underway text room (recordsOf w) i st c out t index
+      → Underway text room (recordsOf w) (l .i) (arrivedAt st l) c out′ t index
 
 -- Behind all the events es, or the first refusal.
 pub record Through (es : List Event) (text : Octets) (room table : ℕ) (p : Phase) (out : Octets) (w : Words) : Type 0 where

@@ -74,9 +74,12 @@ bitOf content a = a
 bitOf (declaring b) a = b
 bitOf (listing any) a = a
 
--- Behind i of the events es, with `room` octets of output and `table` table words lent, which are out and w, and the index.
+-- Behind i of the events es, with `room` octets of output and `table` table words lent, which are out and w, and the index. The counts are in the words c, or in the phase.
+abbrev pub Moving : List Event → Octets → (room table i : ℕ) → State → (c : Words) (out : Octets) (w : Words) (index : Octets) → Type 0
+Moving es text room table i st c out w index = (length text ≤ link .octets) × (table ≡ tableWords) × Underway text room es i st c out w index
+
 abbrev pub Going : List Event → Octets → (room table i : ℕ) → Phase → (out : Octets) (w : Words) (index : Octets) → Type 0
-Going es text room table i (Onward st cs) out w index = (length text ≤ link .octets) × (table ≡ tableWords) × Underway text room es i st (listed cs) out w index
+Going es text room table i (Onward st cs) out w index = Moving es text room table i st (listed cs) out w index
 Going es text room table i (Halted k p) out w index = refusing k p room table ≡ writeOf link es text room table
 
 -- What the step with event i asks, and the end behind i events.

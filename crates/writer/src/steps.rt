@@ -95,19 +95,28 @@ pub fn steps(
 {
     let mut index = [0u8; index::SLOTS];
     let mut memory = [0u32; SLOTS];
+    let mut counts = [0u32; Counts::TABLES];
+    tables::put_counts(&mut counts, start);
     let mut st = first;
-    let mut counts = start;
     let mut i = 0;
     while i < records.len() / RECORD {
         let a = ahead::announced_words(records, look_from(st.mode, i, records.len() / RECORD));
         let e = events::from_words(records, i);
-        match step(st, counts, text, t, &mut index, out, e, bit(st.mode, a)) {
-            Step::On(next, more) => {
-                let names = more.of(ELEMENT_NAME);
-                learn(&mut memory, records, i, counts.of(ELEMENT_NAME), names);
+        let before = counts[ELEMENT_NAME];
+        match step(
+            st,
+            text,
+            t,
+            &mut counts,
+            &mut index,
+            out,
+            e,
+            bit(st.mode, a),
+        ) {
+            Step::On(next) => {
+                learn(&mut memory, records, i, before, counts[ELEMENT_NAME]);
                 let l = ride(next, records, &memory, out, i + 1);
                 st = arrived(next, l);
-                counts = more;
                 i = l.i;
             }
             Step::Stop(number) => {
@@ -115,5 +124,6 @@ pub fn steps(
             }
         }
     }
-    Phase::Onward(st, counts)
+    let kept = tables::counts_in(&counts);
+    Phase::Onward(st, kept)
 }

@@ -2,23 +2,31 @@
 -- Assumes nothing.
 use borrow.Author.Needs.{needs}
 use native.Mathlib.Omega.{arith}
-use Rattle.writer.proofs.RideLaws.{Stepping, stepping-start, stepping-ready, stepping-small, stepped, step-stopped, stepped-few, stepped-safe, stepped-learned, stepped-filed, stepping-on, stepped-through}
-use Rattle.index.specs.Indexed.{slots}
+use mathlib.Core.Path.{_≡_, refl}
 use lib.ListN.{length}
 use Prim.Native.Nat.{_-_, _/_}
-use mathlib.Core.Path.{_≡_, refl}
+use Rattle.index.specs.Indexed.{slots}
+use Rattle.writer.proofs.RideLaws.{Stepping, stepping-start, stepping-ready, stepping-small, stepped, step-stopped, stepped-few, stepped-safe, stepped-learned, stepped-filed, stepping-on, stepped-through}
 use Rattle.writer.proofs.steps.steps.Statement.{statement}
 use Rattle.writer.proofs.steps.steps.Tie as tie
 
 abbrev Inv-loop : tie.InvT-loop
-Inv-loop records text out₀ t₀ index₀ memory₀ st₀ counts₀ i₀ out t index memory st counts i =
-    (length out ≡ length out₀) × (length t ≡ length t₀) × (length index ≡ slots) × Stepping records text (length out₀) (length t₀) i st counts out t index memory
+Inv-loop records text out₀ t₀ index₀ memory₀ counts₀ st₀ i₀ out t index memory counts st i =
+    (length out ≡ length out₀) × (length t ≡ length t₀) × (length index ≡ slots) × (length counts ≡ 10) × Stepping records text (length out₀) (length t₀) i st counts out t index memory
 
 abbrev μ-loop : tie.MeasureT-loop
-μ-loop records text out₀ t₀ index₀ memory₀ st₀ counts₀ i₀ out t index memory st counts i = length records / 13 - i
+μ-loop records text out₀ t₀ index₀ memory₀ counts₀ st₀ i₀ out t index memory counts st i = length records / 13 - i
+
+slice-aggregate-put-counts : tie.Need-slice-aggregate-put-counts Inv-loop μ-loop
+slice-aggregate-put-counts c = search needs
+
+put-counts-requires : tie.Need-put-counts-requires Inv-loop μ-loop
+put-counts-requires c κs = search needs
 
 loop-holds : tie.Need-loop-holds Inv-loop μ-loop
-loop-holds c = (refl, refl, refl, stepping-start (c .before .before .before .before .args .records .now) (c .before .before .before .before .args .text .now) (length (c .before .before .before .before .args .out .now)) (length (c .before .before .before .before .args .t .now)) 128 (c .before .before .before .before .args .first) (c .before .before .before .before .args .start) (c .before .before .before .before .args .out .now) (c .before .before .before .before .args .t .now) (c .before .before .before .before .pre))
+loop-holds c =
+    let at-start = c .before .before .before .before .before .before .before in
+    (refl, refl, refl, omega arith, stepping-start (at-start .args .records .now) (at-start .args .text .now) (length (at-start .args .out .now)) (length (at-start .args .t .now)) 128 (at-start .args .first) (at-start .args .start) _ (at-start .args .out .now) (at-start .args .t .now) (c .before .put-counts .ensures) (at-start .pre))
 
 look-from-requires : tie.Need-look-from-requires Inv-loop μ-loop
 look-from-requires c κs = search needs
@@ -29,111 +37,131 @@ announced-words-requires c κs = search needs
 from-words-requires : tie.Need-from-words-requires Inv-loop μ-loop
 from-words-requires c κs = omega arith
 
+array-read-before : tie.Need-array-read-before Inv-loop μ-loop
+array-read-before c = search needs
+
 slice-aggregate-step : tie.Need-slice-aggregate-step Inv-loop μ-loop
 slice-aggregate-step c = search needs
+
+slice-aggregate-step-2 : tie.Need-slice-aggregate-step-2 Inv-loop μ-loop
+slice-aggregate-step-2 c = search needs
 
 bit-requires : tie.Need-bit-requires Inv-loop μ-loop
 bit-requires c κs = search needs
 
 step-requires : tie.Need-step-requires Inv-loop μ-loop
-step-requires c κs = stepping-ready (c .before .before .before .before .before .before .before .before .loop .inv .3)
+step-requires c κs =
+    let at-loop = c .before .before .before .before .before .before .before .before .before in
+    stepping-ready (at-loop .loop .inv .4)
 
 enum-known-next : tie.Need-enum-known-next Inv-loop μ-loop
 enum-known-next c = search needs
 
-of-requires : tie.Need-of-requires Inv-loop μ-loop
-of-requires c κs = search needs
-
-of-requires-2 : tie.Need-of-requires-2 Inv-loop μ-loop
-of-requires-2 c κs = search needs
+array-read-learn : tie.Need-array-read-learn Inv-loop μ-loop
+array-read-learn c = search needs
 
 learn-requires : tie.Need-learn-requires Inv-loop μ-loop
 learn-requires c κs =
-    let loop-test = c .before .before .before .before .before .before .before .before .before .before .before .before .before .before .before .before .before .before .before .loop-test in
-    let loop = c .before .before .before .before .before .before .before .before .before .before .before .before .before .before .before .before .before .before .before .before .loop in
-    let look-from = c .before .before .before .before .before .before .before .before .before .before .before .before .before .before .before .before .before .before .look-from in
-    let announced-words = c .before .before .before .before .before .before .before .before .before .before .before .before .before .before .before .before .before .announced-words in
-    let from-words = c .before .before .before .before .before .before .before .before .before .before .before .before .before .before .before .before .from-words in
-    let bit = c .before .before .before .before .before .before .before .before .before .before .before .before .bit in
-    let step = c .before .before .before .before .before .before .before .before .before .before .before .step in
-    (loop-test .taken, stepping-small (loop .inv .3), rw (c .before .before .of .ensures) (stepped-few (stepped (loop .inv .3) (loop-test .taken) (loop .inv .0) (loop .inv .1) (look-from .ensures) (announced-words .ensures) (from-words .ensures) (bit .ensures) (step .result) (step .last .1 .1 .1 .1 .1 .0) (step .last .1 .1 .1 .0) (step .last .1 .1 .1 .1 .0) (step .ensures) (c .before .before .before .before .next .given .1))))
+    let at-step = c .before .before .before .before .before .before .before .before .before .before in
+    let at-bit = at-step .before in
+    let at-from-words = at-bit .before .before .before .before .before in
+    let at-announced-words = at-from-words .before in
+    let at-look-from = at-announced-words .before in
+    let at-loop-test = at-look-from .before in
+    let at-loop = at-loop-test .before in
+    let s = stepped (at-loop .loop .inv .4) (at-loop-test .loop-test .taken) (at-loop .loop .inv .0) (at-look-from .look-from .ensures) (at-announced-words .announced-words .ensures) (at-from-words .from-words .ensures) (at-bit .bit .ensures) (at-step .step .result) (at-step .step .last .1 .1 .1 .1 .1 .0) (at-step .step .last .1 .1 .1 .0) (at-step .step .last .1 .1 .0) (at-step .step .last .1 .1 .1 .1 .0) (at-step .step .ensures) (c .before .before .next .given .1) in
+    (at-loop-test .loop-test .taken, stepping-small (at-loop .loop .inv .4), stepped-few s)
 
 add-ride : tie.Need-add-ride Inv-loop μ-loop
 add-ride c =
-    let loop = c .before .before .before .before .before .before .before .before .before .before .before .before .before .before .before .before .before .before .before .before .before .before .before .loop in
-    omega (arith, stepping-small (loop .inv .3))
+    let at-loop = c .before .before .before .before .before .before .before .before .before .before .before .before .before .before .before .before .before .before .before .before .before .before .before in
+    omega (arith, stepping-small (at-loop .loop .inv .4))
 
 ride-requires : tie.Need-ride-requires Inv-loop μ-loop
 ride-requires c κs =
-    let loop = c .before .before .before .before .before .before .before .before .before .before .before .before .before .before .before .before .before .before .before .before .before .before .before .loop in
-    let loop-test = c .before .before .before .before .before .before .before .before .before .before .before .before .before .before .before .before .before .before .before .before .before .before .loop-test in
-    let look-from = c .before .before .before .before .before .before .before .before .before .before .before .before .before .before .before .before .before .before .before .before .before .look-from in
-    let announced-words = c .before .before .before .before .before .before .before .before .before .before .before .before .before .before .before .before .before .before .before .before .announced-words in
-    let from-words = c .before .before .before .before .before .before .before .before .before .before .before .before .before .before .before .before .before .before .before .from-words in
-    let bit = c .before .before .before .before .before .before .before .before .before .before .before .before .before .before .before .bit in
-    let step = c .before .before .before .before .before .before .before .before .before .before .before .before .before .before .step in
-    let s = stepped (loop .inv .3) (loop-test .taken) (loop .inv .0) (loop .inv .1) (look-from .ensures) (announced-words .ensures) (from-words .ensures) (bit .ensures) (step .result) (step .last .1 .1 .1 .1 .1 .0) (step .last .1 .1 .1 .0) (step .last .1 .1 .1 .1 .0) (step .ensures) (c .before .before .before .before .before .before .before .next .given .1) in
-    (stepped-safe s .0, stepped-safe s .1, stepped-filed s (c .before .before .learn .last .0) (stepped-learned s (c .before .before .learn .last .0) (c .before .before .before .of2 .ensures) (c .before .before .before .before .before .of .ensures) (c .before .before .learn .ensures)))
+    let at-step = c .before .before .before .before .before .before .before .before .before .before .before .before .before in
+    let at-bit = at-step .before in
+    let at-from-words = at-bit .before .before .before .before .before in
+    let at-announced-words = at-from-words .before in
+    let at-look-from = at-announced-words .before in
+    let at-loop-test = at-look-from .before in
+    let at-loop = at-loop-test .before in
+    let s = stepped (at-loop .loop .inv .4) (at-loop-test .loop-test .taken) (at-loop .loop .inv .0) (at-look-from .look-from .ensures) (at-announced-words .announced-words .ensures) (at-from-words .from-words .ensures) (at-bit .bit .ensures) (at-step .step .result) (at-step .step .last .1 .1 .1 .1 .1 .0) (at-step .step .last .1 .1 .1 .0) (at-step .step .last .1 .1 .0) (at-step .step .last .1 .1 .1 .1 .0) (at-step .step .ensures) (c .before .before .before .before .before .next .given .1) in
+    let kept = c .before .before .learn .last .0 in
+    let learned = stepped-learned s kept (c .before .before .learn .ensures) in
+    (stepped-safe s .0, stepped-safe s .1, stepped-filed s kept learned)
 
 arrived-requires : tie.Need-arrived-requires Inv-loop μ-loop
 arrived-requires c κs = search needs
 
 loop-less : tie.Need-loop-less Inv-loop μ-loop
 loop-less c =
-    let loop-test = c .before .before .before .before .before .before .before .before .before .before .before .before .before .before .before .before .before .before .before .before .before .before .before .before .before .before .loop-test in
+    let at-loop-test = c .before .before .before .before .before .before .before .before .before .before .before .before .before .before .before .before .before .before .before .before .before .before .before .before .before .before in
     let on = c .before .before .before .ride .ensures .onward .on in
-    omega (arith, loop-test .taken)
+    omega (arith, at-loop-test .loop-test .taken)
 
 loop-again : tie.Need-loop-again Inv-loop μ-loop
 loop-again c =
-    let loop = c .before .before .before .before .before .before .before .before .before .before .before .before .before .before .before .before .before .before .before .before .before .before .before .before .before .before .before .loop in
-    let loop-test = c .before .before .before .before .before .before .before .before .before .before .before .before .before .before .before .before .before .before .before .before .before .before .before .before .before .before .loop-test in
-    let look-from = c .before .before .before .before .before .before .before .before .before .before .before .before .before .before .before .before .before .before .before .before .before .before .before .before .before .look-from in
-    let announced-words = c .before .before .before .before .before .before .before .before .before .before .before .before .before .before .before .before .before .before .before .before .before .before .before .before .announced-words in
-    let from-words = c .before .before .before .before .before .before .before .before .before .before .before .before .before .before .before .before .before .before .before .before .before .before .before .from-words in
-    let bit = c .before .before .before .before .before .before .before .before .before .before .before .before .before .before .before .before .before .before .before .bit in
-    let step = c .before .before .before .before .before .before .before .before .before .before .before .before .before .before .before .before .before .before .step in
-    let next = c .before .before .before .before .before .before .before .before .before .before .before .next in
-    let of = c .before .before .before .before .before .before .before .before .before .of in
-    let s = stepped (loop .inv .3) (loop-test .taken) (loop .inv .0) (loop .inv .1) (look-from .ensures) (announced-words .ensures) (from-words .ensures) (bit .ensures) (step .result) (step .last .1 .1 .1 .1 .1 .0) (step .last .1 .1 .1 .0) (step .last .1 .1 .1 .1 .0) (step .ensures) (next .given .1) in
-    (omega (arith, loop .inv .0, step .kept, c .before .before .before .ride .kept), omega (arith, loop .inv .1, step .kept, c .before .before .before .ride .kept), omega (arith, loop .inv .2, step .kept, c .before .before .before .ride .kept), stepping-on s (c .before .before .before .before .before .before .learn .last .0) (stepped-learned s (c .before .before .before .before .before .before .learn .last .0) (c .before .before .before .before .before .before .before .of2 .ensures) (of .ensures) (c .before .before .before .before .before .before .learn .ensures)) (loop-test .taken) (omega (arith, loop .inv .0, step .kept)) (c .before .before .before .ride .ensures) (c .arrived .ensures))
+    let at-learn = c .before .before .before .before .before .before in
+    let at-next = at-learn .before .before .before in
+    let at-step = at-next .before .before .before .before .before .before .before .before in
+    let at-bit = at-step .before in
+    let at-from-words = at-bit .before .before .before .before .before in
+    let at-announced-words = at-from-words .before in
+    let at-look-from = at-announced-words .before in
+    let at-loop-test = at-look-from .before in
+    let at-loop = at-loop-test .before in
+    let s = stepped (at-loop .loop .inv .4) (at-loop-test .loop-test .taken) (at-loop .loop .inv .0) (at-look-from .look-from .ensures) (at-announced-words .announced-words .ensures) (at-from-words .from-words .ensures) (at-bit .bit .ensures) (at-step .step .result) (at-step .step .last .1 .1 .1 .1 .1 .0) (at-step .step .last .1 .1 .1 .0) (at-step .step .last .1 .1 .0) (at-step .step .last .1 .1 .1 .1 .0) (at-step .step .ensures) (at-next .next .given .1) in
+    let kept = at-learn .learn .last .0 in
+    let learned = stepped-learned s kept (at-learn .learn .ensures) in
+    let far = c .before .before .before .ride .kept in
+    (omega (arith, at-loop .loop .inv .0, at-step .step .kept, far), omega (arith, at-loop .loop .inv .1, at-step .step .kept, far), omega (arith, at-loop .loop .inv .2, at-step .step .kept, far), omega (arith, at-loop .loop .inv .3, at-step .step .kept, far), stepping-on s kept learned (at-loop-test .loop-test .taken) (omega (arith, at-loop .loop .inv .0, at-step .step .kept)) (c .before .before .before .ride .ensures) (c .arrived .ensures))
 
 enum-known-number : tie.Need-enum-known-number Inv-loop μ-loop
 enum-known-number c = search needs
 
-cast-t37 : tie.Need-cast-t37 Inv-loop μ-loop
-cast-t37 c =
-    let loop = c .before .before .before .before .before .before .before .before .before .before .before .before .before .before .before .before .before .loop in
-    omega (arith, stepping-small (loop .inv .3))
+cast-t47 : tie.Need-cast-t47 Inv-loop μ-loop
+cast-t47 c =
+    let at-loop = c .before .before .before .before .before .before .before .before .before .before .before .before .before .before .before .before .before .before .before in
+    omega (arith, stepping-small (at-loop .loop .inv .4))
 
 same-length : tie.Need-same-length Inv-loop μ-loop
 same-length c =
-    let loop = c .before .before .before .before .before .before .before .before .before .before .before .before .before .before .before .before .before .loop in
-    omega (arith, loop .inv .0, c .before .before .before .before .before .before .before .before .step .kept)
+    let at-step = c .before .before .before .before .before .before .before .before .before in
+    let at-loop = at-step .before .before .before .before .before .before .before .before .before .before in
+    omega (arith, at-loop .loop .inv .0, at-step .step .kept)
 
 same-length-2 : tie.Need-same-length-2 Inv-loop μ-loop
 same-length-2 c =
-    let loop = c .before .before .before .before .before .before .before .before .before .before .before .before .before .before .before .before .before .loop in
-    omega (arith, loop .inv .1, c .before .before .before .before .before .before .before .before .step .kept)
+    let at-step = c .before .before .before .before .before .before .before .before .before in
+    let at-loop = at-step .before .before .before .before .before .before .before .before .before .before in
+    omega (arith, at-loop .loop .inv .1, at-step .step .kept)
 
 returns : tie.Need-returns Inv-loop μ-loop
 returns c =
-    let loop = c .before .before .before .before .before .before .before .before .before .before .before .before .before .before .before .before .before .loop in
-    let loop-test = c .before .before .before .before .before .before .before .before .before .before .before .before .before .before .before .before .loop-test in
-    let look-from = c .before .before .before .before .before .before .before .before .before .before .before .before .before .before .before .look-from in
-    let announced-words = c .before .before .before .before .before .before .before .before .before .before .before .before .before .before .announced-words in
-    let from-words = c .before .before .before .before .before .before .before .before .before .before .before .before .before .from-words in
-    let bit = c .before .before .before .before .before .before .before .before .before .bit in
-    step-stopped (loop .inv .3) (loop-test .taken) (loop .inv .0) (loop .inv .1) (look-from .ensures) (announced-words .ensures) (from-words .ensures) (bit .ensures) (c .before .before .before .before .before .before .before .before .step .result) (c .before .before .before .before .before .before .before .before .step .last .1 .1 .1 .1 .1 .0) (c .before .before .before .before .before .before .before .before .step .last .1 .1 .1 .0) (c .before .before .before .before .before .before .before .before .step .last .1 .1 .1 .1 .0) (c .before .before .before .before .before .before .before .before .step .ensures) (c .before .number .given .1)
+    let at-step = c .before .before .before .before .before .before .before .before .before in
+    let at-bit = at-step .before in
+    let at-from-words = at-bit .before .before .before .before .before in
+    let at-announced-words = at-from-words .before in
+    let at-look-from = at-announced-words .before in
+    let at-loop-test = at-look-from .before in
+    let at-loop = at-loop-test .before in
+    step-stopped (at-loop .loop .inv .4) (at-loop-test .loop-test .taken) (at-loop .loop .inv .0) (at-look-from .look-from .ensures) (at-announced-words .announced-words .ensures) (at-from-words .from-words .ensures) (at-bit .bit .ensures) (at-step .step .result) (at-step .step .last .1 .1 .1 .1 .1 .0) (at-step .step .last .1 .1 .1 .0) (at-step .step .last .1 .1 .0) (at-step .step .last .1 .1 .1 .1 .0) (at-step .step .ensures) (c .before .number .given .1)
+
+slice-aggregate-counts-in : tie.Need-slice-aggregate-counts-in Inv-loop μ-loop
+slice-aggregate-counts-in c = search needs
+
+counts-in-requires : tie.Need-counts-in-requires Inv-loop μ-loop
+counts-in-requires c κs = search needs
 
 same-length-3 : tie.Need-same-length-3 Inv-loop μ-loop
-same-length-3 c = omega arith
+same-length-3 c = omega (arith, c .before .before .before .loop .inv .0)
 
 same-length-4 : tie.Need-same-length-4 Inv-loop μ-loop
-same-length-4 c = omega arith
+same-length-4 c = omega (arith, c .before .before .before .loop .inv .1)
 
 returns-2 : tie.Need-returns-2 Inv-loop μ-loop
-returns-2 c = stepped-through (c .before .loop .inv .3) (omega arith)
+returns-2 c = stepped-through (c .before .before .before .loop .inv .4) (omega (arith, c .before .before .loop-test .left)) _ (c .counts-in .ensures)
 
 pub steps-spec : {M : Type 1} → statement M
 steps-spec =
@@ -141,16 +169,19 @@ steps-spec =
     (tie.spec
     Inv-loop
     μ-loop
+    slice-aggregate-put-counts
+    put-counts-requires
     loop-holds
     look-from-requires
     announced-words-requires
     from-words-requires
+    array-read-before
     slice-aggregate-step
+    slice-aggregate-step-2
     bit-requires
     step-requires
     enum-known-next
-    of-requires
-    of-requires-2
+    array-read-learn
     learn-requires
     add-ride
     ride-requires
@@ -158,10 +189,12 @@ steps-spec =
     loop-less
     loop-again
     enum-known-number
-    cast-t37
+    cast-t47
     same-length
     same-length-2
     returns
+    slice-aggregate-counts-in
+    counts-in-requires
     same-length-3
     same-length-4
     returns-2)
