@@ -11,7 +11,7 @@ use Rattle.tables.specs.Located.{Located}
 use Rattle.tables.specs.Rows.{vocabulary}
 use Rattle.tables.specs.Kept.{countOf, unlisted}
 use Rattle.states.specs.declared.State.{State}
-use Rattle.states.specs.States.{movedTo, coming}
+use Rattle.states.specs.States.{farthest, movedTo, coming}
 use Rattle.events.specs.declared.EventString.{EventString}
 use Rattle.events.specs.declared.EventString.the-variants.{Absent}
 use Rattle.events.specs.Records.{eventString, optionalEventString}
@@ -110,7 +110,7 @@ module _ (a : S.Got DeclaredRead) (d v : Words) {r : Declaration} where
   declared-is e q = got-is asDeclared a _ _ _ (rw e at q ∙ declared-seen a)
 
 -- ---- what is left
-pub near : {s d v x : List ℕ} {at : ℕ} → Tidy s d v x → at ≤ length s → at ≤ 200000
+pub near : {s d v x : List ℕ} {at : ℕ} → Tidy s d v x → at ≤ length s → at ≤ farthest
 near t h = let z = t .size in omega arith
 
 -- Behind a field the reader is in order again.
