@@ -43,7 +43,8 @@ use Rattle.read_names.specs.declared.Parts.{Parts}
 use Rattle.read_names.specs.Strings.{literalAt}
 use Rattle.read_names.specs.Names.{numberedAt}
 use Rattle.read_names.specs.Contracts.{Tidy, IdLeft, seenName, nameSeen, stringSeen, eventStringAt, nameStringsAt}
-use Rattle.read_names.proofs.Grown.{count-at, name-ranged}
+use Rattle.index.proofs.Counted.{count-at}
+use Rattle.read_names.proofs.Grown.{name-ranged}
 use Rattle.read_names.proofs.StringLaws.{stretch-text, entry-octets, string-none, string-there, held-entry, said-entry, FieldAnswers, table-small, spelled-added, chunk-held, chunk-spelled}
 use Rattle.read_names.proofs.NameLaws.{element-number, row-is, strings-are, number-held}
 use Rattle.read_items.specs.declared.Step.the-variants.{More}
