@@ -47,11 +47,6 @@ indexed-start only s t index p n z = rw z (indexed-bare only s t (countOf (count
     unnamed (suc zero) l = absurd (omega arith)
     unnamed (suc (suc k)) l = start-count k
 
--- what a struct counts, words count
-pub indexed-words : (only : ℕ → Bool) (s t index : List ℕ) (c : Counts) → Indexed only s (countOf c) t index → Indexed only s (inWords (listed c)) t index
-unfolding countOf
-indexed-words only s t index c x = x
-
 -- ---- one entry more
 listed-at : (l : List ℕ) (k : ℕ) → k < 10 → getD (listed (unlisted l)) k 0 ≡ getD l k 0
 listed-at l zero h = refl

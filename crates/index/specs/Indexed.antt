@@ -10,7 +10,8 @@ use Rattle.format.specs.Tables.{Triple, same, sameTriple}
 use Rattle.tables.specs.Located.{stretch, octetsOf}
 use Rattle.tables.specs.Rows.{tableOf, builtIn, stringAt, tripleAt, entries}
 use Rattle.tables.specs.Search.{numberIn}
-use Rattle.tables.specs.Kept.{stored}
+use Rattle.tables.specs.Counts.{tableWords}
+use Rattle.tables.specs.Kept.{stored, Inside}
 use Rattle.index.specs.Hash.{bucket, nameBucket}
 use Rattle.index.specs.Chain.{Kind, reached, Chains}
 use Rattle.index.specs.declared.Added.{Added}
@@ -77,3 +78,32 @@ abbrev pub NewString : (s : Octets) (table n place len : ℕ) (t : Words) (index
 NewString s table n place len t index Known u other = (listed s t table n place len ≡ true) × (u ≡ t) × (other ≡ index)
 NewString s table n place len t index Full u other = (listed s t table n place len ≡ false) × (256 ≤ n) × (u ≡ t) × (other ≡ index)
 NewString s table n place len t index Done u other = (listed s t table n place len ≡ false) × (n < 256) × StringEntered s table n place len t index u other
+
+-- ---- what the functions ask
+-- The string at a place can be looked for among a table's first n entries: it is not empty, it and they lie in s, they are indexed, and h is its bucket.
+abbrev pub Sought : (s : Octets) (t : Words) (index : Octets) (table n place len h : ℕ) → Type 0
+Sought s t index table n place len h =
+    (length t ≡ tableWords) × (length index ≡ slots) × (table < 8) × (n ≤ 256) × (1 ≤ len) × (place + len ≤ length s)
+    × Inside s (entries (stringAt (tableOf table) t) (768 * table) n)
+    × StringsIndexed s t index table n
+    × (h ≡ bucket (octetsOf s (stretch place len)))
+    × (h < 128)
+
+-- And it is not built in, so that it is in its chain or nowhere; and it can be added, so that its place fits a word.
+abbrev pub SoughtInChain : (s : Octets) (t : Words) (index : Octets) (table n place len h : ℕ) → Type 0
+SoughtInChain s t index table n place len h =
+    (length t ≡ tableWords) × (length index ≡ slots) × (table < 8) × (n ≤ 256) × (1 ≤ len) × (place + len ≤ length s)
+    × Inside s (entries (stringAt (tableOf table) t) (768 * table) n)
+    × StringsIndexed s t index table n
+    × (h ≡ bucket (octetsOf s (stretch place len)))
+    × (h < 128)
+    × (same (octetsOf s (builtIn (tableOf table))) (octetsOf s (stretch place len)) ≡ false)
+
+abbrev pub SoughtToAdd : (s : Octets) (t : Words) (index : Octets) (table n place len h : ℕ) → Type 0
+SoughtToAdd s t index table n place len h =
+    (length t ≡ tableWords) × (length index ≡ slots) × (table < 8) × (n ≤ 256) × (1 ≤ len) × (place + len ≤ length s)
+    × Inside s (entries (stringAt (tableOf table) t) (768 * table) n)
+    × StringsIndexed s t index table n
+    × (h ≡ bucket (octetsOf s (stretch place len)))
+    × (h < 128)
+    × (length s < 0x1_0000_0000)

@@ -1,7 +1,7 @@
-// A hash index over the tables, local to a run: what `tables::find` and `tables::find_name` answer, in a few comparisons.
+// A hash index over the tables, local to a run: the lowest number of a string or a name, in a few comparisons.
 // May depend on format, fields and tables.
 ghost use mathlib.Core.Path.{_≡_};
-ghost use mathlib.Core.Bool.{true, false};
+ghost use mathlib.Core.Bool.{true};
 ghost use mathlib.Core.List.{List, map};
 ghost use Prim.Native.Nat.{ℕ, _+_, _-_, _*_, _/_, _<_, _≤_};
 ghost use lib.ListN.{length};
@@ -15,7 +15,7 @@ ghost use Rattle.tables.specs.Search.{numberIn, numberOfTriple};
 ghost use Rattle.tables.specs.Kept.{Inside};
 ghost use Rattle.index.specs.Hash.{summed, blended, spread, rolled, bucket, nameBucket};
 ghost use Rattle.index.specs.Chain.{lastRow, pushed};
-ghost use Rattle.index.specs.Indexed.{slots, strings, stringsAt, names, StringsIndexed, NamesIndexed, StringEntered, NameEntered, listed, NewString};
+ghost use Rattle.index.specs.Indexed.{slots, strings, stringsAt, names, StringsIndexed, NamesIndexed, StringEntered, NameEntered, listed, NewString, Sought, SoughtInChain, SoughtToAdd};
 use tables::Counts;
 
 // Octets of the index: PART for each table.
@@ -210,7 +210,7 @@ fn find_chained(
     len: usize,
     h: usize,
 ) -> u32
-    requires { ⌜ (length (now t) ≡ tableWords) × (length (now index) ≡ slots) × (table < 8) × (n ≤ 256) × (1 ≤ len) × (place + len ≤ length (now s)) × Inside (now s) (entries (stringAt (tableOf table) (now t)) (768 * table) n) × StringsIndexed (now s) (now t) (now index) table n × (h ≡ bucket (octetsOf (now s) (stretch place len))) × (h < 128) × (same (octetsOf (now s) (builtIn (tableOf table))) (octetsOf (now s) (stretch place len)) ≡ false) ⌝ }
+    requires { ⌜ SoughtInChain (now s) (now t) (now index) table n place len h ⌝ }
     ensures { λ r. ⌜ r ≡ numberIn (map (octetsOf (now (s .entry))) (entries (stringAt (tableOf table) (now (t .entry))) (768 * table) n)) (octetsOf (now (s .entry)) (stretch place len)) ⌝ }
 {
     let last = s[place + (len - 1)];
@@ -237,7 +237,7 @@ pub fn find_in(
     len: usize,
     h: usize,
 ) -> u32
-    requires { ⌜ (length (now t) ≡ tableWords) × (length (now index) ≡ slots) × (table < 8) × (n ≤ 256) × (1 ≤ len) × (place + len ≤ length (now s)) × Inside (now s) (entries (stringAt (tableOf table) (now t)) (768 * table) n) × StringsIndexed (now s) (now t) (now index) table n × (h ≡ bucket (octetsOf (now s) (stretch place len))) × (h < 128) ⌝ }
+    requires { ⌜ Sought (now s) (now t) (now index) table n place len h ⌝ }
     ensures { λ r. ⌜ r ≡ numberIn (map (octetsOf (now (s .entry))) (entries (stringAt (tableOf table) (now (t .entry))) (768 * table) n)) (octetsOf (now (s .entry)) (stretch place len)) ⌝ }
 {
     if tables::is_built_in(s, table, place, len) {
@@ -317,7 +317,7 @@ fn is_listed(
     len: usize,
     h: usize,
 ) -> bool
-    requires { ⌜ (length (now t) ≡ tableWords) × (length (now index) ≡ slots) × (table < 8) × (n ≤ 256) × (1 ≤ len) × (place + len ≤ length (now s)) × Inside (now s) (entries (stringAt (tableOf table) (now t)) (768 * table) n) × StringsIndexed (now s) (now t) (now index) table n × (h ≡ bucket (octetsOf (now s) (stretch place len))) × (h < 128) × (same (octetsOf (now s) (builtIn (tableOf table))) (octetsOf (now s) (stretch place len)) ≡ false) ⌝ }
+    requires { ⌜ SoughtInChain (now s) (now t) (now index) table n place len h ⌝ }
     ensures { λ r. ⌜ r ≡ listed (now (s .entry)) (now (t .entry)) table n place len ⌝ }
 {
     let last = s[place + (len - 1)];
@@ -372,7 +372,7 @@ pub fn add_new(
     len: usize,
     h: usize,
 ) -> Added
-    requires { ⌜ (length (now t) ≡ tableWords) × (length (now index) ≡ slots) × (table < 8) × (n ≤ 256) × (1 ≤ len) × (place + len ≤ length (now s)) × Inside (now s) (entries (stringAt (tableOf table) (now t)) (768 * table) n) × StringsIndexed (now s) (now t) (now index) table n × (h ≡ bucket (octetsOf (now s) (stretch place len))) × (h < 128) × (length (now s) < 0x1_0000_0000) ⌝ }
+    requires { ⌜ SoughtToAdd (now s) (now t) (now index) table n place len h ⌝ }
     ensures { λ r. ⌜ NewString (now (s .entry)) table n place len (now (t .entry)) (now (index .entry)) r (now (t .exit)) (now (index .exit)) ⌝ }
 {
     if tables::is_built_in(s, table, place, len) {

@@ -25,10 +25,10 @@ use Rattle.read_names.specs.declared.Parts.{Parts}
 use Rattle.read_names.specs.Strings as S
 use Rattle.read_names.specs.Strings.{IdRead, StringRead}
 use Rattle.read_names.specs.Names.{NameRead, DeclaredRead}
-use Rattle.read_names.specs.Contracts.{Tidy, Seen, Left, IdLeft, Positive, seenId, idSeen, seenField, stringSeen, seenName, nameSeen, seenDeclared, declaredSeen, eventStringAt, nameStringsAt}
+use Rattle.read_names.specs.Contracts.{Tidy, Seen, Left, IdLeft, Positive, seenId, idSeen, seenField, stringSeen, seenName, nameSeen, seenDeclared, declaredSeen, eventStringAt, nameStringsAt, NameThere}
 use Rattle.read_names.proofs.Grown.{name-ranged}
 use Rattle.read_items.specs.Contracts.{Lent, Good}
-use Rattle.read_items.specs.ItemContracts.{NameThere, Named}
+use Rattle.read_items.specs.ItemContracts.{Named}
 
 -- ---- answers of one shape
 abbrev seenBy : {B C : Type 0} → (B → C) → S.Got B → S.Got C

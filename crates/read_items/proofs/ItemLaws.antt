@@ -39,7 +39,7 @@ use Rattle.read_names.specs.declared.Parts.{Parts}
 use Rattle.read_names.specs.Strings as S
 use Rattle.read_names.specs.Strings.{StringRead, idAt, literalAt, valueAt}
 use Rattle.read_names.specs.Names.{NameRead, partsAt, numberedAt, nameAt, declaredAt}
-use Rattle.read_names.specs.Contracts.{Seen, IdLeft, Positive, FieldLeft, DeclaredLeft, seenId, idSeen, seenField, stringSeen, seenName, nameSeen, seenDeclared, declaredSeen, eventStringAt, nameStringsAt}
+use Rattle.read_names.specs.Contracts.{Seen, IdLeft, Positive, FieldLeft, DeclaredLeft, seenId, idSeen, seenField, stringSeen, seenName, nameSeen, seenDeclared, declaredSeen, eventStringAt, nameStringsAt, NameThere}
 use Rattle.read_names.proofs.Grown.{string-stays, name-stays}
 use Rattle.read_items.specs.declared.Step.{Step}
 use Rattle.read_items.specs.declared.Step.the-variants.{More}
@@ -48,7 +48,7 @@ use Rattle.read_items.specs.Items.{Stand, namePadding, startOf, namespac
 use Rattle.read_items.specs.Steps.{endsAt, padsAt, endAt, byHalves, step}
 use Rattle.read_items.specs.Contracts.{Lent, standOf, Good, Met, Meets}
 use Rattle.read_items.specs.HeadContracts.{startBy, attributeBy}
-use Rattle.read_items.specs.ItemContracts.{Stopped, NameThere, namedRecord, startStep, startRecords, StartsBy}
+use Rattle.read_items.specs.ItemContracts.{Stopped, namedRecord, startStep, startRecords, StartsBy}
 use Rattle.read_items.proofs.StepLaws.{refuse, tell}
 use Rattle.read_items.proofs.Fields.{asString, id-not, id-is, string-not, string-is, name-not, name-is, declared-not, declared-is, moved-good, name-there}
 

@@ -1,15 +1,12 @@
 -- Contracts of the code, not definitions to be believed. What the functions of a step hand on.
-use Prim.Native.Nat.{ℕ, _+_, _-_, _*_, _/_, _≤_, _<_}
+use Prim.Native.Nat.{ℕ, _/_, _≤_, _<_}
 use mathlib.Core.Path.{_≡_}
 use mathlib.Core.Bool.{Bool}
-use lib.ListN.{length}
 use lib.Dec.{eqb, ltb}
 use Rattle.format.specs.Octets.{Octets, Words}
 use Rattle.format.specs.Numbers.{pick}
 use Rattle.format.specs.Tables.{link}
 use Rattle.format.specs.Refusals.{CODE, PADDING, FORMAT, DEPTH}
-use Rattle.tables.specs.Counts.{tableWords}
-use Rattle.tables.specs.Rows.{tripleAt}
 use Rattle.states.specs.declared.State.{State}
 use Rattle.states.specs.States.{openedAt}
 use Rattle.events.specs.declared.EventString.{EventString}
@@ -21,7 +18,7 @@ use Rattle.events.specs.Kept.{kept}
 use Rattle.read_names.specs.declared.Entry.{Entry}
 use Rattle.read_names.specs.declared.Entry.the-variants.{Got, Refused}
 use Rattle.read_names.specs.declared.Parts.{Parts}
-use Rattle.read_names.specs.Contracts.{nameStringsAt}
+use Rattle.read_names.specs.Contracts.{nameStringsAt, NameThere}
 use Rattle.read_items.specs.declared.Step.{Step}
 use Rattle.read_items.specs.declared.Step.the-variants.{More, Quiet, Done, Stop}
 use Rattle.read_items.specs.Items as I
@@ -45,14 +42,7 @@ Ended s st n r x r′ = (t c : Words) (i : Octets) → Good s st (lent t c i r) 
 abbrev pub namedRecord : Kind → Parts → EventString → Event
 namedRecord kind x value = record { kind = kind; prefix = x .prefix; namespace = x .namespace; name = x .local; value = value }
 
--- A name's number is that of a row whose numbers are those of rows.
-abbrev pub NameThere : Words → (table number : ℕ) → Type 0
-NameThere t table n =
-    (length t ≡ tableWords) × (8 ≤ table) × (table < 10) × (1 ≤ n) × (n ≤ 256)
-    × (tripleAt t (768 * table + 3 * (n - 1)) .prefix ≤ 256)
-    × (tripleAt t (768 * table + 3 * (n - 1)) .namespace ≤ 256)
-    × (tripleAt t (768 * table + 3 * (n - 1)) .local ≤ 256)
-
+-- A name was read, and its row is there.
 abbrev pub Named : Words → (table : ℕ) → Entry → Type 0
 Named t table (Got n next) = NameThere t table n × (next ≤ 16384)
 Named t table (Refused n p) = Unit {0}

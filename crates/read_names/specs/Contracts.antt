@@ -6,8 +6,9 @@ use mathlib.Core.List.{List, [], _∷_}
 use lib.ListN.{length}
 use lib.Dec.{ltb, leb}
 use Rattle.format.specs.Octets.{Octets, Words}
-use Rattle.format.specs.Tables.{NameTable, Triple, names}
+use Rattle.format.specs.Tables.{NameTable, Triple, Vocabulary, names}
 use Rattle.tables.specs.declared.Counts.{Counts}
+use Rattle.tables.specs.Located.{Located}
 use Rattle.tables.specs.Counts.{tableWords}
 use Rattle.tables.specs.Rows.{tableOf, stringAt, tripleAt, vocabulary}
 use Rattle.tables.specs.Kept.{Counted, Clean, AllInside, countOf, unlisted, rowAt}
@@ -131,3 +132,28 @@ DeclaredLeft s c w (NotDeclares n p) d v x = Rooms d v
 abbrev pub declaredSeen : S.Got DeclaredRead → S.Got Parts
 declaredSeen (S.got b next v) = S.got (record { prefix = optionalEventString (b .prefix); namespace = optionalEventString (b .namespace); local = Absent }) next v
 declaredSeen (S.refused n p) = S.refused n p
+
+-- ---- what a function answers and leaves: r is what f reads from the tables that words c and w of counts and tables hold, these are d and v then, and the index is x
+abbrev pub ReadsId : Octets → (c w : Words) (table : ℕ) → Entry → (d v : Words) → Octets → (Vocabulary Located → S.Got IdRead) → Type 0
+ReadsId s c w table r d v x f = (seenId table r d v ≡ idSeen (f (vocabulary (unlisted c) w))) × IdLeft s c w table r d v x × Positive r
+
+abbrev pub ReadsOptional : Octets → (c w : Words) (table : ℕ) → Entry → (d v : Words) → Octets → (Vocabulary Located → S.Got OptionalRead) → Type 0
+ReadsOptional s c w table r d v x f = (seenId table r d v ≡ optionalSeen (f (vocabulary (unlisted c) w))) × IdLeft s c w table r d v x
+
+abbrev pub ReadsName : Octets → (c w : Words) (table : ℕ) → Entry → (d v : Words) → Octets → (Vocabulary Located → S.Got NameRead) → Type 0
+ReadsName s c w table r d v x f = (seenName table r d v ≡ nameSeen (f (vocabulary (unlisted c) w))) × IdLeft s c w table r d v x × Positive r
+
+abbrev pub ReadsDeclared : Octets → (c w : Words) → Declaration → (d v : Words) → Octets → (Vocabulary Located → S.Got DeclaredRead) → Type 0
+ReadsDeclared s c w r d v x f = (seenDeclared r d v ≡ declaredSeen (f (vocabulary (unlisted c) w))) × DeclaredLeft s c w r d v x
+
+-- Whatever the index is: a string without a number of its own is not looked up in it.
+abbrev pub ReadsField : Octets → (c w : Words) → Field → (d v : Words) → (Vocabulary Located → S.Got StringRead) → Type 0
+ReadsField s c w r d v f = (x : Octets) → Tidy s c w x → (seenField r d v ≡ stringSeen (f (vocabulary (unlisted c) w))) × FieldLeft s c w r d v x
+
+-- A name's number is that of a row whose numbers are those of rows.
+abbrev pub NameThere : Words → (table number : ℕ) → Type 0
+NameThere t table n =
+    (length t ≡ tableWords) × (8 ≤ table) × (table < 10) × (1 ≤ n) × (n ≤ 256)
+    × (tripleAt t (768 * table + 3 * (n - 1)) .prefix ≤ 256)
+    × (tripleAt t (768 * table + 3 * (n - 1)) .namespace ≤ 256)
+    × (tripleAt t (768 * table + 3 * (n - 1)) .local ≤ 256)

@@ -1,26 +1,31 @@
 -- Contracts of the code, not definitions to be believed. What each function that reads a part of a string answers.
 use Prim.Native.Nat.{ℕ, _+_, _-_, _*_, _≤_}
+use mathlib.Core.Path.{_≡_}
 use mathlib.Core.Bool.{Bool, true, false}
 use mathlib.Core.List.{[]}
 use lib.ListN.{length, getD, set}
 use lib.Dec.{ltb, leb}
 use Rattle.format.specs.Octets.{Octets, Words}
-use Rattle.format.specs.Numbers.{pick}
+use Rattle.format.specs.Numbers.{pick, lengths}
+use Rattle.format.specs.Tables.{link}
 use Rattle.fields.specs.Utf8.{isText}
 use Rattle.format.specs.Strings.{Layout}
 use Rattle.format.specs.Refusals.{TRUNCATED, TEXT, INDEX, FULL}
+use Rattle.fields.specs.Fields.{fieldAt, noTop}
 use Rattle.fields.specs.declared.Number.{Number}
 use Rattle.fields.specs.declared.Number.the-variants.{Got as Num, Refused as NoNum}
 use Rattle.tables.specs.Counts.{perTable}
 use Rattle.tables.specs.Located.{stretch, octetsOf}
-use Rattle.tables.specs.Rows.{tableOf, stringAt}
-use Rattle.tables.specs.Kept.{stored}
+use Rattle.tables.specs.Rows.{tableOf, stringAt, vocabulary}
+use Rattle.tables.specs.Kept.{stored, unlisted}
 use Rattle.events.specs.declared.EventString.the-variants.{Stretch}
 use Rattle.events.specs.Records.{eventString}
 use Rattle.read_names.specs.declared.Entry.{Entry}
 use Rattle.read_names.specs.declared.Entry.the-variants.{Got as Numbered, Refused as NotNumbered}
 use Rattle.read_names.specs.declared.Field.{Field}
 use Rattle.read_names.specs.declared.Field.the-variants.{Got, Refused}
+use Rattle.read_names.specs.Strings.{spelledAt}
+use Rattle.read_names.specs.Contracts.{Tidy, seenField, stringSeen, FieldLeft}
 
 -- Behind a number or a length that was read is a place of the document, or its end.
 abbrev pub BehindWithin : Octets → Number → Type 0
@@ -63,3 +68,9 @@ addedWords c w table place size false = w
 -- Where a spelled string's length starts is all that reading it takes from its layout.
 abbrev pub lengthFrom : ℕ → Layout
 lengthFrom bit = record { spelledBits = 0; addBit = 0; lengthBit = bit; numberedBits = 0; numberForms = [] }
+
+-- A string of a table that the reader does not search, spelled behind a length that was read as r, from any bit on.
+abbrev pub ReadsSpelled : Octets → (c w : Words) (table at : ℕ) → Number → Bool → Field → (d v : Words) → Type 0
+ReadsSpelled s c w table at r add a d v =
+    (x : Octets) (bit : ℕ) → Tidy s c w x → 5 ≤ table → r ≡ fieldAt (lengths bit) noTop bit s at
+    → (seenField a d v ≡ stringSeen (spelledAt link (lengthFrom bit) s (tableOf table) at add (vocabulary (unlisted c) w))) × FieldLeft s c w a d v x

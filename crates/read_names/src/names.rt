@@ -1,20 +1,18 @@
 // Names, C.17 and C.18, and namespace declarations, C.12. Each function reads one from octet `at` on.
 ghost use mathlib.Core.Path.{_≡_};
-ghost use mathlib.Core.List.{[], _∷_};
-ghost use Prim.Native.Nat.{_+_, _-_, _*_, _<_, _≤_};
+ghost use Prim.Native.Nat.{_*_, _<_, _≤_};
 ghost use lib.ListN.{length};
-ghost use Rattle.format.specs.Octets.{Octets, Words};
 ghost use Rattle.format.specs.Numbers.{top};
-ghost use Rattle.format.specs.Tables.{link, names};
+ghost use Rattle.format.specs.Tables.{link};
 ghost use Rattle.fields.specs.Fields.{fieldAt};
 ghost use Rattle.tables.specs.Counts.{tableWords};
 ghost use Rattle.tables.specs.Search.{numberOfTriple};
-ghost use Rattle.tables.specs.Rows.{tripleAt, entries, vocabulary};
-ghost use Rattle.tables.specs.Kept.{nameTableOf, countOf, Counted, unlisted, layoutOf, tripleOf};
+ghost use Rattle.tables.specs.Rows.{tripleAt, entries};
+ghost use Rattle.tables.specs.Kept.{countOf, unlisted, layoutOf, tripleOf};
 ghost use Rattle.index.specs.Indexed.{NamesIndexed};
-ghost use Rattle.read_names.specs.Names.{nameBit, partsAt, numberedAt, nameAt, declaredAt};
-ghost use Rattle.read_names.specs.Contracts.{Ranged, Tidy, seenName, IdLeft, Positive, nameSeen, seenDeclared, DeclaredLeft, declaredSeen, eventStringAt, nameStringsAt};
-ghost use Rattle.read_names.specs.NameContracts.{newName, seenNumber, NewRow};
+ghost use Rattle.read_names.specs.Names.{nameBit, partsAt, nameAt, declaredAt};
+ghost use Rattle.read_names.specs.Contracts.{Tidy, Positive, eventStringAt, nameStringsAt, ReadsName, ReadsDeclared, NameThere};
+ghost use Rattle.read_names.specs.NameContracts.{Addable, AddsName, ReadsNumbered};
 use crate::Declaration;
 use crate::Entry;
 use crate::Parts;
@@ -73,7 +71,7 @@ pub fn string_at(t: &[u32], table: usize, number: u32) -> EventString
 
 // The strings behind a name's number.
 pub fn strings_of(t: &[u32], table: usize, number: u32) -> Parts
-    requires { ⌜ (length (now t) ≡ tableWords) × (8 ≤ table) × (table < 10) × (1 ≤ number) × (number ≤ 256) × (tripleAt (now t) (768 * table + 3 * (number - 1)) .prefix ≤ 256) × (tripleAt (now t) (768 * table + 3 * (number - 1)) .namespace ≤ 256) × (tripleAt (now t) (768 * table + 3 * (number - 1)) .local ≤ 256) ⌝ }
+    requires { ⌜ NameThere (now t) table number ⌝ }
     ensures { λ r. ⌜ r ≡ nameStringsAt (now (t .entry)) table number ⌝ }
 {
     let x = tables::entry(t, table, number - 1);
@@ -106,8 +104,8 @@ fn triple(
     x: Row,
     locals: u32,
 ) -> Entry
-    requires { ⌜ (length (now t) ≡ tableWords) × (length (now counts) ≡ 10) × (length (now index) ≡ 3840) × (8 ≤ table) × (table < 10) × Counted (unlisted (now counts)) × NamesIndexed (now t) (now index) table (countOf (unlisted (now counts)) table) × Ranged (unlisted (now counts)) (tripleOf x ∷ []) × (locals < x .c → 0 ≡ numberOfTriple (names (vocabulary (unlisted (now counts)) (now t)) (nameTableOf table)) (tripleOf x)) ⌝ }
-    ensures { λ r. ⌜ (seenNumber r (now (counts .exit)) (now (t .exit)) ≡ newName link (nameTableOf table) (tripleOf x) place next (vocabulary (unlisted (now (counts .entry))) (now (t .entry)))) × ((s : Octets) → Tidy s (now (counts .entry)) (now (t .entry)) (now (index .entry)) → next ≤ length s → IdLeft s (now (counts .entry)) (now (t .entry)) table r (now (counts .exit)) (now (t .exit)) (now (index .exit))) × NewRow (now (t .exit)) table (tripleOf x) r ⌝ }
+    requires { ⌜ Addable (now counts) (now t) (now index) table x locals ⌝ }
+    ensures { λ r. ⌜ AddsName (now (counts .entry)) (now (t .entry)) (now (index .entry)) table place next x r (now (counts .exit)) (now (t .exit)) (now (index .exit)) ⌝ }
 {
     let n = counts[table];
     if find_name(t, index, table, n, x, locals) != 0 {
@@ -132,7 +130,7 @@ pub fn in_parts(
     b: u8,
 ) -> Entry
     requires { ⌜ (Tidy (now s) (now counts) (now t) (now index)) × (at < length (now s)) × (8 ≤ table) × (table < 10) ⌝ }
-    ensures { λ r. ⌜ (seenName table r (now (counts .exit)) (now (t .exit)) ≡ nameSeen (partsAt link (layoutOf table) (now (s .entry)) b at (vocabulary (unlisted (now (counts .entry))) (now (t .entry))))) × IdLeft (now (s .entry)) (now (counts .entry)) (now (t .entry)) table r (now (counts .exit)) (now (t .exit)) (now (index .exit)) × Positive r ⌝ }
+    ensures { λ r. ⌜ ReadsName (now (s .entry)) (now (counts .entry)) (now (t .entry)) table r (now (counts .exit)) (now (t .exit)) (now (index .exit)) (partsAt link (layoutOf table) (now (s .entry)) b at) ⌝ }
 {
     let pn = bits(b, 7, 8);
     if pn == 2 {
@@ -174,7 +172,7 @@ pub fn in_parts(
 // A name by number.
 pub fn numbered(s: &[u8], counts: &[u32], table: usize, at: usize) -> Entry
     requires { ⌜ (length (now counts) ≡ 10) × (8 ≤ table) × (table < 10) × (countOf (unlisted (now counts)) table ≤ 256) ⌝ }
-    ensures { λ r. ⌜ ((w : Words) (x : Octets) → Tidy (now (s .entry)) (now (counts .entry)) w x → at ≤ length (now (s .entry)) → (seenName table r (now (counts .entry)) w ≡ nameSeen (numberedAt link (layoutOf table) (now (s .entry)) at (vocabulary (unlisted (now (counts .entry))) w))) × IdLeft (now (s .entry)) (now (counts .entry)) w table r (now (counts .entry)) w x) × Positive r ⌝ }
+    ensures { λ r. ⌜ ReadsNumbered (now (s .entry)) (now (counts .entry)) table at r × Positive r ⌝ }
 {
     held(counts, table, at, number(s, at, table))
 }
@@ -190,7 +188,7 @@ pub fn name(
     b: u8,
 ) -> Entry
     requires { ⌜ (Tidy (now s) (now counts) (now t) (now index)) × (at < length (now s)) × (8 ≤ table) × (table < 10) ⌝ }
-    ensures { λ r. ⌜ (seenName table r (now (counts .exit)) (now (t .exit)) ≡ nameSeen (nameAt link (layoutOf table) (now (s .entry)) b at (vocabulary (unlisted (now (counts .entry))) (now (t .entry))))) × IdLeft (now (s .entry)) (now (counts .entry)) (now (t .entry)) table r (now (counts .exit)) (now (t .exit)) (now (index .exit)) × Positive r ⌝ }
+    ensures { λ r. ⌜ ReadsName (now (s .entry)) (now (counts .entry)) (now (t .entry)) table r (now (counts .exit)) (now (t .exit)) (now (index .exit)) (nameAt link (layoutOf table) (now (s .entry)) b at) ⌝ }
 {
     if b < parts_bits(table) {
         return numbered(s, counts, table, at);
@@ -207,7 +205,7 @@ pub fn declared(
     at: usize,
 ) -> Declaration
     requires { ⌜ (Tidy (now s) (now counts) (now t) (now index)) × (at ≤ length (now s)) ⌝ }
-    ensures { λ r. ⌜ (seenDeclared r (now (counts .exit)) (now (t .exit)) ≡ declaredSeen (declaredAt link (now (s .entry)) at (vocabulary (unlisted (now (counts .entry))) (now (t .entry))))) × DeclaredLeft (now (s .entry)) (now (counts .entry)) (now (t .entry)) r (now (counts .exit)) (now (t .exit)) (now (index .exit)) ⌝ }
+    ensures { λ r. ⌜ ReadsDeclared (now (s .entry)) (now (counts .entry)) (now (t .entry)) r (now (counts .exit)) (now (t .exit)) (now (index .exit)) (declaredAt link (now (s .entry)) at) ⌝ }
 {
     if s.len() <= at {
         return Declaration::Refused(TRUNCATED, at);

@@ -1,19 +1,16 @@
 // Strings: C.13, C.14, C.15. Each function reads one string from octet `at` on.
 ghost use mathlib.Core.Path.{_≡_};
-ghost use Prim.Native.Nat.{ℕ, _+_, _*_, _<_, _≤_};
+ghost use Prim.Native.Nat.{_+_, _*_, _<_, _≤_};
 ghost use lib.ListN.{length, getD};
-ghost use Rattle.format.specs.Octets.{Octets};
-ghost use Rattle.format.specs.Numbers.{lengths};
 ghost use Rattle.format.specs.Tables.{link, CONTENT-CHARACTER-CHUNK};
 ghost use Rattle.format.specs.Strings.{c15};
-ghost use Rattle.fields.specs.Fields.{fieldAt, noTop};
 ghost use Rattle.tables.specs.Counts.{tableWords};
-ghost use Rattle.tables.specs.Rows.{tableOf, stringAt, vocabulary};
+ghost use Rattle.tables.specs.Rows.{tableOf, stringAt};
 ghost use Rattle.tables.specs.Kept.{countOf, unlisted};
 ghost use Rattle.events.specs.Records.{eventString};
-ghost use Rattle.read_names.specs.Strings.{idAt, optionalAt, spelledAt, literalAt, valueAt};
-ghost use Rattle.read_names.specs.Contracts.{Tidy, seenId, IdLeft, Positive, seenField, FieldLeft, idSeen, optionalSeen, stringSeen};
-ghost use Rattle.read_names.specs.StringContracts.{BehindWithin, stretchOf, NumberPositive, heldOf, saidOf, addedOf, addedCounts, addedWords, lengthFrom};
+ghost use Rattle.read_names.specs.Strings.{idAt, optionalAt, literalAt, valueAt};
+ghost use Rattle.read_names.specs.Contracts.{Tidy, ReadsId, ReadsOptional, ReadsField};
+ghost use Rattle.read_names.specs.StringContracts.{BehindWithin, stretchOf, NumberPositive, heldOf, saidOf, addedOf, addedCounts, addedWords, ReadsSpelled};
 use crate::Entry;
 use crate::Field;
 use events::EventString;
@@ -109,7 +106,7 @@ fn fresh(
     at: usize,
 ) -> Entry
     requires { ⌜ (Tidy (now s) (now counts) (now t) (now index)) × (table < 5) × (getD (now s) at 0 < 0x80) ⌝ }
-    ensures { λ r. ⌜ (seenId table r (now (counts .exit)) (now (t .exit)) ≡ idSeen (idAt link (now (s .entry)) (tableOf table) at (vocabulary (unlisted (now (counts .entry))) (now (t .entry))))) × IdLeft (now (s .entry)) (now (counts .entry)) (now (t .entry)) table r (now (counts .exit)) (now (t .exit)) (now (index .exit)) × Positive r ⌝ }
+    ensures { λ r. ⌜ ReadsId (now (s .entry)) (now (counts .entry)) (now (t .entry)) table r (now (counts .exit)) (now (t .exit)) (now (index .exit)) (idAt link (now (s .entry)) (tableOf table) at) ⌝ }
 {
     let c = Cursor { at };
     match c.length(s, 2) {
@@ -147,7 +144,7 @@ pub fn id(
     at: usize,
 ) -> Entry
     requires { ⌜ (Tidy (now s) (now counts) (now t) (now index)) × (at ≤ length (now s)) × (table < 5) ⌝ }
-    ensures { λ r. ⌜ (seenId table r (now (counts .exit)) (now (t .exit)) ≡ idSeen (idAt link (now (s .entry)) (tableOf table) at (vocabulary (unlisted (now (counts .entry))) (now (t .entry))))) × IdLeft (now (s .entry)) (now (counts .entry)) (now (t .entry)) table r (now (counts .exit)) (now (t .exit)) (now (index .exit)) × Positive r ⌝ }
+    ensures { λ r. ⌜ ReadsId (now (s .entry)) (now (counts .entry)) (now (t .entry)) table r (now (counts .exit)) (now (t .exit)) (now (index .exit)) (idAt link (now (s .entry)) (tableOf table) at) ⌝ }
 {
     if bits(octet(s, at), 1, 1) == 0 {
         return fresh(s, t, counts, index, table, at);
@@ -167,7 +164,7 @@ pub fn optional(
     at: usize,
 ) -> Entry
     requires { ⌜ (Tidy (now s) (now counts) (now t) (now index)) × (at ≤ length (now s)) × (table < 5) ⌝ }
-    ensures { λ r. ⌜ (seenId table r (now (counts .exit)) (now (t .exit)) ≡ optionalSeen (optionalAt link there (now (s .entry)) (tableOf table) at (vocabulary (unlisted (now (counts .entry))) (now (t .entry))))) × IdLeft (now (s .entry)) (now (counts .entry)) (now (t .entry)) table r (now (counts .exit)) (now (t .exit)) (now (index .exit)) ⌝ }
+    ensures { λ r. ⌜ ReadsOptional (now (s .entry)) (now (counts .entry)) (now (t .entry)) table r (now (counts .exit)) (now (t .exit)) (now (index .exit)) (optionalAt link there (now (s .entry)) (tableOf table) at) ⌝ }
 {
     if there {
         return id(s, t, counts, index, table, at);
@@ -225,7 +222,7 @@ fn spelled(
     add: bool,
 ) -> Field
     requires { ⌜ (length (now t) ≡ tableWords) × (length (now counts) ≡ 10) × (length (now s) ≤ 16384) × (table < 8) × BehindWithin (now s) r ⌝ }
-    ensures { λ a. ⌜ ((x : Octets) (bit : ℕ) → Tidy (now (s .entry)) (now (counts .entry)) (now (t .entry)) x → 5 ≤ table → r ≡ fieldAt (lengths bit) noTop bit (now (s .entry)) at → (seenField a (now (counts .exit)) (now (t .exit)) ≡ stringSeen (spelledAt link (lengthFrom bit) (now (s .entry)) (tableOf table) at add (vocabulary (unlisted (now (counts .entry))) (now (t .entry))))) × FieldLeft (now (s .entry)) (now (counts .entry)) (now (t .entry)) a (now (counts .exit)) (now (t .exit)) x) ⌝ }
+    ensures { λ a. ⌜ ReadsSpelled (now (s .entry)) (now (counts .entry)) (now (t .entry)) table at r add a (now (counts .exit)) (now (t .exit)) ⌝ }
 {
     match stretch(s, at, r) {
         Number::Refused(k, place) => Field::Refused(k, place),
@@ -236,7 +233,7 @@ fn spelled(
 // C.14: a value, comment or content. FF is the empty string.
 pub fn value(s: &[u8], t: &mut [u32], counts: &mut [u32], table: usize, at: usize) -> Field
     requires { ⌜ (length (now t) ≡ tableWords) × (length (now counts) ≡ 10) × (length (now s) ≤ 16384) × (at ≤ length (now s)) × (5 ≤ table) × (table < 8) × (countOf (unlisted (now counts)) table ≤ 256) ⌝ }
-    ensures { λ r. ⌜ ((x : Octets) → Tidy (now (s .entry)) (now (counts .entry)) (now (t .entry)) x → (seenField r (now (counts .exit)) (now (t .exit)) ≡ stringSeen (valueAt link (now (s .entry)) (tableOf table) at (vocabulary (unlisted (now (counts .entry))) (now (t .entry))))) × FieldLeft (now (s .entry)) (now (counts .entry)) (now (t .entry)) r (now (counts .exit)) (now (t .exit)) x) ⌝ }
+    ensures { λ r. ⌜ ReadsField (now (s .entry)) (now (counts .entry)) (now (t .entry)) r (now (counts .exit)) (now (t .exit)) (valueAt link (now (s .entry)) (tableOf table) at) ⌝ }
 {
     let o = octet(s, at);
     if o == 0xFF {
@@ -257,7 +254,7 @@ pub fn value(s: &[u8], t: &mut [u32], counts: &mut [u32], table: usize, at: usiz
 // C.15: a chunk, whose first octet starts with 10.
 pub fn chunk(s: &[u8], t: &mut [u32], counts: &mut [u32], at: usize) -> Field
     requires { ⌜ (length (now t) ≡ tableWords) × (length (now counts) ≡ 10) × (length (now s) ≤ 16384) × (at ≤ length (now s)) × (countOf (unlisted (now counts)) 6 ≤ 256) × (0x80 ≤ getD (now s) at 0) × (getD (now s) at 0 < 0xC0) ⌝ }
-    ensures { λ r. ⌜ ((x : Octets) → Tidy (now (s .entry)) (now (counts .entry)) (now (t .entry)) x → (seenField r (now (counts .exit)) (now (t .exit)) ≡ stringSeen (literalAt link c15 (now (s .entry)) CONTENT-CHARACTER-CHUNK at (vocabulary (unlisted (now (counts .entry))) (now (t .entry))))) × FieldLeft (now (s .entry)) (now (counts .entry)) (now (t .entry)) r (now (counts .exit)) (now (t .exit)) x) ⌝ }
+    ensures { λ r. ⌜ ReadsField (now (s .entry)) (now (counts .entry)) (now (t .entry)) r (now (counts .exit)) (now (t .exit)) (literalAt link c15 (now (s .entry)) CONTENT-CHARACTER-CHUNK at) ⌝ }
 {
     let o = octet(s, at);
     if bits(o, 3, 3) == 1 {

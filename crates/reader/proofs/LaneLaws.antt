@@ -42,7 +42,7 @@ use Rattle.read_names.specs.declared.Field.the-variants.{Got}
 use Rattle.read_names.specs.declared.Parts.{Parts}
 use Rattle.read_names.specs.Strings.{literalAt}
 use Rattle.read_names.specs.Names.{numberedAt}
-use Rattle.read_names.specs.Contracts.{Tidy, IdLeft, seenName, nameSeen, stringSeen, eventStringAt, nameStringsAt}
+use Rattle.read_names.specs.Contracts.{Tidy, IdLeft, seenName, nameSeen, stringSeen, eventStringAt, nameStringsAt, NameThere}
 use Rattle.index.proofs.Counted.{count-at}
 use Rattle.read_names.proofs.Grown.{name-ranged}
 use Rattle.read_names.proofs.StringLaws.{stretch-text, entry-octets, string-none, string-there, held-entry, said-entry, FieldAnswers, table-small, spelled-added, chunk-held, chunk-spelled}
@@ -52,7 +52,7 @@ use Rattle.read_items.specs.Items as I
 use Rattle.read_items.specs.Items.{Stand, childAt, itemAt}
 use Rattle.read_items.specs.Steps.{halfAt, padsAt, step}
 use Rattle.read_items.specs.Contracts.{Lent, lent, standOf, Good, Met}
-use Rattle.read_items.specs.ItemContracts.{NameThere, namedRecord}
+use Rattle.read_items.specs.ItemContracts.{namedRecord}
 use Rattle.read_items.proofs.StepLaws.{met-by, start-opened}
 use Rattle.read_items.proofs.Fields.{name-there}
 use Rattle.read_items.proofs.EndLaws.{half-high, half-low, pads-even, pads-odd, ends-half, end-element}

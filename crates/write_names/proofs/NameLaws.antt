@@ -30,7 +30,7 @@ use Rattle.events.specs.Records.{locatedOf, optionalOf}
 use Rattle.events.specs.Words.{stringTag}
 use Rattle.write_names.specs.declared.Sought.{Sought}
 use Rattle.write_names.specs.declared.naming.Numbers.{Numbers}
-use Rattle.write_names.specs.declared.Parts.{Parts}
+use Rattle.write_names.specs.declared.QualifiedName.{QualifiedName}
 use Rattle.write_names.specs.declared.Wrote as W
 use Rattle.write_names.specs.declared.Wrote.the-variants.{Put, Full}
 use Rattle.write_names.specs.Choices.{Wrote, writeId, writeOptional, writeName, within}
@@ -127,7 +127,7 @@ layout-table t = by (eqb t 8)
     by true = refl
     by false = refl
 
-module _ (text c w ix : List ℕ) (order : InOrder text c w ix) (x : Parts) (k : Row) (held : Held text (tablesIn c w) x k) (is : 1 ≤ stringTag (x .local)) {a b d : ℕ}
+module _ (text c w ix : List ℕ) (order : InOrder text c w ix) (x : QualifiedName) (k : Row) (held : Held text (tablesIn c w) x k) (is : 1 ≤ stringTag (x .local)) {a b d : ℕ}
     (prefix : a ≡ numberThen (getD c 0 0) (x .prefix) (k .a)) (namespace : b ≡ numberThen (getD c 1 0) (x .namespace) (k .b)) (local : d ≡ numberThen (getD c 2 0) (x .local) (k .c)) where
   triple-is : record { prefix = a; namespace = b; local = d } ≡ tripleFor text (tablesIn c w) (namedOf x)
   unfolding tripleFor tableOf
@@ -154,7 +154,7 @@ names-ready text c w ix t order low high =
     (order .room, order .indexed .size, high, counted-at text c w ix t order, rw k at indexed)
 
 -- what is found of a name: its strings' numbers, those that they have then, and its own
-module _ (text c w ix : List ℕ) (order : InOrder text c w ix) (x : Parts) (proper : Proper text x) {k₁ k₂ k₃ a b d n : ℕ}
+module _ (text c w ix : List ℕ) (order : InOrder text c w ix) (x : QualifiedName) (proper : Proper text x) {k₁ k₂ k₃ a b d n : ℕ}
     (p₁ : (k₁ ≡ heldAs text (tableOf 0) (tablesIn c w) (x .prefix)) × (k₁ ≤ 256)) (p₂ : (k₂ ≡ heldAs text (tableOf 1) (tablesIn c w) (x .namespace)) × (k₂ ≤ 256))
     (p₃ : (k₃ ≡ heldAs text (tableOf 2) (tablesIn c w) (x .local)) × (k₃ ≤ 256)) (q₁ : a ≡ numberThen (getD c 0 0) (x .prefix) k₁) (q₂ : b ≡ numberThen (getD c 1 0) (x .namespace) k₂)
     (q₃ : d ≡ numberThen (getD c 2 0) (x .local) k₃)
@@ -210,7 +210,7 @@ module _ (q : NameLayout) (lead : ℕ) (text : List ℕ) (v : Vocabulary Located
     unfolding writeName pairBehind tripleFor
     parts-words = let z = number-is in rw (z, ← new)
 
-pub name-numbered : (text c w ix : List ℕ) (order : InOrder text c w ix) (x : Parts) (n : ℕ) → n ≡ nameHeldAs (layoutOf (x .table)) text (tablesIn c w) (namedOf x) → (n ≡ 0 → ⊥)
+pub name-numbered : (text c w ix : List ℕ) (order : InOrder text c w ix) (x : QualifiedName) (n : ℕ) → n ≡ nameHeldAs (layoutOf (x .table)) text (tablesIn c w) (namedOf x) → (n ≡ 0 → ⊥)
     → {out out′ : List ℕ} {at r : ℕ} → Puts out at r out′ (spell (layoutOf (x .table) .numberForms) (x .lead) n) × (r ≤ at + 4)
     → Stands text out at nameMost r out′ c w ix (writeName (layoutOf (x .table)) (x .lead) text (tablesIn c w) (namedOf x))
 name-numbered text c w ix order x n is ne p =
@@ -252,7 +252,7 @@ unfolding declaredBy
 declared-is text v p n a b = rw (a, b)
 
 -- ---- a name in parts, that its table does not hold; b is its first octet
-abbrev begun : ℕ → List ℕ → Vocabulary Located → Parts → Wrote Choice
+abbrev begun : ℕ → List ℕ → Vocabulary Located → QualifiedName → Wrote Choice
 begun b text v x = pairBehind b text v (optionalOf (x .prefix)) (optionalOf (x .namespace))
 
 pub local-held : (text c w ix : List ℕ) → InOrder text c w ix → (v : Vocabulary Located) (b : ℕ) (p n : Option Located) (l : EventString) (k : ℕ) → tablesIn c w ≡ pairBehind b text v p n .tables
@@ -261,7 +261,7 @@ unfolding tableOf pairBehind
 local-held text c w ix order v b p n l k is held =
     rw is (held ∙ sym (held-by text LOCAL-NAME (writeOptional text NAMESPACE-NAME (writeOptional text PREFIX v p .tables) n .tables) v l (locals-kept text v p n)))
 
-module _ (text : List ℕ) (v : Vocabulary Located) (b : ℕ) (x : Parts) (k : Numbers) (new : New text v x k) where
+module _ (text : List ℕ) (v : Vocabulary Located) (b : ℕ) (x : QualifiedName) (k : Numbers) (new : New text v x k) where
   words-are : writeName (layoutOf (x .table)) (x .lead) text v (namedOf x) .tables
       ≡ addingName (writeId text LOCAL-NAME (begun b text v x .tables) (locatedOf (x .local)) .tables) (nameTableOf (x .table)) (tripleOf (k .then))
   words-are = rw (← layout-table (x .table), new .is) (parts-words (layoutOf (x .table)) (x .lead) text v (namedOf x) (new .new) b)

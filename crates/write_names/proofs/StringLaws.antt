@@ -22,7 +22,7 @@ use Rattle.tables.proofs.Search.{octets-stretch, length-octets}
 use Rattle.tables.specs.Rows.{tableOf, stringAt, entries}
 use Rattle.tables.specs.Kept.{unlisted, Inside, layoutOf}
 use Rattle.tables.proofs.Laws.{number-within, inside-table}
-use Rattle.index.specs.Indexed.{slots, StringsIndexed, StringEntered}
+use Rattle.index.specs.Indexed.{slots, StringsIndexed}
 use Rattle.index.proofs.Counted.{count-at}
 use Rattle.events.specs.declared.EventString.{EventString}
 use Rattle.events.specs.declared.EventString.the-variants.{Absent, Empty, Stretch, XmlPrefix, XmlNamespace}
@@ -34,7 +34,7 @@ use Rattle.write_names.specs.declared.Wrote.the-variants.{Put, Full}
 use Rattle.write_names.specs.declared.Sought.{Sought}
 use Rattle.write_names.specs.declared.Spelling.{Spelling}
 use Rattle.write_names.specs.Choices.{Wrote, writeId, writeOptional, writeLiteral, writeValue, worthAdding, within}
-use Rattle.write_names.specs.Contracts.{stringMost, tablesIn, Begins, InOrder, Suits, Fills, Spells, heldAs, Looked, spelledAs, Stands, Meets}
+use Rattle.write_names.specs.Contracts.{stringMost, tablesIn, Begins, InOrder, Suits, Fills, Spells, heldAs, Looked, Added, spelledAs, Stands, Meets}
 use Rattle.write_names.proofs.Order.{entries-are, entries-count, counted-at, string-more, order-string, full-string}
 
 -- ---- a string of an event
@@ -175,7 +175,7 @@ module _ (text c w ix : List ℕ) (order : InOrder text c w ix) {H : Type 0} (d 
 
   -- and the string at a place became an entry
   pub stands-added : (t p n : ℕ) → t < 8 → getD c t 0 < 256 → 0 < n → p + n ≤ length text → (c′ v iv : List ℕ)
-      → (c′ ≡ set c t (getD c t 0 + 1)) × StringEntered text t (getD c t 0) p n w ix v iv → Puts out at r out′ (d .octets) → r ≤ at + most
+      → Added text t p n c w ix c′ v iv → Puts out at r out′ (d .octets) → r ≤ at + most
       → adding (tablesIn c w) (tableOf t) (stretch p n) ≡ d .tables → Stands text out at most r out′ c′ v iv d
   stands-added t p n small room full lies c′ v iv e q l is =
       rw (e .0)
@@ -227,7 +227,7 @@ module _ (text c w ix : List ℕ) (order : InOrder text c w ix) (x : Sought) (th
       id-new = rw (← id-located) (sym z ∙ held-number)
 
       pub id-added : getD c (x .table) 0 < 256 → (c′ v iv : List ℕ) {out out′ : List ℕ} {at r : ℕ}
-          → (c′ ≡ set c (x .table) (getD c (x .table) 0 + 1)) × StringEntered text (x .table) (getD c (x .table) 0) p n w ix v iv
+          → Added text (x .table) p n c w ix c′ v iv
           → Puts out at r out′ (withLength (lengths 2) 0 (octetsOf text (stretch p n))) × (r ≤ at + stringMost)
           → Stands text out at stringMost r out′ c′ v iv (writeId text (tableOf (x .table)) (tablesIn c w) (locatedOf (x .string)))
       id-added room c′ v iv e q =
@@ -314,7 +314,7 @@ module _ (text c w ix : List ℕ) (order : InOrder text c w ix) (x : EventString
       rw (located, case 5 n worth-long (λ l. worth-full l (why l)), z) (stands-put text c w ix order _ (g .0) (g .1) refl)
 
   pub literal-added : n ≤ 5 → getD c (q .table) 0 < 256 → (b : ℕ) → b ≡ q .lead + q .add → (c′ v iv : List ℕ) {out out′ : List ℕ} {at r : ℕ}
-      → (c′ ≡ set c (q .table) (getD c (q .table) 0 + 1)) × StringEntered text (q .table) (getD c (q .table) 0) p n w ix v iv
+      → Added text (q .table) p n c w ix c′ v iv
       → Puts out at r out′ (withLength (lengths (q .bit)) b (octetsOf text (stretch p n))) × (r ≤ at + stringMost)
       → Stands text out at stringMost r out′ c′ v iv (spelledAs q text (tablesIn c w) (locatedOf x))
   unfolding spelledAs

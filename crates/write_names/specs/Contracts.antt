@@ -14,12 +14,12 @@ use Rattle.format.specs.Strings.{withLength, bit, keeping}
 use Rattle.format.specs.Names.{has, NameLayout}
 use Rattle.fields.specs.PutContracts.{Puts}
 use Rattle.tables.specs.declared.Row.{Row}
-use Rattle.tables.specs.Located.{Located, builtInPrefix, builtInNamespace, octetsOf}
+use Rattle.tables.specs.Located.{Located, stretch, builtInPrefix, builtInNamespace, octetsOf}
 use Rattle.tables.specs.Counts.{tableWords}
 use Rattle.tables.specs.Search.{numberIn, numberOfTriple}
 use Rattle.tables.specs.Rows.{tableOf, vocabulary}
 use Rattle.tables.specs.Kept.{unlisted, countOf, tripleOf, layoutOf, Counted, Clean, AllInside}
-use Rattle.index.specs.Indexed.{Indexed, NameEntered}
+use Rattle.index.specs.Indexed.{Indexed, StringEntered, NameEntered}
 use Rattle.events.specs.declared.EventString.{EventString}
 use Rattle.events.specs.declared.EventString.the-variants.{Absent, Empty, Stretch, XmlPrefix, XmlNamespace}
 use Rattle.events.specs.Records.{locatedOf, optionalOf}
@@ -28,7 +28,7 @@ use Rattle.write_names.specs.declared.Wrote as W
 use Rattle.write_names.specs.declared.Wrote.the-variants.{Put, Full}
 use Rattle.write_names.specs.declared.Sought.{Sought}
 use Rattle.write_names.specs.declared.Spelling.{Spelling}
-use Rattle.write_names.specs.declared.Parts.{Parts}
+use Rattle.write_names.specs.declared.QualifiedName.{QualifiedName}
 use Rattle.write_names.specs.declared.naming.Numbers.{Numbers}
 use Rattle.write_names.specs.Choices.{Wrote, writeId, writeOptional, worthAdding, within}
 
@@ -110,6 +110,14 @@ heldAs text t v XmlNamespace = numberIn (map (octetsOf text) (strings v t)) (oct
 abbrev pub Looked : Octets → (c w : Words) → Sought → Type 0
 Looked text c w x = (x .table < 4) × Suits text (x .table) (x .string) × (x .number ≡ heldAs text (tableOf (x .table)) (tablesIn c w) (x .string)) × (x .number ≤ 256)
 
+-- The string at a place may become an entry of its table, which has room and does not hold it; and it became one.
+abbrev pub Enters : Octets → (c w : Words) (table place size : ℕ) → Type 0
+Enters text c w table place size =
+    (table < 8) × (getD c table 0 < 256) × (0 < size) × (place + size ≤ length text) × (0 ≡ numberIn (map (octetsOf text) (strings (tablesIn c w) (tableOf table))) (octetsOf text (stretch place size)))
+
+abbrev pub Added : Octets → (table place size : ℕ) (c w : Words) (index : Octets) (c′ w′ : Words) (index′ : Octets) → Type 0
+Added text table place size c w index c′ w′ index′ = (c′ ≡ set c table (getD c table 0 + 1)) × StringEntered text table (getD c table 0) place size w index w′ index′
+
 -- A spelling leaves the length its bits, the add bit counted.
 abbrev pub Fitting : Spelling → Type 0
 Fitting q = (q .table < 8) × (1 ≤ q .bit) × (q .bit ≤ 7) × (q .lead + q .add + 2 ^ (9 - q .bit) ≤ 256)
@@ -122,11 +130,11 @@ spelledAs q text v x =
 
 -- ---- names
 -- The name of three strings.
-abbrev pub namedOf : Parts → Name Located
+abbrev pub namedOf : QualifiedName → Name Located
 namedOf x = record { prefix = optionalOf (x .prefix); namespace = optionalOf (x .namespace); local = locatedOf (x .local) }
 
 -- k are the numbers that a name's strings have.
-pub record Held (text : Octets) (v : Vocabulary Located) (x : Parts) (k : Row) : Type 0 where
+pub record Held (text : Octets) (v : Vocabulary Located) (x : QualifiedName) (k : Row) : Type 0 where
   pub prefix : k .a ≡ heldAs text PREFIX v (x .prefix)
   pub namespace : k .b ≡ heldAs text NAMESPACE-NAME v (x .namespace)
   pub local : k .c ≡ heldAs text LOCAL-NAME v (x .local)
@@ -147,12 +155,12 @@ unfoldable pub nameHeldAs : NameLayout → Octets → Vocabulary Located → Nam
 nameHeldAs q text v x = numberOfTriple (names v (q .table)) (tripleFor text v x)
 
 -- What a name is written from: its table and its lead, and its strings, of which the local name is there.
-abbrev pub Proper : Octets → Parts → Type 0
+abbrev pub Proper : Octets → QualifiedName → Type 0
 Proper text x =
     (8 ≤ x .table) × (x .table < 10) × (x .lead ≤ 0x80) × Suits text 0 (x .prefix) × Suits text 1 (x .namespace) × Suits text 2 (x .local) × (1 ≤ stringTag (x .local))
 
 -- Its table does not hold it, and k are its strings' numbers.
-pub record New (text : Octets) (v : Vocabulary Located) (x : Parts) (k : Numbers) : Type 0 where
+pub record New (text : Octets) (v : Vocabulary Located) (x : QualifiedName) (k : Numbers) : Type 0 where
   pub held : Held text v x (k .found)
   pub is : tripleOf (k .then) ≡ tripleFor text v (namedOf x)
   pub new : 0 ≡ nameHeldAs (layoutOf (x .table)) text v (namedOf x)

@@ -3,23 +3,20 @@
 mod naming;
 
 ghost use mathlib.Core.Path.{_≡_};
-ghost use mathlib.Core.List.{map};
 ghost use Prim.Native.Nat.{_+_, _^_, _-_, _<_, _≤_};
-ghost use lib.ListN.{length, getD, set};
+ghost use lib.ListN.{length};
 ghost use Rattle.format.specs.Numbers.{lengths, spell};
-ghost use Rattle.format.specs.Tables.{strings, link, CONTENT-CHARACTER-CHUNK};
+ghost use Rattle.format.specs.Tables.{link, CONTENT-CHARACTER-CHUNK};
 ghost use Rattle.format.specs.Strings.{withLength, c15};
 ghost use Rattle.format.specs.Names.{has};
 ghost use Rattle.fields.specs.PutContracts.{Puts};
 ghost use Rattle.tables.specs.Located.{stretch, octetsOf};
-ghost use Rattle.tables.specs.Search.{numberIn};
 ghost use Rattle.tables.specs.Rows.{tableOf};
 ghost use Rattle.tables.specs.Kept.{layoutOf};
-ghost use Rattle.index.specs.Indexed.{StringEntered};
 ghost use Rattle.events.specs.Records.{locatedOf, optionalOf};
 ghost use Rattle.events.specs.Words.{stringTag};
 ghost use Rattle.write_names.specs.Choices.{writeId, writeOptional, writeLiteral, writeValue};
-ghost use Rattle.write_names.specs.Contracts.{stringMost, lastPlace, tablesIn, InOrder, Suits, Fills, heldAs, Looked, Spells, Fitting, spelledAs, Stands, Meets};
+ghost use Rattle.write_names.specs.Contracts.{stringMost, lastPlace, tablesIn, InOrder, Suits, Fills, heldAs, Looked, Enters, Added, Spells, Fitting, spelledAs, Stands, Meets};
 use events::EventString;
 use fields::put::put;
 use fields::put::put_length;
@@ -57,7 +54,7 @@ pub struct Spelling {
 }
 
 // A name of table 8 or 9: the bits before it, and its strings.
-pub struct Parts {
+pub struct QualifiedName {
     pub table: usize,
     pub lead: u8,
     pub prefix: EventString,
@@ -153,8 +150,8 @@ fn added(
     place: u32,
     size: u32,
 )
-    requires { ⌜ InOrder (now text) (now counts) (now t) (now index) × (table < 8) × (getD (now counts) table 0 < 256) × (0 < size) × (place + size ≤ length (now text)) × (0 ≡ numberIn (map (octetsOf (now text)) (strings (tablesIn (now counts) (now t)) (tableOf table))) (octetsOf (now text) (stretch place size))) ⌝ }
-    ensures { λ _. ⌜ (now (counts .exit) ≡ set (now (counts .entry)) table (getD (now (counts .entry)) table 0 + 1)) × StringEntered (now (text .entry)) table (getD (now (counts .entry)) table 0) place size (now (t .entry)) (now (index .entry)) (now (t .exit)) (now (index .exit)) ⌝ }
+    requires { ⌜ InOrder (now text) (now counts) (now t) (now index) × Enters (now text) (now counts) (now t) table place size ⌝ }
+    ensures { λ _. ⌜ Added (now (text .entry)) table place size (now (counts .entry)) (now (t .entry)) (now (index .entry)) (now (counts .exit)) (now (t .exit)) (now (index .exit)) ⌝ }
 {
     let h = index::bucket_of(text, place as usize, size as usize);
     let n = counts[table];

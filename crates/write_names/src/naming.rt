@@ -10,7 +10,7 @@ ghost use Rattle.index.specs.Indexed.{slots};
 ghost use Rattle.events.specs.Records.{optionalOf};
 ghost use Rattle.write_names.specs.Choices.{writeName};
 ghost use Rattle.write_names.specs.Contracts.{pairMost, nameMost, lastPlace, tablesIn, InOrder, Suits, Looked, Proper, New, namedOf, numberThen, Tripled, pairBehind, declaredBy, Meets};
-use crate::Parts;
+use crate::QualifiedName;
 use crate::Sought;
 use crate::Wrote;
 use crate::has;
@@ -105,7 +105,7 @@ fn parts(
     index: &mut [u8],
     out: &mut [u8],
     at: usize,
-    name: Parts,
+    name: QualifiedName,
     k: Numbers,
 ) -> Wrote
     requires { ⌜ InOrder (now text) (now counts) (now t) (now index) × (at + nameMost ≤ lastPlace) × New (now text) (tablesIn (now counts) (now t)) name k × Proper (now text) name ⌝ }
@@ -152,7 +152,7 @@ pub fn name(
     index: &mut [u8],
     out: &mut [u8],
     at: usize,
-    name: Parts,
+    name: QualifiedName,
 ) -> Wrote
     requires { ⌜ InOrder (now text) (now counts) (now t) (now index) × (at + nameMost ≤ lastPlace) × Proper (now text) name ⌝ }
     ensures { λ r. ⌜ Meets (now (text .entry)) (now (out .entry)) at nameMost r (now (out .exit)) (now (counts .exit)) (now (t .exit)) (now (index .exit)) (writeName (layoutOf (name .table)) (name .lead) (now (text .entry)) (tablesIn (now (counts .entry)) (now (t .entry))) (namedOf name)) ⌝ }

@@ -41,7 +41,7 @@ use Rattle.events.specs.Records.{locatedOf, optionalOf}
 use Rattle.events.specs.Words.{stringPlace, stringSize}
 use Rattle.write_names.specs.declared.Wrote as W
 use Rattle.write_names.specs.declared.Wrote.the-variants.{Put, Full}
-use Rattle.write_names.specs.declared.Parts.{Parts}
+use Rattle.write_names.specs.declared.QualifiedName.{QualifiedName}
 use Rattle.write_names.specs.Choices.{Wrote, writeId, writeOptional, writeName, writeLiteral, writeValue, worthAdding, within}
 use Rattle.write_names.specs.Contracts.{stringMost, pairMost, nameMost, tablesIn, InOrder, Suits, Fills, Spells, namedOf, tripleFor, Proper, pairBehind, declaredBy, Stands, Meets}
 use Rattle.write_names.proofs.Order.{entries-count, triples-count, counted-at}
@@ -54,7 +54,7 @@ use Rattle.writer.specs.Items.{WroteItem, beforeDeclaration, beforeName,
 use Rattle.writer.specs.Writing.{isAttribute, isEnd, fits}
 use Rattle.writer.specs.OutputContracts.{endOctet}
 use Rattle.writer.specs.StepContracts.{known}
-use Rattle.writer.specs.ItemContracts.{owes, listEnded, endPut, partsOf, Fit, landing, Near, Lands, holding}
+use Rattle.writer.specs.ItemContracts.{owes, listEnded, endPut, qualifiedOf, Fit, landing, Near, Lands, holding}
 use Rattle.writer.proofs.WellMade.{stretch-lies, Named, by-kind}
 use Rattle.writer.proofs.ModeLaws.{declares}
 
@@ -88,7 +88,7 @@ module _ (text : List ℕ) where
   value-fills XmlPrefix e = clash e
   value-fills XmlNamespace e = clash e
 
-  pub name-ready : (table lead : ℕ) (e : Event) (name : Parts) → name ≡ partsOf table lead e → 8 ≤ table → table < 10 → lead ≤ 0x80 → Named text e → Proper text name
+  pub name-ready : (table lead : ℕ) (e : Event) (name : QualifiedName) → name ≡ qualifiedOf table lead e → 8 ≤ table → table < 10 → lead ≤ 0x80 → Named text e → Proper text name
   name-ready table lead e name is low high bits n =
       let s = stretch-spells (e .name) (n .local) in
       rw is
@@ -318,7 +318,7 @@ module _ (text : List ℕ) (a : Bool) (st : State) (c w : List ℕ) (e : Event) 
         let o = name-by (layoutOf 8) (nameLead (modeOf (st .mode)) a) text (tablesIn c w) (nameOf e) (wide-name 8) (omega arith) _ refl in
         simp length-append (omega arith)
 
-    pub start-lands : (name : Parts) → name ≡ partsOf 8 lead e → (r : W.Wrote) (out′ c′ w′ ix′ : List ℕ)
+    pub start-lands : (name : QualifiedName) → name ≡ qualifiedOf 8 lead e → (r : W.Wrote) (out′ c′ w′ ix′ : List ℕ)
         → Meets text out₁ at nameMost r out′ c′ w′ ix′ (writeName (layoutOf (name .table)) (name .lead) text (tablesIn c w) (namedOf name))
         → Lands text a st c out w (eventOf Start e) (landing (λ k. openedAt st k a) r) out′ c′ w′ ix′
     unfolding eventOf writeItem layoutOf
@@ -331,7 +331,7 @@ module _ (text : List ℕ) (a : Bool) (st : State) (c w : List ℕ) (e : Event) 
         lands-behind text a st c _ w (eventOf Start e) refl (λ k. openedAt st k a) (λ k. refl) (λ k. rw (root-one, after-mode a, add-one)) (λ k. omega arith) _ nameMost (rw (q .0) at (p .0)) (rw (q .0) at l)
         refl refl r out′ c′ w′ ix′ start-some (rw (is, lead-is) at m) n
 
-  module _ {ix : List ℕ} (fit : Fit text st c w ix Attribute e) (name : Parts) (is : name ≡ partsOf 9 0 e) where
+  module _ {ix : List ℕ} (fit : Fit text st c w ix Attribute e) (name : QualifiedName) (is : name ≡ qualifiedOf 9 0 e) where
     attribute-some : 1 ≤ length (writeItem link text a (known st c w) (eventOf Attribute e) .octets)
     unfolding eventOf writeItem layoutOf nameTableOf ofAttribute
     attribute-some =

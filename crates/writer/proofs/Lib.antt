@@ -2,6 +2,7 @@ pub mod RecordLaws
 pub mod WellMade
 pub mod Faults
 pub mod ModeLaws
+pub mod KindLaws
 pub mod OutputLaws
 pub mod AheadLaws
 pub mod ItemLaws

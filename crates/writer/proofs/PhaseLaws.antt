@@ -125,10 +125,6 @@ module _ (es : List Event) (text : List ℕ) (room table i : ℕ) where
   going-bounded (Onward st cs) out w ix g = (g .2 .ready .at, underway-number (g .2))
   going-bounded (Halted k n) out w ix g = tt
 
-  pub going-small : (p : Phase) (out w ix : List ℕ) (n : ℕ) → Going es text room table i p out w ix → goesOn p i n ≡ true → i ≤ 32768
-  going-small (Onward st cs) out w ix n g h = underway-number (g .2)
-  going-small (Halted k at) out w ix n g h = absurd (true≢false (sym h))
-
   -- what the functions answer over lists zs and us as long as the room
   module _ (p : Phase) (zs us ix : List ℕ) (g : Going es text room table i p zs us ix) (long : length zs ≡ room) (long′ : length us ≡ table) where
     pub going-turned : i < length es → {e : Event} {a : Bool} {n : ℕ} → e ≡ getD es i blank → n ≡ lookFrom p i (length es) → a ≡ announced (drop n es) → (p′ : Phase) (zs′ us′ ix′ : List ℕ)

@@ -18,7 +18,7 @@ use Rattle.events.specs.declared.Kind.{Kind}
 use Rattle.events.specs.declared.Event.{Event}
 use Rattle.write_names.specs.declared.Wrote.{Wrote}
 use Rattle.write_names.specs.declared.Wrote.the-variants.{Put, Full}
-use Rattle.write_names.specs.declared.Parts.{Parts}
+use Rattle.write_names.specs.declared.QualifiedName.{QualifiedName}
 use Rattle.write_names.specs.Choices.{within}
 use Rattle.write_names.specs.Contracts.{InOrder}
 use Rattle.writer.specs.declared.Step.{Step}
@@ -51,15 +51,15 @@ pub record Fit (text : Octets) (st : State) (c w : Words) (index : Octets) (k : 
   pub inside : isEnd (eventOf k e) ≡ true → 0 < st .level
 
 -- The name of an event in a table, behind the bits `lead`.
-abbrev pub partsOf : (table lead : ℕ) → Event → Parts
-partsOf table lead e = record { table = table; lead = lead; prefix = e .prefix; namespace = e .namespace; local = e .name }
+abbrev pub qualifiedOf : (table lead : ℕ) → Event → QualifiedName
+qualifiedOf table lead e = record { table = table; lead = lead; prefix = e .prefix; namespace = e .namespace; local = e .name }
 
 -- The state that is had at the octet behind those that were put; a table that is full is the refusal 12.
 abbrev pub landing : (ℕ → State) → Wrote → Step
 landing next (Put k) = On (next k)
 landing next Full = Stop FULL
 
--- The place behind what was put is no large number.
+-- The place behind what was put is one that a state may be moved to.
 abbrev pub Near : Wrote → Type 0
 Near (Put k) = k ≤ farthest
 Near Full = Unit {0}

@@ -9,13 +9,7 @@ ghost use Rattle.writer.specs.AheadContracts.{decided, onward};
 use events::Event;
 use events::Kind;
 use events::is_kind;
-
-// Kinds by number.
-const NAMESPACE: u32 = 1;
-
-pub const START: u32 = 2;
-
-pub const ATTRIBUTE: u32 = 3;
+use events::kinds;
 
 // How far the look at an element's records got: before its Start, right behind it, or to the answer.
 enum Look {
@@ -80,16 +74,7 @@ fn is_attribute(e: Event) -> bool
     ensures { λ r. ⌜ ((es : List Event) → r ≡ attributeNext (e ∷ es)) ⌝ }
 {
     let kind = e.kind;
-    match kind {
-        Kind::Blank => false,
-        Kind::Namespace => false,
-        Kind::Start => false,
-        Kind::Attribute => true,
-        Kind::Chunk => false,
-        Kind::Comment => false,
-        Kind::Instruction => false,
-        Kind::End => false,
-    }
+    kind.number() == kinds::ATTRIBUTE
 }
 
 // The element whose first record is number i of the words: no more than a kind is looked at, mostly.
@@ -97,10 +82,10 @@ pub fn announced_words(records: &[u32], i: usize) -> bool
     ensures { λ r. ⌜ r ≡ announced (drop i (recordsOf (now (records .entry)))) ⌝ }
 {
     let mut n = i;
-    while is_kind(records, n, NAMESPACE) {
+    while is_kind(records, n, kinds::NAMESPACE) {
         n += 1;
     }
-    is_kind(records, n, START) && is_kind(records, n + 1, ATTRIBUTE)
+    is_kind(records, n, kinds::START) && is_kind(records, n + 1, kinds::ATTRIBUTE)
 }
 
 // The same of records in a row. What is decided is decided by value.

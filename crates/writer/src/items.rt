@@ -16,13 +16,14 @@ ghost use Rattle.writer.specs.Events.{eventOf};
 ghost use Rattle.writer.specs.Items.{beforeDeclaration, beforeName, nameLead};
 ghost use Rattle.writer.specs.Writing.{isAttribute};
 ghost use Rattle.writer.specs.StepContracts.{Ready, Steps};
-ghost use Rattle.writer.specs.ItemContracts.{owes, listEnded, endPut, partsOf, Fit, landing, Near, Lands, holding};
+ghost use Rattle.writer.specs.ItemContracts.{owes, listEnded, endPut, qualifiedOf, Fit, landing, Near, Lands, holding};
 use crate::Step;
 use crate::output::put_end;
 use crate::records::fault;
 use crate::records::is_listing;
 use events::Event;
 use events::Kind;
+use events::kinds;
 use fields::put::put;
 use format::refusals::FULL;
 use format::refusals::ROOM;
@@ -32,7 +33,7 @@ use format::table::ELEMENT_NAME;
 use format::table::OTHER_NCNAME;
 use format::table::OTHER_STRING;
 use states::State;
-use write_names::Parts;
+use write_names::QualifiedName;
 use write_names::Wrote;
 
 // Octets of a document, at most.
@@ -41,16 +42,7 @@ const LONGEST: usize = fields::OCTETS;
 fn is_attribute(kind: Kind) -> bool
     ensures { λ r. ⌜ ((e : Event) → r ≡ isAttribute (eventOf kind e)) ⌝ }
 {
-    match kind {
-        Kind::Blank => false,
-        Kind::Namespace => false,
-        Kind::Start => false,
-        Kind::Attribute => true,
-        Kind::Chunk => false,
-        Kind::Comment => false,
-        Kind::Instruction => false,
-        Kind::End => false,
-    }
+    kind.number() == kinds::ATTRIBUTE
 }
 
 // The bit of an element's first octet that announces attributes.
@@ -65,7 +57,7 @@ pub fn attribute_bit(a: bool) -> u8
 
 // The octet in front of an element's first declaration.
 fn before_declaration(out: &mut [u8], at: usize, mode: usize, a: bool) -> usize
-    requires { ⌜ at ≤ 20000 ⌝ }
+    requires { ⌜ at ≤ farthest ⌝ }
     ensures { λ r. ⌜ Puts (now (out .entry)) at r (now (out .exit)) (beforeDeclaration (modeOf mode) a) × (r ≤ at + 1) ⌝ }
 {
     if mode != State::CONTENT {
@@ -77,7 +69,7 @@ fn before_declaration(out: &mut [u8], at: usize, mode: usize, a: bool) -> usize
 
 // The octet behind an element's last declaration.
 fn before_name(out: &mut [u8], at: usize, mode: usize) -> usize
-    requires { ⌜ at ≤ 20000 ⌝ }
+    requires { ⌜ at ≤ farthest ⌝ }
     ensures { λ r. ⌜ Puts (now (out .entry)) at r (now (out .exit)) (beforeName (modeOf mode)) × (r ≤ at + 1) ⌝ }
 {
     if mode < State::DECLARING {
@@ -98,13 +90,13 @@ fn name_lead(mode: usize, a: bool) -> u8
 }
 
 // The name of an event, in a table and behind the bits `lead`.
-fn name_of(e: Event, table: usize, lead: u8) -> Parts
-    ensures { λ r. ⌜ r ≡ partsOf table lead e ⌝ }
+fn name_of(e: Event, table: usize, lead: u8) -> QualifiedName
+    ensures { λ r. ⌜ r ≡ qualifiedOf table lead e ⌝ }
 {
     let prefix = e.prefix;
     let namespace = e.namespace;
     let local = e.name;
-    Parts {
+    QualifiedName {
         table,
         lead,
         prefix,

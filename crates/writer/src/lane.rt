@@ -7,17 +7,17 @@ ghost use lib.ListN.{length, replicate};
 ghost use Rattle.events.specs.Records.{endRecord};
 ghost use Rattle.events.specs.FromWords.{recordAt};
 ghost use Rattle.writer.specs.LaneContracts.{SameWords, Filed, Recalled, Kept, Safe, Passes, Ahead, Started, Ended, Passable, Passed, Onward};
-use crate::ahead::ATTRIBUTE;
-use crate::ahead::START;
 use crate::items::attribute_bit;
 use crate::output::put_end;
 use events::RECORD;
 use events::is_kind;
+use events::kinds;
+use events::strings;
 use fields::put::put_number;
 use states::State;
 
-// The number of the kind End.
-const END: u32 = 7;
+// The word of a record that has the place of its name.
+const NAME_PLACE: usize = strings::NAME + 1;
 
 // The bit of an element's first octet with which its name's number begins.
 const NAME_BIT: u32 = 3;
@@ -58,9 +58,10 @@ fn is_end(w: &[u32], i: usize) -> bool
     ensures { λ r. ⌜ (r ≡ true → recordAt (now (w .entry)) (13 * i) ≡ endRecord) ⌝ }
 {
     let at = RECORD * i;
-    w[at] == END
-        && (no_string(w, at + 1)
-            && (no_string(w, at + 4) && (no_string(w, at + 7) && no_string(w, at + 10))))
+    w[at] == kinds::END
+        && (no_string(w, at + strings::PREFIX)
+            && (no_string(w, at + strings::NAMESPACE)
+                && (no_string(w, at + strings::NAME) && no_string(w, at + strings::VALUE))))
 }
 
 fn same_string(w: &[u32], a: usize, b: usize) -> bool
@@ -78,9 +79,10 @@ fn same_record(w: &[u32], i: usize, j: usize) -> bool
     let a = RECORD * i;
     let b = RECORD * j;
     w[a] == w[b]
-        && (same_string(w, a + 7, b + 7)
-            && (same_string(w, a + 1, b + 1)
-                && (same_string(w, a + 4, b + 4) && same_string(w, a + 10, b + 10))))
+        && (same_string(w, a + strings::NAME, b + strings::NAME)
+            && (same_string(w, a + strings::PREFIX, b + strings::PREFIX)
+                && (same_string(w, a + strings::NAMESPACE, b + strings::NAMESPACE)
+                    && same_string(w, a + strings::VALUE, b + strings::VALUE))))
 }
 
 // Where a Start is remembered, by the place of its local name.
@@ -88,7 +90,7 @@ fn slot(w: &[u32], i: usize) -> usize
     requires { ⌜ i < length (now w) / 13 ⌝ }
     ensures { λ r. ⌜ r < 128 ⌝ }
 {
-    let place = w[RECORD * i + 8] as usize;
+    let place = w[RECORD * i + NAME_PLACE] as usize;
     (place + place / 64) % SLOTS
 }
 
@@ -117,7 +119,7 @@ fn recalled(w: &[u32], memory: &[u32; SLOTS], i: usize) -> u32
 
 // The kinds that the lane takes. Most records are of another, and are left to the step at once.
 fn is_of_lane(kind: u32) -> bool {
-    kind == START || kind == END
+    kind == kinds::START || kind == kinds::END
 }
 
 // What is next. In front of the last octets that the room has everything is left to the step, which finds out what does not fit.
@@ -159,7 +161,7 @@ impl Lane {
         requires { ⌜ (self .at ≤ 32768) × (self .level ≤ 32) × (self .i < length (now w) / 13) × (1 ≤ k) × (k ≤ 256) ⌝ }
         ensures { λ r. ⌜ Started (now (w .entry)) self (now (out .entry)) k r (now (out .exit)) ⌝ }
     {
-        let a = is_kind(w, self.i + 1, ATTRIBUTE);
+        let a = is_kind(w, self.i + 1, kinds::ATTRIBUTE);
         let at = put_number(out, (self.at + 1) / 2, NAME_BIT, attribute_bit(a), k);
         Lane {
             at: 2 * at,

@@ -17,27 +17,17 @@ ghost use Rattle.writer.specs.Contracts.{Lies, Placed, faultOf};
 use events::Event;
 use events::EventString;
 use events::Kind;
+use events::tags;
 use fields::is_text;
 use format::refusals::DEPTH;
 use format::refusals::EVENT;
 use format::refusals::TEXT;
 use states::State;
 
-// The tags of strings.
-const ABSENT: u32 = 0;
-
-const EMPTY: u32 = 1;
-
-const STRETCH: u32 = 2;
-
-const XML_PREFIX: u32 = 3;
-
-const XML_NAMESPACE: u32 = 4;
-
 fn is_absent(x: EventString) -> bool
     ensures { λ r. ⌜ r ≡ isAbsent x ⌝ }
 {
-    x.tag() == ABSENT
+    x.tag() == tags::ABSENT
 }
 
 // A stretch is not empty and lies in the text area. Place and size are the caller's and may be any numbers, so they are not added.
@@ -59,7 +49,7 @@ fn is_one(text: &[u8], x: EventString, a: u32, b: u32) -> bool
     ensures { λ r. ⌜ r ≡ isOne (now (text .entry)) x a b ⌝ }
 {
     let tag = x.tag();
-    if tag == STRETCH {
+    if tag == tags::STRETCH {
         return lies_in(text, x.place(), x.size());
     }
     tag == a || tag == b
@@ -68,25 +58,25 @@ fn is_one(text: &[u8], x: EventString, a: u32, b: u32) -> bool
 fn is_stretch(text: &[u8], x: EventString) -> bool
     ensures { λ r. ⌜ r ≡ isStretch (now (text .entry)) x ⌝ }
 {
-    is_one(text, x, STRETCH, STRETCH)
+    is_one(text, x, tags::STRETCH, tags::STRETCH)
 }
 
 fn is_prefix(text: &[u8], x: EventString) -> bool
     ensures { λ r. ⌜ r ≡ isPrefix (now (text .entry)) x ⌝ }
 {
-    is_one(text, x, ABSENT, XML_PREFIX)
+    is_one(text, x, tags::ABSENT, tags::XML_PREFIX)
 }
 
 fn is_namespace(text: &[u8], x: EventString) -> bool
     ensures { λ r. ⌜ r ≡ isNamespace (now (text .entry)) x ⌝ }
 {
-    is_one(text, x, ABSENT, XML_NAMESPACE)
+    is_one(text, x, tags::ABSENT, tags::XML_NAMESPACE)
 }
 
 fn is_value(text: &[u8], x: EventString) -> bool
     ensures { λ r. ⌜ r ≡ isValue (now (text .entry)) x ⌝ }
 {
-    is_one(text, x, EMPTY, EMPTY)
+    is_one(text, x, tags::EMPTY, tags::EMPTY)
 }
 
 // A name's strings: a prefix only with a namespace.
@@ -138,7 +128,7 @@ fn is_text_string(text: &[u8], x: EventString) -> bool
     requires { ⌜ Lies (now text) x ⌝ }
     ensures { λ r. ⌜ r ≡ isText (octetsOf (now (text .entry)) (locatedOf x)) ⌝ }
 {
-    if x.tag() != STRETCH {
+    if x.tag() != tags::STRETCH {
         return true;
     }
     let from = x.place() as usize;

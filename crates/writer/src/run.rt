@@ -121,7 +121,7 @@ impl Phase {
         }
     }
 
-    // Record i is e, and a is the bit that was found.
+    // Record i is e, and a is the bit that was found. A step has the counts in words.
     pub fn turn(
         self,
         text: &[u8],

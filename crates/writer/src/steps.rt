@@ -11,7 +11,6 @@ ghost use Rattle.writer.specs.RunContracts.{Going};
 ghost use Rattle.writer.specs.RideContracts.{arrivedAt, Learns, Rides, Through};
 use crate::Step;
 use crate::ahead;
-use crate::ahead::START;
 use crate::items::step;
 use crate::lane::Lane;
 use crate::lane::SLOTS;
@@ -21,6 +20,7 @@ use crate::run::bit;
 use crate::run::look_from;
 use events::RECORD;
 use events::is_kind;
+use events::kinds;
 use format::table::ELEMENT_NAME;
 use states::State;
 use tables::Counts;
@@ -33,7 +33,7 @@ fn learn(memory: &mut [u32; SLOTS], records: &[u32], i: usize, before: u32, n: u
     if n <= before {
         return;
     }
-    if !is_kind(records, i, START) {
+    if !is_kind(records, i, kinds::START) {
         return;
     }
     remember(memory, records, i, n);
@@ -103,16 +103,8 @@ pub fn steps(
         let a = ahead::announced_words(records, look_from(st.mode, i, records.len() / RECORD));
         let e = events::from_words(records, i);
         let before = counts[ELEMENT_NAME];
-        match step(
-            st,
-            text,
-            t,
-            &mut counts,
-            &mut index,
-            out,
-            e,
-            bit(st.mode, a),
-        ) {
+        let b = bit(st.mode, a);
+        match step(st, text, t, &mut counts, &mut index, out, e, b) {
             Step::On(next) => {
                 learn(&mut memory, records, i, before, counts[ELEMENT_NAME]);
                 let l = ride(next, records, &memory, out, i + 1);

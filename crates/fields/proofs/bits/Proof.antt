@@ -14,27 +14,6 @@ use Rattle.fields.proofs.bits.Tie as tie
 shifted : (k : ℕ) → k < 8 → (1 * 2 ^ k) % 256 ≡ 2 ^ k
 shifted k h = shl-exact 1 k 8 (lit< tt) (omega arith) ∙ one-mul (2 ^ k)
 
-sub-result : tie.Need-sub-result
-sub-result c = search needs
-
-cast-result : tie.Need-cast-result
-cast-result c = search needs
-
-shr-result : tie.Need-shr-result
-shr-result c = search needs
-
-add-result : tie.Need-add-result
-add-result c = search needs
-
-sub-result-2 : tie.Need-sub-result-2
-sub-result-2 c = search needs
-
-cast-result-2 : tie.Need-cast-result-2
-cast-result-2 c = search needs
-
-shl-result : tie.Need-shl-result
-shl-result c = search needs
-
 sub-result-3 : tie.Need-sub-result-3
 sub-result-3 c = rw (shifted (c .args .last + 1 - c .args .first) (omega arith)) (pow-pos _)
 
@@ -45,12 +24,12 @@ pub bits-spec : {M : Type 1} → statement M
 bits-spec =
     tie.close
     (tie.spec
-    sub-result
-    cast-result
-    shr-result
-    add-result
-    sub-result-2
-    cast-result-2
-    shl-result
+    (λ c. search needs)
+    (λ c. search needs)
+    (λ c. search needs)
+    (λ c. search needs)
+    (λ c. search needs)
+    (λ c. search needs)
+    (λ c. search needs)
     sub-result-3
     returns)

@@ -9,53 +9,26 @@ use Rattle.fields.proofs.Utf8.{by-row, alone-made, astray-not-made}
 use Rattle.fields.proofs.character.Statement.{statement}
 use Rattle.fields.proofs.character.Tie as tie
 
-shared-slice-read-match : tie.Need-shared-slice-read-match
-shared-slice-read-match c = search needs
-
-coming-requires : tie.Need-coming-requires
-coming-requires c κs = search needs
-
 from-first-requires : tie.Need-from-first-requires
 from-first-requires c κs = let e = ap (λ (u : Within). u .left) (c .coming .ensures) in (omega arith, omega arith, omega arith, omega arith)
-
-coming-requires-2 : tie.Need-coming-requires-2
-coming-requires-2 c κs = search needs
 
 from-first-requires-2 : tie.Need-from-first-requires-2
 from-first-requires-2 c κs = let e = ap (λ (u : Within). u .left) (c .coming2 .ensures) in (omega arith, omega arith, omega arith, omega arith)
 
-coming-requires-3 : tie.Need-coming-requires-3
-coming-requires-3 c κs = search needs
-
 from-first-requires-3 : tie.Need-from-first-requires-3
 from-first-requires-3 c κs = let e = ap (λ (u : Within). u .left) (c .coming3 .ensures) in (omega arith, omega arith, omega arith, omega arith)
-
-coming-requires-4 : tie.Need-coming-requires-4
-coming-requires-4 c κs = search needs
 
 from-first-requires-4 : tie.Need-from-first-requires-4
 from-first-requires-4 c κs = let e = ap (λ (u : Within). u .left) (c .coming4 .ensures) in (omega arith, omega arith, omega arith, omega arith)
 
-coming-requires-5 : tie.Need-coming-requires-5
-coming-requires-5 c κs = search needs
-
 from-first-requires-5 : tie.Need-from-first-requires-5
 from-first-requires-5 c κs = let e = ap (λ (u : Within). u .left) (c .coming5 .ensures) in (omega arith, omega arith, omega arith, omega arith)
-
-coming-requires-6 : tie.Need-coming-requires-6
-coming-requires-6 c κs = search needs
 
 from-first-requires-6 : tie.Need-from-first-requires-6
 from-first-requires-6 c κs = let e = ap (λ (u : Within). u .left) (c .coming6 .ensures) in (omega arith, omega arith, omega arith, omega arith)
 
-coming-requires-7 : tie.Need-coming-requires-7
-coming-requires-7 c κs = search needs
-
 from-first-requires-7 : tie.Need-from-first-requires-7
 from-first-requires-7 c κs = let e = ap (λ (u : Within). u .left) (c .coming7 .ensures) in (omega arith, omega arith, omega arith, omega arith)
-
-coming-requires-8 : tie.Need-coming-requires-8
-coming-requires-8 c κs = search needs
 
 from-first-requires-8 : tie.Need-from-first-requires-8
 from-first-requires-8 c κs = let e = ap (λ (u : Within). u .left) (c .coming8 .ensures) in (omega arith, omega arith, omega arith, omega arith)
@@ -79,40 +52,48 @@ returns-6 : tie.Need-returns-6
 returns-6 c = by-row (c .before .before .before .before .before .before .before .before .args .s .now) (c .before .before .before .before .before .before .before .before .args .to) (c .before .before .before .before .before .before .before .before .args .i) (omega arith) (omega arith) _ 0xC2 30 _ _ (c .before .coming5 .ensures) (c .from-first5 .ensures) (unfold first rows astray in tt) (omega arith) (omega arith)
 
 returns-7 : tie.Need-returns-7
-returns-7 c = by-row (c .before .before .before .before .before .before .before .before .before .args .s .now) (c .before .before .before .before .before .before .before .before .before .args .to) (c .before .before .before .before .before .before .before .before .before .args .i) (omega arith) (omega arith) _ 0xE1 12 _ _ (c .before .coming6 .ensures) (c .from-first6 .ensures) (unfold first rows astray in tt) (omega arith) (omega arith)
+returns-7 c =
+    let args = c .before .before .before .before .before .before .before .before .before .args in
+    by-row (args .s .now) (args .to) (args .i) (omega arith) (omega arith) _ 0xE1 12 _ _ (c .before .coming6 .ensures) (c .from-first6 .ensures) (unfold first rows astray in tt) (omega arith) (omega arith)
 
 returns-8 : tie.Need-returns-8
-returns-8 c = by-row (c .before .before .before .before .before .before .before .before .before .before .args .s .now) (c .before .before .before .before .before .before .before .before .before .before .args .to) (c .before .before .before .before .before .before .before .before .before .before .args .i) (omega arith) (omega arith) _ 0xEE 2 _ _ (c .before .coming7 .ensures) (c .from-first7 .ensures) (unfold first rows astray in tt) (omega arith) (omega arith)
+returns-8 c =
+    let args = c .before .before .before .before .before .before .before .before .before .before .args in
+    by-row (args .s .now) (args .to) (args .i) (omega arith) (omega arith) _ 0xEE 2 _ _ (c .before .coming7 .ensures) (c .from-first7 .ensures) (unfold first rows astray in tt) (omega arith) (omega arith)
 
 returns-9 : tie.Need-returns-9
-returns-9 c = by-row (c .before .before .before .before .before .before .before .before .before .before .before .args .s .now) (c .before .before .before .before .before .before .before .before .before .before .before .args .to) (c .before .before .before .before .before .before .before .before .before .before .before .args .i) (omega arith) (omega arith) _ 0xF1 3 _ _ (c .before .coming8 .ensures) (c .from-first8 .ensures) (unfold first rows astray in tt) (omega arith) (omega arith)
+returns-9 c =
+    let args = c .before .before .before .before .before .before .before .before .before .before .before .args in
+    by-row (args .s .now) (args .to) (args .i) (omega arith) (omega arith) _ 0xF1 3 _ _ (c .before .coming8 .ensures) (c .from-first8 .ensures) (unfold first rows astray in tt) (omega arith) (omega arith)
 
 returns-10 : tie.Need-returns-10
 returns-10 c = by-row (c .before .before .before .before .before .args .s .now) (c .before .before .before .before .before .args .to) (c .before .before .before .before .before .args .i) (omega arith) (omega arith) _ 0x80 66 astray _ refl (astray-not-made _) (unfold first rows astray in tt) (omega arith) (omega arith)
 
 returns-11 : tie.Need-returns-11
-returns-11 c = by-row (c .before .before .before .before .before .before .before .before .before .args .s .now) (c .before .before .before .before .before .before .before .before .before .args .to) (c .before .before .before .before .before .before .before .before .before .args .i) (omega arith) (omega arith) _ 0xF5 11 astray _ refl (astray-not-made _) (unfold first rows astray in tt) (omega arith) (omega (arith, c .before .before .before .before .before .before .before .shared-slice-known2 .given (c .before .before .before .before .before .before .before .before .before .args .i)))
+returns-11 c =
+    let args = c .before .before .before .before .before .before .before .before .before .args in
+    by-row (args .s .now) (args .to) (args .i) (omega arith) (omega arith) _ 0xF5 11 astray _ refl (astray-not-made _) (unfold first rows astray in tt) (omega arith) (omega (arith, c .before .before .before .before .before .before .before .shared-slice-known2 .given (args .i)))
 
 pub character-spec : {M : Type 1} → statement M
 character-spec =
     tie.close
     (tie.spec
-    shared-slice-read-match
-    coming-requires
+    (λ c. search needs)
+    (λ c κs. search needs)
     from-first-requires
-    coming-requires-2
+    (λ c κs. search needs)
     from-first-requires-2
-    coming-requires-3
+    (λ c κs. search needs)
     from-first-requires-3
-    coming-requires-4
+    (λ c κs. search needs)
     from-first-requires-4
-    coming-requires-5
+    (λ c κs. search needs)
     from-first-requires-5
-    coming-requires-6
+    (λ c κs. search needs)
     from-first-requires-6
-    coming-requires-7
+    (λ c κs. search needs)
     from-first-requires-7
-    coming-requires-8
+    (λ c κs. search needs)
     from-first-requires-8
     returns
     returns-2

@@ -17,32 +17,17 @@ Inv-loop s from to i₀ i = (i ≤ to) × (after between (take (to - i) (drop i 
 abbrev μ-loop : tie.MeasureT-loop
 μ-loop s from to i₀ i = to - i
 
-plain-requires : tie.Need-plain-requires Inv-loop μ-loop
-plain-requires c κs = search needs
-
 returns : tie.Need-returns Inv-loop μ-loop
 returns c = low-text _ (sym (c .before .plain .ensures) ∙ c .if1 .taken)
 
 loop-holds : tie.Need-loop-holds Inv-loop μ-loop
 loop-holds c = (omega arith, refl)
 
-shared-slice-read-if2 : tie.Need-shared-slice-read-if2 Inv-loop μ-loop
-shared-slice-read-if2 c = search needs
-
-add-i : tie.Need-add-i Inv-loop μ-loop
-add-i c = search needs
-
-loop-less : tie.Need-loop-less Inv-loop μ-loop
-loop-less c = search needs
-
 loop-again : tie.Need-loop-again Inv-loop μ-loop
 loop-again c =
     let a = c .before .before .before .before .before .before .before .args in
     let l = c .before .before .before .loop in
     (omega arith, after-alone (a .s .now) (a .to) (l .i) (omega arith) (omega arith) _ (omega arith) (l .inv .1))
-
-character-requires : tie.Need-character-requires Inv-loop μ-loop
-character-requires c κs = search needs
 
 returns-2 : tie.Need-returns-2 Inv-loop μ-loop
 unfolding isText
@@ -84,14 +69,14 @@ is-text-spec =
     (tie.spec
     Inv-loop
     μ-loop
-    plain-requires
+    (λ c κs. search needs)
     returns
     loop-holds
-    shared-slice-read-if2
-    add-i
-    loop-less
+    (λ c. search needs)
+    (λ c. search needs)
+    (λ c. search needs)
     loop-again
-    character-requires
+    (λ c κs. search needs)
     returns-2
     add-i-2
     loop-less-2

@@ -16,32 +16,14 @@ Inv-loop s at x more v₀ i₀ v i = (i ≤ more) × (valueFrom s (at + i) v (mo
 abbrev μ-loop : tie.MeasureT-loop
 μ-loop s at x more v₀ i₀ v i = more - i
 
-wide-requires : tie.Need-wide-requires Inv-loop μ-loop
-wide-requires c κs = search needs
-
 loop-holds : tie.Need-loop-holds Inv-loop μ-loop
 loop-holds c = (omega arith, rw (c .wide .ensures .0, add-zero, sub-zero), omega arith)
 
 mul-v : tie.Need-mul-v Inv-loop μ-loop
 mul-v c = let l = c .before .loop in omega (arith, value-small (l .v) (l .i) (omega arith) (l .inv .2))
 
-add-wide : tie.Need-add-wide Inv-loop μ-loop
-add-wide c = search needs
-
-shared-slice-read-wide : tie.Need-shared-slice-read-wide Inv-loop μ-loop
-shared-slice-read-wide c = search needs
-
-wide-requires-2 : tie.Need-wide-requires-2 Inv-loop μ-loop
-wide-requires-2 c κs = search needs
-
 add-v : tie.Need-add-v Inv-loop μ-loop
 add-v c = let l = c .before .before .before .loop in omega (arith, value-small (l .v) (l .i) (omega arith) (l .inv .2))
-
-add-i : tie.Need-add-i Inv-loop μ-loop
-add-i c = search needs
-
-loop-less : tie.Need-loop-less Inv-loop μ-loop
-loop-less c = search needs
 
 loop-again : tie.Need-loop-again Inv-loop μ-loop
 loop-again c =
@@ -61,14 +43,14 @@ value-from-spec =
     (tie.spec
     Inv-loop
     μ-loop
-    wide-requires
+    (λ c κs. search needs)
     loop-holds
     mul-v
-    add-wide
-    shared-slice-read-wide
-    wide-requires-2
+    (λ c. search needs)
+    (λ c. search needs)
+    (λ c κs. search needs)
     add-v
-    add-i
-    loop-less
+    (λ c. search needs)
+    (λ c. search needs)
     loop-again
     returns)

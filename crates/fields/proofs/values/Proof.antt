@@ -13,11 +13,8 @@ use Rattle.fields.proofs.values.Tie as tie
 shifted : (k : ℕ) → k ≤ 32 → (1 * 2 ^ k) % 2 ^ 64 ≡ 2 ^ k
 shifted k h = shl-exact 1 k 64 (lit< tt) (omega arith) ∙ one-mul (2 ^ k)
 
-shl-result : tie.Need-shl-result
-shl-result c = search needs
-
 returns : tie.Need-returns
 returns c = let e = shifted (c .args .k) (c .pre) in (e, rw e (pow-mono (c .pre)))
 
 pub values-spec : {M : Type 1} → statement M
-values-spec = tie.close (tie.spec shl-result returns)
+values-spec = tie.close (tie.spec (λ c. search needs) returns)

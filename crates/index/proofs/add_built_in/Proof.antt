@@ -8,32 +8,11 @@ use Rattle.index.proofs.Entered.{string-apart, string-added}
 use Rattle.index.proofs.add_built_in.Statement.{statement}
 use Rattle.index.proofs.add_built_in.Tie as tie
 
-find-any-requires : tie.Need-find-any-requires
-find-any-requires c κs = search needs
-
-same-length : tie.Need-same-length
-same-length c = search needs
-
 returns : tie.Need-returns
 returns c = λ index. (sym (string-is _ _ (c .before .find-any .ensures) (omega arith)), refl, refl)
 
-same-length-2 : tie.Need-same-length-2
-same-length-2 c = search needs
-
 returns-2 : tie.Need-returns-2
 returns-2 c = λ index. (string-none _ (sym (c .before .before .find-any .ensures) ∙ c .before .if1 .left), omega arith, refl, refl)
-
-narrow-requires : tie.Need-narrow-requires
-narrow-requires c κs = search needs
-
-narrow-requires-2 : tie.Need-narrow-requires-2
-narrow-requires-2 c κs = search needs
-
-add-requires : tie.Need-add-requires
-add-requires c κs = search needs
-
-same-length-3 : tie.Need-same-length-3
-same-length-3 c = search needs
 
 returns-3 : tie.Need-returns-3
 returns-3 c =
@@ -52,13 +31,13 @@ pub add-built-in-spec : {M : Type 1} → statement M
 add-built-in-spec =
     tie.close
     (tie.spec
-    find-any-requires
-    same-length
+    (λ c κs. search needs)
+    (λ c. search needs)
     returns
-    same-length-2
+    (λ c. search needs)
     returns-2
-    narrow-requires
-    narrow-requires-2
-    add-requires
-    same-length-3
+    (λ c κs. search needs)
+    (λ c κs. search needs)
+    (λ c κs. search needs)
+    (λ c. search needs)
     returns-3)

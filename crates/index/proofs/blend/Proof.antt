@@ -6,12 +6,9 @@ use Rattle.index.specs.Hash.{blended}
 use Rattle.index.proofs.blend.Statement.{statement}
 use Rattle.index.proofs.blend.Tie as tie
 
-sum-requires : tie.Need-sum-requires
-sum-requires c κs = search needs
-
 returns : tie.Need-returns
 unfolding blended
 returns c = (rw (c .sum .ensures), omega arith)
 
 pub blend-spec : {M : Type 1} → statement M
-blend-spec = tie.close (tie.spec sum-requires returns)
+blend-spec = tie.close (tie.spec (λ c κs. search needs) returns)

@@ -7,36 +7,15 @@ use Rattle.index.proofs.Entered.{string-known, string-last, string-apar
 use Rattle.index.proofs.enter_in.Statement.{statement}
 use Rattle.index.proofs.enter_in.Tie as tie
 
-add-requires : tie.Need-add-requires
-add-requires c κs = search needs
-
-same-length : tie.Need-same-length
-same-length c = search needs
-
 returns : tie.Need-returns
 returns c =
     let p = c .before .before .before .before .before .before .before .before .pre in
     string-added _ _ _ _ _ _ _ (p .2) (p .3) (p .0) (p .5) (p .4) _ _ (c .before .before .before .add .ensures) (string-known _ _ _ _ _ _ _ (p .2) (p .3) (p .0) (p .5) (p .4) (λ e. c .if1 .taken (p .6 ∙ e)))
 
-same-length-2 : tie.Need-same-length-2
-same-length-2 c = search needs
-
 returns-2 : tie.Need-returns-2
 returns-2 c =
     let p = c .before .before .before .before .before .before .before .before .before .pre in
     string-added _ _ _ _ _ _ _ (p .2) (p .3) (p .0) (p .5) (p .4) _ _ (c .before .before .before .before .add .ensures) (string-last _ _ _ _ _ _ _ (p .2) (p .3) (p .0) (p .5) (p .4) (omega arith))
-
-wide-requires : tie.Need-wide-requires
-wide-requires c κs = search needs
-
-wide-requires-2 : tie.Need-wide-requires-2
-wide-requires-2 c κs = search needs
-
-is-built-in-requires : tie.Need-is-built-in-requires
-is-built-in-requires c κs = search needs
-
-same-length-3 : tie.Need-same-length-3
-same-length-3 c = search needs
 
 returns-3 : tie.Need-returns-3
 returns-3 c =
@@ -44,38 +23,31 @@ returns-3 c =
     string-added _ _ _ _ _ _ _ (p .2) (p .3) (p .0) (p .5) (p .4) _ _ (c .before .before .before .before .before .before .before .before .add .ensures)
     (string-apart _ _ _ _ _ _ _ (p .2) (p .3) (p .0) (p .5) (p .4) (rw (c .before .before .before .wide .ensures, c .before .before .wide2 .ensures) at (sym (c .before .is-built-in .ensures) ∙ c .if3 .taken)))
 
-push-requires : tie.Need-push-requires
-push-requires c κs = search needs
-
-same-length-4 : tie.Need-same-length-4
-same-length-4 c = search needs
-
-same-length-5 : tie.Need-same-length-5
-same-length-5 c = search needs
-
 returns-4 : tie.Need-returns-4
 returns-4 c =
+    let branch = c .before .before .before .before .before .before .before .before .before .if1 in
+    let add = c .before .before .before .before .before .before .before .before .before .before .before .before .add in
     let p = c .before .before .before .before .before .before .before .before .before .before .before .before .before .before .before .before .before .pre in
-    string-added _ _ _ _ _ _ _ (p .2) (p .3) (p .0) (p .5) (p .4) _ _ (c .before .before .before .before .before .before .before .before .before .before .before .before .add .ensures)
+    string-added _ _ _ _ _ _ _ (p .2) (p .3) (p .0) (p .5) (p .4) _ _ (add .ensures)
     (rw (c .before .before .push .ensures, p .7)
-    (string-entered _ _ _ _ _ _ _ (p .2) (p .3) (p .0) (p .5) (p .4) (omega arith) (sym (p .6) ∙ c .before .before .before .before .before .before .before .before .before .if1 .left)
+    (string-entered _ _ _ _ _ _ _ (p .2) (p .3) (p .0) (p .5) (p .4) (omega arith) (sym (p .6) ∙ branch .left)
     (rw (c .before .before .before .before .before .before .before .wide .ensures, c .before .before .before .before .before .before .wide2 .ensures) at (sym (c .before .before .before .before .before .is-built-in .ensures) ∙ c .before .before .before .before .if3 .left))))
 
 pub enter-in-spec : {M : Type 1} → statement M
 enter-in-spec =
     tie.close
     (tie.spec
-    add-requires
-    same-length
+    (λ c κs. search needs)
+    (λ c. search needs)
     returns
-    same-length-2
+    (λ c. search needs)
     returns-2
-    wide-requires
-    wide-requires-2
-    is-built-in-requires
-    same-length-3
+    (λ c κs. search needs)
+    (λ c κs. search needs)
+    (λ c κs. search needs)
+    (λ c. search needs)
     returns-3
-    push-requires
-    same-length-4
-    same-length-5
+    (λ c κs. search needs)
+    (λ c. search needs)
+    (λ c. search needs)
     returns-4)

@@ -7,54 +7,34 @@ use Rattle.index.proofs.Entered.{name-known, name-last, name-entered, n
 use Rattle.index.proofs.enter_name.Statement.{statement}
 use Rattle.index.proofs.enter_name.Tie as tie
 
-add-requires : tie.Need-add-requires
-add-requires c κs = search needs
-
-same-length : tie.Need-same-length
-same-length c = search needs
-
 returns : tie.Need-returns
 returns c =
     let p = c .before .before .before .before .before .before .before .pre in
     λ s. name-added s _ _ _ _ _ _ _ (p .2) (p .3) (p .4) (p .0) _ _ (c .before .before .before .add .ensures) (name-known s _ _ _ _ _ _ _ (p .2) (p .3) (p .4) (p .0) (λ e. c .if1 .taken (p .5 ∙ e)))
-
-same-length-2 : tie.Need-same-length-2
-same-length-2 c = search needs
 
 returns-2 : tie.Need-returns-2
 returns-2 c =
     let p = c .before .before .before .before .before .before .before .before .pre in
     λ s. name-added s _ _ _ _ _ _ _ (p .2) (p .3) (p .4) (p .0) _ _ (c .before .before .before .before .add .ensures) (name-last s _ _ _ _ _ _ _ (p .2) (p .3) (p .4) (p .0) (omega arith))
 
-name-bucket-requires : tie.Need-name-bucket-requires
-name-bucket-requires c κs = search needs
-
-push-requires : tie.Need-push-requires
-push-requires c κs = search needs
-
-same-length-3 : tie.Need-same-length-3
-same-length-3 c = search needs
-
-same-length-4 : tie.Need-same-length-4
-same-length-4 c = search needs
-
 returns-3 : tie.Need-returns-3
 returns-3 c =
+    let add = c .before .before .before .before .before .before .before .before .before .add in
     let p = c .before .before .before .before .before .before .before .before .before .before .before .before .before .pre in
-    λ s. name-added s _ _ _ _ _ _ _ (p .2) (p .3) (p .4) (p .0) _ _ (c .before .before .before .before .before .before .before .before .before .add .ensures)
+    λ s. name-added s _ _ _ _ _ _ _ (p .2) (p .3) (p .4) (p .0) _ _ (add .ensures)
     (rw (c .before .before .push .ensures, c .before .before .before .name-bucket .ensures .0) (name-entered s _ _ _ _ _ _ _ (p .2) (p .3) (p .4) (p .0) (omega arith) (sym (p .5) ∙ c .before .before .before .before .before .before .if1 .left)))
 
 pub enter-name-spec : {M : Type 1} → statement M
 enter-name-spec =
     tie.close
     (tie.spec
-    add-requires
-    same-length
+    (λ c κs. search needs)
+    (λ c. search needs)
     returns
-    same-length-2
+    (λ c. search needs)
     returns-2
-    name-bucket-requires
-    push-requires
-    same-length-3
-    same-length-4
+    (λ c κs. search needs)
+    (λ c κs. search needs)
+    (λ c. search needs)
+    (λ c. search needs)
     returns-3)

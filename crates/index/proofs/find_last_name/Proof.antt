@@ -13,15 +13,6 @@ returns : tie.Need-returns
 unfolding lastRow
 returns c = rw (ne-eqb (c .before .before .args .n) 256 (omega arith))
 
-mul-is-name : tie.Need-mul-is-name
-mul-is-name c = search needs
-
-add-is-name : tie.Need-add-is-name
-add-is-name c = search needs
-
-is-name-requires : tie.Need-is-name-requires
-is-name-requires c κs = search needs
-
 returns-2 : tie.Need-returns-2
 unfolding lastRow names
 returns-2 c = rw (eq-eqb (c .before .before .before .before .args .n) 256 (omega arith), sym (c .before .is-name .ensures) ∙ c .if2 .taken) (omega arith)
@@ -32,4 +23,4 @@ returns-3 c = rw (eq-eqb (c .before .before .before .before .args .n) 256 (omega
 
 pub find-last-name-spec : {M : Type 1} → statement M
 find-last-name-spec =
-    tie.close (tie.spec returns mul-is-name add-is-name is-name-requires returns-2 returns-3)
+    tie.close (tie.spec returns (λ c. search needs) (λ c. search needs) (λ c κs. search needs) returns-2 returns-3)

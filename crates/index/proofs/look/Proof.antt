@@ -11,48 +11,6 @@ use Rattle.index.proofs.Plain.{few-low, four-low, long-low}
 use Rattle.index.proofs.look.Statement.{statement}
 use Rattle.index.proofs.look.Tie as tie
 
-add-octet : tie.Need-add-octet
-add-octet c = search needs
-
-shared-slice-read-octet : tie.Need-shared-slice-read-octet
-shared-slice-read-octet c = search needs
-
-octet-requires : tie.Need-octet-requires
-octet-requires c κs = search needs
-
-sub-octet : tie.Need-sub-octet
-sub-octet c = search needs
-
-add-octet-2 : tie.Need-add-octet-2
-add-octet-2 c = search needs
-
-shared-slice-read-octet-2 : tie.Need-shared-slice-read-octet-2
-shared-slice-read-octet-2 c = search needs
-
-octet-requires-2 : tie.Need-octet-requires-2
-octet-requires-2 c κs = search needs
-
-shared-slice-read-octet-3 : tie.Need-shared-slice-read-octet-3
-shared-slice-read-octet-3 c = search needs
-
-octet-requires-3 : tie.Need-octet-requires-3
-octet-requires-3 c κs = search needs
-
-mul-few : tie.Need-mul-few
-mul-few c = search needs
-
-add-few : tie.Need-add-few
-add-few c = search needs
-
-mul-few-2 : tie.Need-mul-few-2
-mul-few-2 c = search needs
-
-add-few-2 : tie.Need-add-few-2
-add-few-2 c = search needs
-
-spread-requires : tie.Need-spread-requires
-spread-requires c κs = search needs
-
 returns : tie.Need-returns
 unfolding highBits
 returns c =
@@ -66,27 +24,6 @@ returns c =
       λ e. few-low (a .s .now) (a .place) (a .len) _ _ _ (o3 .0) (o1 .0) (o2 .0) (o3 .1) (o1 .1) (o2 .1) (omega arith) (omega arith) (eqb-true _ 0 e),
     )
 
-sub-four : tie.Need-sub-four
-sub-four c = search needs
-
-add-four : tie.Need-add-four
-add-four c = search needs
-
-four-requires : tie.Need-four-requires
-four-requires c κs = search needs
-
-four-requires-2 : tie.Need-four-requires-2
-four-requires-2 c κs = search needs
-
-mul-both : tie.Need-mul-both
-mul-both c = search needs
-
-add-both : tie.Need-add-both
-add-both c = search needs
-
-spread-requires-2 : tie.Need-spread-requires-2
-spread-requires-2 c κs = search needs
-
 returns-2 : tie.Need-returns-2
 unfolding highBits
 returns-2 c =
@@ -96,24 +33,6 @@ returns-2 c =
       c .spread2 .ensures .1,
       λ e. four-low _ _ _ _ _ o2 o1 (omega arith) (omega arith) (eqb-true _ 0 e),
     )
-
-sub-eight : tie.Need-sub-eight
-sub-eight c = search needs
-
-add-eight : tie.Need-add-eight
-add-eight c = search needs
-
-eight-requires : tie.Need-eight-requires
-eight-requires c κs = search needs
-
-counting-requires : tie.Need-counting-requires
-counting-requires c κs = search needs
-
-roll-requires : tie.Need-roll-requires
-roll-requires c κs = search needs
-
-spread-requires-3 : tie.Need-spread-requires-3
-spread-requires-3 c κs = search needs
 
 returns-3 : tie.Need-returns-3
 unfolding highBits
@@ -134,34 +53,34 @@ pub look-spec : {M : Type 1} → statement M
 look-spec =
     tie.close
     (tie.spec
-    add-octet
-    shared-slice-read-octet
-    octet-requires
-    sub-octet
-    add-octet-2
-    shared-slice-read-octet-2
-    octet-requires-2
-    shared-slice-read-octet-3
-    octet-requires-3
-    mul-few
-    add-few
-    mul-few-2
-    add-few-2
-    spread-requires
+    (λ c. search needs)
+    (λ c. search needs)
+    (λ c κs. search needs)
+    (λ c. search needs)
+    (λ c. search needs)
+    (λ c. search needs)
+    (λ c κs. search needs)
+    (λ c. search needs)
+    (λ c κs. search needs)
+    (λ c. search needs)
+    (λ c. search needs)
+    (λ c. search needs)
+    (λ c. search needs)
+    (λ c κs. search needs)
     returns
-    sub-four
-    add-four
-    four-requires
-    four-requires-2
-    mul-both
-    add-both
-    spread-requires-2
+    (λ c. search needs)
+    (λ c. search needs)
+    (λ c κs. search needs)
+    (λ c κs. search needs)
+    (λ c. search needs)
+    (λ c. search needs)
+    (λ c κs. search needs)
     returns-2
-    sub-eight
-    add-eight
-    eight-requires
-    counting-requires
-    roll-requires
-    spread-requires-3
+    (λ c. search needs)
+    (λ c. search needs)
+    (λ c κs. search needs)
+    (λ c κs. search needs)
+    (λ c κs. search needs)
+    (λ c κs. search needs)
     returns-3
     returns-4)

@@ -9,17 +9,8 @@ use Rattle.index.proofs.Plain.{plain-text}
 use Rattle.index.proofs.mark.Statement.{statement}
 use Rattle.index.proofs.mark.Tie as tie
 
-look-requires : tie.Need-look-requires
-look-requires c κs = search needs
-
 returns : tie.Need-returns
 returns c = (c .before .look .ensures .0, c .before .look .ensures .1, plain-text _ _ _ (omega arith) (c .before .look .ensures .2 (c .if1 .taken)))
-
-add-is-text : tie.Need-add-is-text
-add-is-text c = search needs
-
-is-text-requires : tie.Need-is-text-requires
-is-text-requires c κs = search needs
 
 returns-2 : tie.Need-returns-2
 unfolding octetsOf
@@ -29,4 +20,4 @@ returns-2 c =
     (c .before .before .look .ensures .0, c .before .before .look .ensures .1, c .is-text .ensures ∙ rw z)
 
 pub mark-spec : {M : Type 1} → statement M
-mark-spec = tie.close (tie.spec look-requires returns add-is-text is-text-requires returns-2)
+mark-spec = tie.close (tie.spec (λ c κs. search needs) returns (λ c. search needs) (λ c κs. search needs) returns-2)

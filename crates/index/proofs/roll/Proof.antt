@@ -25,24 +25,6 @@ abbrev μ-loop : tie.MeasureT-loop
 loop-holds : tie.Need-loop-holds Inv-loop μ-loop
 loop-holds c = (omega arith, omega arith, omega arith, rolled-start _ (c .before .args .len), λ z j l u. absurd (omega arith))
 
-sub-loop : tie.Need-sub-loop Inv-loop μ-loop
-sub-loop c = search needs
-
-add-eight : tie.Need-add-eight Inv-loop μ-loop
-add-eight c = search needs
-
-eight-requires : tie.Need-eight-requires Inv-loop μ-loop
-eight-requires c κs = search needs
-
-blend-requires : tie.Need-blend-requires Inv-loop μ-loop
-blend-requires c κs = search needs
-
-add-i : tie.Need-add-i Inv-loop μ-loop
-add-i c = search needs
-
-loop-less : tie.Need-loop-less Inv-loop μ-loop
-loop-less c = search needs
-
 loop-again : tie.Need-loop-again Inv-loop μ-loop
 unfolding highBits
 loop-again c =
@@ -62,11 +44,11 @@ roll-spec =
     Inv-loop
     μ-loop
     loop-holds
-    sub-loop
-    add-eight
-    eight-requires
-    blend-requires
-    add-i
-    loop-less
+    (λ c. search needs)
+    (λ c. search needs)
+    (λ c κs. search needs)
+    (λ c κs. search needs)
+    (λ c. search needs)
+    (λ c. search needs)
     loop-again
     returns)

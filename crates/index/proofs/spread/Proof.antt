@@ -6,12 +6,9 @@ use Rattle.index.specs.Hash.{spread}
 use Rattle.index.proofs.spread.Statement.{statement}
 use Rattle.index.proofs.spread.Tie as tie
 
-sum-requires : tie.Need-sum-requires
-sum-requires c κs = search needs
-
 returns : tie.Need-returns
 unfolding spread
 returns c = (rw (c .sum .ensures), omega arith)
 
 pub spread-spec : {M : Type 1} → statement M
-spread-spec = tie.close (tie.spec sum-requires returns)
+spread-spec = tie.close (tie.spec (λ c κs. search needs) returns)

@@ -6,17 +6,11 @@ use Rattle.read_rows.proofs.Laws.{admits-size, admits-other, admits-roo
 use Rattle.read_rows.proofs.admitted.Statement.{statement}
 use Rattle.read_rows.proofs.admitted.Tie as tie
 
-sized-requires : tie.Need-sized-requires
-sized-requires c κs = search needs
-
 returns : tie.Need-returns
 returns c = admits-size (c .before .before .before .args .s .now) (c .before .before .before .args .room) (c .before .sized .result) (c .before .sized .ensures) (c .if1 .taken)
 
 returns-2 : tie.Need-returns-2
 returns-2 c = admits-other (c .before .before .before .before .args .s .now) (c .before .before .before .before .args .room) (c .before .before .sized .result) (c .before .before .sized .ensures) (c .before .if1 .left) (c .if2 .taken)
-
-opened-requires : tie.Need-opened-requires
-opened-requires c κs = search needs
 
 returns-3 : tie.Need-returns-3
 returns-3 c =
@@ -25,4 +19,4 @@ returns-3 c =
     c .opened .ensures ∙ admits-room (a .s .now) (a .room) (sized .result) (sized .ensures) (c .before .before .if1 .left) (c .before .if2 .left)
 
 pub admitted-spec : {M : Type 1} → statement M
-admitted-spec = tie.close (tie.spec sized-requires returns returns-2 opened-requires returns-3)
+admitted-spec = tie.close (tie.spec (λ c κs. search needs) returns returns-2 (λ c κs. search needs) returns-3)

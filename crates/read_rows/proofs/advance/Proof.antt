@@ -12,29 +12,11 @@ returns c =
     let a = c .before .before .before .before .before .before .before .args in
     reaches-spent (a .s .now) (a .p) (a .c) (a .t .now) (a .index .now) (c .before .before .before .before .before .before .before .pre) (c .before .if1 .taken)
 
-slice-aggregate-put-counts : tie.Need-slice-aggregate-put-counts
-slice-aggregate-put-counts c = search needs
-
-put-counts-requires : tie.Need-put-counts-requires
-put-counts-requires c κs = search needs
-
-slice-aggregate-step : tie.Need-slice-aggregate-step
-slice-aggregate-step c = search needs
-
-slice-aggregate-step-2 : tie.Need-slice-aggregate-step-2
-slice-aggregate-step-2 c = search needs
-
 step-requires : tie.Need-step-requires
 step-requires c κs =
     let start = c .before .before .before .before .before .before .before .before .before .before .before .before .before in
     let put-counts = c .before .before .before .before .before .put-counts in
     good-lent (start .pre) _ _ (put-counts .ensures)
-
-slice-aggregate-told : tie.Need-slice-aggregate-told
-slice-aggregate-told c = search needs
-
-sub-told : tie.Need-sub-told
-sub-told c = search needs
 
 told-requires : tie.Need-told-requires
 told-requires c κs =
@@ -44,18 +26,6 @@ told-requires c κs =
     let step = c .before .before .before .before .before .before .before .before .step in
     let a = start .args in
     (omega arith, numbered (a .s .now) (a .p) (a .c) (a .t .now) (a .index .now) _ refl _ (put-counts .ensures) (if1 .left) (start .pre) _ _ (step .ensures))
-
-slice-aggregate-counts-in : tie.Need-slice-aggregate-counts-in
-slice-aggregate-counts-in c = search needs
-
-counts-in-requires : tie.Need-counts-in-requires
-counts-in-requires c κs = search needs
-
-same-length : tie.Need-same-length
-same-length c = search needs
-
-same-length-2 : tie.Need-same-length-2
-same-length-2 c = search needs
 
 returns-2 : tie.Need-returns-2
 returns-2 c =
@@ -71,16 +41,16 @@ advance-spec =
     tie.close
     (tie.spec
     returns
-    slice-aggregate-put-counts
-    put-counts-requires
-    slice-aggregate-step
-    slice-aggregate-step-2
+    (λ c. search needs)
+    (λ c κs. search needs)
+    (λ c. search needs)
+    (λ c. search needs)
     step-requires
-    slice-aggregate-told
-    sub-told
+    (λ c. search needs)
+    (λ c. search needs)
     told-requires
-    slice-aggregate-counts-in
-    counts-in-requires
-    same-length
-    same-length-2
+    (λ c. search needs)
+    (λ c κs. search needs)
+    (λ c. search needs)
+    (λ c. search needs)
     returns-2)

@@ -8,17 +8,8 @@ use Rattle.read_rows.specs.declared.Place.{Place}
 use Rattle.read_rows.proofs.begin.Statement.{statement}
 use Rattle.read_rows.proofs.begin.Tie as tie
 
-begin-requires : tie.Need-begin-requires
-begin-requires c κs = search needs
-
-mul-t4 : tie.Need-mul-t4
-mul-t4 c = search needs
-
-add-t5 : tie.Need-add-t5
-add-t5 c = search needs
-
 returns : tie.Need-returns
 returns c = ap {B = Place} (λ (k : State). record { state = k; left = 2 * c .before .args .octets + 1 }) (c .begin .ensures)
 
 pub begin-spec : {M : Type 1} → statement M
-begin-spec = tie.close (tie.spec begin-requires mul-t4 add-t5 returns)
+begin-spec = tie.close (tie.spec (λ c κs. search needs) (λ c. search needs) (λ c. search needs) returns)

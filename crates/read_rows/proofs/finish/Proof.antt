@@ -6,26 +6,14 @@ use borrow.Author.Needs.{needs}
 use Rattle.read_rows.proofs.finish.Statement.{statement}
 use Rattle.read_rows.proofs.finish.Tie as tie
 
-enum-known-a : tie.Need-enum-known-a
-enum-known-a c = search needs
-
 refused-requires : tie.Need-refused-requires
 refused-requires c κs = rw (c .before .a .given .1) at (c .before .before .before .pre)
-
-enum-known-a-2 : tie.Need-enum-known-a-2
-enum-known-a-2 c = search needs
 
 refused-requires-2 : tie.Need-refused-requires-2
 refused-requires-2 c κs = let l : c .before .before .a2 .given .0 .0 .state .at ≤ 32768 = rw (c .before .before .a2 .given .1) at (c .before .before .before .before .pre) in omega arith
 
-enum-told : tie.Need-enum-told
-enum-told c = search needs
-
 cast-t10 : tie.Need-cast-t10
 cast-t10 c = let l : c .before .before .args .n ≤ 32769 = rw (c .enum-told .given .1) at (c .before .before .pre) in record { fits = omega arith }
-
-enum-known-a-3 : tie.Need-enum-known-a-3
-enum-known-a-3 c = search needs
 
 refused-requires-3 : tie.Need-refused-requires-3
 refused-requires-3 c κs = rw (c .before .a3 .given .1) at (c .before .before .before .pre)
@@ -46,13 +34,13 @@ pub finish-spec : {M : Type 1} → statement M
 finish-spec =
     tie.close
     (tie.spec
-    enum-known-a
+    (λ c. search needs)
     refused-requires
-    enum-known-a-2
+    (λ c. search needs)
     refused-requires-2
-    enum-told
+    (λ c. search needs)
     cast-t10
-    enum-known-a-3
+    (λ c. search needs)
     refused-requires-3
     returns
     returns-2

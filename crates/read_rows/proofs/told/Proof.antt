@@ -9,21 +9,6 @@ use borrow.Author.Needs.{needs}
 use Rattle.read_rows.proofs.told.Statement.{statement}
 use Rattle.read_rows.proofs.told.Tie as tie
 
-enum-known-r : tie.Need-enum-known-r
-enum-known-r c = search needs
-
-from-words-requires : tie.Need-from-words-requires
-from-words-requires c κs = omega arith
-
-enum-known-r-2 : tie.Need-enum-known-r-2
-enum-known-r-2 c = search needs
-
-enum-told : tie.Need-enum-told
-enum-told c = search needs
-
-enum-known-r-3 : tie.Need-enum-known-r-3
-enum-known-r-3 c = search needs
-
 cast-t13 : tie.Need-cast-t13
 cast-t13 c = let l : c .before .r3 .given .0 .1 .0 < 0x1_0000_0000 = rw (c .before .r3 .given .1) at (c .before .before .before .before .pre .1) in record { fits = omega arith }
 
@@ -45,11 +30,11 @@ pub told-spec : {M : Type 1} → statement M
 told-spec =
     tie.close
     (tie.spec
-    enum-known-r
-    from-words-requires
-    enum-known-r-2
-    enum-told
-    enum-known-r-3
+    (λ c. search needs)
+    (λ c κs. omega arith)
+    (λ c. search needs)
+    (λ c. search needs)
+    (λ c. search needs)
     cast-t13
     returns
     returns-2

@@ -11,21 +11,6 @@ number-of-requires c κs =
     let at-start = c .before .before .before .before .before .before .before .before in
     (at-start .pre .0, omega arith, spells-suits (at-start .args .text .now) 6 (at-start .args .x) (at-start .pre .2))
 
-put-number-requires : tie.Need-put-number-requires
-put-number-requires c κs = search needs
-
-same-length : tie.Need-same-length
-same-length c = search needs
-
-same-length-2 : tie.Need-same-length-2
-same-length-2 c = search needs
-
-same-length-3 : tie.Need-same-length-3
-same-length-3 c = search needs
-
-same-length-4 : tie.Need-same-length-4
-same-length-4 c = search needs
-
 returns : tie.Need-returns
 returns c =
     let at-start = c .before .before .before .before .before .before .before .before .before .before .before .before .before .before in
@@ -36,18 +21,6 @@ literal-requires c κs =
     let at-start = c .before .before .before .before .before .before .before .before .before .before .before .before .before .before in
     let held = c .before .before .before .before .before .number-of .ensures .0 in
     (at-start .pre .0, at-start .pre .1, at-start .pre .2, omega arith, (omega arith, omega arith, omega arith, omega arith))
-
-same-length-5 : tie.Need-same-length-5
-same-length-5 c = search needs
-
-same-length-6 : tie.Need-same-length-6
-same-length-6 c = search needs
-
-same-length-7 : tie.Need-same-length-7
-same-length-7 c = search needs
-
-same-length-8 : tie.Need-same-length-8
-same-length-8 c = search needs
 
 returns-2 : tie.Need-returns-2
 returns-2 c =
@@ -61,15 +34,15 @@ chunk-spec =
     tie.close
     (tie.spec
     number-of-requires
-    put-number-requires
-    same-length
-    same-length-2
-    same-length-3
-    same-length-4
+    (λ c κs. search needs)
+    (λ c. search needs)
+    (λ c. search needs)
+    (λ c. search needs)
+    (λ c. search needs)
     returns
     literal-requires
-    same-length-5
-    same-length-6
-    same-length-7
-    same-length-8
+    (λ c. search needs)
+    (λ c. search needs)
+    (λ c. search needs)
+    (λ c. search needs)
     returns-2)

@@ -6,9 +6,6 @@ use Rattle.write_names.proofs.StringLaws.{has-none, has-one}
 use Rattle.write_names.proofs.has.Statement.{statement}
 use Rattle.write_names.proofs.has.Tie as tie
 
-tag-requires : tie.Need-tag-requires
-tag-requires c κs = search needs
-
 returns : tie.Need-returns
 returns c = has-none (c .before .before .args .x) (omega arith)
 
@@ -16,4 +13,4 @@ returns-2 : tie.Need-returns-2
 returns-2 c = has-one (c .before .before .args .x) (omega arith)
 
 pub has-spec : {M : Type 1} → statement M
-has-spec = tie.close (tie.spec tag-requires returns returns-2)
+has-spec = tie.close (tie.spec (λ c κs. search needs) returns returns-2)

@@ -6,35 +6,17 @@ use Rattle.write_names.proofs.StringLaws.{id-numbered, id-full, id-stre
 use Rattle.write_names.proofs.id.Statement.{statement}
 use Rattle.write_names.proofs.id.Tie as tie
 
-put-number-at-bit-2-requires : tie.Need-put-number-at-bit-2-requires
-put-number-at-bit-2-requires c κs = search needs
-
-same-length : tie.Need-same-length
-same-length c = search needs
-
 returns : tie.Need-returns
 returns c =
     let at-start = c .before .before .before .before .before .before .before .before .before .before .before in
     let looked = at-start .pre .3 in
     id-numbered _ _ _ _ (at-start .pre .0) (at-start .args .x) (at-start .pre .2) looked (omega arith) (c .before .before .put-number-at-bit-2 .ensures)
 
-mul-if2 : tie.Need-mul-if2
-mul-if2 c = search needs
-
-slice-read-if2 : tie.Need-slice-read-if2
-slice-read-if2 c = search needs
-
 returns-2 : tie.Need-returns-2
 returns-2 c =
     let at-start = c .before .before .before .before .before .before .before .before .before in
     let looked = at-start .pre .3 in
     id-full _ _ _ _ (at-start .pre .0) (at-start .args .x) (at-start .pre .2) looked (omega arith) (omega arith)
-
-place-requires : tie.Need-place-requires
-place-requires c κs = search needs
-
-size-requires : tie.Need-size-requires
-size-requires c κs = search needs
 
 spelled-requires : tie.Need-spelled-requires
 spelled-requires c κs =
@@ -53,19 +35,7 @@ added-requires c κs =
     let lies = id-stretch _ _ _ _ (at-start .pre .0) (at-start .args .x) (at-start .pre .2) looked (omega (arith, none)) in
     let place = c .before .before .before .before .before .before .before .before .place .ensures in
     let size = c .before .before .before .before .before .before .before .size .ensures in
-    (at-start .pre .0, omega (arith, looked .0), omega (arith, at-if2 .if2 .left), omega arith, omega arith, id-new _ _ _ _ (at-start .pre .0) (at-start .args .x) (at-start .pre .2) looked (omega (arith, none)) _ _ place size)
-
-same-length-2 : tie.Need-same-length-2
-same-length-2 c = search needs
-
-same-length-3 : tie.Need-same-length-3
-same-length-3 c = search needs
-
-same-length-4 : tie.Need-same-length-4
-same-length-4 c = search needs
-
-same-length-5 : tie.Need-same-length-5
-same-length-5 c = search needs
+    (at-start .pre .0, (omega (arith, looked .0), omega (arith, at-if2 .if2 .left), omega arith, omega arith, id-new _ _ _ _ (at-start .pre .0) (at-start .args .x) (at-start .pre .2) looked (omega (arith, none)) _ _ place size))
 
 returns-3 : tie.Need-returns-3
 returns-3 c =
@@ -84,18 +54,18 @@ pub id-spec : {M : Type 1} → statement M
 id-spec =
     tie.close
     (tie.spec
-    put-number-at-bit-2-requires
-    same-length
+    (λ c κs. search needs)
+    (λ c. search needs)
     returns
-    mul-if2
-    slice-read-if2
+    (λ c. search needs)
+    (λ c. search needs)
     returns-2
-    place-requires
-    size-requires
+    (λ c κs. search needs)
+    (λ c κs. search needs)
     spelled-requires
     added-requires
-    same-length-2
-    same-length-3
-    same-length-4
-    same-length-5
+    (λ c. search needs)
+    (λ c. search needs)
+    (λ c. search needs)
+    (λ c. search needs)
     returns-3)

@@ -9,38 +9,20 @@ use Rattle.write_names.proofs.StringLaws.{spells-stretch, literal-new, 
 use Rattle.write_names.proofs.literal.Statement.{statement}
 use Rattle.write_names.proofs.literal.Tie as tie
 
-place-requires : tie.Need-place-requires
-place-requires c κs = search needs
-
-size-requires : tie.Need-size-requires
-size-requires c κs = search needs
-
 spelled-requires : tie.Need-spelled-requires
 spelled-requires c κs =
     let at-start = c .before .before .before .before .before .before .before .before .before in
     omega (arith, spells-stretch (at-start .args .text .now) (at-start .args .x) (at-start .pre .2), at-start .pre .0 .size)
-
-same-length : tie.Need-same-length
-same-length c = search needs
 
 returns : tie.Need-returns
 returns c =
     let at-start = c .before .before .before .before .before .before .before .before .before .before .before .before in
     literal-kept _ _ _ _ (at-start .pre .0) (at-start .args .x) (at-start .pre .2) (at-start .args .q) (at-start .pre .4 .0) _ _ (c .before .before .before .before .before .before .place .ensures) (c .before .before .before .before .before .size .ensures) (omega arith) (c .before .before .spelled .ensures)
 
-mul-if2 : tie.Need-mul-if2
-mul-if2 c = search needs
-
-slice-read-if2 : tie.Need-slice-read-if2
-slice-read-if2 c = search needs
-
 spelled-requires-2 : tie.Need-spelled-requires-2
 spelled-requires-2 c κs =
     let at-start = c .before .before .before .before .before .before .before .before .before .before .before in
     omega (arith, spells-stretch (at-start .args .text .now) (at-start .args .x) (at-start .pre .2), at-start .pre .0 .size)
-
-same-length-2 : tie.Need-same-length-2
-same-length-2 c = search needs
 
 returns-2 : tie.Need-returns-2
 returns-2 c =
@@ -65,19 +47,7 @@ added-requires c κs =
     let lies = spells-stretch (at-start .args .text .now) (at-start .args .x) (at-start .pre .2) in
     let place = at-place .place .ensures in
     let size = at-size .size .ensures in
-    (at-start .pre .0, at-start .pre .4 .0, omega (arith, c .before .before .before .before .before .before .before .before .if2 .left), omega arith, omega arith, literal-new _ _ _ (at-start .args .x) (at-start .pre .2) _ _ place size (at-start .pre .3))
-
-same-length-3 : tie.Need-same-length-3
-same-length-3 c = search needs
-
-same-length-4 : tie.Need-same-length-4
-same-length-4 c = search needs
-
-same-length-5 : tie.Need-same-length-5
-same-length-5 c = search needs
-
-same-length-6 : tie.Need-same-length-6
-same-length-6 c = search needs
+    (at-start .pre .0, (at-start .pre .4 .0, omega (arith, c .before .before .before .before .before .before .before .before .if2 .left), omega arith, omega arith, literal-new _ _ _ (at-start .args .x) (at-start .pre .2) _ _ place size (at-start .pre .3)))
 
 returns-3 : tie.Need-returns-3
 returns-3 c =
@@ -91,21 +61,21 @@ pub literal-spec : {M : Type 1} → statement M
 literal-spec =
     tie.close
     (tie.spec
-    place-requires
-    size-requires
+    (λ c κs. search needs)
+    (λ c κs. search needs)
     spelled-requires
-    same-length
+    (λ c. search needs)
     returns
-    mul-if2
-    slice-read-if2
+    (λ c. search needs)
+    (λ c. search needs)
     spelled-requires-2
-    same-length-2
+    (λ c. search needs)
     returns-2
     add-spelled
     spelled-requires-3
     added-requires
-    same-length-3
-    same-length-4
-    same-length-5
-    same-length-6
+    (λ c. search needs)
+    (λ c. search needs)
+    (λ c. search needs)
+    (λ c. search needs)
     returns-3)

@@ -7,37 +7,10 @@ use Rattle.write_names.proofs.StringLaws.{held-absent, held-empty, held
 use Rattle.write_names.proofs.number_of.Statement.{statement}
 use Rattle.write_names.proofs.number_of.Tie as tie
 
-enum-told : tie.Need-enum-told
-enum-told c = search needs
-
-enum-told-2 : tie.Need-enum-told-2
-enum-told-2 c = search needs
-
-enum-known-x : tie.Need-enum-known-x
-enum-known-x c = search needs
-
-mul-find : tie.Need-mul-find
-mul-find c = search needs
-
-shared-slice-read-find : tie.Need-shared-slice-read-find
-shared-slice-read-find c = search needs
-
-cast-find : tie.Need-cast-find
-cast-find c = search needs
-
-cast-find-2 : tie.Need-cast-find-2
-cast-find-2 c = search needs
-
 find-requires : tie.Need-find-requires
 find-requires c κs =
     let at-start = c .before .before .before .before .before .before .before .before in
     find-ready _ _ _ _ _ (at-start .pre .0) (at-start .pre .1) _ _ _ (c .before .before .x .given .1) (at-start .pre .2)
-
-enum-told-3 : tie.Need-enum-told-3
-enum-told-3 c = search needs
-
-enum-told-4 : tie.Need-enum-told-4
-enum-told-4 c = search needs
 
 returns : tie.Need-returns
 returns c = held-absent _ _ _ _ _ (c .before .before .before .before .before .before .pre .0) _ (c .enum-told .given .1)
@@ -66,16 +39,16 @@ pub number-of-spec : {M : Type 1} → statement M
 number-of-spec =
     tie.close
     (tie.spec
-    enum-told
-    enum-told-2
-    enum-known-x
-    mul-find
-    shared-slice-read-find
-    cast-find
-    cast-find-2
+    (λ c. search needs)
+    (λ c. search needs)
+    (λ c. search needs)
+    (λ c. search needs)
+    (λ c. search needs)
+    (λ c. search needs)
+    (λ c. search needs)
     find-requires
-    enum-told-3
-    enum-told-4
+    (λ c. search needs)
+    (λ c. search needs)
     returns
     returns-2
     returns-3

@@ -6,9 +6,6 @@ use Rattle.write_names.proofs.StringLaws.{optional-absent, optional-the
 use Rattle.write_names.proofs.optional.Statement.{statement}
 use Rattle.write_names.proofs.optional.Tie as tie
 
-tag-requires : tie.Need-tag-requires
-tag-requires c κs = search needs
-
 returns : tie.Need-returns
 returns c =
     let at-start = c .before .before .before .before .before .before .before in
@@ -18,18 +15,6 @@ id-requires : tie.Need-id-requires
 id-requires c κs =
     let at-start = c .before .before .before .before .before .before .before .before .before .before .before in
     (at-start .pre .0, at-start .pre .1, omega arith, at-start .pre .2)
-
-same-length : tie.Need-same-length
-same-length c = search needs
-
-same-length-2 : tie.Need-same-length-2
-same-length-2 c = search needs
-
-same-length-3 : tie.Need-same-length-3
-same-length-3 c = search needs
-
-same-length-4 : tie.Need-same-length-4
-same-length-4 c = search needs
 
 returns-2 : tie.Need-returns-2
 returns-2 c =
@@ -41,11 +26,11 @@ pub optional-spec : {M : Type 1} → statement M
 optional-spec =
     tie.close
     (tie.spec
-    tag-requires
+    (λ c κs. search needs)
     returns
     id-requires
-    same-length
-    same-length-2
-    same-length-3
-    same-length-4
+    (λ c. search needs)
+    (λ c. search needs)
+    (λ c. search needs)
+    (λ c. search needs)
     returns-2)

@@ -6,20 +6,8 @@ use Rattle.write_names.proofs.StringLaws.{element-forms, attribute-form
 use Rattle.write_names.proofs.put_name_number.Statement.{statement}
 use Rattle.write_names.proofs.put_name_number.Tie as tie
 
-put-number-requires : tie.Need-put-number-requires
-put-number-requires c κs = search needs
-
-same-length : tie.Need-same-length
-same-length c = search needs
-
 returns : tie.Need-returns
 returns c = rw (element-forms (c .before .before .before .before .before .before .args .table) (omega arith)) (c .before .before .put-number .ensures)
-
-put-number-at-bit-2-requires : tie.Need-put-number-at-bit-2-requires
-put-number-at-bit-2-requires c κs = search needs
-
-same-length-2 : tie.Need-same-length-2
-same-length-2 c = search needs
 
 returns-2 : tie.Need-returns-2
 returns-2 c = rw (attribute-forms (c .before .before .before .before .before .before .args .table) (omega arith)) (c .before .before .put-number-at-bit-2 .ensures .0, omega arith)
@@ -28,9 +16,9 @@ pub put-name-number-spec : {M : Type 1} → statement M
 put-name-number-spec =
     tie.close
     (tie.spec
-    put-number-requires
-    same-length
+    (λ c κs. search needs)
+    (λ c. search needs)
     returns
-    put-number-at-bit-2-requires
-    same-length-2
+    (λ c κs. search needs)
+    (λ c. search needs)
     returns-2)

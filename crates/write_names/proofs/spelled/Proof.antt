@@ -6,17 +6,8 @@ use Rattle.write_names.proofs.StringLaws.{puts-spelled}
 use Rattle.write_names.proofs.spelled.Statement.{statement}
 use Rattle.write_names.proofs.spelled.Tie as tie
 
-put-length-requires : tie.Need-put-length-requires
-put-length-requires c κs = search needs
-
-put-part-requires : tie.Need-put-part-requires
-put-part-requires c κs = search needs
-
-same-length : tie.Need-same-length
-same-length c = search needs
-
 returns : tie.Need-returns
 returns c = puts-spelled _ _ _ _ _ (omega arith) (omega arith) (c .before .before .before .before .before .before .put-length .ensures) (c .before .before .put-part .ensures)
 
 pub spelled-spec : {M : Type 1} → statement M
-spelled-spec = tie.close (tie.spec put-length-requires put-part-requires same-length returns)
+spelled-spec = tie.close (tie.spec (λ c κs. search needs) (λ c κs. search needs) (λ c. search needs) returns)

@@ -6,18 +6,6 @@ use Rattle.write_names.proofs.StringLaws.{fills-spells, spells-suits, v
 use Rattle.write_names.proofs.value.Statement.{statement}
 use Rattle.write_names.proofs.value.Tie as tie
 
-size-requires : tie.Need-size-requires
-size-requires c κs = search needs
-
-put-requires : tie.Need-put-requires
-put-requires c κs = search needs
-
-add-result : tie.Need-add-result
-add-result c = search needs
-
-same-length : tie.Need-same-length
-same-length c = search needs
-
 returns : tie.Need-returns
 returns c =
     let at-start = c .before .before .before .before .before .before .before .before .before .before .before in
@@ -27,21 +15,6 @@ number-of-requires : tie.Need-number-of-requires
 number-of-requires c κs =
     let at-start = c .before .before .before .before .before .before .before .before .before .before in
     (at-start .pre .0, at-start .pre .2, spells-suits (at-start .args .text .now) (at-start .args .table) (at-start .args .x) (fills-spells (at-start .args .text .now) (at-start .args .x) (at-start .pre .3) (omega arith)))
-
-put-number-at-bit-2-requires : tie.Need-put-number-at-bit-2-requires
-put-number-at-bit-2-requires c κs = search needs
-
-same-length-2 : tie.Need-same-length-2
-same-length-2 c = search needs
-
-same-length-3 : tie.Need-same-length-3
-same-length-3 c = search needs
-
-same-length-4 : tie.Need-same-length-4
-same-length-4 c = search needs
-
-same-length-5 : tie.Need-same-length-5
-same-length-5 c = search needs
 
 returns-2 : tie.Need-returns-2
 returns-2 c =
@@ -53,18 +26,6 @@ literal-requires c κs =
     let at-start = c .before .before .before .before .before .before .before .before .before .before .before .before .before .before .before .before in
     let held = c .before .before .before .before .before .number-of .ensures .0 in
     (at-start .pre .0, at-start .pre .1, fills-spells (at-start .args .text .now) (at-start .args .x) (at-start .pre .3) (omega arith), omega arith, (at-start .pre .2, omega arith, omega arith, omega arith))
-
-same-length-6 : tie.Need-same-length-6
-same-length-6 c = search needs
-
-same-length-7 : tie.Need-same-length-7
-same-length-7 c = search needs
-
-same-length-8 : tie.Need-same-length-8
-same-length-8 c = search needs
-
-same-length-9 : tie.Need-same-length-9
-same-length-9 c = search needs
 
 returns-3 : tie.Need-returns-3
 returns-3 c =
@@ -79,21 +40,21 @@ pub value-spec : {M : Type 1} → statement M
 value-spec =
     tie.close
     (tie.spec
-    size-requires
-    put-requires
-    add-result
-    same-length
+    (λ c κs. search needs)
+    (λ c κs. search needs)
+    (λ c. search needs)
+    (λ c. search needs)
     returns
     number-of-requires
-    put-number-at-bit-2-requires
-    same-length-2
-    same-length-3
-    same-length-4
-    same-length-5
+    (λ c κs. search needs)
+    (λ c. search needs)
+    (λ c. search needs)
+    (λ c. search needs)
+    (λ c. search needs)
     returns-2
     literal-requires
-    same-length-6
-    same-length-7
-    same-length-8
-    same-length-9
+    (λ c. search needs)
+    (λ c. search needs)
+    (λ c. search needs)
+    (λ c. search needs)
     returns-3)

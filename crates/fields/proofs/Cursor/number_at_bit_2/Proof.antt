@@ -14,43 +14,13 @@ use Rattle.fields.proofs.Cursor.number_at_bit_2.Tie as tie
 returns : tie.Need-returns
 returns c = field-missing _ _ _ _ _ (omega arith)
 
-shared-slice-read-o : tie.Need-shared-slice-read-o
-shared-slice-read-o c = search needs
-
-bits-requires : tie.Need-bits-requires
-bits-requires c κs = search needs
-
-bits-requires-2 : tie.Need-bits-requires-2
-bits-requires-2 c κs = search needs
-
-behind-requires : tie.Need-behind-requires
-behind-requires c κs = search needs
-
 returns-2 : tie.Need-returns-2
 unfolding c25
 returns-2 c = c .behind .ensures ∙ at-least _ _ _ (omega arith) 2 _ _ (omega arith) (omega arith) (omega arith) (omega arith) refl
 
-bits-requires-3 : tie.Need-bits-requires-3
-bits-requires-3 c κs = search needs
-
-bits-requires-4 : tie.Need-bits-requires-4
-bits-requires-4 c κs = search needs
-
-behind-requires-2 : tie.Need-behind-requires-2
-behind-requires-2 c κs = search needs
-
 returns-3 : tie.Need-returns-3
 unfolding sizesIn roomsIn
 returns-3 c = c .behind2 .ensures ∙ at-form _ _ _ (omega arith) 2 3 1 c25 _ _ c25-are {code = 2} (omega arith) refl refl (omega arith) {next = 4} refl (omega arith) refl refl (omega arith)
-
-bits-requires-5 : tie.Need-bits-requires-5
-bits-requires-5 c κs = search needs
-
-bits-requires-6 : tie.Need-bits-requires-6
-bits-requires-6 c κs = search needs
-
-behind-requires-3 : tie.Need-behind-requires-3
-behind-requires-3 c κs = search needs
 
 returns-4 : tie.Need-returns-4
 unfolding sizesIn roomsIn
@@ -65,17 +35,17 @@ number-at-bit-2-spec =
     tie.close
     (tie.spec
     returns
-    shared-slice-read-o
-    bits-requires
-    bits-requires-2
-    behind-requires
+    (λ c. search needs)
+    (λ c κs. search needs)
+    (λ c κs. search needs)
+    (λ c κs. search needs)
     returns-2
-    bits-requires-3
-    bits-requires-4
-    behind-requires-2
+    (λ c κs. search needs)
+    (λ c κs. search needs)
+    (λ c κs. search needs)
     returns-3
-    bits-requires-5
-    bits-requires-6
-    behind-requires-3
+    (λ c κs. search needs)
+    (λ c κs. search needs)
+    (λ c κs. search needs)
     returns-4
     returns-5)

@@ -10,35 +10,17 @@ use Rattle.fields.proofs.Utf8.{more, made, not-made, goes-on, strays, t
 use Rattle.fields.proofs.Within.from_first.Statement.{statement}
 use Rattle.fields.proofs.Within.from_first.Tie as tie
 
-cast-n : tie.Need-cast-n
-cast-n c = search needs
-
-add-if1 : tie.Need-add-if1
-add-if1 c = search needs
-
 returns : tie.Need-returns
 returns c =
     let a = c .before .before .before .args in
     let u = a .self in
     too-short (a .s .now) (a .to) u _ (omega arith)
 
-add-among : tie.Need-add-among
-add-among c = search needs
-
-shared-slice-read-among : tie.Need-shared-slice-read-among
-shared-slice-read-among c = search needs
-
-among-requires : tie.Need-among-requires
-among-requires c κs = search needs
-
 returns-2 : tie.Need-returns-2
 returns-2 c =
     let a = c .before .before .before .before .before .before .args in
     let u = a .self in
     not-made u _ (u .left - 1 + 1) (omega arith) (strays (a .s .now) (a .to) (a .i + 1) (omega arith) (omega arith) u (u .left - 1) (omega arith) (sym (c .before .among .ensures) ∙ not-true _ (c .if2 .taken)))
-
-add-result : tie.Need-add-result
-add-result c = search needs
 
 returns-3 : tie.Need-returns-3
 unfolding after
@@ -47,15 +29,6 @@ returns-3 c =
     let u = a .self in
     made u _ 1 (omega arith) (goes-on (a .s .now) (a .to) (a .i + 1) (omega arith) (omega arith) u 0 (omega arith) (a .i + 2) (omega arith) (sym (c .before .before .among .ensures) ∙ not-false _ (c .before .if2 .left)))
 
-add-among-2 : tie.Need-add-among-2
-add-among-2 c = search needs
-
-shared-slice-read-among-2 : tie.Need-shared-slice-read-among-2
-shared-slice-read-among-2 c = search needs
-
-among-requires-2 : tie.Need-among-requires-2
-among-requires-2 c κs = search needs
-
 returns-4 : tie.Need-returns-4
 returns-4 c =
     let a = c .before .before .before .before .before .before .before .before .before .before .args in
@@ -63,9 +36,6 @@ returns-4 c =
     let k = u .left - 2 in
     let p = goes-on (a .s .now) (a .to) (a .i + 1) (omega arith) (omega arith) u (k + 1) (omega arith) (a .i + 2) (omega arith) (sym (c .before .before .before .before .before .among .ensures) ∙ not-false _ (c .before .before .before .before .if2 .left)) in
     not-made u _ (k + 1 + 1) (omega arith) (λ z. strays (a .s .now) (a .to) (a .i + 2) (omega arith) (omega arith) (more (k + 1)) k (omega arith) (sym (c .before .among2 .ensures) ∙ not-true _ (c .if4 .taken)) (sym p ∙ z))
-
-add-result-2 : tie.Need-add-result-2
-add-result-2 c = search needs
 
 returns-5 : tie.Need-returns-5
 unfolding after
@@ -76,32 +46,22 @@ returns-5 c =
     let q = goes-on (a .s .now) (a .to) (a .i + 2) (omega arith) (omega arith) (more 1) 0 (omega arith) (a .i + 3) (omega arith) (sym (c .before .before .among2 .ensures) ∙ not-false _ (c .before .if4 .left)) in
     made u _ 2 (omega arith) (p ∙ q)
 
-add-among-3 : tie.Need-add-among-3
-add-among-3 c = search needs
-
-shared-slice-read-among-3 : tie.Need-shared-slice-read-among-3
-shared-slice-read-among-3 c = search needs
-
-among-requires-3 : tie.Need-among-requires-3
-among-requires-3 c κs = search needs
-
 returns-6 : tie.Need-returns-6
 returns-6 c =
+    let among = c .before .before .before .before .before .before .before .before .before .among in
     let a = c .before .before .before .before .before .before .before .before .before .before .before .before .before .before .args in
     let u = a .self in
-    let p = goes-on (a .s .now) (a .to) (a .i + 1) (omega arith) (omega arith) u 2 (omega arith) (a .i + 2) (omega arith) (sym (c .before .before .before .before .before .before .before .before .before .among .ensures) ∙ not-false _ (c .before .before .before .before .before .before .before .before .if2 .left)) in
+    let p = goes-on (a .s .now) (a .to) (a .i + 1) (omega arith) (omega arith) u 2 (omega arith) (a .i + 2) (omega arith) (sym (among .ensures) ∙ not-false _ (c .before .before .before .before .before .before .before .before .if2 .left)) in
     let q = goes-on (a .s .now) (a .to) (a .i + 2) (omega arith) (omega arith) (more 2) 1 (omega arith) (a .i + 3) (omega arith) (sym (c .before .before .before .before .before .among2 .ensures) ∙ not-false _ (c .before .before .before .before .if4 .left)) in
     not-made u _ 3 (omega arith) (λ z. strays (a .s .now) (a .to) (a .i + 3) (omega arith) (omega arith) (more 1) 0 (omega arith) (sym (c .before .among3 .ensures) ∙ not-true _ (c .if6 .taken)) (sym (p ∙ q) ∙ z))
-
-add-result-3 : tie.Need-add-result-3
-add-result-3 c = search needs
 
 returns-7 : tie.Need-returns-7
 unfolding after
 returns-7 c =
+    let among = c .before .before .before .before .before .before .before .before .before .among in
     let a = c .before .before .before .before .before .before .before .before .before .before .before .before .before .before .args in
     let u = a .self in
-    let p = goes-on (a .s .now) (a .to) (a .i + 1) (omega arith) (omega arith) u 2 (omega arith) (a .i + 2) (omega arith) (sym (c .before .before .before .before .before .before .before .before .before .among .ensures) ∙ not-false _ (c .before .before .before .before .before .before .before .before .if2 .left)) in
+    let p = goes-on (a .s .now) (a .to) (a .i + 1) (omega arith) (omega arith) u 2 (omega arith) (a .i + 2) (omega arith) (sym (among .ensures) ∙ not-false _ (c .before .before .before .before .before .before .before .before .if2 .left)) in
     let q = goes-on (a .s .now) (a .to) (a .i + 2) (omega arith) (omega arith) (more 2) 1 (omega arith) (a .i + 3) (omega arith) (sym (c .before .before .before .before .before .among2 .ensures) ∙ not-false _ (c .before .before .before .before .if4 .left)) in
     made u _ 3 (omega arith) (p ∙ q ∙ goes-on (a .s .now) (a .to) (a .i + 3) (omega arith) (omega arith) (more 1) 0 (omega arith) (a .i + 4) (omega arith) (sym (c .before .among3 .ensures) ∙ not-false _ (c .if6 .left)))
 
@@ -109,24 +69,24 @@ pub from-first-spec : {M : Type 1} → statement M
 from-first-spec =
     tie.close
     (tie.spec
-    cast-n
-    add-if1
+    (λ c. search needs)
+    (λ c. search needs)
     returns
-    add-among
-    shared-slice-read-among
-    among-requires
+    (λ c. search needs)
+    (λ c. search needs)
+    (λ c κs. search needs)
     returns-2
-    add-result
+    (λ c. search needs)
     returns-3
-    add-among-2
-    shared-slice-read-among-2
-    among-requires-2
+    (λ c. search needs)
+    (λ c. search needs)
+    (λ c κs. search needs)
     returns-4
-    add-result-2
+    (λ c. search needs)
     returns-5
-    add-among-3
-    shared-slice-read-among-3
-    among-requires-3
+    (λ c. search needs)
+    (λ c. search needs)
+    (λ c κs. search needs)
     returns-6
-    add-result-3
+    (λ c. search needs)
     returns-7)

@@ -15,23 +15,8 @@ use Rattle.fields.proofs.put.put_number.Tie as tie
 all-behind : (b v : ℕ) → b < 256 → v < 16777216 → b + v / 16777216 < 256
 all-behind b v h k = omega arith
 
-wide-requires : tie.Need-wide-requires
-wide-requires c κs = search needs
-
-sub-values : tie.Need-sub-values
-sub-values c = search needs
-
-values-requires : tie.Need-values-requires
-values-requires c κs = search needs
-
-sub-v : tie.Need-sub-v
-sub-v c = search needs
-
 put-form-requires : tie.Need-put-form-requires
 put-form-requires c κs = let q = number-values (c .before .before .before .before .before .args .bit) (omega arith) in omega arith
-
-same-length : tie.Need-same-length
-same-length c = search needs
 
 returns : tie.Need-returns
 unfolding sizesIn roomsIn
@@ -40,20 +25,8 @@ returns c =
     let q = number-values bit (omega arith) in
     puts-form 3 (numbers bit) _ (numbers-ordered bit (omega arith) (omega arith)) (numbers-are bit (omega arith) (omega arith)) (omega arith) 0 refl _ _ _ _ (omega arith) (omega arith) (omega arith) (c .before .before .put-form .ensures)
 
-sub-values-2 : tie.Need-sub-values-2
-sub-values-2 c = search needs
-
-values-requires-2 : tie.Need-values-requires-2
-values-requires-2 c κs = search needs
-
-add-put-form : tie.Need-add-put-form
-add-put-form c = search needs
-
 put-form-requires-2 : tie.Need-put-form-requires-2
 put-form-requires-2 c κs = let q = number-values (c .before .before .before .before .before .before .before .args .bit) (omega arith) in omega arith
-
-same-length-2 : tie.Need-same-length-2
-same-length-2 c = search needs
 
 returns-2 : tie.Need-returns-2
 unfolding sizesIn roomsIn
@@ -62,23 +35,10 @@ returns-2 c =
     let q = number-values bit (omega arith) in
     puts-form 3 (numbers bit) _ (numbers-ordered bit (omega arith) (omega arith)) (numbers-are bit (omega arith) (omega arith)) (omega arith) 1 refl _ _ _ _ (omega arith) (omega arith) (omega arith) (c .before .before .put-form2 .ensures)
 
-sub-values-3 : tie.Need-sub-values-3
-sub-values-3 c = search needs
-
-values-requires-3 : tie.Need-values-requires-3
-values-requires-3 c κs = search needs
-
-add-put-form-2 : tie.Need-add-put-form-2
-add-put-form-2 c = search needs
-
-add-put-form-3 : tie.Need-add-put-form-3
-add-put-form-3 c = search needs
-
 put-form-requires-3 : tie.Need-put-form-requires-3
-put-form-requires-3 c κs = let q = number-values (c .before .before .before .before .before .before .before .before .before .args .bit) (omega arith) in omega arith
-
-same-length-3 : tie.Need-same-length-3
-same-length-3 c = search needs
+put-form-requires-3 c κs =
+    let args = c .before .before .before .before .before .before .before .before .before .args in
+    let q = number-values (args .bit) (omega arith) in omega arith
 
 returns-3 : tie.Need-returns-3
 unfolding sizesIn roomsIn
@@ -87,17 +47,10 @@ returns-3 c =
     let q = number-values bit (omega arith) in
     puts-form 3 (numbers bit) _ (numbers-ordered bit (omega arith) (omega arith)) (numbers-are bit (omega arith) (omega arith)) (omega arith) 2 refl _ _ _ _ (omega arith) (omega arith) (omega arith) (c .before .before .put-form3 .ensures)
 
-add-put-form-4 : tie.Need-add-put-form-4
-add-put-form-4 c = search needs
-
-add-put-form-5 : tie.Need-add-put-form-5
-add-put-form-5 c = search needs
-
 put-form-requires-4 : tie.Need-put-form-requires-4
-put-form-requires-4 c κs = (omega arith, omega arith, all-behind _ _ (let q = number-values (c .before .before .before .before .before .before .before .before .before .args .bit) (omega arith) in omega arith) (omega arith))
-
-same-length-4 : tie.Need-same-length-4
-same-length-4 c = search needs
+put-form-requires-4 c κs =
+    let args = c .before .before .before .before .before .before .before .before .before .args in
+    (omega arith, omega arith, all-behind _ _ (let q = number-values (args .bit) (omega arith) in omega arith) (omega arith))
 
 returns-4 : tie.Need-returns-4
 unfolding sizesIn roomsIn
@@ -110,28 +63,28 @@ pub put-number-spec : {M : Type 1} → statement M
 put-number-spec =
     tie.close
     (tie.spec
-    wide-requires
-    sub-values
-    values-requires
-    sub-v
+    (λ c κs. search needs)
+    (λ c. search needs)
+    (λ c κs. search needs)
+    (λ c. search needs)
     put-form-requires
-    same-length
+    (λ c. search needs)
     returns
-    sub-values-2
-    values-requires-2
-    add-put-form
+    (λ c. search needs)
+    (λ c κs. search needs)
+    (λ c. search needs)
     put-form-requires-2
-    same-length-2
+    (λ c. search needs)
     returns-2
-    sub-values-3
-    values-requires-3
-    add-put-form-2
-    add-put-form-3
+    (λ c. search needs)
+    (λ c κs. search needs)
+    (λ c. search needs)
+    (λ c. search needs)
     put-form-requires-3
-    same-length-3
+    (λ c. search needs)
     returns-3
-    add-put-form-4
-    add-put-form-5
+    (λ c. search needs)
+    (λ c. search needs)
     put-form-requires-4
-    same-length-4
+    (λ c. search needs)
     returns-4)

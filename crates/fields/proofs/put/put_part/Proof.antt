@@ -16,29 +16,11 @@ Inv-loop out₀ at text place size n i₀ out i = (i ≤ n) × (n ≡ min size (
 abbrev μ-loop : tie.MeasureT-loop
 μ-loop out₀ at text place size n i₀ out i = n - i
 
-fitting-requires : tie.Need-fitting-requires Inv-loop μ-loop
-fitting-requires c κs = search needs
-
 loop-holds : tie.Need-loop-holds Inv-loop μ-loop
 loop-holds c = (omega arith, c .fitting .ensures, puts-nothing (omega arith))
 
-add-out : tie.Need-add-out Inv-loop μ-loop
-add-out c = search needs
-
-shared-slice-read-out : tie.Need-shared-slice-read-out Inv-loop μ-loop
-shared-slice-read-out c = search needs
-
-add-out-2 : tie.Need-add-out-2 Inv-loop μ-loop
-add-out-2 c = search needs
-
 slice-write-out : tie.Need-slice-write-out Inv-loop μ-loop
 slice-write-out c = let e = puts-kept (c .before .before .loop .inv .2) in omega arith
-
-add-i : tie.Need-add-i Inv-loop μ-loop
-add-i c = search needs
-
-loop-less : tie.Need-loop-less Inv-loop μ-loop
-loop-less c = search needs
 
 loop-again : tie.Need-loop-again Inv-loop μ-loop
 loop-again c =
@@ -46,9 +28,6 @@ loop-again c =
     let l = c .before .before .loop in
     let n = part-length (a .text .now) (a .place) (a .size) (omega arith) in
     (omega arith, l .inv .1, puts-next _ _ (l .inv .2) (omega arith) (part-at (a .text .now) (a .place) (a .size) (l .i) (omega arith)) refl)
-
-add-result : tie.Need-add-result Inv-loop μ-loop
-add-result c = search needs
 
 same-length : tie.Need-same-length Inv-loop μ-loop
 same-length c = puts-kept (c .before .loop .inv .2)
@@ -65,15 +44,15 @@ put-part-spec =
     (tie.spec
     Inv-loop
     μ-loop
-    fitting-requires
+    (λ c κs. search needs)
     loop-holds
-    add-out
-    shared-slice-read-out
-    add-out-2
+    (λ c. search needs)
+    (λ c. search needs)
+    (λ c. search needs)
     slice-write-out
-    add-i
-    loop-less
+    (λ c. search needs)
+    (λ c. search needs)
     loop-again
-    add-result
+    (λ c. search needs)
     same-length
     returns)

@@ -8,32 +8,14 @@ use Rattle.read_items.proofs.EndLaws.{document-rootless, document-paddi
 use Rattle.read_items.proofs.ends.document_end.Statement.{statement}
 use Rattle.read_items.proofs.ends.document_end.Tie as tie
 
-stop-requires : tie.Need-stop-requires
-stop-requires c κs = search needs
-
 returns : tie.Need-returns
 returns c = λ n a g. rw (c .stop .ensures .0) (document-rootless g (omega arith))
-
-add-pads-at : tie.Need-add-pads-at
-add-pads-at c = search needs
-
-pads-at-requires : tie.Need-pads-at-requires
-pads-at-requires c κs = search needs
-
-stop-requires-2 : tie.Need-stop-requires-2
-stop-requires-2 c κs = search needs
 
 returns-2 : tie.Need-returns-2
 returns-2 c = λ n a g. rw (c .stop2 .ensures .0) (document-padding g (omega arith) (sym (not-true _ (c .before .if2 .taken)) ∙ c .before .before .pads-at .ensures))
 
-add-behind : tie.Need-add-behind
-add-behind c = search needs
-
 returns-3 : tie.Need-returns-3
 returns-3 c = λ n a g. document-done g (omega arith) (sym (not-false _ (c .before .if2 .left)) ∙ c .before .before .pads-at .ensures) (omega arith)
-
-stop-requires-3 : tie.Need-stop-requires-3
-stop-requires-3 c κs = search needs
 
 returns-4 : tie.Need-returns-4
 returns-4 c = λ n a g. rw (c .stop3 .ensures .0) (document-behind g (omega arith) (sym (not-false _ (c .before .before .if2 .left)) ∙ c .before .before .before .pads-at .ensures) (omega arith))
@@ -42,13 +24,13 @@ pub document-end-spec : {M : Type 1} → statement M
 document-end-spec =
     tie.close
     (tie.spec
-    stop-requires
+    (λ c κs. search needs)
     returns
-    add-pads-at
-    pads-at-requires
-    stop-requires-2
+    (λ c. search needs)
+    (λ c κs. search needs)
+    (λ c κs. search needs)
     returns-2
-    add-behind
+    (λ c. search needs)
     returns-3
-    stop-requires-3
+    (λ c κs. search needs)
     returns-4)

@@ -6,38 +6,14 @@ use Rattle.read_items.proofs.EndLaws.{end-listing, end-listed, end-docu
 use Rattle.read_items.proofs.ends.end_at.Statement.{statement}
 use Rattle.read_items.proofs.ends.end_at.Tie as tie
 
-stop-requires : tie.Need-stop-requires
-stop-requires c κs = search needs
-
 returns : tie.Need-returns
 returns c = λ t d x g. rw (c .stop .ensures .0) (end-listing g (omega arith))
-
-behind-end-requires : tie.Need-behind-end-requires
-behind-end-requires c κs = search needs
 
 returns-2 : tie.Need-returns-2
 returns-2 c = λ t d x g. rw (c .behind-end .ensures) (end-listed g (omega arith) (omega arith))
 
-document-end-requires : tie.Need-document-end-requires
-document-end-requires c κs = search needs
-
 returns-3 : tie.Need-returns-3
 returns-3 c = λ t d x g. end-document g (omega arith) (omega arith) (c .document-end .ensures _ _ g)
-
-end-requires : tie.Need-end-requires
-end-requires c κs = search needs
-
-keep-requires : tie.Need-keep-requires
-keep-requires c κs = search needs
-
-sub-behind-end : tie.Need-sub-behind-end
-sub-behind-end c = search needs
-
-behind-end-requires-2 : tie.Need-behind-end-requires-2
-behind-end-requires-2 c κs = search needs
-
-same-length : tie.Need-same-length
-same-length c = search needs
 
 returns-4 : tie.Need-returns-4
 returns-4 c =
@@ -55,15 +31,15 @@ pub end-at-spec : {M : Type 1} → statement M
 end-at-spec =
     tie.close
     (tie.spec
-    stop-requires
+    (λ c κs. search needs)
     returns
-    behind-end-requires
+    (λ c κs. search needs)
     returns-2
-    document-end-requires
+    (λ c κs. search needs)
     returns-3
-    end-requires
-    keep-requires
-    sub-behind-end
-    behind-end-requires-2
-    same-length
+    (λ c κs. search needs)
+    (λ c κs. search needs)
+    (λ c. search needs)
+    (λ c κs. search needs)
+    (λ c. search needs)
     returns-4)

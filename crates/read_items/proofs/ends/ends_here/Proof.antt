@@ -12,11 +12,8 @@ use Rattle.read_items.proofs.ends.ends_here.Tie as tie
 returns : tie.Need-returns
 returns c = ends-not _ _ (omega arith)
 
-half-requires : tie.Need-half-requires
-half-requires c κs = search needs
-
 returns-2 : tie.Need-returns-2
 returns-2 c = ap (λ (n : ℕ). eqb n 15) (c .half .ensures) ∙ ends-half _ _ _ (omega arith)
 
 pub ends-here-spec : {M : Type 1} → statement M
-ends-here-spec = tie.close (tie.spec returns half-requires returns-2)
+ends-here-spec = tie.close (tie.spec returns (λ c κs. search needs) returns-2)

@@ -10,22 +10,10 @@ use Rattle.read_items.proofs.ends.half.Tie as tie
 returns : tie.Need-returns
 returns c = half-none _ _ (omega arith)
 
-shared-slice-read-bits : tie.Need-shared-slice-read-bits
-shared-slice-read-bits c = search needs
-
-bits-requires : tie.Need-bits-requires
-bits-requires c κs = search needs
-
 returns-2 : tie.Need-returns-2
 returns-2 c =
     let at-start = c .before .before .before .before .before in
     half-high _ _ (omega arith) _ (omega (arith, c .before .shared-slice-known2 .given (at-start .args .at / 2))) (omega arith) (c .bits .ensures)
-
-shared-slice-read-bits-2 : tie.Need-shared-slice-read-bits-2
-shared-slice-read-bits-2 c = search needs
-
-bits-requires-2 : tie.Need-bits-requires-2
-bits-requires-2 c κs = search needs
 
 returns-3 : tie.Need-returns-3
 returns-3 c =
@@ -37,9 +25,9 @@ half-spec =
     tie.close
     (tie.spec
     returns
-    shared-slice-read-bits
-    bits-requires
+    (λ c. search needs)
+    (λ c κs. search needs)
     returns-2
-    shared-slice-read-bits-2
-    bits-requires-2
+    (λ c. search needs)
+    (λ c κs. search needs)
     returns-3)

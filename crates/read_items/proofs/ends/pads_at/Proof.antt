@@ -12,11 +12,8 @@ use Rattle.read_items.proofs.ends.pads_at.Tie as tie
 returns : tie.Need-returns
 returns c = pads-even _ _ (omega arith)
 
-half-requires : tie.Need-half-requires
-half-requires c κs = search needs
-
 returns-2 : tie.Need-returns-2
 returns-2 c = ap (λ (n : ℕ). eqb n 0) (c .half .ensures) ∙ pads-odd _ _ (omega arith)
 
 pub pads-at-spec : {M : Type 1} → statement M
-pads-at-spec = tie.close (tie.spec returns half-requires returns-2)
+pads-at-spec = tie.close (tie.spec returns (λ c κs. search needs) returns-2)

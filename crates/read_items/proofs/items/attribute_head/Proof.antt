@@ -9,41 +9,20 @@ use Rattle.read_items.proofs.HeadLaws.{tells-stop, tells-attribute}
 use Rattle.read_items.proofs.items.attribute_head.Statement.{statement}
 use Rattle.read_items.proofs.items.attribute_head.Tie as tie
 
-refusal-requires : tie.Need-refusal-requires
-refusal-requires c κs = search needs
-
 returns : tie.Need-returns
 returns c =
     let a = c .before .before .before .args in
     λ st. tells-stop 2 _ (c .refusal .ensures) (λ w. attribute-missing _ _ (stateOf st w) (omega arith))
-
-shared-slice-read-o : tie.Need-shared-slice-read-o
-shared-slice-read-o c = search needs
-
-bits-requires : tie.Need-bits-requires
-bits-requires c κs = search needs
-
-refusal-requires-2 : tie.Need-refusal-requires-2
-refusal-requires-2 c κs = search needs
 
 returns-2 : tie.Need-returns-2
 returns-2 c =
     let a = c .before .before .before .before .before .before .args in
     λ st. tells-stop 5 _ (c .refusal2 .ensures) (λ w. attribute-bit _ _ (stateOf st w) (omega arith) (omega (arith, c .before .before .before .shared-slice-known2 .given (a .k))) (omega arith))
 
-bits-requires-2 : tie.Need-bits-requires-2
-bits-requires-2 c κs = search needs
-
-refusal-requires-3 : tie.Need-refusal-requires-3
-refusal-requires-3 c κs = search needs
-
 returns-3 : tie.Need-returns-3
 returns-3 c =
     let a = c .before .before .before .before .before .before .before .before .args in
     λ st. tells-stop 6 _ (c .refusal3 .ensures) (λ w. attribute-padding _ _ (stateOf st w) (omega arith) (omega (arith, c .before .before .before .before .before .shared-slice-known2 .given (a .k))) (omega arith) (omega arith))
-
-name-head-requires : tie.Need-name-head-requires
-name-head-requires c κs = search needs
 
 returns-4 : tie.Need-returns-4
 returns-4 c =
@@ -54,14 +33,14 @@ pub attribute-head-spec : {M : Type 1} → statement M
 attribute-head-spec =
     tie.close
     (tie.spec
-    refusal-requires
+    (λ c κs. search needs)
     returns
-    shared-slice-read-o
-    bits-requires
-    refusal-requires-2
+    (λ c. search needs)
+    (λ c κs. search needs)
+    (λ c κs. search needs)
     returns-2
-    bits-requires-2
-    refusal-requires-3
+    (λ c κs. search needs)
+    (λ c κs. search needs)
     returns-3
-    name-head-requires
+    (λ c κs. search needs)
     returns-4)

@@ -7,20 +7,8 @@ use Rattle.read_items.proofs.ItemLaws.{child-missing, child-text-outsid
 use Rattle.read_items.proofs.items.child_at.Statement.{statement}
 use Rattle.read_items.proofs.items.child_at.Tie as tie
 
-stop-requires : tie.Need-stop-requires
-stop-requires c κs = search needs
-
 returns : tie.Need-returns
 returns c = rw (c .stop .ensures .0) (refuse-here (c .before .before .before .before .before .before .before .pre .0) (c .stop .ensures .1) (child-missing _ _ _ (omega arith)))
-
-shared-slice-read-o : tie.Need-shared-slice-read-o
-shared-slice-read-o c = search needs
-
-bits-requires : tie.Need-bits-requires
-bits-requires c κs = search needs
-
-stop-requires-2 : tie.Need-stop-requires-2
-stop-requires-2 c κs = search needs
 
 returns-2 : tie.Need-returns-2
 returns-2 c =
@@ -35,18 +23,6 @@ chunk-at-requires c κs =
     let known = c .before .before .before .before .before .before .before .before .shared-slice-known2 .given (at-start .args .k) in
     let b = c .before .before .before .before .before .before .before .bits .ensures in
     (at-start .pre .0, omega arith, omega arith, omega arith)
-
-same-length : tie.Need-same-length
-same-length c = search needs
-
-same-length-2 : tie.Need-same-length-2
-same-length-2 c = search needs
-
-same-length-3 : tie.Need-same-length-3
-same-length-3 c = search needs
-
-same-length-4 : tie.Need-same-length-4
-same-length-4 c = search needs
 
 returns-3 : tie.Need-returns-3
 returns-3 c =
@@ -67,18 +43,6 @@ instruction-at-requires c κs =
     let at-start = c .before .before .before .before .before .before .before .before .before .before .before .before .before .before in
     (at-start .pre .0, omega arith)
 
-same-length-5 : tie.Need-same-length-5
-same-length-5 c = search needs
-
-same-length-6 : tie.Need-same-length-6
-same-length-6 c = search needs
-
-same-length-7 : tie.Need-same-length-7
-same-length-7 c = search needs
-
-same-length-8 : tie.Need-same-length-8
-same-length-8 c = search needs
-
 returns-4 : tie.Need-returns-4
 returns-4 c =
     let at-if4 = c .before .before .before .before .before .before .before .before .before .before .before .before .before in
@@ -90,26 +54,11 @@ comment-at-requires c κs =
     let at-start = c .before .before .before .before .before .before .before .before .before .before .before .before .before .before .before in
     (at-start .pre .0, omega arith)
 
-same-length-9 : tie.Need-same-length-9
-same-length-9 c = search needs
-
-same-length-10 : tie.Need-same-length-10
-same-length-10 c = search needs
-
-same-length-11 : tie.Need-same-length-11
-same-length-11 c = search needs
-
-same-length-12 : tie.Need-same-length-12
-same-length-12 c = search needs
-
 returns-5 : tie.Need-returns-5
 returns-5 c =
     let at-if5 = c .before .before .before .before .before .before .before .before .before .before .before .before .before in
     let at-if1 = at-if5 .before .before .before .before .before in
     met-by (c .before .before .before .before .before .before .before .before .comment-at .ensures) (child-comment _ _ _ (omega (arith, at-if1 .if1 .left)) (omega (arith, at-if5 .if5 .taken)))
-
-other-at-requires : tie.Need-other-at-requires
-other-at-requires c κs = search needs
 
 returns-6 : tie.Need-returns-6
 returns-6 c =
@@ -123,29 +72,29 @@ pub child-at-spec : {M : Type 1} → statement M
 child-at-spec =
     tie.close
     (tie.spec
-    stop-requires
+    (λ c κs. search needs)
     returns
-    shared-slice-read-o
-    bits-requires
-    stop-requires-2
+    (λ c. search needs)
+    (λ c κs. search needs)
+    (λ c κs. search needs)
     returns-2
     chunk-at-requires
-    same-length
-    same-length-2
-    same-length-3
-    same-length-4
+    (λ c. search needs)
+    (λ c. search needs)
+    (λ c. search needs)
+    (λ c. search needs)
     returns-3
     instruction-at-requires
-    same-length-5
-    same-length-6
-    same-length-7
-    same-length-8
+    (λ c. search needs)
+    (λ c. search needs)
+    (λ c. search needs)
+    (λ c. search needs)
     returns-4
     comment-at-requires
-    same-length-9
-    same-length-10
-    same-length-11
-    same-length-12
+    (λ c. search needs)
+    (λ c. search needs)
+    (λ c. search needs)
+    (λ c. search needs)
     returns-5
-    other-at-requires
+    (λ c κs. search needs)
     returns-6)

@@ -8,18 +8,6 @@ use Rattle.read_items.proofs.HeadLaws.{tells-by}
 use Rattle.read_items.proofs.items.child_head.Statement.{statement}
 use Rattle.read_items.proofs.items.child_head.Tie as tie
 
-shared-slice-read-o : tie.Need-shared-slice-read-o
-shared-slice-read-o c = search needs
-
-bits-requires : tie.Need-bits-requires
-bits-requires c κs = search needs
-
-bits-requires-2 : tie.Need-bits-requires-2
-bits-requires-2 c κs = search needs
-
-element-head-requires : tie.Need-element-head-requires
-element-head-requires c κs = search needs
-
 returns : tie.Need-returns
 returns c =
     let a = c .before .before .before .before .before .before .before .args in
@@ -37,10 +25,10 @@ pub child-head-spec : {M : Type 1} → statement M
 child-head-spec =
     tie.close
     (tie.spec
-    shared-slice-read-o
-    bits-requires
-    bits-requires-2
-    element-head-requires
+    (λ c. search needs)
+    (λ c κs. search needs)
+    (λ c κs. search needs)
+    (λ c κs. search needs)
     returns
     returns-2
     returns-3)

@@ -10,49 +10,25 @@ use Rattle.read_items.proofs.HeadLaws.{tells-stop, tells-declared, tell
 use Rattle.read_items.proofs.items.element_head.Statement.{statement}
 use Rattle.read_items.proofs.items.element_head.Tie as tie
 
-name-padding-requires : tie.Need-name-padding-requires
-name-padding-requires c κs = search needs
-
-refusal-requires : tie.Need-refusal-requires
-refusal-requires c κs = search needs
-
 returns : tie.Need-returns
 returns c =
     let a = c .before .before .before .args in
     λ s h. tells-stop 6 _ (c .refusal .ensures) (λ w. element-padding s (a .k) (a .b) (a .a) (stateOf (a .st) w) (sym (c .before .if1 .taken) ∙ c .before .before .name-padding .ensures))
-
-may-start-requires : tie.Need-may-start-requires
-may-start-requires c κs = search needs
-
-refusal-requires-2 : tie.Need-refusal-requires-2
-refusal-requires-2 c κs = search needs
 
 returns-2 : tie.Need-returns-2
 returns-2 c =
     let a = c .before .before .before .before .before .args in
     λ s h. tells-stop 15 _ (c .refusal2 .ensures) (λ w. element-second s (a .k) (a .b) (a .a) (stateOf (a .st) w) (sym (c .before .before .before .if1 .left) ∙ c .before .before .before .before .name-padding .ensures) (sym (not-true _ (c .before .if2 .taken)) ∙ c .before .before .may-start .ensures))
 
-name-head-requires : tie.Need-name-head-requires
-name-head-requires c κs = search needs
-
 returns-3 : tie.Need-returns-3
 returns-3 c =
     let a = c .before .before .before .before .before .before .args in
     λ s h. tells-numbered s _ _ _ _ h (sym (c .before .before .before .before .if1 .left) ∙ c .before .before .before .before .before .name-padding .ensures) (sym (not-false _ (c .before .before .if2 .left)) ∙ c .before .before .before .may-start .ensures) (omega (arith, c .before .if3 .taken)) (c .name-head .ensures)
 
-bits-requires : tie.Need-bits-requires
-bits-requires c κs = search needs
-
-refusal-requires-3 : tie.Need-refusal-requires-3
-refusal-requires-3 c κs = search needs
-
 returns-4 : tie.Need-returns-4
 returns-4 c =
     let a = c .before .before .before .before .before .before .before .before .args in
     λ s h. tells-stop 15 _ (c .refusal3 .ensures) (λ w. element-lone s (a .k) (a .b) (a .a) (stateOf (a .st) w) (sym (c .before .before .before .before .before .before .if1 .left) ∙ c .before .before .before .before .before .before .before .name-padding .ensures) (sym (not-false _ (c .before .before .before .before .if2 .left)) ∙ c .before .before .before .before .before .may-start .ensures) (omega (arith, c .before .before .before .if3 .left)) (omega (arith, c .before .before .bits .ensures, c .before .if4 .taken)))
-
-refusal-requires-4 : tie.Need-refusal-requires-4
-refusal-requires-4 c κs = search needs
 
 returns-5 : tie.Need-returns-5
 returns-5 c =
@@ -61,12 +37,6 @@ returns-5 c =
     let a = at-start .args in
     λ s h. tells-stop 13 _ (c .refusal4 .ensures) (λ w. element-deep s (a .k) (a .b) (a .a) (stateOf (a .st) w) (sym (c .before .before .before .before .before .before .before .before .if1 .left) ∙ at-name-padding .name-padding .ensures) (sym (not-false _ (c .before .before .before .before .before .before .if2 .left)) ∙ c .before .before .before .before .before .before .before .may-start .ensures) (omega (arith, c .before .before .before .before .before .if3 .left)) (omega (arith, c .before .before .before .before .bits .ensures, c .before .before .before .if4 .left)) (omega (arith, c .before .if5 .taken)))
 
-add-declared-head : tie.Need-add-declared-head
-add-declared-head c = search needs
-
-declared-head-requires : tie.Need-declared-head-requires
-declared-head-requires c κs = search needs
-
 returns-6 : tie.Need-returns-6
 returns-6 c =
     let at-if1 = c .before .before .before .before .before .before .before .before .before in
@@ -74,9 +44,6 @@ returns-6 c =
     let at-start = at-name-padding .before in
     let a = at-start .args in
     λ s h. tells-declared _ _ (c .declared-head .ensures) (omega arith) (omega (arith, c .before .before .if5 .left)) (λ w. element-declaring s (a .k) (a .b) (a .a) (stateOf (a .st) w) (sym (at-if1 .if1 .left) ∙ at-name-padding .name-padding .ensures) (sym (not-false _ (c .before .before .before .before .before .before .before .if2 .left)) ∙ c .before .before .before .before .before .before .before .before .may-start .ensures) (omega (arith, c .before .before .before .before .before .before .if3 .left)) (omega (arith, c .before .before .before .before .before .bits .ensures, c .before .before .before .before .if4 .left)) (omega (arith, c .before .before .if5 .left)) (omega (arith, c .before .if6 .taken)))
-
-name-head-requires-2 : tie.Need-name-head-requires-2
-name-head-requires-2 c κs = search needs
 
 returns-7 : tie.Need-returns-7
 returns-7 c =
@@ -90,21 +57,21 @@ pub element-head-spec : {M : Type 1} → statement M
 element-head-spec =
     tie.close
     (tie.spec
-    name-padding-requires
-    refusal-requires
+    (λ c κs. search needs)
+    (λ c κs. search needs)
     returns
-    may-start-requires
-    refusal-requires-2
+    (λ c κs. search needs)
+    (λ c κs. search needs)
     returns-2
-    name-head-requires
+    (λ c κs. search needs)
     returns-3
-    bits-requires
-    refusal-requires-3
+    (λ c κs. search needs)
+    (λ c κs. search needs)
     returns-4
-    refusal-requires-4
+    (λ c κs. search needs)
     returns-5
-    add-declared-head
-    declared-head-requires
+    (λ c. search needs)
+    (λ c κs. search needs)
     returns-6
-    name-head-requires-2
+    (λ c κs. search needs)
     returns-7)

@@ -8,34 +8,16 @@ use Rattle.read_items.proofs.HeadLaws.{tells-by, tells-declared}
 use Rattle.read_items.proofs.items.head_at.Statement.{statement}
 use Rattle.read_items.proofs.items.head_at.Tie as tie
 
-child-head-requires : tie.Need-child-head-requires
-child-head-requires c κs = search needs
-
 returns : tie.Need-returns
 returns c = tells-by (c .child-head .ensures) (λ w. item-child _ _ _ _ (omega arith))
 
-attribute-head-requires : tie.Need-attribute-head-requires
-attribute-head-requires c κs = search needs
-
 returns-2 : tie.Need-returns-2
 returns-2 c = tells-by (c .attribute-head .ensures _) (λ w. item-attribute _ _ _ _ (omega arith) (omega arith))
-
-octet-requires : tie.Need-octet-requires
-octet-requires c κs = search needs
-
-add-named-head : tie.Need-add-named-head
-add-named-head c = search needs
-
-named-head-requires : tie.Need-named-head-requires
-named-head-requires c κs = search needs
 
 returns-3 : tie.Need-returns-3
 returns-3 c =
     let at-start = c .before .before .before .before .before .before .before .before .before in
     tells-by (c .named-head .ensures _ (shallow-declaring _ _ (at-start .pre .2) (omega arith))) (λ w. item-declaring _ _ _ _ (omega arith) ∙ declaring-name _ _ _ _ (omega (arith, c .before .before .octet .ensures, c .before .if3 .taken)))
-
-declared-head-requires : tie.Need-declared-head-requires
-declared-head-requires c κs = search needs
 
 returns-4 : tie.Need-returns-4
 returns-4 c =
@@ -46,13 +28,13 @@ pub head-at-spec : {M : Type 1} → statement M
 head-at-spec =
     tie.close
     (tie.spec
-    child-head-requires
+    (λ c κs. search needs)
     returns
-    attribute-head-requires
+    (λ c κs. search needs)
     returns-2
-    octet-requires
-    add-named-head
-    named-head-requires
+    (λ c κs. search needs)
+    (λ c. search needs)
+    (λ c κs. search needs)
     returns-3
-    declared-head-requires
+    (λ c κs. search needs)
     returns-4)

@@ -10,22 +10,10 @@ use Rattle.read_items.proofs.ItemLaws.{target-refused, instruction-refu
 use Rattle.read_items.proofs.items.instruction_at.Statement.{statement}
 use Rattle.read_items.proofs.items.instruction_at.Tie as tie
 
-add-id : tie.Need-add-id
-add-id c = search needs
-
 id-requires : tie.Need-id-requires
 id-requires c κs =
     let at-start = c .before .before .before .before .before .before .before .before in
     (at-start .pre .0 .tidy, omega arith, omega arith)
-
-enum-known-number : tie.Need-enum-known-number
-enum-known-number c = search needs
-
-stop-requires : tie.Need-stop-requires
-stop-requires c κs = search needs
-
-enum-known-target : tie.Need-enum-known-target
-enum-known-target c = search needs
 
 value-requires : tie.Need-value-requires
 value-requires c κs =
@@ -33,15 +21,6 @@ value-requires c κs =
     let there = rw (c .before .before .before .target .given .1) at (at-id .id .ensures .1) in
     let tidy = there .0 .tidy in
     (tidy .room, tidy .ten, tidy .size, there .0 .within, omega arith, omega arith, tidy .counted 7)
-
-enum-known-number-2 : tie.Need-enum-known-number-2
-enum-known-number-2 c = search needs
-
-stop-requires-2 : tie.Need-stop-requires-2
-stop-requires-2 c κs = search needs
-
-enum-known-content : tie.Need-enum-known-content
-enum-known-content c = search needs
 
 string-at-requires : tie.Need-string-at-requires
 string-at-requires c κs =
@@ -55,12 +34,6 @@ string-at-requires c κs =
     let few = there .0 .tidy .counted 3 in
     (left .tidy .room, omega arith, omega arith)
 
-instruction-requires : tie.Need-instruction-requires
-instruction-requires c κs = search needs
-
-keep-requires : tie.Need-keep-requires
-keep-requires c κs = search needs
-
 moved-requires : tie.Need-moved-requires
 moved-requires c κs =
     let at-content = c .before .before .before .before .before .before .before .before in
@@ -72,30 +45,12 @@ moved-requires c κs =
     let left = rw (at-content .content .given .1) at (said .1) in
     near (left .tidy) (left .within)
 
-same-length : tie.Need-same-length
-same-length c = search needs
-
-same-length-2 : tie.Need-same-length-2
-same-length-2 c = search needs
-
-same-length-3 : tie.Need-same-length-3
-same-length-3 c = search needs
-
 returns : tie.Need-returns
 unfolding tableOf
 returns c =
     let at-id = c .before .before .before .before .before .before .before .before .before .before in
     rw (c .stop .ensures .0)
     (target-refused _ (c .before .before .number .given .1) (c .stop .ensures .1) refl (at-id .id .ensures .0) (at-id .id .ensures .1))
-
-same-length-4 : tie.Need-same-length-4
-same-length-4 c = search needs
-
-same-length-5 : tie.Need-same-length-5
-same-length-5 c = search needs
-
-same-length-6 : tie.Need-same-length-6
-same-length-6 c = search needs
 
 returns-2 : tie.Need-returns-2
 unfolding tableOf
@@ -128,9 +83,6 @@ same-length-9 c =
     let at-id = at-value .before .before .before .before .before .before .before .before .before .before .before .before in
     omega (arith, at-value .value .kept, at-id .id .kept)
 
-same-length-10 : tie.Need-same-length-10
-same-length-10 c = search needs
-
 returns-3 : tie.Need-returns-3
 unfolding tableOf
 returns-3 c =
@@ -152,29 +104,29 @@ pub instruction-at-spec : {M : Type 1} → statement M
 instruction-at-spec =
     tie.close
     (tie.spec
-    add-id
+    (λ c. search needs)
     id-requires
-    enum-known-number
-    stop-requires
-    enum-known-target
+    (λ c. search needs)
+    (λ c κs. search needs)
+    (λ c. search needs)
     value-requires
-    enum-known-number-2
-    stop-requires-2
-    enum-known-content
+    (λ c. search needs)
+    (λ c κs. search needs)
+    (λ c. search needs)
     string-at-requires
-    instruction-requires
-    keep-requires
+    (λ c κs. search needs)
+    (λ c κs. search needs)
     moved-requires
-    same-length
-    same-length-2
-    same-length-3
+    (λ c. search needs)
+    (λ c. search needs)
+    (λ c. search needs)
     returns
-    same-length-4
-    same-length-5
-    same-length-6
+    (λ c. search needs)
+    (λ c. search needs)
+    (λ c. search needs)
     returns-2
     same-length-7
     same-length-8
     same-length-9
-    same-length-10
+    (λ c. search needs)
     returns-3)

@@ -10,15 +10,6 @@ head-at-requires c κs =
     let p = c .before .before .before .before .before .pre in
     (p .1, p .0 .tidy .size, p .0 .shallow)
 
-enum-known-x : tie.Need-enum-known-x
-enum-known-x c = search needs
-
-stop-requires : tie.Need-stop-requires
-stop-requires c κs = search needs
-
-enum-known-x-2 : tie.Need-enum-known-x-2
-enum-known-x-2 c = search needs
-
 named-requires : tie.Need-named-requires
 named-requires c κs =
     let at-start = c .before .before .before .before .before .before .before .before .before .before .before .before .before in
@@ -26,18 +17,12 @@ named-requires c κs =
     let t = rw (c .before .before .before .before .before .x2 .given .1) at (c .before .before .before .before .before .before .before .head-at .ensures) in
     (p .0, t .stands)
 
-enum-known-x-3 : tie.Need-enum-known-x-3
-enum-known-x-3 c = search needs
-
 namespace-at-requires : tie.Need-namespace-at-requires
 namespace-at-requires c κs =
     let at-start = c .before .before .before .before .before .before .before .before .before .before .before .before .before in
     let p = at-start .pre in
     let t = rw (c .before .before .before .before .before .x3 .given .1) at (c .before .before .before .before .before .before .before .head-at .ensures) in
     (p .0, t .stands .0, t .stands .1)
-
-enum-known-x-4 : tie.Need-enum-known-x-4
-enum-known-x-4 c = search needs
 
 child-at-requires : tie.Need-child-at-requires
 child-at-requires c κs =
@@ -53,18 +38,6 @@ returns c =
     let t = rw (c .before .before .x .given .1) at (c .before .before .before .before .head-at .ensures) in
     rw (c .stop .ensures .0) (refuse-here (p .0) (c .stop .ensures .1) (t .is _))
 
-same-length : tie.Need-same-length
-same-length c = search needs
-
-same-length-2 : tie.Need-same-length-2
-same-length-2 c = search needs
-
-same-length-3 : tie.Need-same-length-3
-same-length-3 c = search needs
-
-same-length-4 : tie.Need-same-length-4
-same-length-4 c = search needs
-
 returns-2 : tie.Need-returns-2
 returns-2 c =
     let at-x2 = c .before .before .before .before .before .before .before .before .before .before .before .before .before .before in
@@ -72,36 +45,12 @@ returns-2 c =
     let t = rw (at-x2 .x2 .given .1) at (at-head-at .head-at .ensures) in
     met-by (c .before .before .before .before .before .before .before .before .named .ensures) (t .is _)
 
-same-length-5 : tie.Need-same-length-5
-same-length-5 c = search needs
-
-same-length-6 : tie.Need-same-length-6
-same-length-6 c = search needs
-
-same-length-7 : tie.Need-same-length-7
-same-length-7 c = search needs
-
-same-length-8 : tie.Need-same-length-8
-same-length-8 c = search needs
-
 returns-3 : tie.Need-returns-3
 returns-3 c =
     let at-x3 = c .before .before .before .before .before .before .before .before .before .before .before .before .before .before in
     let at-head-at = at-x3 .before .before in
     let t = rw (at-x3 .x3 .given .1) at (at-head-at .head-at .ensures) in
     met-by (c .before .before .before .before .before .before .before .before .namespace-at .ensures) (t .is _)
-
-same-length-9 : tie.Need-same-length-9
-same-length-9 c = search needs
-
-same-length-10 : tie.Need-same-length-10
-same-length-10 c = search needs
-
-same-length-11 : tie.Need-same-length-11
-same-length-11 c = search needs
-
-same-length-12 : tie.Need-same-length-12
-same-length-12 c = search needs
 
 returns-4 : tie.Need-returns-4
 returns-4 c =
@@ -115,27 +64,27 @@ item-at-spec =
     tie.close
     (tie.spec
     head-at-requires
-    enum-known-x
-    stop-requires
-    enum-known-x-2
+    (λ c. search needs)
+    (λ c κs. search needs)
+    (λ c. search needs)
     named-requires
-    enum-known-x-3
+    (λ c. search needs)
     namespace-at-requires
-    enum-known-x-4
+    (λ c. search needs)
     child-at-requires
     returns
-    same-length
-    same-length-2
-    same-length-3
-    same-length-4
+    (λ c. search needs)
+    (λ c. search needs)
+    (λ c. search needs)
+    (λ c. search needs)
     returns-2
-    same-length-5
-    same-length-6
-    same-length-7
-    same-length-8
+    (λ c. search needs)
+    (λ c. search needs)
+    (λ c. search needs)
+    (λ c. search needs)
     returns-3
-    same-length-9
-    same-length-10
-    same-length-11
-    same-length-12
+    (λ c. search needs)
+    (λ c. search needs)
+    (λ c. search needs)
+    (λ c. search needs)
     returns-4)

@@ -7,12 +7,6 @@ use Rattle.events.proofs.Kept.{kept-not}
 use Rattle.read_items.proofs.items.keep_named.Statement.{statement}
 use Rattle.read_items.proofs.items.keep_named.Tie as tie
 
-has-record-requires : tie.Need-has-record-requires
-has-record-requires c κs = search needs
-
-same-length : tie.Need-same-length
-same-length c = search needs
-
 returns : tie.Need-returns
 returns c = kept-not _ _ _ (ltb-false _ _ (sym (c .before .has-record .ensures) ∙ not-true _ (c .if1 .taken)))
 
@@ -21,12 +15,6 @@ strings-of-requires c κs =
     let at-start = c .before .before .before .before .before in
     at-start .pre
 
-keep-requires : tie.Need-keep-requires
-keep-requires c κs = search needs
-
-same-length-2 : tie.Need-same-length-2
-same-length-2 c = search needs
-
 returns-2 : tie.Need-returns-2
 returns-2 c = rw (← c .before .before .before .before .strings-of .ensures) (c .before .before .keep .ensures)
 
@@ -34,10 +22,10 @@ pub keep-named-spec : {M : Type 1} → statement M
 keep-named-spec =
     tie.close
     (tie.spec
-    has-record-requires
-    same-length
+    (λ c κs. search needs)
+    (λ c. search needs)
     returns
     strings-of-requires
-    keep-requires
-    same-length-2
+    (λ c κs. search needs)
+    (λ c. search needs)
     returns-2)

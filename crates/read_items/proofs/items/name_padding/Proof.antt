@@ -6,20 +6,8 @@ use Rattle.read_items.proofs.ItemLaws.{padding-longest, padding-in-part
 use Rattle.read_items.proofs.items.name_padding.Statement.{statement}
 use Rattle.read_items.proofs.items.name_padding.Tie as tie
 
-bits-requires : tie.Need-bits-requires
-bits-requires c κs = search needs
-
-bits-requires-2 : tie.Need-bits-requires-2
-bits-requires-2 c κs = search needs
-
 returns : tie.Need-returns
 returns c = padding-longest _ (omega arith) (omega arith) _ (c .bits2 .ensures)
-
-bits-requires-3 : tie.Need-bits-requires-3
-bits-requires-3 c κs = search needs
-
-bits-requires-4 : tie.Need-bits-requires-4
-bits-requires-4 c κs = search needs
 
 returns-2 : tie.Need-returns-2
 returns-2 c = padding-in-parts _ (omega arith) (omega arith) (omega arith) _ (c .bits4 .ensures)
@@ -31,10 +19,10 @@ pub name-padding-spec : {M : Type 1} → statement M
 name-padding-spec =
     tie.close
     (tie.spec
-    bits-requires
-    bits-requires-2
+    (λ c κs. search needs)
+    (λ c κs. search needs)
     returns
-    bits-requires-3
-    bits-requires-4
+    (λ c κs. search needs)
+    (λ c κs. search needs)
     returns-2
     returns-3)

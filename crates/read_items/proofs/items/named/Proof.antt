@@ -25,18 +25,6 @@ start-of-requires c κs =
     let read = name-element (a .s .now) (a .counts .now) (a .t .now) _ _ _ (at-name .name .result) (last .1 .0) (last .0) (last .1 .1 .0) (c .before .before .if1 .taken) (at-name .name .ensures) in
     entry-named (a .s .now) (a .counts .now) (a .t .now) (last .1 .0) (last .0) (last .1 .1 .0) 8 (at-name .name .result) (omega arith) (omega arith) (read .1) (read .2)
 
-same-length : tie.Need-same-length
-same-length c = search needs
-
-same-length-2 : tie.Need-same-length-2
-same-length-2 c = search needs
-
-same-length-3 : tie.Need-same-length-3
-same-length-3 c = search needs
-
-same-length-4 : tie.Need-same-length-4
-same-length-4 c = search needs
-
 returns : tie.Need-returns
 returns c =
     let at-name = c .before .before .before .before .before .before .before .before .before .before .before .before .before in
@@ -45,15 +33,6 @@ returns c =
     let last = at-name .name .last .1 in
     let read = name-element (a .s .now) (a .counts .now) (a .t .now) _ _ _ (at-name .name .result) (last .1 .0) (last .0) (last .1 .1 .0) (c .before .before .before .before .before .if1 .taken) (at-name .name .ensures) in
     start-met _ _ _ (at-name .name .result) (read .0) (read .1) (c .before .before .start-of .ensures) (named-element _ (a .x) _ (c .before .before .before .before .before .if1 .taken))
-
-enum-known-read : tie.Need-enum-known-read
-enum-known-read c = search needs
-
-stop-requires : tie.Need-stop-requires
-stop-requires c κs = search needs
-
-enum-known-read-2 : tie.Need-enum-known-read-2
-enum-known-read-2 c = search needs
 
 value-requires : tie.Need-value-requires
 value-requires c κs =
@@ -66,15 +45,6 @@ value-requires c κs =
     let there = rw (c .before .before .before .read2 .given .1) at (read .1) in
     let tidy = there .0 .tidy in
     (tidy .room, tidy .ten, tidy .size, there .0 .within, omega arith, omega arith, tidy .counted 5)
-
-enum-known-number : tie.Need-enum-known-number
-enum-known-number c = search needs
-
-stop-requires-2 : tie.Need-stop-requires-2
-stop-requires-2 c κs = search needs
-
-enum-known-v : tie.Need-enum-known-v
-enum-known-v c = search needs
 
 keep-named-requires : tie.Need-keep-named-requires
 keep-named-requires c κs =
@@ -108,15 +78,6 @@ moved-requires c κs =
     let left = rw (c .before .before .before .before .before .before .v .given .1) at (said .1) in
     near (left .tidy) (left .within)
 
-same-length-5 : tie.Need-same-length-5
-same-length-5 c = search needs
-
-same-length-6 : tie.Need-same-length-6
-same-length-6 c = search needs
-
-same-length-7 : tie.Need-same-length-7
-same-length-7 c = search needs
-
 returns-2 : tie.Need-returns-2
 returns-2 c =
     let at-name = c .before .before .before .before .before .before .before .before .before .before .before .before in
@@ -126,15 +87,6 @@ returns-2 c =
     let nine = attribute-table _ _ (at-start .pre .1) (c .before .before .before .before .if1 .left) in
     let read = name-attribute (a .s .now) (a .counts .now) (a .t .now) _ _ _ (at-name .name .result) (last .1 .0) (last .0) (last .1 .1 .0) nine (at-start .pre .1 .octet nine) (at-name .name .ensures) in
     rw (c .stop .ensures .0) (attribute-refused _ (named-attribute _ (a .x) _ nine) (c .before .before .read .given .1) (c .stop .ensures .1) refl (read .0) (read .1))
-
-same-length-8 : tie.Need-same-length-8
-same-length-8 c = search needs
-
-same-length-9 : tie.Need-same-length-9
-same-length-9 c = search needs
-
-same-length-10 : tie.Need-same-length-10
-same-length-10 c = search needs
 
 returns-3 : tie.Need-returns-3
 unfolding tableOf
@@ -167,15 +119,6 @@ same-length-11 c =
     let left = rw (c .before .before .before .before .before .before .before .v .given .1) at (said .1) in
     omega (arith, left .tidy .room, at-start .pre .0 .tidy .room)
 
-same-length-12 : tie.Need-same-length-12
-same-length-12 c = search needs
-
-same-length-13 : tie.Need-same-length-13
-same-length-13 c = search needs
-
-same-length-14 : tie.Need-same-length-14
-same-length-14 c = search needs
-
 returns-4 : tie.Need-returns-4
 unfolding tableOf
 returns-4 c =
@@ -198,30 +141,30 @@ named-spec =
     (tie.spec
     name-requires
     start-of-requires
-    same-length
-    same-length-2
-    same-length-3
-    same-length-4
+    (λ c. search needs)
+    (λ c. search needs)
+    (λ c. search needs)
+    (λ c. search needs)
     returns
-    enum-known-read
-    stop-requires
-    enum-known-read-2
+    (λ c. search needs)
+    (λ c κs. search needs)
+    (λ c. search needs)
     value-requires
-    enum-known-number
-    stop-requires-2
-    enum-known-v
+    (λ c. search needs)
+    (λ c κs. search needs)
+    (λ c. search needs)
     keep-named-requires
     moved-requires
-    same-length-5
-    same-length-6
-    same-length-7
+    (λ c. search needs)
+    (λ c. search needs)
+    (λ c. search needs)
     returns-2
-    same-length-8
-    same-length-9
-    same-length-10
+    (λ c. search needs)
+    (λ c. search needs)
+    (λ c. search needs)
     returns-3
     same-length-11
-    same-length-12
-    same-length-13
-    same-length-14
+    (λ c. search needs)
+    (λ c. search needs)
+    (λ c. search needs)
     returns-4)

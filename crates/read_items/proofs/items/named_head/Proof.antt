@@ -9,33 +9,15 @@ use Rattle.read_items.proofs.HeadLaws.{tells-stop, tells-element}
 use Rattle.read_items.proofs.items.named_head.Statement.{statement}
 use Rattle.read_items.proofs.items.named_head.Tie as tie
 
-refusal-requires : tie.Need-refusal-requires
-refusal-requires c κs = search needs
-
 returns : tie.Need-returns
 returns c =
     let a = c .before .before .before .args in
     λ st l. tells-stop 2 _ (c .refusal .ensures) (λ w. named-missing _ _ _ (stateOf st w) (omega arith))
 
-shared-slice-read-o : tie.Need-shared-slice-read-o
-shared-slice-read-o c = search needs
-
-bits-requires : tie.Need-bits-requires
-bits-requires c κs = search needs
-
-refusal-requires-2 : tie.Need-refusal-requires-2
-refusal-requires-2 c κs = search needs
-
 returns-2 : tie.Need-returns-2
 returns-2 c =
     let a = c .before .before .before .before .before .before .args in
     λ st l. tells-stop 5 _ (c .refusal2 .ensures) (λ w. named-code _ _ _ (stateOf st w) (omega arith) (omega arith))
-
-bits-requires-2 : tie.Need-bits-requires-2
-bits-requires-2 c κs = search needs
-
-refusal-requires-3 : tie.Need-refusal-requires-3
-refusal-requires-3 c κs = search needs
 
 returns-3 : tie.Need-returns-3
 returns-3 c =
@@ -47,17 +29,11 @@ name-padding-requires c κs =
     let a = c .before .before .before .before .before .before .before .args in
     omega (arith, c .before .before .before .before .shared-slice-known2 .given (a .k))
 
-refusal-requires-4 : tie.Need-refusal-requires-4
-refusal-requires-4 c κs = search needs
-
 returns-4 : tie.Need-returns-4
 returns-4 c =
     let at-start = c .before .before .before .before .before .before .before .before .before .before in
     let a = at-start .args in
     λ st l. tells-stop 6 _ (c .refusal4 .ensures) (λ w. named-padding _ _ _ (stateOf st w) (omega arith) (omega arith) (omega (arith, c .before .before .before .before .before .before .before .shared-slice-known2 .given (a .k))) (sym (c .before .if4 .taken) ∙ c .before .before .name-padding .ensures))
-
-name-head-requires : tie.Need-name-head-requires
-name-head-requires c κs = search needs
 
 returns-5 : tie.Need-returns-5
 returns-5 c =
@@ -69,17 +45,17 @@ pub named-head-spec : {M : Type 1} → statement M
 named-head-spec =
     tie.close
     (tie.spec
-    refusal-requires
+    (λ c κs. search needs)
     returns
-    shared-slice-read-o
-    bits-requires
-    refusal-requires-2
+    (λ c. search needs)
+    (λ c κs. search needs)
+    (λ c κs. search needs)
     returns-2
-    bits-requires-2
-    refusal-requires-3
+    (λ c κs. search needs)
+    (λ c κs. search needs)
     returns-3
     name-padding-requires
-    refusal-requires-4
+    (λ c κs. search needs)
     returns-4
-    name-head-requires
+    (λ c κs. search needs)
     returns-5)

@@ -13,15 +13,6 @@ declared-requires c κs =
     let at-start = c .before .before .before .before .before .before .before .before in
     (at-start .pre .0 .tidy, at-start .pre .1)
 
-enum-known-number : tie.Need-enum-known-number
-enum-known-number c = search needs
-
-stop-requires : tie.Need-stop-requires
-stop-requires c κs = search needs
-
-enum-known-prefix : tie.Need-enum-known-prefix
-enum-known-prefix c = search needs
-
 string-at-requires : tie.Need-string-at-requires
 string-at-requires c κs =
     let at-declared = c .before .before .before .before .before .before .before .before .before .before in
@@ -34,15 +25,6 @@ string-at-requires-2 c κs =
     let left = rw (c .before .before .before .before .prefix .given .1) at (at-declared .declared .ensures .1) in
     (left .0 .tidy .room, omega arith, left .2)
 
-namespace-requires : tie.Need-namespace-requires
-namespace-requires c κs = search needs
-
-keep-requires : tie.Need-keep-requires
-keep-requires c κs = search needs
-
-declaring-requires : tie.Need-declaring-requires
-declaring-requires c κs = search needs
-
 moved-requires : tie.Need-moved-requires
 moved-requires c κs =
     let at-prefix = c .before .before .before .before .before .before .before .before .before .before .before in
@@ -50,33 +32,12 @@ moved-requires c κs =
     let left = rw (at-prefix .prefix .given .1) at (at-declared .declared .ensures .1) in
     near (left .0 .tidy) (left .0 .within)
 
-same-length : tie.Need-same-length
-same-length c = search needs
-
-same-length-2 : tie.Need-same-length-2
-same-length-2 c = search needs
-
-same-length-3 : tie.Need-same-length-3
-same-length-3 c = search needs
-
 returns : tie.Need-returns
 returns c =
     let at-declared = c .before .before .before .before .before .before .before .before .before .before in
     rw (c .stop .ensures .0)
     (namespace-refused _ _ (at-declared .declared .ensures .0) (at-declared .declared .ensures .1) (c .before .before .number .given .1)
     (c .stop .ensures .1) refl)
-
-same-length-4 : tie.Need-same-length-4
-same-length-4 c = search needs
-
-same-length-5 : tie.Need-same-length-5
-same-length-5 c = search needs
-
-same-length-6 : tie.Need-same-length-6
-same-length-6 c = search needs
-
-same-length-7 : tie.Need-same-length-7
-same-length-7 c = search needs
 
 returns-2 : tie.Need-returns-2
 returns-2 c =
@@ -96,21 +57,21 @@ namespace-at-spec =
     tie.close
     (tie.spec
     declared-requires
-    enum-known-number
-    stop-requires
-    enum-known-prefix
+    (λ c. search needs)
+    (λ c κs. search needs)
+    (λ c. search needs)
     string-at-requires
     string-at-requires-2
-    namespace-requires
-    keep-requires
-    declaring-requires
+    (λ c κs. search needs)
+    (λ c κs. search needs)
+    (λ c κs. search needs)
     moved-requires
-    same-length
-    same-length-2
-    same-length-3
+    (λ c. search needs)
+    (λ c. search needs)
+    (λ c. search needs)
     returns
-    same-length-4
-    same-length-5
-    same-length-6
-    same-length-7
+    (λ c. search needs)
+    (λ c. search needs)
+    (λ c. search needs)
+    (λ c. search needs)
     returns-2)

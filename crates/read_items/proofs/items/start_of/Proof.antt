@@ -8,18 +8,6 @@ use Rattle.read_items.proofs.StepLaws.{start-refused, start-deep, start
 use Rattle.read_items.proofs.items.start_of.Statement.{statement}
 use Rattle.read_items.proofs.items.start_of.Tie as tie
 
-enum-known-r : tie.Need-enum-known-r
-enum-known-r c = search needs
-
-stop-requires : tie.Need-stop-requires
-stop-requires c κs = search needs
-
-enum-known-r-2 : tie.Need-enum-known-r-2
-enum-known-r-2 c = search needs
-
-stop-requires-2 : tie.Need-stop-requires-2
-stop-requires-2 c κs = search needs
-
 returns : tie.Need-returns
 returns c = start-deep _ _ _ _ _ _ (c .before .before .before .before .r2 .given .1) (omega arith) (c .stop2 .ensures .0)
 
@@ -37,9 +25,6 @@ opened-requires c κs =
 returns-2 : tie.Need-returns-2
 returns-2 c = start-refused _ _ _ _ _ _ (c .before .before .r .given .1) (c .stop .ensures .1) (c .stop .ensures .0)
 
-same-length : tie.Need-same-length
-same-length c = search needs
-
 returns-3 : tie.Need-returns-3
 returns-3 c =
     let at-r2 = c .before .before .before .before .before .before .before .before in
@@ -51,13 +36,13 @@ pub start-of-spec : {M : Type 1} → statement M
 start-of-spec =
     tie.close
     (tie.spec
-    enum-known-r
-    stop-requires
-    enum-known-r-2
-    stop-requires-2
+    (λ c. search needs)
+    (λ c κs. search needs)
+    (λ c. search needs)
+    (λ c κs. search needs)
     returns
     keep-named-requires
     opened-requires
     returns-2
-    same-length
+    (λ c. search needs)
     returns-3)

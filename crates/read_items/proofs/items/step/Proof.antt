@@ -10,9 +10,6 @@ use Rattle.read_items.proofs.ItemLaws.{step-end, step-padding, step-ite
 use Rattle.read_items.proofs.items.step.Statement.{statement}
 use Rattle.read_items.proofs.items.step.Tie as tie
 
-ends-here-requires : tie.Need-ends-here-requires
-ends-here-requires c κs = search needs
-
 end-at-requires : tie.Need-end-at-requires
 end-at-requires c κs =
     let at-start = c .before .before .before .before .before .before .before .before in (
@@ -22,21 +19,12 @@ end-at-requires c κs =
           (sym (c .before .if1 .taken) ∙ c .before .before .ends-here .ensures),
     )
 
-same-length : tie.Need-same-length
-same-length c = search needs
-
 returns : tie.Need-returns
 returns c =
     let at-ends-here = c .before .before .before .before .before in
     let at-start = at-ends-here .before .before .before .before .before .before in
     met-by (c .before .before .end-at .ensures _ _ _ (at-start .pre))
     (step-end _ _ (sym (c .before .before .before .before .if1 .taken) ∙ at-ends-here .ends-here .ensures))
-
-pads-at-requires : tie.Need-pads-at-requires
-pads-at-requires c κs = search needs
-
-stop-requires : tie.Need-stop-requires
-stop-requires c κs = search needs
 
 returns-2 : tie.Need-returns-2
 returns-2 c =
@@ -46,25 +34,10 @@ returns-2 c =
     (sym (c .before .before .before .if1 .left) ∙ c .before .before .before .before .ends-here .ensures)
     (sym (not-true _ (c .before .if2 .taken)) ∙ c .before .before .pads-at .ensures)))
 
-add-item-at : tie.Need-add-item-at
-add-item-at c = search needs
-
 item-at-requires : tie.Need-item-at-requires
 item-at-requires c κs =
     let at-start = c .before .before .before .before .before .before .before .before .before .before .before .before .before in
     (at-start .pre, omega arith)
-
-same-length-2 : tie.Need-same-length-2
-same-length-2 c = search needs
-
-same-length-3 : tie.Need-same-length-3
-same-length-3 c = search needs
-
-same-length-4 : tie.Need-same-length-4
-same-length-4 c = search needs
-
-same-length-5 : tie.Need-same-length-5
-same-length-5 c = search needs
 
 returns-3 : tie.Need-returns-3
 returns-3 c =
@@ -80,17 +53,17 @@ pub step-spec : {M : Type 1} → statement M
 step-spec =
     tie.close
     (tie.spec
-    ends-here-requires
+    (λ c κs. search needs)
     end-at-requires
-    same-length
+    (λ c. search needs)
     returns
-    pads-at-requires
-    stop-requires
+    (λ c κs. search needs)
+    (λ c κs. search needs)
     returns-2
-    add-item-at
+    (λ c. search needs)
     item-at-requires
-    same-length-2
-    same-length-3
-    same-length-4
-    same-length-5
+    (λ c. search needs)
+    (λ c. search needs)
+    (λ c. search needs)
+    (λ c. search needs)
     returns-3)

@@ -12,9 +12,6 @@ returns c =
     let at-start = c .before .before .before .before .before in
     (declared-missing _ _ _ (omega arith), (at-start .pre .0 .ten, at-start .pre .0 .room))
 
-shared-slice-read-b : tie.Need-shared-slice-read-b
-shared-slice-read-b c = search needs
-
 returns-2 : tie.Need-returns-2
 returns-2 c =
     let at-start = c .before .before .before .before .before .before .before in
@@ -25,52 +22,16 @@ returns-3 c =
     let at-start = c .before .before .before .before .before .before .before .before in
     (declared-padded _ _ _ (omega arith) (omega arith), (at-start .pre .0 .ten, at-start .pre .0 .room))
 
-bits-requires : tie.Need-bits-requires
-bits-requires c κs = search needs
-
 returns-4 : tie.Need-returns-4
 returns-4 c =
     let at-start = c .before .before .before .before .before .before .before .before .before .before in
     (declared-other _ _ _ (omega arith) (omega arith) _ (c .before .bits .ensures) (omega arith), (at-start .pre .0 .ten, at-start .pre .0 .room))
-
-bits-requires-2 : tie.Need-bits-requires-2
-bits-requires-2 c κs = search needs
-
-add-optional : tie.Need-add-optional
-add-optional c = search needs
-
-optional-requires : tie.Need-optional-requires
-optional-requires c κs = search needs
-
-enum-known-k : tie.Need-enum-known-k
-enum-known-k c = search needs
-
-enum-known-p : tie.Need-enum-known-p
-enum-known-p c = search needs
-
-bits-requires-3 : tie.Need-bits-requires-3
-bits-requires-3 c κs = search needs
 
 optional-requires-2 : tie.Need-optional-requires-2
 optional-requires-2 c κs =
     let at-optional = c .before .before .before .before .before .before .before .before .before .before .before .before .before in
     let first = rw (c .before .before .before .before .before .p .given .1) at (at-optional .optional .ensures) in
     (first .1 .0 .tidy, first .1 .0 .within, omega arith)
-
-enum-known-k-2 : tie.Need-enum-known-k-2
-enum-known-k-2 c = search needs
-
-enum-known-n : tie.Need-enum-known-n
-enum-known-n c = search needs
-
-same-length : tie.Need-same-length
-same-length c = search needs
-
-same-length-2 : tie.Need-same-length-2
-same-length-2 c = search needs
-
-same-length-3 : tie.Need-same-length-3
-same-length-3 c = search needs
 
 returns-5 : tie.Need-returns-5
 returns-5 c =
@@ -85,15 +46,6 @@ returns-5 c =
       declared-prefix _ _ _ (at-if1 .if1 .left) (let z = at-if2 .if2 .left in let y = at-if3 .if3 .left in omega arith) _ (at-bits .bits .ensures) (at-if4 .if4 .left) _ (at-bits2 .bits2 .ensures) _ _ (f .0),
       f .1,
     )
-
-same-length-4 : tie.Need-same-length-4
-same-length-4 c = search needs
-
-same-length-5 : tie.Need-same-length-5
-same-length-5 c = search needs
-
-same-length-6 : tie.Need-same-length-6
-same-length-6 c = search needs
 
 returns-6 : tie.Need-returns-6
 returns-6 c =
@@ -112,15 +64,6 @@ returns-6 c =
       declared-namespace _ _ _ (at-if1 .if1 .left) (let z = at-if2 .if2 .left in let y = at-if3 .if3 .left in omega arith) _ (at-bits .bits .ensures) (at-if4 .if4 .left) _ (at-bits2 .bits2 .ensures) _ (at-bits3 .bits3 .ensures) _ _ _ (first .0) _ _ (f .0),
       f .1,
     )
-
-same-length-7 : tie.Need-same-length-7
-same-length-7 c = search needs
-
-same-length-8 : tie.Need-same-length-8
-same-length-8 c = search needs
-
-same-length-9 : tie.Need-same-length-9
-same-length-9 c = search needs
 
 returns-7 : tie.Need-returns-7
 returns-7 c =
@@ -145,29 +88,29 @@ declared-spec =
     tie.close
     (tie.spec
     returns
-    shared-slice-read-b
+    (λ c. search needs)
     returns-2
     returns-3
-    bits-requires
+    (λ c κs. search needs)
     returns-4
-    bits-requires-2
-    add-optional
-    optional-requires
-    enum-known-k
-    enum-known-p
-    bits-requires-3
+    (λ c κs. search needs)
+    (λ c. search needs)
+    (λ c κs. search needs)
+    (λ c. search needs)
+    (λ c. search needs)
+    (λ c κs. search needs)
     optional-requires-2
-    enum-known-k-2
-    enum-known-n
-    same-length
-    same-length-2
-    same-length-3
+    (λ c. search needs)
+    (λ c. search needs)
+    (λ c. search needs)
+    (λ c. search needs)
+    (λ c. search needs)
     returns-5
-    same-length-4
-    same-length-5
-    same-length-6
+    (λ c. search needs)
+    (λ c. search needs)
+    (λ c. search needs)
     returns-6
-    same-length-7
-    same-length-8
-    same-length-9
+    (λ c. search needs)
+    (λ c. search needs)
+    (λ c. search needs)
     returns-7)

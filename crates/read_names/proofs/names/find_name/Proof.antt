@@ -7,11 +7,5 @@ use Rattle.read_names.proofs.names.find_name.Tie as tie
 returns : tie.Need-returns
 returns c = c .before .before .before .before .pre .5 (c .if1 .taken)
 
-find-name-requires : tie.Need-find-name-requires
-find-name-requires c κs = search needs
-
-returns-2 : tie.Need-returns-2
-returns-2 c = search needs
-
 pub find-name-spec : {M : Type 1} → statement M
-find-name-spec = tie.close (tie.spec returns find-name-requires returns-2)
+find-name-spec = tie.close (tie.spec returns (λ c κs. search needs) (λ c. search needs))

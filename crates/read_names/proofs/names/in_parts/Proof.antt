@@ -8,34 +8,10 @@ use Rattle.tables.specs.Kept.{nameTableOf}
 use Rattle.read_names.proofs.names.in_parts.Statement.{statement}
 use Rattle.read_names.proofs.names.in_parts.Tie as tie
 
-bits-requires : tie.Need-bits-requires
-bits-requires c κs = search needs
-
 returns : tie.Need-returns
 returns c =
     let at-start = c .before .before .before .before .before .before in
     (parts-lone _ _ _ _ _ _ (c .before .bits .ensures) (c .if1 .taken), (at-start .pre .0 .ten, at-start .pre .0 .room), tt)
-
-add-optional : tie.Need-add-optional
-add-optional c = search needs
-
-optional-requires : tie.Need-optional-requires
-optional-requires c κs = search needs
-
-enum-known-first : tie.Need-enum-known-first
-enum-known-first c = search needs
-
-enum-told : tie.Need-enum-told
-enum-told c = search needs
-
-same-length : tie.Need-same-length
-same-length c = search needs
-
-same-length-2 : tie.Need-same-length-2
-same-length-2 c = search needs
-
-same-length-3 : tie.Need-same-length-3
-same-length-3 c = search needs
 
 returns-2 : tie.Need-returns-2
 returns-2 c =
@@ -44,29 +20,11 @@ returns-2 c =
     let f = rw (c .enum-told .given .1) at (c .before .before .before .before .before .before .before .before .optional .ensures) in
     handed _ _ _ _ _ _ _ _ _ _ (parts-prefix _ _ _ _ _ _ (at-bits .bits .ensures) (at-if1 .if1 .left) _ _ (f .0)) (f .1) _ (c .enum-told .given .1)
 
-bits-requires-2 : tie.Need-bits-requires-2
-bits-requires-2 c κs = search needs
-
 optional-requires-2 : tie.Need-optional-requires-2
 optional-requires-2 c κs =
     let at-optional = c .before .before .before .before .before .before .before .before .before .before .before .before .before in
     let first = rw (c .before .before .before .before .before .first .given .1) at (at-optional .optional .ensures) in
     (first .1 .0 .tidy, first .1 .0 .within, omega arith)
-
-enum-known-second : tie.Need-enum-known-second
-enum-known-second c = search needs
-
-enum-told-2 : tie.Need-enum-told-2
-enum-told-2 c = search needs
-
-same-length-4 : tie.Need-same-length-4
-same-length-4 c = search needs
-
-same-length-5 : tie.Need-same-length-5
-same-length-5 c = search needs
-
-same-length-6 : tie.Need-same-length-6
-same-length-6 c = search needs
 
 returns-3 : tie.Need-returns-3
 returns-3 c =
@@ -92,12 +50,6 @@ id-requires c κs =
     let second = rw (c .before .before .before .before .before .second .given .1) at (at-optional2 .optional2 .ensures) in
     (second .1 .0 .tidy, second .1 .0 .within, omega arith)
 
-enum-known-third : tie.Need-enum-known-third
-enum-known-third c = search needs
-
-enum-told-3 : tie.Need-enum-told-3
-enum-told-3 c = search needs
-
 same-length-7 : tie.Need-same-length-7
 same-length-7 c =
     let at-optional2 = c .before .before .before .before .before .before .before .before .before .before .before .before .before .before .before .before .before .before .before .before .before .before in
@@ -109,9 +61,6 @@ same-length-8 c =
     let at-optional2 = c .before .before .before .before .before .before .before .before .before .before .before .before .before .before .before .before .before .before .before .before .before .before in
     let at-optional = at-optional2 .before .before .before .before .before .before .before .before .before .before .before .before .before .before in
     omega (arith, c .before .before .before .before .before .before .before .before .id .kept, at-optional2 .optional2 .kept, at-optional .optional .kept)
-
-same-length-9 : tie.Need-same-length-9
-same-length-9 c = search needs
 
 returns-4 : tie.Need-returns-4
 returns-4 c =
@@ -198,31 +147,31 @@ pub in-parts-spec : {M : Type 1} → statement M
 in-parts-spec =
     tie.close
     (tie.spec
-    bits-requires
+    (λ c κs. search needs)
     returns
-    add-optional
-    optional-requires
-    enum-known-first
-    enum-told
-    same-length
-    same-length-2
-    same-length-3
+    (λ c. search needs)
+    (λ c κs. search needs)
+    (λ c. search needs)
+    (λ c. search needs)
+    (λ c. search needs)
+    (λ c. search needs)
+    (λ c. search needs)
     returns-2
-    bits-requires-2
+    (λ c κs. search needs)
     optional-requires-2
-    enum-known-second
-    enum-told-2
-    same-length-4
-    same-length-5
-    same-length-6
+    (λ c. search needs)
+    (λ c. search needs)
+    (λ c. search needs)
+    (λ c. search needs)
+    (λ c. search needs)
     returns-3
     slice-read-locals
     id-requires
-    enum-known-third
-    enum-told-3
+    (λ c. search needs)
+    (λ c. search needs)
     same-length-7
     same-length-8
-    same-length-9
+    (λ c. search needs)
     returns-4
     triple-requires
     same-length-10

@@ -6,12 +6,6 @@ use Rattle.read_names.proofs.StringLaws.{held-positive, numbers-from-on
 use Rattle.read_names.proofs.names.numbered.Statement.{statement}
 use Rattle.read_names.proofs.names.numbered.Tie as tie
 
-number-requires : tie.Need-number-requires
-number-requires c κs = search needs
-
-held-requires : tie.Need-held-requires
-held-requires c κs = search needs
-
 returns : tie.Need-returns
 returns c =
     let at-number = c .before in
@@ -21,4 +15,4 @@ returns c =
     )
 
 pub numbered-spec : {M : Type 1} → statement M
-numbered-spec = tie.close (tie.spec number-requires held-requires returns)
+numbered-spec = tie.close (tie.spec (λ c κs. search needs) (λ c κs. search needs) returns)

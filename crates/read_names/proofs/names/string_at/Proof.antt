@@ -9,14 +9,8 @@ use Rattle.read_names.proofs.names.string_at.Tie as tie
 returns : tie.Need-returns
 returns c = string-none _ _ _ (omega arith)
 
-sub-string-of : tie.Need-sub-string-of
-sub-string-of c = search needs
-
-string-of-requires : tie.Need-string-of-requires
-string-of-requires c κs = search needs
-
 returns-2 : tie.Need-returns-2
 returns-2 c = string-there _ _ _ _ (omega arith) (c .string-of .ensures)
 
 pub string-at-spec : {M : Type 1} → statement M
-string-at-spec = tie.close (tie.spec returns sub-string-of string-of-requires returns-2)
+string-at-spec = tie.close (tie.spec returns (λ c. search needs) (λ c κs. search needs) returns-2)

@@ -6,12 +6,6 @@ use Rattle.read_names.proofs.NameLaws.{row-is, strings-are}
 use Rattle.read_names.proofs.names.strings_of.Statement.{statement}
 use Rattle.read_names.proofs.names.strings_of.Tie as tie
 
-sub-entry : tie.Need-sub-entry
-sub-entry c = search needs
-
-entry-requires : tie.Need-entry-requires
-entry-requires c κs = search needs
-
 string-at-requires : tie.Need-string-at-requires
 string-at-requires c κs =
     let at-start = c .before .before in
@@ -37,8 +31,8 @@ pub strings-of-spec : {M : Type 1} → statement M
 strings-of-spec =
     tie.close
     (tie.spec
-    sub-entry
-    entry-requires
+    (λ c. search needs)
+    (λ c κs. search needs)
     string-at-requires
     string-at-requires-2
     string-at-requires-3

@@ -8,12 +8,6 @@ use Rattle.tables.specs.Kept.{tripleOf}
 use Rattle.read_names.proofs.names.triple.Statement.{statement}
 use Rattle.read_names.proofs.names.triple.Tie as tie
 
-mul-n : tie.Need-mul-n
-mul-n c = search needs
-
-slice-read-n : tie.Need-slice-read-n
-slice-read-n c = search needs
-
 find-name-requires : tie.Need-find-name-requires
 find-name-requires c κs =
     let at-start = c .before .before .before .before .before .before in
@@ -27,51 +21,15 @@ find-name-requires c κs =
       λ h. words-unnamed (at-start .args .counts .now) (at-start .args .t .now) _ (at-start .pre .1) (tripleOf (at-start .args .x)) (at-start .pre .3) (at-start .pre .4) (at-start .pre .8 h),
     )
 
-same-length : tie.Need-same-length
-same-length c = search needs
-
-same-length-2 : tie.Need-same-length-2
-same-length-2 c = search needs
-
 returns : tie.Need-returns
 returns c =
     let at-start = c .before .before .before .before .before .before .before .before in
     name-held _ _ _ _ _ _ (tripleOf (at-start .args .x)) (at-start .pre .3) (at-start .pre .4) (at-start .pre .1) (at-start .pre .0) (c .before .find-name .ensures) (at-start .args .index .now) (c .if1 .taken)
 
-same-length-3 : tie.Need-same-length-3
-same-length-3 c = search needs
-
-same-length-4 : tie.Need-same-length-4
-same-length-4 c = search needs
-
 returns-2 : tie.Need-returns-2
 returns-2 c =
     let at-start = c .before .before .before .before .before .before .before .before .before in
     name-full _ _ _ _ _ _ (tripleOf (at-start .args .x)) (at-start .pre .3) (at-start .pre .4) (at-start .pre .1) (at-start .pre .0) (c .before .before .find-name .ensures) (c .before .if1 .left) (at-start .args .index .now) (c .if2 .taken)
-
-enter-name-requires : tie.Need-enter-name-requires
-enter-name-requires c κs = search needs
-
-add-counts : tie.Need-add-counts
-add-counts c = search needs
-
-mul-counts : tie.Need-mul-counts
-mul-counts c = search needs
-
-slice-write-counts : tie.Need-slice-write-counts
-slice-write-counts c = search needs
-
-add-t12 : tie.Need-add-t12
-add-t12 c = search needs
-
-same-length-5 : tie.Need-same-length-5
-same-length-5 c = search needs
-
-same-length-6 : tie.Need-same-length-6
-same-length-6 c = search needs
-
-same-length-7 : tie.Need-same-length-7
-same-length-7 c = search needs
 
 returns-3 : tie.Need-returns-3
 returns-3 c =
@@ -83,21 +41,21 @@ pub triple-spec : {M : Type 1} → statement M
 triple-spec =
     tie.close
     (tie.spec
-    mul-n
-    slice-read-n
+    (λ c. search needs)
+    (λ c. search needs)
     find-name-requires
-    same-length
-    same-length-2
+    (λ c. search needs)
+    (λ c. search needs)
     returns
-    same-length-3
-    same-length-4
+    (λ c. search needs)
+    (λ c. search needs)
     returns-2
-    enter-name-requires
-    add-counts
-    mul-counts
-    slice-write-counts
-    add-t12
-    same-length-5
-    same-length-6
-    same-length-7
+    (λ c κs. search needs)
+    (λ c. search needs)
+    (λ c. search needs)
+    (λ c. search needs)
+    (λ c. search needs)
+    (λ c. search needs)
+    (λ c. search needs)
+    (λ c. search needs)
     returns-3)

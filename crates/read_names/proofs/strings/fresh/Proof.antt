@@ -7,15 +7,6 @@ use Rattle.read_names.proofs.StringLaws.{begins, table-small, table-ins
 use Rattle.read_names.proofs.strings.fresh.Statement.{statement}
 use Rattle.read_names.proofs.strings.fresh.Tie as tie
 
-length-requires : tie.Need-length-requires
-length-requires c κs = search needs
-
-enum-known-k : tie.Need-enum-known-k
-enum-known-k c = search needs
-
-enum-known-n : tie.Need-enum-known-n
-enum-known-n c = search needs
-
 sub-if1 : tie.Need-sub-if1
 sub-if1 c = begins _ _ _ 2 _ _ (c .before .before .before .length .ensures) (c .before .n .given .1) .1
 
@@ -36,12 +27,6 @@ returns-2 c =
     let b = begins _ _ _ 2 _ _ (c .before .before .before .before .before .before .before .length .ensures) (c .before .before .before .before .before .n .given .1) in
     fresh-bad _ _ _ _ _ _ (at-start .pre .0) (let l = at-start .pre .1 in omega arith) (at-start .pre .2) _ (c .before .before .before .before .before .before .before .length .ensures) _ _ (c .before .before .before .before .before .n .given .1) _ (omega arith) (c .before .before .mark .ensures .2) (not-true _ (c .if2 .taken))
 
-mul-count : tie.Need-mul-count
-mul-count c = search needs
-
-slice-read-count : tie.Need-slice-read-count
-slice-read-count c = search needs
-
 add-new-requires : tie.Need-add-new-requires
 add-new-requires c κs =
     let at-length = c .before .before .before .before .before .before .before .before .before .before in
@@ -61,44 +46,20 @@ add-new-requires c κs =
       omega arith,
     )
 
-enum-told : tie.Need-enum-told
-enum-told c = search needs
-
-enum-told-2 : tie.Need-enum-told-2
-enum-told-2 c = search needs
-
-enum-told-3 : tie.Need-enum-told-3
-enum-told-3 c = search needs
-
 add-counts : tie.Need-add-counts
 add-counts c =
     let new = rw (c .enum-told3 .given .1) at (c .before .before .before .before .before .before .add-new .ensures) in
     let l = new .1 in omega arith
-
-mul-counts : tie.Need-mul-counts
-mul-counts c = search needs
-
-slice-write-counts : tie.Need-slice-write-counts
-slice-write-counts c = search needs
 
 add-t29 : tie.Need-add-t29
 add-t29 c =
     let new = rw (c .enum-told3 .given .1) at (c .before .before .before .before .before .before .add-new .ensures) in
     let l = new .1 in omega arith
 
-add-t30 : tie.Need-add-t30
-add-t30 c = search needs
-
 returns-3 : tie.Need-returns-3
 returns-3 c =
     let at-start = c .before .before .before .before .before .before .before .before in
     fresh-refused _ _ _ _ _ _ (at-start .pre .0) (let l = at-start .pre .1 in omega arith) (at-start .pre .2) _ (c .before .before .before .length .ensures) _ _ (c .before .k .given .1)
-
-same-length : tie.Need-same-length
-same-length c = search needs
-
-same-length-2 : tie.Need-same-length-2
-same-length-2 c = search needs
 
 returns-4 : tie.Need-returns-4
 returns-4 c =
@@ -110,12 +71,6 @@ returns-4 c =
     let b = begins _ _ _ 2 _ _ (at-length .length .ensures) (at-n .n .given .1) in
     new-known _ _ _ _ _ _ (at-start .pre .0) (let l = at-start .pre .1 in omega arith) (at-start .pre .2) _ (at-length .length .ensures) _ _ (at-n .n .given .1) _ (omega arith) (at-mark .mark .ensures .2) (not-false _ (at-if2 .if2 .left)) _ _ (rw (c .enum-told .given .1) at (c .before .before .before .before .before .before .add-new .ensures))
 
-same-length-3 : tie.Need-same-length-3
-same-length-3 c = search needs
-
-same-length-4 : tie.Need-same-length-4
-same-length-4 c = search needs
-
 returns-5 : tie.Need-returns-5
 returns-5 c =
     let at-if2 = c .before .before .before .before .before .before .before .before .before .before in
@@ -125,15 +80,6 @@ returns-5 c =
     let at-start = at-length .before .before .before .before .before in
     let b = begins _ _ _ 2 _ _ (at-length .length .ensures) (at-n .n .given .1) in
     new-full _ _ _ _ _ _ (at-start .pre .0) (let l = at-start .pre .1 in omega arith) (at-start .pre .2) _ (at-length .length .ensures) _ _ (at-n .n .given .1) _ (omega arith) (at-mark .mark .ensures .2) (not-false _ (at-if2 .if2 .left)) _ _ (rw (c .enum-told2 .given .1) at (c .before .before .before .before .before .before .add-new .ensures))
-
-same-length-5 : tie.Need-same-length-5
-same-length-5 c = search needs
-
-same-length-6 : tie.Need-same-length-6
-same-length-6 c = search needs
-
-same-length-7 : tie.Need-same-length-7
-same-length-7 c = search needs
 
 returns-6 : tie.Need-returns-6
 returns-6 c =
@@ -149,32 +95,32 @@ pub fresh-spec : {M : Type 1} → statement M
 fresh-spec =
     tie.close
     (tie.spec
-    length-requires
-    enum-known-k
-    enum-known-n
+    (λ c κs. search needs)
+    (λ c. search needs)
+    (λ c. search needs)
     sub-if1
     returns
     mark-requires
     returns-2
-    mul-count
-    slice-read-count
+    (λ c. search needs)
+    (λ c. search needs)
     add-new-requires
-    enum-told
-    enum-told-2
-    enum-told-3
+    (λ c. search needs)
+    (λ c. search needs)
+    (λ c. search needs)
     add-counts
-    mul-counts
-    slice-write-counts
+    (λ c. search needs)
+    (λ c. search needs)
     add-t29
-    add-t30
+    (λ c. search needs)
     returns-3
-    same-length
-    same-length-2
+    (λ c. search needs)
+    (λ c. search needs)
     returns-4
-    same-length-3
-    same-length-4
+    (λ c. search needs)
+    (λ c. search needs)
     returns-5
-    same-length-5
-    same-length-6
-    same-length-7
+    (λ c. search needs)
+    (λ c. search needs)
+    (λ c. search needs)
     returns-6)

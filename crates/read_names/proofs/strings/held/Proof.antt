@@ -7,18 +7,6 @@ use Rattle.index.proofs.Counted.{count-at}
 use Rattle.read_names.proofs.strings.held.Statement.{statement}
 use Rattle.read_names.proofs.strings.held.Tie as tie
 
-enum-known-r : tie.Need-enum-known-r
-enum-known-r c = search needs
-
-enum-known-r-2 : tie.Need-enum-known-r-2
-enum-known-r-2 c = search needs
-
-mul-if1 : tie.Need-mul-if1
-mul-if1 c = search needs
-
-shared-slice-read-if1 : tie.Need-shared-slice-read-if1
-shared-slice-read-if1 c = search needs
-
 cast-if1 : tie.Need-cast-if1
 cast-if1 c =
     let at-start = c .before .before .before .before in
@@ -48,10 +36,10 @@ pub held-spec : {M : Type 1} → statement M
 held-spec =
     tie.close
     (tie.spec
-    enum-known-r
-    enum-known-r-2
-    mul-if1
-    shared-slice-read-if1
+    (λ c. search needs)
+    (λ c. search needs)
+    (λ c. search needs)
+    (λ c. search needs)
     cast-if1
     returns
     cast-t12

@@ -7,14 +7,8 @@ use lib.ListN.{List·getD-eq-default}
 use Rattle.read_names.proofs.strings.octet.Statement.{statement}
 use Rattle.read_names.proofs.strings.octet.Tie as tie
 
-shared-slice-read-result : tie.Need-shared-slice-read-result
-shared-slice-read-result c = search needs
-
-returns : tie.Need-returns
-returns c = search needs
-
 returns-2 : tie.Need-returns-2
 returns-2 c = sym (List·getD-eq-default (c .before .args .s .now) 0 {n = c .before .args .at} (omega arith))
 
 pub octet-spec : {M : Type 1} → statement M
-octet-spec = tie.close (tie.spec shared-slice-read-result returns returns-2)
+octet-spec = tie.close (tie.spec (λ c. search needs) (λ c. search needs) returns-2)

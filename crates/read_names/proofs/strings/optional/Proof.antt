@@ -6,18 +6,6 @@ use Rattle.read_names.proofs.StringLaws.{optional-there, optional-absen
 use Rattle.read_names.proofs.strings.optional.Statement.{statement}
 use Rattle.read_names.proofs.strings.optional.Tie as tie
 
-id-requires : tie.Need-id-requires
-id-requires c κs = search needs
-
-same-length : tie.Need-same-length
-same-length c = search needs
-
-same-length-2 : tie.Need-same-length-2
-same-length-2 c = search needs
-
-same-length-3 : tie.Need-same-length-3
-same-length-3 c = search needs
-
 returns : tie.Need-returns
 returns c =
     let at-id = c .before .before .before .before .before .before in
@@ -32,4 +20,4 @@ returns-2 c =
 
 pub optional-spec : {M : Type 1} → statement M
 optional-spec =
-    tie.close (tie.spec id-requires same-length same-length-2 same-length-3 returns returns-2)
+    tie.close (tie.spec (λ c κs. search needs) (λ c. search needs) (λ c. search needs) (λ c. search needs) returns returns-2)

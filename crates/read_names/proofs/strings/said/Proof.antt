@@ -6,12 +6,6 @@ use Rattle.read_names.proofs.StringLaws.{said-number, said-not, said-en
 use Rattle.read_names.proofs.strings.said.Statement.{statement}
 use Rattle.read_names.proofs.strings.said.Tie as tie
 
-enum-known-r : tie.Need-enum-known-r
-enum-known-r c = search needs
-
-enum-known-r-2 : tie.Need-enum-known-r-2
-enum-known-r-2 c = search needs
-
 sub-string-of : tie.Need-sub-string-of
 sub-string-of c = said-number _ _ _ (c .before .r2 .given .1) (c .before .before .before .before .pre .2) .0
 
@@ -30,4 +24,4 @@ returns-2 c = said-entry _ _ _ _ _ _ (c .before .before .r2 .given .1) (c .strin
 pub said-spec : {M : Type 1} → statement M
 said-spec =
     tie.close
-    (tie.spec enum-known-r enum-known-r-2 sub-string-of string-of-requires returns returns-2)
+    (tie.spec (λ c. search needs) (λ c. search needs) sub-string-of string-of-requires returns returns-2)

@@ -7,15 +7,6 @@ use Rattle.read_names.proofs.StringLaws.{stretch-within, spelled-not, s
 use Rattle.read_names.proofs.strings.spelled.Statement.{statement}
 use Rattle.read_names.proofs.strings.spelled.Tie as tie
 
-stretch-requires : tie.Need-stretch-requires
-stretch-requires c κs = search needs
-
-enum-known-k : tie.Need-enum-known-k
-enum-known-k c = search needs
-
-enum-known-n : tie.Need-enum-known-n
-enum-known-n c = search needs
-
 added-requires : tie.Need-added-requires
 added-requires c κs =
     let at-start = c .before .before .before .before .before .before .before .before .before in
@@ -24,12 +15,6 @@ added-requires c κs =
 
 returns : tie.Need-returns
 returns c = λ x bit tidy l read. spelled-not _ _ _ x _ _ tidy (c .before .before .before .before .before .before .before .pre .3) bit _ _ read _ (c .before .before .before .stretch .ensures) _ _ (c .before .k .given .1)
-
-same-length : tie.Need-same-length
-same-length c = search needs
-
-same-length-2 : tie.Need-same-length-2
-same-length-2 c = search needs
 
 returns-2 : tie.Need-returns-2
 returns-2 c =
@@ -42,11 +27,11 @@ pub spelled-spec : {M : Type 1} → statement M
 spelled-spec =
     tie.close
     (tie.spec
-    stretch-requires
-    enum-known-k
-    enum-known-n
+    (λ c κs. search needs)
+    (λ c. search needs)
+    (λ c. search needs)
     added-requires
     returns
-    same-length
-    same-length-2
+    (λ c. search needs)
+    (λ c. search needs)
     returns-2)

@@ -6,12 +6,6 @@ use Rattle.read_names.proofs.StringLaws.{starts-within, stretch-not, st
 use Rattle.read_names.proofs.strings.stretch.Statement.{statement}
 use Rattle.read_names.proofs.strings.stretch.Tie as tie
 
-enum-known-r : tie.Need-enum-known-r
-enum-known-r c = search needs
-
-enum-told : tie.Need-enum-told
-enum-told c = search needs
-
 returns : tie.Need-returns
 returns c = stretch-not _ _ _ _ _ (c .enum-told .given .1)
 
@@ -22,9 +16,6 @@ returns-2 : tie.Need-returns-2
 returns-2 c =
     let w = starts-within _ _ _ _ (c .before .before .r .given .1) (c .before .before .before .before .before .pre) in
     stretch-past _ _ _ _ _ (c .before .before .r .given .1) (omega arith)
-
-add-is-text : tie.Need-add-is-text
-add-is-text c = search needs
 
 is-text-requires : tie.Need-is-text-requires
 is-text-requires c κs =
@@ -45,12 +36,12 @@ pub stretch-spec : {M : Type 1} → statement M
 stretch-spec =
     tie.close
     (tie.spec
-    enum-known-r
-    enum-told
+    (λ c. search needs)
+    (λ c. search needs)
     returns
     sub-if1
     returns-2
-    add-is-text
+    (λ c. search needs)
     is-text-requires
     returns-3
     returns-4)

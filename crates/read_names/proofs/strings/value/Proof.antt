@@ -6,67 +6,32 @@ use Rattle.read_names.proofs.StringLaws.{behind-within, held-positive, 
 use Rattle.read_names.proofs.strings.value.Statement.{statement}
 use Rattle.read_names.proofs.strings.value.Tie as tie
 
-octet-requires : tie.Need-octet-requires
-octet-requires c κs = search needs
-
-add-t11 : tie.Need-add-t11
-add-t11 c = search needs
-
 returns : tie.Need-returns
 returns c = λ x tidy. value-empty _ _ _ x _ _ tidy (c .before .before .before .before .before .pre .5) _ (c .before .octet .ensures) (c .if1 .taken)
-
-bits-requires : tie.Need-bits-requires
-bits-requires c κs = search needs
-
-number-at-bit-2-requires : tie.Need-number-at-bit-2-requires
-number-at-bit-2-requires c κs = search needs
-
-held-requires : tie.Need-held-requires
-held-requires c κs = search needs
 
 said-requires : tie.Need-said-requires
 said-requires c κs =
     let at-start = c .before .before .before .before .before .before .before .before .before .before .before in
     (at-start .pre .0, at-start .pre .5, rw (c .held .ensures) (held-positive _ _ _ _ _ _ (at-start .pre .6) (c .before .number-at-bit-2 .ensures)))
 
-same-length : tie.Need-same-length
-same-length c = search needs
-
-same-length-2 : tie.Need-same-length-2
-same-length-2 c = search needs
-
 returns-2 : tie.Need-returns-2
 returns-2 c =
     let at-start = c .before .before .before .before .before .before .before .before .before .before .before .before in
     λ x tidy. value-held _ _ _ x _ _ tidy (at-start .pre .5) _ (c .before .before .before .before .before .before .before .before .octet .ensures) _ (c .before .before .before .before .before .before .bits .ensures) (c .before .before .before .before .before .before .before .if1 .left) (c .before .before .before .before .before .if2 .taken) _ (c .before .before .number-at-bit-2 .ensures) _ _ (c .before .held .ensures) (c .said .ensures)
-
-bits-requires-2 : tie.Need-bits-requires-2
-bits-requires-2 c κs = search needs
 
 returns-3 : tie.Need-returns-3
 returns-3 c =
     let at-start = c .before .before .before .before .before .before .before .before .before in
     λ x tidy. value-other _ _ _ x _ _ tidy (at-start .pre .5) _ (c .before .before .before .before .before .octet .ensures) _ (c .before .before .before .bits .ensures) (omega arith) (c .before .before .if2 .left) _ (c .before .bits2 .ensures) (c .if3 .taken)
 
-length-requires : tie.Need-length-requires
-length-requires c κs = search needs
-
-bits-requires-3 : tie.Need-bits-requires-3
-bits-requires-3 c κs = search needs
-
 spelled-requires : tie.Need-spelled-requires
 spelled-requires c κs =
     let at-start = c .before .before .before .before .before .before .before .before .before .before .before .before .before in
     (at-start .pre .0, at-start .pre .1, at-start .pre .2, at-start .pre .5, behind-within _ _ _ _ _ _ (c .before .length .ensures))
 
-same-length-3 : tie.Need-same-length-3
-same-length-3 c = search needs
-
-same-length-4 : tie.Need-same-length-4
-same-length-4 c = search needs
-
 returns-4 : tie.Need-returns-4
 returns-4 c =
+    let branch = c .before .before .before .before .before .before .before .before .before .if3 in
     let at-spelled = c .before .before .before .before in
     let at-length = at-spelled .before .before in
     let at-bits2 = at-length .before .before .before .before in
@@ -74,27 +39,27 @@ returns-4 c =
     let at-bits = at-if2 .before in
     let at-octet = at-bits .before .before in
     let at-start = at-octet .before .before .before .before in
-    λ x tidy. value-spelled _ _ _ x _ _ tidy (at-start .pre .5) _ (at-octet .octet .ensures) _ (at-bits .bits .ensures) (omega arith) (at-if2 .if2 .left) _ (at-bits2 .bits2 .ensures) (c .before .before .before .before .before .before .before .before .before .if3 .left) _ (c .before .before .before .before .before .bits3 .ensures) (at-spelled .spelled .result) _ _ (at-spelled .spelled .ensures x 5 tidy (at-start .pre .4) (at-length .length .ensures))
+    λ x tidy. value-spelled _ _ _ x _ _ tidy (at-start .pre .5) _ (at-octet .octet .ensures) _ (at-bits .bits .ensures) (omega arith) (at-if2 .if2 .left) _ (at-bits2 .bits2 .ensures) (branch .left) _ (c .before .before .before .before .before .bits3 .ensures) (at-spelled .spelled .result) _ _ (at-spelled .spelled .ensures x 5 tidy (at-start .pre .4) (at-length .length .ensures))
 
 pub value-spec : {M : Type 1} → statement M
 value-spec =
     tie.close
     (tie.spec
-    octet-requires
-    add-t11
+    (λ c κs. search needs)
+    (λ c. search needs)
     returns
-    bits-requires
-    number-at-bit-2-requires
-    held-requires
+    (λ c κs. search needs)
+    (λ c κs. search needs)
+    (λ c κs. search needs)
     said-requires
-    same-length
-    same-length-2
+    (λ c. search needs)
+    (λ c. search needs)
     returns-2
-    bits-requires-2
+    (λ c κs. search needs)
     returns-3
-    length-requires
-    bits-requires-3
+    (λ c κs. search needs)
+    (λ c κs. search needs)
     spelled-requires
-    same-length-3
-    same-length-4
+    (λ c. search needs)
+    (λ c. search needs)
     returns-4)

@@ -6,15 +6,6 @@ use Rattle.reader.proofs.LaneLaws.{takes-none, takes-chunk, chunk-in-ro
 use Rattle.reader.proofs.lane.chunk.Statement.{statement}
 use Rattle.reader.proofs.lane.chunk.Tie as tie
 
-sub-row-at : tie.Need-sub-row-at
-sub-row-at c = search needs
-
-row-at-requires : tie.Need-row-at-requires
-row-at-requires c κs = search needs
-
-shared-slice-read-if1 : tie.Need-shared-slice-read-if1
-shared-slice-read-if1 c = search needs
-
 returns : tie.Need-returns
 returns c = takes-none (c .before .before .before .before .before .before .before .before .pre .0)
 
@@ -22,12 +13,6 @@ keep-chunk-requires : tie.Need-keep-chunk-requires
 keep-chunk-requires c κs =
     let at-start = c .before .before .before .before .before .before .before .before .before in
     chunk-in-row (at-start .pre .0 .tidied) _ (omega arith)
-
-add-t15 : tie.Need-add-t15
-add-t15 c = search needs
-
-same-length : tie.Need-same-length
-same-length c = search needs
 
 returns-2 : tie.Need-returns-2
 returns-2 c =
@@ -38,11 +23,11 @@ pub chunk-spec : {M : Type 1} → statement M
 chunk-spec =
     tie.close
     (tie.spec
-    sub-row-at
-    row-at-requires
-    shared-slice-read-if1
+    (λ c. search needs)
+    (λ c κs. search needs)
+    (λ c. search needs)
     returns
     keep-chunk-requires
-    add-t15
-    same-length
+    (λ c. search needs)
+    (λ c. search needs)
     returns-2)

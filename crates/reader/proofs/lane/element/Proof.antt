@@ -6,12 +6,6 @@ use Rattle.reader.proofs.LaneLaws.{takes-none, takes-start, name-in-row
 use Rattle.reader.proofs.lane.element.Statement.{statement}
 use Rattle.reader.proofs.lane.element.Tie as tie
 
-row-at-requires : tie.Need-row-at-requires
-row-at-requires c κs = search needs
-
-shared-slice-read-if1 : tie.Need-shared-slice-read-if1
-shared-slice-read-if1 c = search needs
-
 returns : tie.Need-returns
 returns c = takes-none (c .before .before .before .before .before .before .before .before .pre .0)
 
@@ -25,15 +19,6 @@ keep-start-requires c κs =
     let at-start = c .before .before .before .before .before .before .before .before .before .before .before in
     name-in-row (at-start .pre .0 .tidied) _ (omega arith)
 
-add-t14 : tie.Need-add-t14
-add-t14 c = search needs
-
-add-t15 : tie.Need-add-t15
-add-t15 c = search needs
-
-same-length : tie.Need-same-length
-same-length c = search needs
-
 returns-3 : tie.Need-returns-3
 returns-3 c =
     let at-keep-start = c .before .before .before .before in
@@ -45,12 +30,12 @@ pub element-spec : {M : Type 1} → statement M
 element-spec =
     tie.close
     (tie.spec
-    row-at-requires
-    shared-slice-read-if1
+    (λ c κs. search needs)
+    (λ c. search needs)
     returns
     returns-2
     keep-start-requires
-    add-t14
-    add-t15
-    same-length
+    (λ c. search needs)
+    (λ c. search needs)
+    (λ c. search needs)
     returns-3)

@@ -34,15 +34,6 @@ item-requires c κs =
     let few : at-loop .loop .lane .n < 65536 = omega arith in
     record { tidied = at-loop .loop .inv .3 .onward .tidied; more = c .before .before .before .before .before .if1 .taken; inside = at-loop .loop .inv .3 .inside; few = few }
 
-same-length : tie.Need-same-length Inv-loop μ-loop
-same-length c = omega arith
-
-same-length-2 : tie.Need-same-length-2 Inv-loop μ-loop
-same-length-2 c = omega arith
-
-same-length-3 : tie.Need-same-length-3 Inv-loop μ-loop
-same-length-3 c = omega arith
-
 returns : tie.Need-returns Inv-loop μ-loop
 returns c =
     let at-if2 = c .before .before .before .before .before .before .before .before .before .before .before .before in
@@ -66,26 +57,8 @@ loop-again c =
     let at-loop = at-if2 .before .before .before .before in
     (omega arith, omega arith, omega arith, skims-then (at-loop .loop .inv .3) (ltb-true _ _ (at-if2 .if2 .taken)) (c .before .before .before .before .before .before .before .before .item .ensures))
 
-same-length-4 : tie.Need-same-length-4 Inv-loop μ-loop
-same-length-4 c = omega arith
-
-same-length-5 : tie.Need-same-length-5 Inv-loop μ-loop
-same-length-5 c = omega arith
-
-same-length-6 : tie.Need-same-length-6 Inv-loop μ-loop
-same-length-6 c = omega arith
-
 returns-2 : tie.Need-returns-2 Inv-loop μ-loop
 returns-2 c = c .before .before .before .before .loop .inv .3
-
-same-length-7 : tie.Need-same-length-7 Inv-loop μ-loop
-same-length-7 c = omega arith
-
-same-length-8 : tie.Need-same-length-8 Inv-loop μ-loop
-same-length-8 c = omega arith
-
-same-length-9 : tie.Need-same-length-9 Inv-loop μ-loop
-same-length-9 c = omega arith
 
 returns-3 : tie.Need-returns-3 Inv-loop μ-loop
 returns-3 c = c .before .before .loop .inv .3
@@ -99,17 +72,17 @@ items-spec =
     loop-holds
     add-if1
     item-requires
-    same-length
-    same-length-2
-    same-length-3
+    (λ c. omega arith)
+    (λ c. omega arith)
+    (λ c. omega arith)
     returns
     loop-less
     loop-again
-    same-length-4
-    same-length-5
-    same-length-6
+    (λ c. omega arith)
+    (λ c. omega arith)
+    (λ c. omega arith)
     returns-2
-    same-length-7
-    same-length-8
-    same-length-9
+    (λ c. omega arith)
+    (λ c. omega arith)
+    (λ c. omega arith)
     returns-3)

@@ -8,20 +8,8 @@ use Rattle.reader.proofs.LaneLaws.{enters-is, advances-none, advances-l
 use Rattle.reader.proofs.lane.skim.Statement.{statement}
 use Rattle.reader.proofs.lane.skim.Tie as tie
 
-enters-requires : tie.Need-enters-requires
-enters-requires c κs = search needs
-
 returns : tie.Need-returns
 returns c = advances-none _ _ (c .before .before .before .before .before .before .pre .1)
-
-add-least : tie.Need-add-least
-add-least c = omega arith
-
-sub-least : tie.Need-sub-least
-sub-least c = omega arith
-
-least-requires : tie.Need-least-requires
-least-requires c κs = search needs
 
 items-requires : tie.Need-items-requires
 items-requires c κs =
@@ -32,15 +20,6 @@ mul-t14 : tie.Need-mul-t14
 mul-t14 c =
     let h = c .before .before .before .before .before .before .before .items .ensures .near in
     omega arith
-
-same-length : tie.Need-same-length
-same-length c = search needs
-
-same-length-2 : tie.Need-same-length-2
-same-length-2 c = search needs
-
-same-length-3 : tie.Need-same-length-3
-same-length-3 c = search needs
 
 returns-2 : tie.Need-returns-2
 returns-2 c =
@@ -56,14 +35,14 @@ pub skim-spec : {M : Type 1} → statement M
 skim-spec =
     tie.close
     (tie.spec
-    enters-requires
+    (λ c κs. search needs)
     returns
-    add-least
-    sub-least
-    least-requires
+    (λ c. omega arith)
+    (λ c. omega arith)
+    (λ c κs. search needs)
     items-requires
     mul-t14
-    same-length
-    same-length-2
-    same-length-3
+    (λ c. search needs)
+    (λ c. search needs)
+    (λ c. search needs)
     returns-2)

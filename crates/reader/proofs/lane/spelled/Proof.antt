@@ -12,20 +12,8 @@ use Rattle.reader.proofs.lane.spelled.Tie as tie
 returns : tie.Need-returns
 returns c = takes-none (c .before .before .before .before .before .pre .0)
 
-bits-requires : tie.Need-bits-requires
-bits-requires c κs = search needs
-
 returns-2 : tie.Need-returns-2
 returns-2 c = takes-none (c .before .before .before .before .before .before .before .pre .0)
-
-length-requires : tie.Need-length-requires
-length-requires c κs = search needs
-
-enum-known-length : tie.Need-enum-known-length
-enum-known-length c = search needs
-
-enum-told : tie.Need-enum-told
-enum-told c = search needs
 
 returns-3 : tie.Need-returns-3
 returns-3 c =
@@ -43,9 +31,6 @@ returns-4 : tie.Need-returns-4
 returns-4 c =
     let at-start = c .before .before .before .before .before .before .before .before .before .before .before .before in
     takes-none (at-start .pre .0)
-
-add-is-text : tie.Need-add-is-text
-add-is-text c = search needs
 
 is-text-requires : tie.Need-is-text-requires
 is-text-requires c κs =
@@ -66,21 +51,6 @@ cast-added c =
     let z = at-start .pre .0 .tidied .tidy .size in
     omega arith
 
-cast-added-2 : tie.Need-cast-added-2
-cast-added-2 c = search needs
-
-bits-requires-2 : tie.Need-bits-requires-2
-bits-requires-2 c κs = search needs
-
-added-requires : tie.Need-added-requires
-added-requires c κs = search needs
-
-same-length : tie.Need-same-length
-same-length c = search needs
-
-same-length-2 : tie.Need-same-length-2
-same-length-2 c = search needs
-
 returns-6 : tie.Need-returns-6
 returns-6 c =
     let at-added = c .before .before .before .before .before in
@@ -96,15 +66,6 @@ cast-t23 c =
     let z = at-start .pre .0 .tidied .tidy .size in
     omega arith
 
-cast-t24 : tie.Need-cast-t24
-cast-t24 c = search needs
-
-chunk-requires : tie.Need-chunk-requires
-chunk-requires c κs = search needs
-
-keep-requires : tie.Need-keep-requires
-keep-requires c κs = search needs
-
 add-t16 : tie.Need-add-t16
 add-t16 c =
     let at-length2 = c .before .before .before .before .before .before .before .before .before .before .before .before .before .before .before .before .before .before in
@@ -119,15 +80,6 @@ add-t17 c =
     let at-start = c .before .before .before .before .before .before .before .before .before .before .before .before .before .before .before .before .before .before .before .before .before .before .before .before .before .before .before .before .before in
     let f = at-start .pre .0 .few in
     omega arith
-
-same-length-3 : tie.Need-same-length-3
-same-length-3 c = search needs
-
-same-length-4 : tie.Need-same-length-4
-same-length-4 c = search needs
-
-same-length-5 : tie.Need-same-length-5
-same-length-5 c = search needs
 
 returns-7 : tie.Need-returns-7
 returns-7 c =
@@ -152,31 +104,31 @@ spelled-spec =
     tie.close
     (tie.spec
     returns
-    bits-requires
+    (λ c κs. search needs)
     returns-2
-    length-requires
-    enum-known-length
-    enum-told
+    (λ c κs. search needs)
+    (λ c. search needs)
+    (λ c. search needs)
     returns-3
     sub-if3
     returns-4
-    add-is-text
+    (λ c. search needs)
     is-text-requires
     returns-5
     cast-added
-    cast-added-2
-    bits-requires-2
-    added-requires
-    same-length
-    same-length-2
+    (λ c. search needs)
+    (λ c κs. search needs)
+    (λ c κs. search needs)
+    (λ c. search needs)
+    (λ c. search needs)
     returns-6
     cast-t23
-    cast-t24
-    chunk-requires
-    keep-requires
+    (λ c. search needs)
+    (λ c κs. search needs)
+    (λ c κs. search needs)
     add-t16
     add-t17
-    same-length-3
-    same-length-4
-    same-length-5
+    (λ c. search needs)
+    (λ c. search needs)
+    (λ c. search needs)
     returns-7)

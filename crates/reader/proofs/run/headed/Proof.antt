@@ -18,20 +18,8 @@ abbrev μ-loop : tie.MeasureT-loop
 loop-holds : tie.Need-loop-holds Inv-loop μ-loop
 loop-holds c = (omega arith, omega arith, headed-start (c .args .s .now))
 
-shared-slice-read-if1 : tie.Need-shared-slice-read-if1 Inv-loop μ-loop
-shared-slice-read-if1 c = omega arith
-
-array-read-if1 : tie.Need-array-read-if1 Inv-loop μ-loop
-array-read-if1 c = omega arith
-
 returns : tie.Need-returns Inv-loop μ-loop
 returns c = headed-differs (c .before .before .before .before .args .s .now) (c .before .before .before .loop .i) _ (omega arith) (omega arith) (c .before .before .before .loop .inv .2) (c .if1 .taken)
-
-add-i : tie.Need-add-i Inv-loop μ-loop
-add-i c = omega arith
-
-loop-less : tie.Need-loop-less Inv-loop μ-loop
-loop-less c = omega arith
 
 loop-again : tie.Need-loop-again Inv-loop μ-loop
 loop-again c = (omega arith, omega arith, headed-next (c .before .before .before .before .args .s .now) (c .before .before .before .loop .i) _ (omega arith) (omega arith) (c .before .before .before .loop .inv .2) (c .if1 .left))
@@ -46,10 +34,10 @@ headed-spec =
     Inv-loop
     μ-loop
     loop-holds
-    shared-slice-read-if1
-    array-read-if1
+    (λ c. omega arith)
+    (λ c. omega arith)
     returns
-    add-i
-    loop-less
+    (λ c. omega arith)
+    (λ c. omega arith)
     loop-again
     returns-2)

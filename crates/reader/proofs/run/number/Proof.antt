@@ -8,12 +8,6 @@ use Rattle.reader.proofs.RunLaws.{small-refused}
 use Rattle.reader.proofs.run.number.Statement.{statement}
 use Rattle.reader.proofs.run.number.Tie as tie
 
-enum-told : tie.Need-enum-told
-enum-told c = search needs
-
-enum-known-a : tie.Need-enum-known-a
-enum-known-a c = search needs
-
 mul-result : tie.Need-mul-result
 mul-result c = let z = small-refused (c .before .a .given .1) (c .before .before .before .pre) in omega arith
 
@@ -27,4 +21,4 @@ returns-2 : tie.Need-returns-2
 returns-2 c = sym (ap answerNumber (c .before .a .given .1))
 
 pub number-spec : {M : Type 1} → statement M
-number-spec = tie.close (tie.spec enum-told enum-known-a mul-result add-result returns returns-2)
+number-spec = tie.close (tie.spec (λ c. search needs) (λ c. search needs) mul-result add-result returns returns-2)

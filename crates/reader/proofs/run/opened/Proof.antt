@@ -8,26 +8,17 @@ use Rattle.reader.proofs.RunLaws.{open-size, open-short, open-other, op
 use Rattle.reader.proofs.run.opened.Statement.{statement}
 use Rattle.reader.proofs.run.opened.Tie as tie
 
-sized-requires : tie.Need-sized-requires
-sized-requires c κs = search needs
-
 returns : tie.Need-returns
 returns c = open-size _ (sym (not-true _ (c .if1 .taken)) ∙ c .before .sized .ensures)
 
 returns-2 : tie.Need-returns-2
 returns-2 c = open-short _ (sym (not-false _ (c .before .if1 .left)) ∙ c .before .before .sized .ensures) (omega arith)
 
-headed-requires : tie.Need-headed-requires
-headed-requires c κs = search needs
-
 returns-3 : tie.Need-returns-3
 returns-3 c = open-other _ (sym (not-false _ (c .before .before .before .if1 .left)) ∙ c .before .before .before .before .sized .ensures) (omega arith) (sym (not-true _ (c .if3 .taken)) ∙ c .before .headed .ensures)
 
 returns-4 : tie.Need-returns-4
 returns-4 c = open-four _ (sym (not-false _ (c .before .before .before .before .if1 .left)) ∙ c .before .before .before .before .before .sized .ensures) (omega arith) (sym (not-false _ (c .before .if3 .left)) ∙ c .before .before .headed .ensures) (omega arith)
-
-shared-slice-read-o : tie.Need-shared-slice-read-o
-shared-slice-read-o c = search needs
 
 returns-5 : tie.Need-returns-5
 returns-5 c =
@@ -51,13 +42,13 @@ pub opened-spec : {M : Type 1} → statement M
 opened-spec =
     tie.close
     (tie.spec
-    sized-requires
+    (λ c κs. search needs)
     returns
     returns-2
-    headed-requires
+    (λ c κs. search needs)
     returns-3
     returns-4
-    shared-slice-read-o
+    (λ c. search needs)
     returns-5
     returns-6
     returns-7)

@@ -7,17 +7,8 @@ use borrow.Author.Needs.{needs}
 use Rattle.reader.proofs.run.reading.Statement.{statement}
 use Rattle.reader.proofs.run.reading.Tie as tie
 
-opened-requires : tie.Need-opened-requires
-opened-requires c κs = search needs
-
-enum-known-k : tie.Need-enum-known-k
-enum-known-k c = search needs
-
 refused-requires : tie.Need-refused-requires
 refused-requires c κs = opens _ _ (sym (ap openingOf (c .before .k .given .1)) ∙ c .before .before .before .opened .ensures) .1
-
-enum-known-body : tie.Need-enum-known-body
-enum-known-body c = search needs
 
 steps-requires : tie.Need-steps-requires
 steps-requires c κs =
@@ -27,15 +18,6 @@ steps-requires c κs =
 
 returns : tie.Need-returns
 returns c = ran-halt _ (sym (ap openingOf (c .before .before .k .given .1)) ∙ c .before .before .before .before .opened .ensures) (c .refused .ensures)
-
-same-length : tie.Need-same-length
-same-length c = search needs
-
-same-length-2 : tie.Need-same-length-2
-same-length-2 c = search needs
-
-same-length-3 : tie.Need-same-length-3
-same-length-3 c = search needs
 
 returns-2 : tie.Need-returns-2
 returns-2 c =
@@ -47,13 +29,13 @@ pub reading-spec : {M : Type 1} → statement M
 reading-spec =
     tie.close
     (tie.spec
-    opened-requires
-    enum-known-k
+    (λ c κs. search needs)
+    (λ c. search needs)
     refused-requires
-    enum-known-body
+    (λ c. search needs)
     steps-requires
     returns
-    same-length
-    same-length-2
-    same-length-3
+    (λ c. search needs)
+    (λ c. search needs)
+    (λ c. search needs)
     returns-2)

@@ -17,20 +17,8 @@ Inv-loop s t₀ counts₀ records₀ room body index₀ st₀ n₀ left₀ t cou
 abbrev μ-loop : tie.MeasureT-loop
 μ-loop s t₀ counts₀ records₀ room body index₀ st₀ n₀ left₀ t counts records index st n left = left
 
-start-requires : tie.Need-start-requires Inv-loop μ-loop
-start-requires c κs = search needs
-
 put-counts-requires : tie.Need-put-counts-requires Inv-loop μ-loop
 put-counts-requires c κs = c .before .before .before .before .before .before .pre .3
-
-begin-requires : tie.Need-begin-requires Inv-loop μ-loop
-begin-requires c κs = omega arith
-
-mul-left : tie.Need-mul-left Inv-loop μ-loop
-mul-left c = omega arith
-
-add-left : tie.Need-add-left Inv-loop μ-loop
-add-left c = omega arith
 
 loop-holds : tie.Need-loop-holds Inv-loop μ-loop
 loop-holds c =
@@ -63,17 +51,11 @@ sub-left-2 c =
     let h = c .before .before .before .before .before .before .before .skim .ensures .short in
     omega arith
 
-slice-aggregate-step : tie.Need-slice-aggregate-step Inv-loop μ-loop
-slice-aggregate-step c = search needs
-
 step-requires : tie.Need-step-requires Inv-loop μ-loop
 step-requires c κs =
     let at-skim = c .before .before .before .before .before .before .before .before .before .before .before in
     let at-loop = at-skim .before .before .before .before .before in
     at-skim .skim .ensures .goes (at-loop .loop .inv .2) .good
-
-enum-known-next : tie.Need-enum-known-next Inv-loop μ-loop
-enum-known-next c = search needs
 
 refused-requires : tie.Need-refused-requires Inv-loop μ-loop
 refused-requires c κs =
@@ -154,9 +136,6 @@ loop-again c =
     let q = at-step .step .kept in
     (omega arith, omega arith, underway-more u (omega arith) (at-step .step .ensures) (c .before .before .next .given .1) (c .if1 .left) (omega arith))
 
-enum-known-next-2 : tie.Need-enum-known-next-2 Inv-loop μ-loop
-enum-known-next-2 c = search needs
-
 loop-less-2 : tie.Need-loop-less-2 Inv-loop μ-loop
 loop-less-2 c =
     let at-skim = c .before .before .before .before .before .before .before .before .before .before .before .before .before .before .before .before .before .before .before .before .before .before in
@@ -175,9 +154,6 @@ loop-again-2 c =
     let k = at-skim .skim .kept in
     let q = at-step .step .kept in
     (omega arith, omega arith, underway-quiet u (omega arith) (at-step .step .ensures) (c .before .next2 .given .1) (omega arith))
-
-enum-told : tie.Need-enum-told Inv-loop μ-loop
-enum-told c = search needs
 
 cast-t42 : tie.Need-cast-t42 Inv-loop μ-loop
 cast-t42 c =
@@ -229,9 +205,6 @@ returns-2 c =
     let u = at-skim .skim .ensures .goes (at-loop .loop .inv .2) in
     let h = at-skim .skim .ensures .short in
     ran-done u (omega arith) (at-step .step .ensures) (c .enum-told .given .1)
-
-enum-known-stopped : tie.Need-enum-known-stopped Inv-loop μ-loop
-enum-known-stopped c = search needs
 
 cast-refused : tie.Need-cast-refused Inv-loop μ-loop
 cast-refused c =
@@ -322,19 +295,19 @@ steps-spec =
     (tie.spec
     Inv-loop
     μ-loop
-    start-requires
+    (λ c κs. search needs)
     put-counts-requires
-    begin-requires
-    mul-left
-    add-left
+    (λ c κs. omega arith)
+    (λ c. omega arith)
+    (λ c. omega arith)
     loop-holds
     skim-requires
     add-left-2
     sub-left
     sub-left-2
-    slice-aggregate-step
+    (λ c. search needs)
     step-requires
-    enum-known-next
+    (λ c. search needs)
     refused-requires
     same-length
     same-length-2
@@ -343,16 +316,16 @@ steps-spec =
     add-n
     loop-less
     loop-again
-    enum-known-next-2
+    (λ c. search needs)
     loop-less-2
     loop-again-2
-    enum-told
+    (λ c. search needs)
     cast-t42
     same-length-4
     same-length-5
     same-length-6
     returns-2
-    enum-known-stopped
+    (λ c. search needs)
     cast-refused
     refused-requires-2
     same-length-7

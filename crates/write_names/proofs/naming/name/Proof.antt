@@ -7,35 +7,17 @@ use Rattle.write_names.proofs.NameLaws.{names-ready, name-found, name-f
 use Rattle.write_names.proofs.naming.name.Statement.{statement}
 use Rattle.write_names.proofs.naming.name.Tie as tie
 
-number-of-requires : tie.Need-number-of-requires
-number-of-requires c κs = search needs
-
-number-of-requires-2 : tie.Need-number-of-requires-2
-number-of-requires-2 c κs = search needs
-
-number-of-requires-3 : tie.Need-number-of-requires-3
-number-of-requires-3 c κs = search needs
-
-slice-read-number-then : tie.Need-slice-read-number-then
-slice-read-number-then c = search needs
-
 number-then-requires : tie.Need-number-then-requires
 number-then-requires c κs =
     let at-start = c .before .before .before .before .before .before .before .before .before .before .before .before .before .before .before .before .before .before in
     let few = counted-at _ _ _ _ 0 (at-start .pre .0) in
     omega arith
 
-slice-read-number-then-2 : tie.Need-slice-read-number-then-2
-slice-read-number-then-2 c = search needs
-
 number-then-requires-2 : tie.Need-number-then-requires-2
 number-then-requires-2 c κs =
     let at-start = c .before .before .before .before .before .before .before .before .before .before .before .before .before .before .before .before .before .before .before .before in
     let few = counted-at _ _ _ _ 1 (at-start .pre .0) in
     omega arith
-
-slice-read-number-then-3 : tie.Need-slice-read-number-then-3
-slice-read-number-then-3 c = search needs
 
 number-then-requires-3 : tie.Need-number-then-requires-3
 number-then-requires-3 c κs =
@@ -69,18 +51,6 @@ put-name-number-requires c κs =
     let few = name-few _ _ _ _ (at-start .pre .0) (at-start .args .name) proper (at-number-of .number-of .ensures) (at-number-of2 .number-of2 .ensures) (at-number-of3 .number-of3 .ensures) (at-number-then .number-then .ensures) (c .before .before .before .before .before .before .before .before .number-then2 .ensures) (c .before .before .before .before .before .before .number-then3 .ensures) (c .before .before .find-name .ensures) in
     omega arith
 
-same-length : tie.Need-same-length
-same-length c = search needs
-
-same-length-2 : tie.Need-same-length-2
-same-length-2 c = search needs
-
-same-length-3 : tie.Need-same-length-3
-same-length-3 c = search needs
-
-same-length-4 : tie.Need-same-length-4
-same-length-4 c = search needs
-
 returns : tie.Need-returns
 returns c =
     let at-number-then3 = c .before .before .before .before .before .before .before .before .before in
@@ -106,46 +76,31 @@ parts-requires c κs =
     let none = c .before .before .before .before .if1 .left in
     (at-start .pre .0, at-start .pre .1, name-new _ _ _ _ (at-start .pre .0) (at-start .args .name) proper (at-number-of .number-of .ensures) (at-number-of2 .number-of2 .ensures) (at-number-of3 .number-of3 .ensures) (at-number-then .number-then .ensures) (at-number-then2 .number-then2 .ensures) (at-number-then3 .number-then3 .ensures) (c .before .before .before .before .before .find-name .ensures) (omega (arith, none)), proper)
 
-same-length-5 : tie.Need-same-length-5
-same-length-5 c = search needs
-
-same-length-6 : tie.Need-same-length-6
-same-length-6 c = search needs
-
-same-length-7 : tie.Need-same-length-7
-same-length-7 c = search needs
-
-same-length-8 : tie.Need-same-length-8
-same-length-8 c = search needs
-
-returns-2 : tie.Need-returns-2
-returns-2 c = search needs
-
 pub name-spec : {M : Type 1} → statement M
 name-spec =
     tie.close
     (tie.spec
-    number-of-requires
-    number-of-requires-2
-    number-of-requires-3
-    slice-read-number-then
+    (λ c κs. search needs)
+    (λ c κs. search needs)
+    (λ c κs. search needs)
+    (λ c. search needs)
     number-then-requires
-    slice-read-number-then-2
+    (λ c. search needs)
     number-then-requires-2
-    slice-read-number-then-3
+    (λ c. search needs)
     number-then-requires-3
     mul-find-name
     slice-read-find-name
     find-name-requires
     put-name-number-requires
-    same-length
-    same-length-2
-    same-length-3
-    same-length-4
+    (λ c. search needs)
+    (λ c. search needs)
+    (λ c. search needs)
+    (λ c. search needs)
     returns
     parts-requires
-    same-length-5
-    same-length-6
-    same-length-7
-    same-length-8
-    returns-2)
+    (λ c. search needs)
+    (λ c. search needs)
+    (λ c. search needs)
+    (λ c. search needs)
+    (λ c. search needs))

@@ -9,14 +9,8 @@ use Rattle.write_names.proofs.naming.number_then.Tie as tie
 returns : tie.Need-returns
 returns c = then-held _ _ _ (omega arith)
 
-tag-requires : tie.Need-tag-requires
-tag-requires c κs = search needs
-
 returns-2 : tie.Need-returns-2
 returns-2 c = then-absent _ _ _ (omega arith) (omega arith)
-
-add-result : tie.Need-add-result
-add-result c = search needs
 
 returns-3 : tie.Need-returns-3
 returns-3 c = then-next _ _ _ (omega arith) (omega arith)
@@ -26,7 +20,7 @@ number-then-spec =
     tie.close
     (tie.spec
     returns
-    tag-requires
+    (λ c κs. search needs)
     returns-2
-    add-result
+    (λ c. search needs)
     returns-3)

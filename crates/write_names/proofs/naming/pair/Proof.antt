@@ -6,34 +6,10 @@ use Rattle.write_names.proofs.NameLaws.{pair-full, pair-looked, pair-be
 use Rattle.write_names.proofs.naming.pair.Statement.{statement}
 use Rattle.write_names.proofs.naming.pair.Tie as tie
 
-put-requires : tie.Need-put-requires
-put-requires c κs = search needs
-
-add-optional : tie.Need-add-optional
-add-optional c = search needs
-
 optional-requires : tie.Need-optional-requires
 optional-requires c κs =
     let at-start = c .before .before .before .before .before .before .before .before .before .before .before .before .before .before .before in
     (at-start .pre .0, omega arith, at-start .pre .4)
-
-enum-known-behind : tie.Need-enum-known-behind
-enum-known-behind c = search needs
-
-enum-told : tie.Need-enum-told
-enum-told c = search needs
-
-same-length : tie.Need-same-length
-same-length c = search needs
-
-same-length-2 : tie.Need-same-length-2
-same-length-2 c = search needs
-
-same-length-3 : tie.Need-same-length-3
-same-length-3 c = search needs
-
-same-length-4 : tie.Need-same-length-4
-same-length-4 c = search needs
 
 returns : tie.Need-returns
 returns c =
@@ -51,18 +27,6 @@ optional-requires-2 c κs =
     let looked = pair-looked _ _ _ _ (at-start .pre .0) _ _ _ (stands .order) _ (at-start .args .x .namespace) (at-start .pre .3) (stands .tables) (at-start .pre .5) in
     (stands .order, omega arith, looked)
 
-same-length-5 : tie.Need-same-length-5
-same-length-5 c = search needs
-
-same-length-6 : tie.Need-same-length-6
-same-length-6 c = search needs
-
-same-length-7 : tie.Need-same-length-7
-same-length-7 c = search needs
-
-same-length-8 : tie.Need-same-length-8
-same-length-8 c = search needs
-
 returns-2 : tie.Need-returns-2
 returns-2 c =
     let at-optional2 = c .before .before .before .before .before .before .before .before in
@@ -79,19 +43,19 @@ pub pair-spec : {M : Type 1} → statement M
 pair-spec =
     tie.close
     (tie.spec
-    put-requires
-    add-optional
+    (λ c κs. search needs)
+    (λ c. search needs)
     optional-requires
-    enum-known-behind
-    enum-told
-    same-length
-    same-length-2
-    same-length-3
-    same-length-4
+    (λ c. search needs)
+    (λ c. search needs)
+    (λ c. search needs)
+    (λ c. search needs)
+    (λ c. search needs)
+    (λ c. search needs)
     returns
     optional-requires-2
-    same-length-5
-    same-length-6
-    same-length-7
-    same-length-8
+    (λ c. search needs)
+    (λ c. search needs)
+    (λ c. search needs)
+    (λ c. search needs)
     returns-2)

@@ -8,51 +8,12 @@ use Rattle.write_names.proofs.NameLaws.{triple-new, local-held, parts-f
 use Rattle.write_names.proofs.naming.parts.Statement.{statement}
 use Rattle.write_names.proofs.naming.parts.Tie as tie
 
-in-parts-requires : tie.Need-in-parts-requires
-in-parts-requires c κs = search needs
-
-add-t20 : tie.Need-add-t20
-add-t20 c = search needs
-
-has-requires : tie.Need-has-requires
-has-requires c κs = search needs
-
-mul-t22 : tie.Need-mul-t22
-mul-t22 c = search needs
-
-add-t23 : tie.Need-add-t23
-add-t23 c = search needs
-
-has-requires-2 : tie.Need-has-requires-2
-has-requires-2 c κs = search needs
-
-add-t25 : tie.Need-add-t25
-add-t25 c = search needs
-
 pair-requires : tie.Need-pair-requires
 unfolding tableOf
 pair-requires c κs =
     let at-start = c .before .before .before .before .before .before .before .before .before .before .before .before .before .before .before in
     let held = at-start .pre .2 .held in
     (at-start .pre .0, at-start .pre .1, refl, refl, (omega arith, at-start .pre .3 .3, held .prefix, held .few .0), (omega arith, at-start .pre .3 .4, held .namespace, held .few .1))
-
-enum-known-behind : tie.Need-enum-known-behind
-enum-known-behind c = search needs
-
-enum-told : tie.Need-enum-told
-enum-told c = search needs
-
-same-length : tie.Need-same-length
-same-length c = search needs
-
-same-length-2 : tie.Need-same-length-2
-same-length-2 c = search needs
-
-same-length-3 : tie.Need-same-length-3
-same-length-3 c = search needs
-
-same-length-4 : tie.Need-same-length-4
-same-length-4 c = search needs
 
 returns : tie.Need-returns
 returns c =
@@ -69,24 +30,6 @@ id-requires c κs =
     let few = stands .few in
     let held = at-start .pre .2 .held in
     (stands .order, omega arith, at-start .pre .3 .6, (omega arith, at-start .pre .3 .5, local-held _ _ _ _ (stands .order) _ _ _ _ _ _ (stands .tables) (held .local), held .few .2))
-
-enum-known-next : tie.Need-enum-known-next
-enum-known-next c = search needs
-
-enum-told-2 : tie.Need-enum-told-2
-enum-told-2 c = search needs
-
-same-length-5 : tie.Need-same-length-5
-same-length-5 c = search needs
-
-same-length-6 : tie.Need-same-length-6
-same-length-6 c = search needs
-
-same-length-7 : tie.Need-same-length-7
-same-length-7 c = search needs
-
-same-length-8 : tie.Need-same-length-8
-same-length-8 c = search needs
 
 returns-2 : tie.Need-returns-2
 returns-2 c =
@@ -157,28 +100,28 @@ pub parts-spec : {M : Type 1} → statement M
 parts-spec =
     tie.close
     (tie.spec
-    in-parts-requires
-    add-t20
-    has-requires
-    mul-t22
-    add-t23
-    has-requires-2
-    add-t25
+    (λ c κs. search needs)
+    (λ c. search needs)
+    (λ c κs. search needs)
+    (λ c. search needs)
+    (λ c. search needs)
+    (λ c κs. search needs)
+    (λ c. search needs)
     pair-requires
-    enum-known-behind
-    enum-told
-    same-length
-    same-length-2
-    same-length-3
-    same-length-4
+    (λ c. search needs)
+    (λ c. search needs)
+    (λ c. search needs)
+    (λ c. search needs)
+    (λ c. search needs)
+    (λ c. search needs)
     returns
     id-requires
-    enum-known-next
-    enum-told-2
-    same-length-5
-    same-length-6
-    same-length-7
-    same-length-8
+    (λ c. search needs)
+    (λ c. search needs)
+    (λ c. search needs)
+    (λ c. search needs)
+    (λ c. search needs)
+    (λ c. search needs)
     returns-2
     triple-requires
     same-length-9

@@ -18,12 +18,6 @@ Inv-loop records i n₀ n = announced (drop n (recordsOf records)) ≡ announced
 abbrev μ-loop : tie.MeasureT-loop
 μ-loop records i n₀ n = length records / 13 - n
 
-loop-holds : tie.Need-loop-holds Inv-loop μ-loop
-loop-holds c = refl
-
-is-kind-requires : tie.Need-is-kind-requires Inv-loop μ-loop
-is-kind-requires c κs = search needs
-
 add-n : tie.Need-add-n Inv-loop μ-loop
 add-n c = omega (arith, begins-inside (c .before .before .before .before .args .records .now) (c .before .before .loop .n) 1 (omega arith) (sym (c .before .is-kind .ensures) ∙ c .if1 .taken))
 
@@ -33,14 +27,8 @@ loop-less c = omega (arith, begins-inside (c .before .before .before .before .ar
 loop-again : tie.Need-loop-again Inv-loop μ-loop
 loop-again c = past-declared (recordsOf (c .before .before .before .before .args .records .now)) (c .before .before .loop .n) (sym (c .before .is-kind .ensures) ∙ c .if1 .taken) ∙ c .before .before .loop .inv
 
-is-kind-requires-2 : tie.Need-is-kind-requires-2 Inv-loop μ-loop
-is-kind-requires-2 c κs = search needs
-
 add-is-kind : tie.Need-add-is-kind Inv-loop μ-loop
 add-is-kind c = omega (arith, begins-inside (c .before .before .before .before .before .before .args .records .now) (c .before .before .before .before .loop .n) 2 (omega arith) (sym (c .before .is-kind2 .ensures) ∙ c .if2 .taken))
-
-is-kind-requires-3 : tie.Need-is-kind-requires-3 Inv-loop μ-loop
-is-kind-requires-3 c κs = search needs
 
 returns : tie.Need-returns Inv-loop μ-loop
 returns c = rw (← behind-declared (recordsOf (c .before .before .before .before .before .before .before .args .records .now)) (c .before .before .before .before .before .loop .n) (sym (c .before .before .before .before .is-kind .ensures) ∙ c .before .before .before .if1 .left) (c .before .before .before .before .before .loop .inv), ← c .before .before .is-kind2 .ensures, c .before .if2 .taken, ← c .is-kind3 .ensures)
@@ -54,13 +42,13 @@ announced-words-spec =
     (tie.spec
     Inv-loop
     μ-loop
-    loop-holds
-    is-kind-requires
+    (λ c. refl)
+    (λ c κs. search needs)
     add-n
     loop-less
     loop-again
-    is-kind-requires-2
+    (λ c κs. search needs)
     add-is-kind
-    is-kind-requires-3
+    (λ c κs. search needs)
     returns
     returns-2)

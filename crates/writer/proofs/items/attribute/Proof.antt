@@ -9,34 +9,10 @@ use Rattle.writer.proofs.ItemLaws.{value-fills, name-ready, attribute-f
 use Rattle.writer.proofs.items.attribute.Statement.{statement}
 use Rattle.writer.proofs.items.attribute.Tie as tie
 
-octet-requires : tie.Need-octet-requires
-octet-requires c κs = search needs
-
-name-of-requires : tie.Need-name-of-requires
-name-of-requires c κs = search needs
-
 name-requires : tie.Need-name-requires
 name-requires c κs =
     let at-start = c .before .before .before .before .before .before .before .before .before .before .before in
     (at-start .pre .order, omega arith, name-ready (at-start .args .text .now) 9 0 (at-start .args .e) _ (c .before .before .before .before .name-of .ensures) (omega arith) (omega arith) (omega arith) (by-kind (at-start .args .text .now) (at-start .args .e) Attribute (at-start .pre .made) .0))
-
-enum-known-behind : tie.Need-enum-known-behind
-enum-known-behind c = search needs
-
-enum-told : tie.Need-enum-told
-enum-told c = search needs
-
-same-length : tie.Need-same-length
-same-length c = search needs
-
-same-length-2 : tie.Need-same-length-2
-same-length-2 c = search needs
-
-same-length-3 : tie.Need-same-length-3
-same-length-3 c = search needs
-
-same-length-4 : tie.Need-same-length-4
-same-length-4 c = search needs
 
 returns : tie.Need-returns
 returns c =
@@ -105,15 +81,15 @@ pub attribute-spec : {M : Type 1} → statement M
 attribute-spec =
     tie.close
     (tie.spec
-    octet-requires
-    name-of-requires
+    (λ c κs. search needs)
+    (λ c κs. search needs)
     name-requires
-    enum-known-behind
-    enum-told
-    same-length
-    same-length-2
-    same-length-3
-    same-length-4
+    (λ c. search needs)
+    (λ c. search needs)
+    (λ c. search needs)
+    (λ c. search needs)
+    (λ c. search needs)
+    (λ c. search needs)
     returns
     value-requires
     landed-requires

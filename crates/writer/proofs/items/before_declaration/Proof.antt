@@ -12,25 +12,10 @@ use Rattle.writer.proofs.items.before_declaration.Tie as tie
 returns : tie.Need-returns
 returns c = rw (first-declaration (c .before .before .args .a) (c .before .before .args .mode), ne-eqb _ _ (c .if1 .taken)) (puts-nothing refl, omega arith)
 
-attribute-bit-requires : tie.Need-attribute-bit-requires
-attribute-bit-requires c κs = search needs
-
-add-put : tie.Need-add-put
-add-put c = search needs
-
-put-requires : tie.Need-put-requires
-put-requires c κs = search needs
-
-add-result : tie.Need-add-result
-add-result c = search needs
-
-same-length : tie.Need-same-length
-same-length c = search needs
-
 returns-2 : tie.Need-returns-2
 returns-2 c = rw (first-declaration (c .before .before .before .before .before .before .before .args .a) (c .before .before .before .before .before .before .before .args .mode), eq-eqb _ _ (c .before .before .before .before .before .if1 .left), ← (c .before .before .before .attribute-bit .ensures .0)) (puts-one (c .before .before .put .ensures), omega arith)
 
 pub before-declaration-spec : {M : Type 1} → statement M
 before-declaration-spec =
     tie.close
-    (tie.spec returns attribute-bit-requires add-put put-requires add-result same-length returns-2)
+    (tie.spec returns (λ c κs. search needs) (λ c. search needs) (λ c κs. search needs) (λ c. search needs) (λ c. search needs) returns-2)

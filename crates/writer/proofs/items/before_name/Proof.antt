@@ -12,17 +12,8 @@ use Rattle.writer.proofs.items.before_name.Tie as tie
 returns : tie.Need-returns
 returns c = rw (last-declaration (c .before .before .args .mode), lt-leb _ _ (c .if1 .taken)) (puts-nothing refl, omega arith)
 
-put-requires : tie.Need-put-requires
-put-requires c κs = search needs
-
-add-result : tie.Need-add-result
-add-result c = search needs
-
-same-length : tie.Need-same-length
-same-length c = search needs
-
 returns-2 : tie.Need-returns-2
 returns-2 c = rw (last-declaration (c .before .before .before .before .before .before .args .mode), le-leb _ _ (c .before .before .before .before .if1 .left)) (puts-one (c .before .before .put .ensures), omega arith)
 
 pub before-name-spec : {M : Type 1} → statement M
-before-name-spec = tie.close (tie.spec returns put-requires add-result same-length returns-2)
+before-name-spec = tie.close (tie.spec returns (λ c κs. search needs) (λ c. search needs) (λ c. search needs) returns-2)

@@ -8,28 +8,10 @@ use Rattle.writer.proofs.ItemLaws.{stretch-spells, chunk-lands}
 use Rattle.writer.proofs.items.chunk.Statement.{statement}
 use Rattle.writer.proofs.items.chunk.Tie as tie
 
-octet-requires : tie.Need-octet-requires
-octet-requires c κs = search needs
-
 chunk-requires : tie.Need-chunk-requires
 chunk-requires c κs =
     let at-start = c .before .before .before .before .before .before .before .before .before .before in
     (at-start .pre .order, omega arith, stretch-spells (at-start .args .text .now) (at-start .args .e .value) (by-kind (at-start .args .text .now) (at-start .args .e) Chunk (at-start .pre .made) .2))
-
-landed-requires : tie.Need-landed-requires
-landed-requires c κs = search needs
-
-same-length : tie.Need-same-length
-same-length c = search needs
-
-same-length-2 : tie.Need-same-length-2
-same-length-2 c = search needs
-
-same-length-3 : tie.Need-same-length-3
-same-length-3 c = search needs
-
-same-length-4 : tie.Need-same-length-4
-same-length-4 c = search needs
 
 returns : tie.Need-returns
 returns c =
@@ -42,11 +24,11 @@ pub chunk-spec : {M : Type 1} → statement M
 chunk-spec =
     tie.close
     (tie.spec
-    octet-requires
+    (λ c κs. search needs)
     chunk-requires
-    landed-requires
-    same-length
-    same-length-2
-    same-length-3
-    same-length-4
+    (λ c κs. search needs)
+    (λ c. search needs)
+    (λ c. search needs)
+    (λ c. search needs)
+    (λ c. search needs)
     returns)

@@ -9,19 +9,10 @@ use Rattle.writer.proofs.ItemLaws.{prefix-suits, namespace-suits, meets
 use Rattle.writer.proofs.items.declare.Statement.{statement}
 use Rattle.writer.proofs.items.declare.Tie as tie
 
-octet-requires : tie.Need-octet-requires
-octet-requires c κs = search needs
-
-before-declaration-requires : tie.Need-before-declaration-requires
-before-declaration-requires c κs = search needs
-
 declared-requires : tie.Need-declared-requires
 declared-requires c κs =
     let at-start = c .before .before .before .before .before .before .before .before .before .before .before .before .before .before in
     (at-start .pre .order, omega arith, prefix-suits (at-start .args .text .now) (at-start .args .e .prefix) (by-kind (at-start .args .text .now) (at-start .args .e) Namespace (at-start .pre .made) .0), namespace-suits (at-start .args .text .now) (at-start .args .e .namespace) (by-kind (at-start .args .text .now) (at-start .args .e) Namespace (at-start .pre .made) .1))
-
-declaring-requires : tie.Need-declaring-requires
-declaring-requires c κs = search needs
 
 landed-requires : tie.Need-landed-requires
 landed-requires c κs =
@@ -29,18 +20,6 @@ landed-requires c κs =
     let at-before-declaration = at-declared .before .before .before .before .before .before .before in
     let at-octet = at-before-declaration .before in
     meets-near _ _ (at-before-declaration .before-declaration .result) pairMost (at-declared .declared .result) _ _ _ _ _ (omega (arith, at-octet .octet .ensures .1, at-before-declaration .before-declaration .ensures .1)) (at-declared .declared .ensures)
-
-same-length : tie.Need-same-length
-same-length c = search needs
-
-same-length-2 : tie.Need-same-length-2
-same-length-2 c = search needs
-
-same-length-3 : tie.Need-same-length-3
-same-length-3 c = search needs
-
-same-length-4 : tie.Need-same-length-4
-same-length-4 c = search needs
 
 returns : tie.Need-returns
 returns c =
@@ -54,13 +33,13 @@ pub declare-spec : {M : Type 1} → statement M
 declare-spec =
     tie.close
     (tie.spec
-    octet-requires
-    before-declaration-requires
+    (λ c κs. search needs)
+    (λ c κs. search needs)
     declared-requires
-    declaring-requires
+    (λ c κs. search needs)
     landed-requires
-    same-length
-    same-length-2
-    same-length-3
-    same-length-4
+    (λ c. search needs)
+    (λ c. search needs)
+    (λ c. search needs)
+    (λ c. search needs)
     returns)

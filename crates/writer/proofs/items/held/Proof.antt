@@ -7,9 +7,6 @@ use Rattle.writer.proofs.ItemLaws.{held-over, held-fitting}
 use Rattle.writer.proofs.items.held.Statement.{statement}
 use Rattle.writer.proofs.items.held.Tie as tie
 
-add-octets : tie.Need-add-octets
-add-octets c = search needs
-
 returns : tie.Need-returns
 returns c = λ text. held-over text _ _ (omega (arith, min-le-left (c .before .before .args .room) 16384))
 
@@ -23,7 +20,7 @@ pub held-spec : {M : Type 1} → statement M
 held-spec =
     tie.close
     (tie.spec
-    add-octets
+    (λ c. search needs)
     returns
     returns-2
     returns-3)

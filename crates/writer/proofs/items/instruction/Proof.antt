@@ -10,38 +10,11 @@ use Rattle.writer.proofs.ItemLaws.{stretch-spells, value-fills, instruc
 use Rattle.writer.proofs.items.instruction.Statement.{statement}
 use Rattle.writer.proofs.items.instruction.Tie as tie
 
-octet-requires : tie.Need-octet-requires
-octet-requires c κs = search needs
-
-put-requires : tie.Need-put-requires
-put-requires c κs = search needs
-
-add-identified : tie.Need-add-identified
-add-identified c = search needs
-
 identified-requires : tie.Need-identified-requires
 identified-requires c κs =
     let at-start = c .before .before .before .before .before .before .before .before .before .before .before .before .before .before in
     let s = stretch-spells (at-start .args .text .now) (at-start .args .e .name) (by-kind (at-start .args .text .now) (at-start .args .e) Instruction (at-start .pre .made) .1) in
     (at-start .pre .order, omega arith, spells-stretch (at-start .args .text .now) (at-start .args .e .name) s .3, omega arith, spells-suits (at-start .args .text .now) 3 (at-start .args .e .name) s)
-
-enum-known-behind : tie.Need-enum-known-behind
-enum-known-behind c = search needs
-
-enum-told : tie.Need-enum-told
-enum-told c = search needs
-
-same-length : tie.Need-same-length
-same-length c = search needs
-
-same-length-2 : tie.Need-same-length-2
-same-length-2 c = search needs
-
-same-length-3 : tie.Need-same-length-3
-same-length-3 c = search needs
-
-same-length-4 : tie.Need-same-length-4
-same-length-4 c = search needs
 
 returns : tie.Need-returns
 returns c =
@@ -110,16 +83,16 @@ pub instruction-spec : {M : Type 1} → statement M
 instruction-spec =
     tie.close
     (tie.spec
-    octet-requires
-    put-requires
-    add-identified
+    (λ c κs. search needs)
+    (λ c κs. search needs)
+    (λ c. search needs)
     identified-requires
-    enum-known-behind
-    enum-told
-    same-length
-    same-length-2
-    same-length-3
-    same-length-4
+    (λ c. search needs)
+    (λ c. search needs)
+    (λ c. search needs)
+    (λ c. search needs)
+    (λ c. search needs)
+    (λ c. search needs)
     returns
     value-requires
     landed-requires

@@ -5,12 +5,6 @@ use native.Mathlib.Omega.{arith}
 use Rattle.writer.proofs.items.landed.Statement.{statement}
 use Rattle.writer.proofs.items.landed.Tie as tie
 
-enum-known-w : tie.Need-enum-known-w
-enum-known-w c = search needs
-
-enum-told : tie.Need-enum-told
-enum-told c = search needs
-
 returns : tie.Need-returns
 returns c = rw (c .enum-told .given .1)
 
@@ -26,8 +20,8 @@ pub landed-spec : {M : Type 1} → statement M
 landed-spec =
     tie.close
     (tie.spec
-    enum-known-w
-    enum-told
+    (λ c. search needs)
+    (λ c. search needs)
     returns
     moved-requires
     returns-2)

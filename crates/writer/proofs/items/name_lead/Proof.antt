@@ -11,11 +11,8 @@ use Rattle.writer.proofs.items.name_lead.Tie as tie
 returns : tie.Need-returns
 returns c = rw (lead-of-name (c .before .args .a) (c .before .args .mode), ne-eqb _ _ (c .if1 .taken)) (refl, omega arith)
 
-attribute-bit-requires : tie.Need-attribute-bit-requires
-attribute-bit-requires c κs = search needs
-
 returns-2 : tie.Need-returns-2
 returns-2 c = rw (lead-of-name (c .before .before .args .a) (c .before .before .args .mode), eq-eqb _ _ (c .before .if1 .left)) (c .attribute-bit .ensures)
 
 pub name-lead-spec : {M : Type 1} → statement M
-name-lead-spec = tie.close (tie.spec returns attribute-bit-requires returns-2)
+name-lead-spec = tie.close (tie.spec returns (λ c κs. search needs) returns-2)

@@ -6,11 +6,8 @@ use Rattle.writer.proofs.ItemLaws.{octet-aligned}
 use Rattle.writer.proofs.items.octet.Statement.{statement}
 use Rattle.writer.proofs.items.octet.Tie as tie
 
-add-result : tie.Need-add-result
-add-result c = search needs
-
 returns : tie.Need-returns
 returns c = (octet-aligned _, omega arith)
 
 pub octet-spec : {M : Type 1} → statement M
-octet-spec = tie.close (tie.spec add-result returns)
+octet-spec = tie.close (tie.spec (λ c. search needs) returns)

@@ -9,18 +9,6 @@ use Rattle.writer.proofs.ItemLaws.{name-ready, meets-near, start-room, 
 use Rattle.writer.proofs.items.start.Statement.{statement}
 use Rattle.writer.proofs.items.start.Tie as tie
 
-name-lead-requires : tie.Need-name-lead-requires
-name-lead-requires c κs = search needs
-
-octet-requires : tie.Need-octet-requires
-octet-requires c κs = search needs
-
-before-name-requires : tie.Need-before-name-requires
-before-name-requires c κs = search needs
-
-name-of-requires : tie.Need-name-of-requires
-name-of-requires c κs = search needs
-
 name-requires : tie.Need-name-requires
 name-requires c κs =
     let at-name-lead = c .before .before .before .before .before .before .before .before .before .before in
@@ -34,18 +22,6 @@ opened-requires c κs =
     let at-octet = at-before-name .before in
     let at-start = at-octet .before .before .before .before .before .before .before .before in
     (meets-near _ _ (at-before-name .before-name .result) nameMost (at-name .name .result) _ _ _ _ _ (omega (arith, at-octet .octet .ensures .1, at-before-name .before-name .ensures .1)) (at-name .name .ensures), start-room (at-start .pre))
-
-same-length : tie.Need-same-length
-same-length c = search needs
-
-same-length-2 : tie.Need-same-length-2
-same-length-2 c = search needs
-
-same-length-3 : tie.Need-same-length-3
-same-length-3 c = search needs
-
-same-length-4 : tie.Need-same-length-4
-same-length-4 c = search needs
 
 returns : tie.Need-returns
 returns c =
@@ -61,14 +37,14 @@ pub start-spec : {M : Type 1} → statement M
 start-spec =
     tie.close
     (tie.spec
-    name-lead-requires
-    octet-requires
-    before-name-requires
-    name-of-requires
+    (λ c κs. search needs)
+    (λ c κs. search needs)
+    (λ c κs. search needs)
+    (λ c κs. search needs)
     name-requires
     opened-requires
-    same-length
-    same-length-2
-    same-length-3
-    same-length-4
+    (λ c. search needs)
+    (λ c. search needs)
+    (λ c. search needs)
+    (λ c. search needs)
     returns)

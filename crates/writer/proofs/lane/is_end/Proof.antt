@@ -10,39 +10,6 @@ use Prim.Native.Nat.{_*_}
 use Rattle.writer.proofs.lane.is_end.Statement.{statement}
 use Rattle.writer.proofs.lane.is_end.Tie as tie
 
-mul-at : tie.Need-mul-at
-mul-at c = search needs
-
-mul-if1 : tie.Need-mul-if1
-mul-if1 c = search needs
-
-shared-slice-read-if1 : tie.Need-shared-slice-read-if1
-shared-slice-read-if1 c = search needs
-
-add-no-string : tie.Need-add-no-string
-add-no-string c = search needs
-
-no-string-requires : tie.Need-no-string-requires
-no-string-requires c κs = search needs
-
-add-no-string-2 : tie.Need-add-no-string-2
-add-no-string-2 c = search needs
-
-no-string-requires-2 : tie.Need-no-string-requires-2
-no-string-requires-2 c κs = search needs
-
-add-no-string-3 : tie.Need-add-no-string-3
-add-no-string-3 c = search needs
-
-no-string-requires-3 : tie.Need-no-string-requires-3
-no-string-requires-3 c κs = search needs
-
-add-no-string-4 : tie.Need-add-no-string-4
-add-no-string-4 c = search needs
-
-no-string-requires-4 : tie.Need-no-string-requires-4
-no-string-requires-4 c κs = search needs
-
 returns : tie.Need-returns
 returns c =
     let a = c .before .before .before .before .before .before .before .before .before .before .args in
@@ -64,17 +31,17 @@ pub is-end-spec : {M : Type 1} → statement M
 is-end-spec =
     tie.close
     (tie.spec
-    mul-at
-    mul-if1
-    shared-slice-read-if1
-    add-no-string
-    no-string-requires
-    add-no-string-2
-    no-string-requires-2
-    add-no-string-3
-    no-string-requires-3
-    add-no-string-4
-    no-string-requires-4
+    (λ c. search needs)
+    (λ c. search needs)
+    (λ c. search needs)
+    (λ c. search needs)
+    (λ c κs. search needs)
+    (λ c. search needs)
+    (λ c κs. search needs)
+    (λ c. search needs)
+    (λ c κs. search needs)
+    (λ c. search needs)
+    (λ c κs. search needs)
     returns
     returns-2
     returns-3

@@ -12,35 +12,17 @@ returns c = λ n. absurd (n refl)
 returns-2 : tie.Need-returns-2
 returns-2 c = λ n. absurd (n refl)
 
-mul-is-of-lane : tie.Need-mul-is-of-lane
-mul-is-of-lane c = search needs
-
-mul-is-of-lane-2 : tie.Need-mul-is-of-lane-2
-mul-is-of-lane-2 c = search needs
-
-shared-slice-read-is-of-lane : tie.Need-shared-slice-read-is-of-lane
-shared-slice-read-is-of-lane c = search needs
-
-is-of-lane-requires : tie.Need-is-of-lane-requires
-is-of-lane-requires c κs = search needs
-
 returns-3 : tie.Need-returns-3
 returns-3 c = λ n. absurd (n refl)
 
 returns-4 : tie.Need-returns-4
 returns-4 c = λ n. absurd (n refl)
 
-add-octets : tie.Need-add-octets
-add-octets c = search needs
-
 returns-5 : tie.Need-returns-5
 returns-5 c = λ n. absurd (n refl)
 
 returns-6 : tie.Need-returns-6
 returns-6 c = λ n. absurd (n refl)
-
-is-end-requires : tie.Need-is-end-requires
-is-end-requires c κs = search needs
 
 returns-7 : tie.Need-returns-7
 returns-7 c =
@@ -49,9 +31,6 @@ returns-7 c =
 
 returns-8 : tie.Need-returns-8
 returns-8 c = λ n. absurd (n refl)
-
-recalled-requires : tie.Need-recalled-requires
-recalled-requires c κs = search needs
 
 returns-9 : tie.Need-returns-9
 returns-9 c =
@@ -64,17 +43,17 @@ next-spec =
     (tie.spec
     returns
     returns-2
-    mul-is-of-lane
-    mul-is-of-lane-2
-    shared-slice-read-is-of-lane
-    is-of-lane-requires
+    (λ c. search needs)
+    (λ c. search needs)
+    (λ c. search needs)
+    (λ c κs. search needs)
     returns-3
     returns-4
-    add-octets
+    (λ c. search needs)
     returns-5
     returns-6
-    is-end-requires
+    (λ c κs. search needs)
     returns-7
     returns-8
-    recalled-requires
+    (λ c κs. search needs)
     returns-9)

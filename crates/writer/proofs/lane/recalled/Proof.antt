@@ -9,20 +9,8 @@ use Prim.Native.Nat.{ℕ, _*_}
 use Rattle.writer.proofs.lane.recalled.Statement.{statement}
 use Rattle.writer.proofs.lane.recalled.Tie as tie
 
-slot-requires : tie.Need-slot-requires
-slot-requires c κs = search needs
-
-mul-m : tie.Need-mul-m
-mul-m c = search needs
-
-element-copy-out-m : tie.Need-element-copy-out-m
-element-copy-out-m c = search needs
-
 returns : tie.Need-returns
 returns c = (omega arith, λ n. absurd (n refl))
-
-record-of-requires : tie.Need-record-of-requires
-record-of-requires c κs = search needs
 
 same-record-requires : tie.Need-same-record-requires
 unfolding Filed
@@ -38,11 +26,11 @@ pub recalled-spec : {M : Type 1} → statement M
 recalled-spec =
     tie.close
     (tie.spec
-    slot-requires
-    mul-m
-    element-copy-out-m
+    (λ c κs. search needs)
+    (λ c. search needs)
+    (λ c. search needs)
     returns
-    record-of-requires
+    (λ c κs. search needs)
     same-record-requires
     returns-2
     returns-3)

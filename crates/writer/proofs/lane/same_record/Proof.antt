@@ -10,60 +10,6 @@ use Prim.Native.Nat.{_*_}
 use Rattle.writer.proofs.lane.same_record.Statement.{statement}
 use Rattle.writer.proofs.lane.same_record.Tie as tie
 
-mul-a : tie.Need-mul-a
-mul-a c = search needs
-
-mul-b : tie.Need-mul-b
-mul-b c = search needs
-
-mul-if1 : tie.Need-mul-if1
-mul-if1 c = search needs
-
-shared-slice-read-if1 : tie.Need-shared-slice-read-if1
-shared-slice-read-if1 c = search needs
-
-mul-if1-2 : tie.Need-mul-if1-2
-mul-if1-2 c = search needs
-
-shared-slice-read-if1-2 : tie.Need-shared-slice-read-if1-2
-shared-slice-read-if1-2 c = search needs
-
-add-same-string : tie.Need-add-same-string
-add-same-string c = search needs
-
-add-same-string-2 : tie.Need-add-same-string-2
-add-same-string-2 c = search needs
-
-same-string-requires : tie.Need-same-string-requires
-same-string-requires c κs = search needs
-
-add-same-string-3 : tie.Need-add-same-string-3
-add-same-string-3 c = search needs
-
-add-same-string-4 : tie.Need-add-same-string-4
-add-same-string-4 c = search needs
-
-same-string-requires-2 : tie.Need-same-string-requires-2
-same-string-requires-2 c κs = search needs
-
-add-same-string-5 : tie.Need-add-same-string-5
-add-same-string-5 c = search needs
-
-add-same-string-6 : tie.Need-add-same-string-6
-add-same-string-6 c = search needs
-
-same-string-requires-3 : tie.Need-same-string-requires-3
-same-string-requires-3 c κs = search needs
-
-add-same-string-7 : tie.Need-add-same-string-7
-add-same-string-7 c = search needs
-
-add-same-string-8 : tie.Need-add-same-string-8
-add-same-string-8 c = search needs
-
-same-string-requires-4 : tie.Need-same-string-requires-4
-same-string-requires-4 c κs = search needs
-
 returns : tie.Need-returns
 returns c =
     let a = c .before .before .before .before .before .before .before .before .before .before .before .args in
@@ -85,24 +31,24 @@ pub same-record-spec : {M : Type 1} → statement M
 same-record-spec =
     tie.close
     (tie.spec
-    mul-a
-    mul-b
-    mul-if1
-    shared-slice-read-if1
-    mul-if1-2
-    shared-slice-read-if1-2
-    add-same-string
-    add-same-string-2
-    same-string-requires
-    add-same-string-3
-    add-same-string-4
-    same-string-requires-2
-    add-same-string-5
-    add-same-string-6
-    same-string-requires-3
-    add-same-string-7
-    add-same-string-8
-    same-string-requires-4
+    (λ c. search needs)
+    (λ c. search needs)
+    (λ c. search needs)
+    (λ c. search needs)
+    (λ c. search needs)
+    (λ c. search needs)
+    (λ c. search needs)
+    (λ c. search needs)
+    (λ c κs. search needs)
+    (λ c. search needs)
+    (λ c. search needs)
+    (λ c κs. search needs)
+    (λ c. search needs)
+    (λ c. search needs)
+    (λ c κs. search needs)
+    (λ c. search needs)
+    (λ c. search needs)
+    (λ c κs. search needs)
     returns
     returns-2
     returns-3

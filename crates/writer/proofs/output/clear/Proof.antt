@@ -19,9 +19,6 @@ abbrev μ-loop : tie.MeasureT-loop
 loop-holds : tie.Need-loop-holds Inv-loop μ-loop
 loop-holds c = (omega arith, refl)
 
-slice-write-out : tie.Need-slice-write-out Inv-loop μ-loop
-slice-write-out c = search needs
-
 add-i : tie.Need-add-i Inv-loop μ-loop
 add-i c =
     let l = c .before .loop in
@@ -56,7 +53,7 @@ clear-spec =
     Inv-loop
     μ-loop
     loop-holds
-    slice-write-out
+    (λ c. search needs)
     add-i
     loop-less
     loop-again

@@ -6,57 +6,6 @@ use Rattle.writer.specs.Events.{eventOf, allText}
 use Rattle.writer.proofs.records.all_text.Statement.{statement}
 use Rattle.writer.proofs.records.all_text.Tie as tie
 
-enum-told : tie.Need-enum-told
-enum-told c = search needs
-
-enum-told-2 : tie.Need-enum-told-2
-enum-told-2 c = search needs
-
-is-text-string-requires : tie.Need-is-text-string-requires
-is-text-string-requires c κs = search needs
-
-is-text-string-requires-2 : tie.Need-is-text-string-requires-2
-is-text-string-requires-2 c κs = search needs
-
-enum-told-3 : tie.Need-enum-told-3
-enum-told-3 c = search needs
-
-name-text-requires : tie.Need-name-text-requires
-name-text-requires c κs = search needs
-
-enum-told-4 : tie.Need-enum-told-4
-enum-told-4 c = search needs
-
-name-text-requires-2 : tie.Need-name-text-requires-2
-name-text-requires-2 c κs = search needs
-
-is-text-string-requires-3 : tie.Need-is-text-string-requires-3
-is-text-string-requires-3 c κs = search needs
-
-enum-told-5 : tie.Need-enum-told-5
-enum-told-5 c = search needs
-
-is-text-string-requires-4 : tie.Need-is-text-string-requires-4
-is-text-string-requires-4 c κs = search needs
-
-enum-told-6 : tie.Need-enum-told-6
-enum-told-6 c = search needs
-
-is-text-string-requires-5 : tie.Need-is-text-string-requires-5
-is-text-string-requires-5 c κs = search needs
-
-enum-told-7 : tie.Need-enum-told-7
-enum-told-7 c = search needs
-
-is-text-string-requires-6 : tie.Need-is-text-string-requires-6
-is-text-string-requires-6 c κs = search needs
-
-is-text-string-requires-7 : tie.Need-is-text-string-requires-7
-is-text-string-requires-7 c κs = search needs
-
-enum-told-8 : tie.Need-enum-told-8
-enum-told-8 c = search needs
-
 returns : tie.Need-returns
 unfolding eventOf allText
 returns c = rw (c .enum-told .given .1)
@@ -103,23 +52,23 @@ pub all-text-spec : {M : Type 1} → statement M
 all-text-spec =
     tie.close
     (tie.spec
-    enum-told
-    enum-told-2
-    is-text-string-requires
-    is-text-string-requires-2
-    enum-told-3
-    name-text-requires
-    enum-told-4
-    name-text-requires-2
-    is-text-string-requires-3
-    enum-told-5
-    is-text-string-requires-4
-    enum-told-6
-    is-text-string-requires-5
-    enum-told-7
-    is-text-string-requires-6
-    is-text-string-requires-7
-    enum-told-8
+    (λ c. search needs)
+    (λ c. search needs)
+    (λ c κs. search needs)
+    (λ c κs. search needs)
+    (λ c. search needs)
+    (λ c κs. search needs)
+    (λ c. search needs)
+    (λ c κs. search needs)
+    (λ c κs. search needs)
+    (λ c. search needs)
+    (λ c κs. search needs)
+    (λ c. search needs)
+    (λ c κs. search needs)
+    (λ c. search needs)
+    (λ c κs. search needs)
+    (λ c κs. search needs)
+    (λ c. search needs)
     returns
     returns-2
     returns-3

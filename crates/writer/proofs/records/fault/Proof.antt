@@ -7,14 +7,8 @@ use Rattle.writer.proofs.WellMade.{made-placed}
 use Rattle.writer.proofs.records.fault.Statement.{statement}
 use Rattle.writer.proofs.records.fault.Tie as tie
 
-well-made-requires : tie.Need-well-made-requires
-well-made-requires c κs = search needs
-
 returns : tie.Need-returns
 returns c = λ v. fault-unmade _ _ _ (fails (c .before .well-made .ensures) (c .if1 .taken))
-
-goes-on-requires : tie.Need-goes-on-requires
-goes-on-requires c κs = search needs
 
 returns-2 : tie.Need-returns-2
 returns-2 c = λ v. fault-misplaced _ _ _ (passes (c .before .before .before .well-made .ensures) (c .before .before .if1 .left)) (fails (c .before .goes-on .ensures v _) (c .if2 .taken))
@@ -24,9 +18,6 @@ all-text-requires c κs = made-placed _ _ (passes (c .before .before .before .we
 
 returns-3 : tie.Need-returns-3
 returns-3 c = λ v. fault-untext _ _ _ (passes (c .before .before .before .before .before .well-made .ensures) (c .before .before .before .before .if1 .left)) (passes (c .before .before .before .goes-on .ensures v _) (c .before .before .if2 .left)) (fails (c .before .all-text .ensures) (c .if3 .taken))
-
-too-deep-requires : tie.Need-too-deep-requires
-too-deep-requires c κs = search needs
 
 returns-4 : tie.Need-returns-4
 returns-4 c =
@@ -44,12 +35,12 @@ pub fault-spec : {M : Type 1} → statement M
 fault-spec =
     tie.close
     (tie.spec
-    well-made-requires
+    (λ c κs. search needs)
     returns
-    goes-on-requires
+    (λ c κs. search needs)
     returns-2
     all-text-requires
     returns-3
-    too-deep-requires
+    (λ c κs. search needs)
     returns-4
     returns-5)

@@ -5,54 +5,6 @@ use Rattle.writer.specs.Events.{eventOf, goesOn}
 use Rattle.writer.proofs.records.goes_on.Statement.{statement}
 use Rattle.writer.proofs.records.goes_on.Tie as tie
 
-enum-told : tie.Need-enum-told
-enum-told c = search needs
-
-in-element-requires : tie.Need-in-element-requires
-in-element-requires c κs = search needs
-
-enum-told-2 : tie.Need-enum-told-2
-enum-told-2 c = search needs
-
-takes-element-requires : tie.Need-takes-element-requires
-takes-element-requires c κs = search needs
-
-enum-told-3 : tie.Need-enum-told-3
-enum-told-3 c = search needs
-
-takes-element-requires-2 : tie.Need-takes-element-requires-2
-takes-element-requires-2 c κs = search needs
-
-enum-told-4 : tie.Need-enum-told-4
-enum-told-4 c = search needs
-
-is-listing-requires : tie.Need-is-listing-requires
-is-listing-requires c κs = search needs
-
-enum-told-5 : tie.Need-enum-told-5
-enum-told-5 c = search needs
-
-in-element-requires-2 : tie.Need-in-element-requires-2
-in-element-requires-2 c κs = search needs
-
-enum-told-6 : tie.Need-enum-told-6
-enum-told-6 c = search needs
-
-among-children-requires : tie.Need-among-children-requires
-among-children-requires c κs = search needs
-
-enum-told-7 : tie.Need-enum-told-7
-enum-told-7 c = search needs
-
-among-children-requires-2 : tie.Need-among-children-requires-2
-among-children-requires-2 c κs = search needs
-
-enum-told-8 : tie.Need-enum-told-8
-enum-told-8 c = search needs
-
-in-element-requires-3 : tie.Need-in-element-requires-3
-in-element-requires-3 c κs = search needs
-
 returns : tie.Need-returns
 unfolding eventOf goesOn
 returns c = λ v e. rw (c .before .enum-told .given .1) (c .in-element .ensures)
@@ -89,22 +41,22 @@ pub goes-on-spec : {M : Type 1} → statement M
 goes-on-spec =
     tie.close
     (tie.spec
-    enum-told
-    in-element-requires
-    enum-told-2
-    takes-element-requires
-    enum-told-3
-    takes-element-requires-2
-    enum-told-4
-    is-listing-requires
-    enum-told-5
-    in-element-requires-2
-    enum-told-6
-    among-children-requires
-    enum-told-7
-    among-children-requires-2
-    enum-told-8
-    in-element-requires-3
+    (λ c. search needs)
+    (λ c κs. search needs)
+    (λ c. search needs)
+    (λ c κs. search needs)
+    (λ c. search needs)
+    (λ c κs. search needs)
+    (λ c. search needs)
+    (λ c κs. search needs)
+    (λ c. search needs)
+    (λ c κs. search needs)
+    (λ c. search needs)
+    (λ c κs. search needs)
+    (λ c. search needs)
+    (λ c κs. search needs)
+    (λ c. search needs)
+    (λ c κs. search needs)
     returns
     returns-2
     returns-3

@@ -4,9 +4,6 @@ use borrow.Author.Needs.{needs}
 use Rattle.writer.proofs.records.in_element.Statement.{statement}
 use Rattle.writer.proofs.records.in_element.Tie as tie
 
-among-children-requires : tie.Need-among-children-requires
-among-children-requires c κs = search needs
-
 returns : tie.Need-returns
 returns c = rw (← c .before .before .among-children .ensures, c .before .if1 .taken)
 
@@ -14,4 +11,4 @@ returns-2 : tie.Need-returns-2
 returns-2 c = rw (← c .before .among-children .ensures, c .if1 .left)
 
 pub in-element-spec : {M : Type 1} → statement M
-in-element-spec = tie.close (tie.spec among-children-requires returns returns-2)
+in-element-spec = tie.close (tie.spec (λ c κs. search needs) returns returns-2)

@@ -5,11 +5,8 @@ use Rattle.writer.proofs.RecordLaws.{tag-absent}
 use Rattle.writer.proofs.records.is_absent.Statement.{statement}
 use Rattle.writer.proofs.records.is_absent.Tie as tie
 
-tag-requires : tie.Need-tag-requires
-tag-requires c κs = search needs
-
 returns : tie.Need-returns
 returns c = rw (c .tag .ensures) (tag-absent (c .before .args .x))
 
 pub is-absent-spec : {M : Type 1} → statement M
-is-absent-spec = tie.close (tie.spec tag-requires returns)
+is-absent-spec = tie.close (tie.spec (λ c κs. search needs) returns)

@@ -5,21 +5,6 @@ use Rattle.writer.specs.Events.{isName}
 use Rattle.writer.proofs.records.is_name.Statement.{statement}
 use Rattle.writer.proofs.records.is_name.Tie as tie
 
-is-prefix-requires : tie.Need-is-prefix-requires
-is-prefix-requires c κs = search needs
-
-is-namespace-requires : tie.Need-is-namespace-requires
-is-namespace-requires c κs = search needs
-
-is-stretch-requires : tie.Need-is-stretch-requires
-is-stretch-requires c κs = search needs
-
-is-absent-requires : tie.Need-is-absent-requires
-is-absent-requires c κs = search needs
-
-is-absent-requires-2 : tie.Need-is-absent-requires-2
-is-absent-requires-2 c κs = search needs
-
 returns : tie.Need-returns
 unfolding isName
 returns c =
@@ -51,11 +36,11 @@ pub is-name-spec : {M : Type 1} → statement M
 is-name-spec =
     tie.close
     (tie.spec
-    is-prefix-requires
-    is-namespace-requires
-    is-stretch-requires
-    is-absent-requires
-    is-absent-requires-2
+    (λ c κs. search needs)
+    (λ c κs. search needs)
+    (λ c κs. search needs)
+    (λ c κs. search needs)
+    (λ c κs. search needs)
     returns
     returns-2
     returns-3

@@ -6,11 +6,8 @@ use Rattle.writer.proofs.RecordLaws.{one-namespace}
 use Rattle.writer.proofs.records.is_namespace.Statement.{statement}
 use Rattle.writer.proofs.records.is_namespace.Tie as tie
 
-is-one-requires : tie.Need-is-one-requires
-is-one-requires c κs = search needs
-
 returns : tie.Need-returns
 returns c = c .is-one .ensures ∙ one-namespace _ (c .before .before .args .x)
 
 pub is-namespace-spec : {M : Type 1} → statement M
-is-namespace-spec = tie.close (tie.spec is-one-requires returns)
+is-namespace-spec = tie.close (tie.spec (λ c κs. search needs) returns)

@@ -6,18 +6,6 @@ use Rattle.writer.proofs.RecordLaws.{one-lies, one-first, one-second}
 use Rattle.writer.proofs.records.is_one.Statement.{statement}
 use Rattle.writer.proofs.records.is_one.Tie as tie
 
-tag-requires : tie.Need-tag-requires
-tag-requires c κs = search needs
-
-place-requires : tie.Need-place-requires
-place-requires c κs = search needs
-
-size-requires : tie.Need-size-requires
-size-requires c κs = search needs
-
-lies-in-requires : tie.Need-lies-in-requires
-lies-in-requires c κs = search needs
-
 returns : tie.Need-returns
 returns c = c .lies-in .ensures ∙ one-lies _ _ _ _ _ (c .before .before .before .before .tag .ensures) _ _ (c .before .before .before .if1 .taken) (c .before .before .place .ensures) (c .before .size .ensures)
 
@@ -31,10 +19,10 @@ pub is-one-spec : {M : Type 1} → statement M
 is-one-spec =
     tie.close
     (tie.spec
-    tag-requires
-    place-requires
-    size-requires
-    lies-in-requires
+    (λ c κs. search needs)
+    (λ c κs. search needs)
+    (λ c κs. search needs)
+    (λ c κs. search needs)
     returns
     returns-2
     returns-3)

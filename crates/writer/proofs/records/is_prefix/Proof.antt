@@ -6,11 +6,8 @@ use Rattle.writer.proofs.RecordLaws.{one-prefix}
 use Rattle.writer.proofs.records.is_prefix.Statement.{statement}
 use Rattle.writer.proofs.records.is_prefix.Tie as tie
 
-is-one-requires : tie.Need-is-one-requires
-is-one-requires c κs = search needs
-
 returns : tie.Need-returns
 returns c = c .is-one .ensures ∙ one-prefix _ (c .before .before .args .x)
 
 pub is-prefix-spec : {M : Type 1} → statement M
-is-prefix-spec = tie.close (tie.spec is-one-requires returns)
+is-prefix-spec = tie.close (tie.spec (λ c κs. search needs) returns)

@@ -6,11 +6,8 @@ use Rattle.writer.proofs.RecordLaws.{one-stretch}
 use Rattle.writer.proofs.records.is_stretch.Statement.{statement}
 use Rattle.writer.proofs.records.is_stretch.Tie as tie
 
-is-one-requires : tie.Need-is-one-requires
-is-one-requires c κs = search needs
-
 returns : tie.Need-returns
 returns c = c .is-one .ensures ∙ one-stretch _ (c .before .before .args .x)
 
 pub is-stretch-spec : {M : Type 1} → statement M
-is-stretch-spec = tie.close (tie.spec is-one-requires returns)
+is-stretch-spec = tie.close (tie.spec (λ c κs. search needs) returns)

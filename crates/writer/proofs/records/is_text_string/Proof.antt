@@ -7,26 +7,8 @@ use Rattle.writer.proofs.RecordLaws.{other-text, tagged-text, tagged-li
 use Rattle.writer.proofs.records.is_text_string.Statement.{statement}
 use Rattle.writer.proofs.records.is_text_string.Tie as tie
 
-tag-requires : tie.Need-tag-requires
-tag-requires c κs = search needs
-
 returns : tie.Need-returns
 returns c = other-text _ (c .before .before .before .args .x) (rw (c .before .tag .ensures) at (c .if1 .taken))
-
-place-requires : tie.Need-place-requires
-place-requires c κs = search needs
-
-cast-from : tie.Need-cast-from
-cast-from c = search needs
-
-size-requires : tie.Need-size-requires
-size-requires c κs = search needs
-
-cast-is-text : tie.Need-cast-is-text
-cast-is-text c = search needs
-
-add-is-text : tie.Need-add-is-text
-add-is-text c = search needs
 
 is-text-requires : tie.Need-is-text-requires
 is-text-requires c κs =
@@ -43,12 +25,12 @@ pub is-text-string-spec : {M : Type 1} → statement M
 is-text-string-spec =
     tie.close
     (tie.spec
-    tag-requires
+    (λ c κs. search needs)
     returns
-    place-requires
-    cast-from
-    size-requires
-    cast-is-text
-    add-is-text
+    (λ c κs. search needs)
+    (λ c. search needs)
+    (λ c κs. search needs)
+    (λ c. search needs)
+    (λ c. search needs)
     is-text-requires
     returns-2)

@@ -6,11 +6,8 @@ use Rattle.writer.proofs.RecordLaws.{one-value}
 use Rattle.writer.proofs.records.is_value.Statement.{statement}
 use Rattle.writer.proofs.records.is_value.Tie as tie
 
-is-one-requires : tie.Need-is-one-requires
-is-one-requires c κs = search needs
-
 returns : tie.Need-returns
 returns c = c .is-one .ensures ∙ one-value _ (c .before .before .args .x)
 
 pub is-value-spec : {M : Type 1} → statement M
-is-value-spec = tie.close (tie.spec is-one-requires returns)
+is-value-spec = tie.close (tie.spec (λ c κs. search needs) returns)

@@ -11,11 +11,8 @@ returns c = stretch-empty _ _ _ (c .if1 .taken)
 returns-2 : tie.Need-returns-2
 returns-2 c = stretch-longer _ _ _ (c .if2 .taken)
 
-sub-result : tie.Need-sub-result
-sub-result c = search needs
-
 returns-3 : tie.Need-returns-3
 returns-3 c = stretch-fits _ _ _ (c .before .if1 .left) (c .if2 .left)
 
 pub lies-in-spec : {M : Type 1} → statement M
-lies-in-spec = tie.close (tie.spec returns returns-2 sub-result returns-3)
+lies-in-spec = tie.close (tie.spec returns returns-2 (λ c. search needs) returns-3)

@@ -5,15 +5,6 @@ use Rattle.writer.proofs.RecordLaws.{name-text}
 use Rattle.writer.proofs.records.name_text.Statement.{statement}
 use Rattle.writer.proofs.records.name_text.Tie as tie
 
-is-text-string-requires : tie.Need-is-text-string-requires
-is-text-string-requires c κs = search needs
-
-is-text-string-requires-2 : tie.Need-is-text-string-requires-2
-is-text-string-requires-2 c κs = search needs
-
-is-text-string-requires-3 : tie.Need-is-text-string-requires-3
-is-text-string-requires-3 c κs = search needs
-
 returns : tie.Need-returns
 returns c = rw (name-text, ← c .before .before .before .before .is-text-string .ensures, c .before .before .before .if1 .taken, ← c .before .before .is-text-string2 .ensures, c .before .if2 .taken, ← c .is-text-string3 .ensures)
 
@@ -27,9 +18,9 @@ pub name-text-spec : {M : Type 1} → statement M
 name-text-spec =
     tie.close
     (tie.spec
-    is-text-string-requires
-    is-text-string-requires-2
-    is-text-string-requires-3
+    (λ c κs. search needs)
+    (λ c κs. search needs)
+    (λ c κs. search needs)
     returns
     returns-2
     returns-3)

@@ -5,12 +5,6 @@ use Rattle.writer.specs.Events.{noName}
 use Rattle.writer.proofs.records.no_name.Statement.{statement}
 use Rattle.writer.proofs.records.no_name.Tie as tie
 
-is-absent-requires : tie.Need-is-absent-requires
-is-absent-requires c κs = search needs
-
-is-absent-requires-2 : tie.Need-is-absent-requires-2
-is-absent-requires-2 c κs = search needs
-
 returns : tie.Need-returns
 unfolding noName
 returns c = rw (← c .before .before .is-absent .ensures, c .before .if1 .taken, ← c .is-absent2 .ensures)
@@ -20,4 +14,4 @@ unfolding noName
 returns-2 c = rw (← c .before .is-absent .ensures, c .if1 .left)
 
 pub no-name-spec : {M : Type 1} → statement M
-no-name-spec = tie.close (tie.spec is-absent-requires is-absent-requires-2 returns returns-2)
+no-name-spec = tie.close (tie.spec (λ c κs. search needs) (λ c κs. search needs) returns returns-2)

@@ -5,36 +5,6 @@ use Rattle.writer.specs.Events.{eventOf}
 use Rattle.writer.proofs.records.opens.Statement.{statement}
 use Rattle.writer.proofs.records.opens.Tie as tie
 
-enum-told : tie.Need-enum-told
-enum-told c = search needs
-
-enum-told-2 : tie.Need-enum-told-2
-enum-told-2 c = search needs
-
-is-declaring-requires : tie.Need-is-declaring-requires
-is-declaring-requires c κs = search needs
-
-enum-told-3 : tie.Need-enum-told-3
-enum-told-3 c = search needs
-
-is-declaring-requires-2 : tie.Need-is-declaring-requires-2
-is-declaring-requires-2 c κs = search needs
-
-enum-told-4 : tie.Need-enum-told-4
-enum-told-4 c = search needs
-
-enum-told-5 : tie.Need-enum-told-5
-enum-told-5 c = search needs
-
-enum-told-6 : tie.Need-enum-told-6
-enum-told-6 c = search needs
-
-enum-told-7 : tie.Need-enum-told-7
-enum-told-7 c = search needs
-
-enum-told-8 : tie.Need-enum-told-8
-enum-told-8 c = search needs
-
 returns : tie.Need-returns
 unfolding eventOf
 returns c = λ e. rw (c .enum-told .given .1)
@@ -71,16 +41,16 @@ pub opens-spec : {M : Type 1} → statement M
 opens-spec =
     tie.close
     (tie.spec
-    enum-told
-    enum-told-2
-    is-declaring-requires
-    enum-told-3
-    is-declaring-requires-2
-    enum-told-4
-    enum-told-5
-    enum-told-6
-    enum-told-7
-    enum-told-8
+    (λ c. search needs)
+    (λ c. search needs)
+    (λ c κs. search needs)
+    (λ c. search needs)
+    (λ c κs. search needs)
+    (λ c. search needs)
+    (λ c. search needs)
+    (λ c. search needs)
+    (λ c. search needs)
+    (λ c. search needs)
     returns
     returns-2
     returns-3

@@ -5,15 +5,6 @@ use Rattle.format.specs.Items.{mayStart}
 use Rattle.writer.proofs.records.takes_element.Statement.{statement}
 use Rattle.writer.proofs.records.takes_element.Tie as tie
 
-is-declaring-requires : tie.Need-is-declaring-requires
-is-declaring-requires c κs = search needs
-
-among-children-requires : tie.Need-among-children-requires
-among-children-requires c κs = search needs
-
-may-start-requires : tie.Need-may-start-requires
-may-start-requires c κs = search needs
-
 returns : tie.Need-returns
 unfolding mayStart
 returns c = λ v. rw (← c .before .is-declaring .ensures, c .if1 .taken)
@@ -30,9 +21,9 @@ pub takes-element-spec : {M : Type 1} → statement M
 takes-element-spec =
     tie.close
     (tie.spec
-    is-declaring-requires
-    among-children-requires
-    may-start-requires
+    (λ c κs. search needs)
+    (λ c κs. search needs)
+    (λ c κs. search needs)
     returns
     returns-2
     returns-3)

@@ -5,9 +5,6 @@ use Rattle.format.specs.Tables.{link}
 use Rattle.writer.proofs.records.too_deep.Statement.{statement}
 use Rattle.writer.proofs.records.too_deep.Tie as tie
 
-opens-requires : tie.Need-opens-requires
-opens-requires c κs = search needs
-
 returns : tie.Need-returns
 unfolding link
 returns c = λ e. rw (← c .before .before .opens .ensures e, c .before .if1 .taken)
@@ -17,4 +14,4 @@ unfolding link
 returns-2 c = λ e. rw (← c .before .opens .ensures e, c .if1 .left)
 
 pub too-deep-spec : {M : Type 1} → statement M
-too-deep-spec = tie.close (tie.spec opens-requires returns returns-2)
+too-deep-spec = tie.close (tie.spec (λ c κs. search needs) returns returns-2)

@@ -5,90 +5,6 @@ use Rattle.writer.specs.Events.{wellMade, isName, noName}
 use Rattle.writer.proofs.records.well_made.Statement.{statement}
 use Rattle.writer.proofs.records.well_made.Tie as tie
 
-enum-told : tie.Need-enum-told
-enum-told c = search needs
-
-enum-told-2 : tie.Need-enum-told-2
-enum-told-2 c = search needs
-
-is-prefix-requires : tie.Need-is-prefix-requires
-is-prefix-requires c κs = search needs
-
-is-namespace-requires : tie.Need-is-namespace-requires
-is-namespace-requires c κs = search needs
-
-is-absent-requires : tie.Need-is-absent-requires
-is-absent-requires c κs = search needs
-
-is-absent-requires-2 : tie.Need-is-absent-requires-2
-is-absent-requires-2 c κs = search needs
-
-enum-told-3 : tie.Need-enum-told-3
-enum-told-3 c = search needs
-
-is-name-requires : tie.Need-is-name-requires
-is-name-requires c κs = search needs
-
-is-absent-requires-3 : tie.Need-is-absent-requires-3
-is-absent-requires-3 c κs = search needs
-
-enum-told-4 : tie.Need-enum-told-4
-enum-told-4 c = search needs
-
-is-name-requires-2 : tie.Need-is-name-requires-2
-is-name-requires-2 c κs = search needs
-
-is-value-requires : tie.Need-is-value-requires
-is-value-requires c κs = search needs
-
-enum-told-5 : tie.Need-enum-told-5
-enum-told-5 c = search needs
-
-no-name-requires : tie.Need-no-name-requires
-no-name-requires c κs = search needs
-
-is-absent-requires-4 : tie.Need-is-absent-requires-4
-is-absent-requires-4 c κs = search needs
-
-is-stretch-requires : tie.Need-is-stretch-requires
-is-stretch-requires c κs = search needs
-
-enum-told-6 : tie.Need-enum-told-6
-enum-told-6 c = search needs
-
-no-name-requires-2 : tie.Need-no-name-requires-2
-no-name-requires-2 c κs = search needs
-
-is-absent-requires-5 : tie.Need-is-absent-requires-5
-is-absent-requires-5 c κs = search needs
-
-is-value-requires-2 : tie.Need-is-value-requires-2
-is-value-requires-2 c κs = search needs
-
-enum-told-7 : tie.Need-enum-told-7
-enum-told-7 c = search needs
-
-no-name-requires-3 : tie.Need-no-name-requires-3
-no-name-requires-3 c κs = search needs
-
-is-stretch-requires-2 : tie.Need-is-stretch-requires-2
-is-stretch-requires-2 c κs = search needs
-
-is-value-requires-3 : tie.Need-is-value-requires-3
-is-value-requires-3 c κs = search needs
-
-enum-told-8 : tie.Need-enum-told-8
-enum-told-8 c = search needs
-
-no-name-requires-4 : tie.Need-no-name-requires-4
-no-name-requires-4 c κs = search needs
-
-is-absent-requires-6 : tie.Need-is-absent-requires-6
-is-absent-requires-6 c κs = search needs
-
-is-absent-requires-7 : tie.Need-is-absent-requires-7
-is-absent-requires-7 c κs = search needs
-
 returns : tie.Need-returns
 unfolding wellMade
 returns c = rw (c .enum-told .given .1)
@@ -182,34 +98,34 @@ pub well-made-spec : {M : Type 1} → statement M
 well-made-spec =
     tie.close
     (tie.spec
-    enum-told
-    enum-told-2
-    is-prefix-requires
-    is-namespace-requires
-    is-absent-requires
-    is-absent-requires-2
-    enum-told-3
-    is-name-requires
-    is-absent-requires-3
-    enum-told-4
-    is-name-requires-2
-    is-value-requires
-    enum-told-5
-    no-name-requires
-    is-absent-requires-4
-    is-stretch-requires
-    enum-told-6
-    no-name-requires-2
-    is-absent-requires-5
-    is-value-requires-2
-    enum-told-7
-    no-name-requires-3
-    is-stretch-requires-2
-    is-value-requires-3
-    enum-told-8
-    no-name-requires-4
-    is-absent-requires-6
-    is-absent-requires-7
+    (λ c. search needs)
+    (λ c. search needs)
+    (λ c κs. search needs)
+    (λ c κs. search needs)
+    (λ c κs. search needs)
+    (λ c κs. search needs)
+    (λ c. search needs)
+    (λ c κs. search needs)
+    (λ c κs. search needs)
+    (λ c. search needs)
+    (λ c κs. search needs)
+    (λ c κs. search needs)
+    (λ c. search needs)
+    (λ c κs. search needs)
+    (λ c κs. search needs)
+    (λ c κs. search needs)
+    (λ c. search needs)
+    (λ c κs. search needs)
+    (λ c κs. search needs)
+    (λ c κs. search needs)
+    (λ c. search needs)
+    (λ c κs. search needs)
+    (λ c κs. search needs)
+    (λ c κs. search needs)
+    (λ c. search needs)
+    (λ c κs. search needs)
+    (λ c κs. search needs)
+    (λ c κs. search needs)
     returns
     returns-2
     returns-3

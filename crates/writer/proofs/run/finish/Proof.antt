@@ -9,44 +9,20 @@ use Rattle.writer.proofs.RunLaws.{finish-owed, finish-full, finish-writ
 use Rattle.writer.proofs.run.finish.Statement.{statement}
 use Rattle.writer.proofs.run.finish.Tie as tie
 
-complete-requires : tie.Need-complete-requires
-complete-requires c κs = search needs
-
-cast-t8 : tie.Need-cast-t8
-cast-t8 c = search needs
-
 returns : tie.Need-returns
 returns c =
     let a = c .before .before .before .args in
     finish-owed (length (a .out .now)) (a .st) (a .counts) (a .out .now) (a .i) (sym (not-true _ (c .if1 .taken)) ∙ c .before .complete .ensures)
-
-add-octets : tie.Need-add-octets
-add-octets c = search needs
-
-cast-t10 : tie.Need-cast-t10
-cast-t10 c = search needs
 
 returns-2 : tie.Need-returns-2
 returns-2 c =
     let a = c .before .before .before .before .before .args in
     finish-full (length (a .out .now)) (a .st) (a .counts) (a .out .now) (a .i) (sym (not-false _ (c .before .before .if1 .left)) ∙ c .before .before .before .complete .ensures) (omega arith)
 
-cast-t11 : tie.Need-cast-t11
-cast-t11 c = search needs
-
 returns-3 : tie.Need-returns-3
 returns-3 c =
     let a = c .before .before .before .before .before .before .args in
     finish-full (length (a .out .now)) (a .st) (a .counts) (a .out .now) (a .i) (sym (not-false _ (c .before .before .before .if1 .left)) ∙ c .before .before .before .before .complete .ensures) (omega arith)
-
-put-end-requires : tie.Need-put-end-requires
-put-end-requires c κs = search needs
-
-cast-t15 : tie.Need-cast-t15
-cast-t15 c = search needs
-
-same-length : tie.Need-same-length
-same-length c = search needs
 
 returns-4 : tie.Need-returns-4
 returns-4 c =
@@ -59,15 +35,15 @@ pub finish-spec : {M : Type 1} → statement M
 finish-spec =
     tie.close
     (tie.spec
-    complete-requires
-    cast-t8
+    (λ c κs. search needs)
+    (λ c. search needs)
     returns
-    add-octets
-    cast-t10
+    (λ c. search needs)
+    (λ c. search needs)
     returns-2
-    cast-t11
+    (λ c. search needs)
     returns-3
-    put-end-requires
-    cast-t15
-    same-length
+    (λ c κs. search needs)
+    (λ c. search needs)
+    (λ c. search needs)
     returns-4)

@@ -15,29 +15,11 @@ returns c = λ es ix z. going-size es _ _ _ (omega arith)
 returns-2 : tie.Need-returns-2
 returns-2 c = λ es ix z. going-room es _ _ _ (omega arith) (omega arith)
 
-clear-requires : tie.Need-clear-requires
-clear-requires c κs = search needs
-
-clear-requires-2 : tie.Need-clear-requires-2
-clear-requires-2 c κs = search needs
-
 put-header-requires : tie.Need-put-header-requires
 put-header-requires c κs =
     let a = c .before .before .before .before .before .before .before .before .before .before .before .before .before .before .args in
     let clear = c .before .before .before .before .before .before .before .clear in
     zeroed _ (length (a .out .now)) (length (clear .last .0)) (clear .ensures) (omega arith)
-
-begin-requires : tie.Need-begin-requires
-begin-requires c κs = search needs
-
-start-requires : tie.Need-start-requires
-start-requires c κs = search needs
-
-same-length : tie.Need-same-length
-same-length c = search needs
-
-same-length-2 : tie.Need-same-length-2
-same-length-2 c = search needs
 
 returns-3 : tie.Need-returns-3
 returns-3 c =
@@ -52,11 +34,11 @@ prepared-spec =
     (tie.spec
     returns
     returns-2
-    clear-requires
-    clear-requires-2
+    (λ c κs. search needs)
+    (λ c κs. search needs)
     put-header-requires
-    begin-requires
-    start-requires
-    same-length
-    same-length-2
+    (λ c κs. search needs)
+    (λ c κs. search needs)
+    (λ c. search needs)
+    (λ c. search needs)
     returns-3)

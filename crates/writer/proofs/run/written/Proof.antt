@@ -11,9 +11,6 @@ use mathlib.Core.Path.{refl}
 use Rattle.writer.proofs.run.written.Statement.{statement}
 use Rattle.writer.proofs.run.written.Tie as tie
 
-prepared-requires : tie.Need-prepared-requires
-prepared-requires c κs = search needs
-
 through-requires : tie.Need-through-requires
 through-requires c κs =
     let a = c .before .before .before .before .before .before .before .before .before .before .before .before .before .args in
@@ -23,12 +20,6 @@ settle-requires : tie.Need-settle-requires
 settle-requires c κs =
     let a = c .before .before .before .before .before .before .before .before .before .before .before .before .before .before .before .before .before .before .before .before .args in
     through-bounded (a .records .now) (c .before .before .before .before .before .before .through .ensures)
-
-same-length : tie.Need-same-length
-same-length c = omega arith
-
-same-length-2 : tie.Need-same-length-2
-same-length-2 c = omega arith
 
 returns : tie.Need-returns
 returns c =
@@ -40,4 +31,4 @@ returns c =
 pub written-spec : {M : Type 1} → statement M
 written-spec =
     tie.close
-    (tie.spec prepared-requires through-requires settle-requires same-length same-length-2 returns)
+    (tie.spec (λ c κs. search needs) through-requires settle-requires (λ c. omega arith) (λ c. omega arith) returns)

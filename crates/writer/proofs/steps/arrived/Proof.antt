@@ -4,11 +4,8 @@ use borrow.Author.Needs.{needs}
 use Rattle.writer.proofs.steps.arrived.Statement.{statement}
 use Rattle.writer.proofs.steps.arrived.Tie as tie
 
-mode-behind-requires : tie.Need-mode-behind-requires
-mode-behind-requires c κs = search needs
-
 returns : tie.Need-returns
 returns c = rw (c .mode-behind .ensures)
 
 pub arrived-spec : {M : Type 1} → statement M
-arrived-spec = tie.close (tie.spec mode-behind-requires returns)
+arrived-spec = tie.close (tie.spec (λ c κs. search needs) returns)

@@ -8,20 +8,8 @@ use mathlib.Core.Path.{sym, _∙_}
 use Rattle.writer.proofs.steps.learn.Statement.{statement}
 use Rattle.writer.proofs.steps.learn.Tie as tie
 
-returns : tie.Need-returns
-returns c = search needs
-
-is-kind-requires : tie.Need-is-kind-requires
-is-kind-requires c κs = search needs
-
-returns-2 : tie.Need-returns-2
-returns-2 c = search needs
-
-remember-requires : tie.Need-remember-requires
-remember-requires c κs = search needs
-
 returns-3 : tie.Need-returns-3
 returns-3 c = learned (c .before .before .before .before .before .before .args .records .now) (c .before .before .before .before .before .before .args .i) (omega arith) (c .before .before .before .before .before .before .args .before) (c .before .before .before .before .before .before .args .n) (omega arith) (sym (c .before .before .before .is-kind .ensures) ∙ not-false _ (c .before .before .if2 .left)) (c .remember .ensures)
 
 pub learn-spec : {M : Type 1} → statement M
-learn-spec = tie.close (tie.spec returns is-kind-requires returns-2 remember-requires returns-3)
+learn-spec = tie.close (tie.spec (λ c. search needs) (λ c κs. search needs) (λ c. search needs) (λ c κs. search needs) returns-3)

@@ -16,13 +16,10 @@ returns-2 c = rides-not (c .before .before .before .before .before .before .args
 run-requires : tie.Need-run-requires
 run-requires c κs = record { at = omega arith; level = omega arith; filed = c .before .before .before .before .before .before .before .pre .2 }
 
-same-length : tie.Need-same-length
-same-length c = search needs
-
 returns-3 : tie.Need-returns-3
 returns-3 c =
     let a = c .before .before .before .before .before .before .before .before .before .before .args in
     rides-on (a .records .now) (a .memory .now) (length (a .out .now)) (a .i) (a .st) (a .out .now) (omega arith) (λ q. omega arith) (c .before .before .run .ensures .0) (c .before .before .run .ensures .1) (c .before .before .run .ensures .2)
 
 pub ride-spec : {M : Type 1} → statement M
-ride-spec = tie.close (tie.spec returns returns-2 run-requires same-length returns-3)
+ride-spec = tie.close (tie.spec returns returns-2 run-requires (λ c. search needs) returns-3)

@@ -17,54 +17,21 @@ Inv-loop records text out₀ t₀ index₀ memory₀ counts₀ st₀ i₀ out t 
 abbrev μ-loop : tie.MeasureT-loop
 μ-loop records text out₀ t₀ index₀ memory₀ counts₀ st₀ i₀ out t index memory counts st i = length records / 13 - i
 
-slice-aggregate-put-counts : tie.Need-slice-aggregate-put-counts Inv-loop μ-loop
-slice-aggregate-put-counts c = search needs
-
-put-counts-requires : tie.Need-put-counts-requires Inv-loop μ-loop
-put-counts-requires c κs = search needs
-
 loop-holds : tie.Need-loop-holds Inv-loop μ-loop
 loop-holds c =
     let at-start = c .before .before .before .before .before .before .before in
     (refl, refl, refl, omega arith, stepping-start (at-start .args .records .now) (at-start .args .text .now) (length (at-start .args .out .now)) (length (at-start .args .t .now)) 128 (at-start .args .first) (at-start .args .start) _ (at-start .args .out .now) (at-start .args .t .now) (c .before .put-counts .ensures) (at-start .pre))
-
-look-from-requires : tie.Need-look-from-requires Inv-loop μ-loop
-look-from-requires c κs = search needs
-
-announced-words-requires : tie.Need-announced-words-requires Inv-loop μ-loop
-announced-words-requires c κs = search needs
-
-from-words-requires : tie.Need-from-words-requires Inv-loop μ-loop
-from-words-requires c κs = omega arith
-
-array-read-before : tie.Need-array-read-before Inv-loop μ-loop
-array-read-before c = search needs
-
-slice-aggregate-step : tie.Need-slice-aggregate-step Inv-loop μ-loop
-slice-aggregate-step c = search needs
-
-slice-aggregate-step-2 : tie.Need-slice-aggregate-step-2 Inv-loop μ-loop
-slice-aggregate-step-2 c = search needs
-
-bit-requires : tie.Need-bit-requires Inv-loop μ-loop
-bit-requires c κs = search needs
 
 step-requires : tie.Need-step-requires Inv-loop μ-loop
 step-requires c κs =
     let at-loop = c .before .before .before .before .before .before .before .before .before in
     stepping-ready (at-loop .loop .inv .4)
 
-enum-known-next : tie.Need-enum-known-next Inv-loop μ-loop
-enum-known-next c = search needs
-
-array-read-learn : tie.Need-array-read-learn Inv-loop μ-loop
-array-read-learn c = search needs
-
 learn-requires : tie.Need-learn-requires Inv-loop μ-loop
 learn-requires c κs =
     let at-step = c .before .before .before .before .before .before .before .before .before .before in
-    let at-bit = at-step .before in
-    let at-from-words = at-bit .before .before .before .before .before in
+    let at-bit = at-step .before .before .before .before .before in
+    let at-from-words = at-bit .before in
     let at-announced-words = at-from-words .before in
     let at-look-from = at-announced-words .before in
     let at-loop-test = at-look-from .before in
@@ -80,8 +47,8 @@ add-ride c =
 ride-requires : tie.Need-ride-requires Inv-loop μ-loop
 ride-requires c κs =
     let at-step = c .before .before .before .before .before .before .before .before .before .before .before .before .before in
-    let at-bit = at-step .before in
-    let at-from-words = at-bit .before .before .before .before .before in
+    let at-bit = at-step .before .before .before .before .before in
+    let at-from-words = at-bit .before in
     let at-announced-words = at-from-words .before in
     let at-look-from = at-announced-words .before in
     let at-loop-test = at-look-from .before in
@@ -90,9 +57,6 @@ ride-requires c κs =
     let kept = c .before .before .learn .last .0 in
     let learned = stepped-learned s kept (c .before .before .learn .ensures) in
     (stepped-safe s .0, stepped-safe s .1, stepped-filed s kept learned)
-
-arrived-requires : tie.Need-arrived-requires Inv-loop μ-loop
-arrived-requires c κs = search needs
 
 loop-less : tie.Need-loop-less Inv-loop μ-loop
 loop-less c =
@@ -105,8 +69,8 @@ loop-again c =
     let at-learn = c .before .before .before .before .before .before in
     let at-next = at-learn .before .before .before in
     let at-step = at-next .before .before .before .before .before .before .before .before in
-    let at-bit = at-step .before in
-    let at-from-words = at-bit .before .before .before .before .before in
+    let at-bit = at-step .before .before .before .before .before in
+    let at-from-words = at-bit .before in
     let at-announced-words = at-from-words .before in
     let at-look-from = at-announced-words .before in
     let at-loop-test = at-look-from .before in
@@ -117,11 +81,8 @@ loop-again c =
     let far = c .before .before .before .ride .kept in
     (omega (arith, at-loop .loop .inv .0, at-step .step .kept, far), omega (arith, at-loop .loop .inv .1, at-step .step .kept, far), omega (arith, at-loop .loop .inv .2, at-step .step .kept, far), omega (arith, at-loop .loop .inv .3, at-step .step .kept, far), stepping-on s kept learned (at-loop-test .loop-test .taken) (omega (arith, at-loop .loop .inv .0, at-step .step .kept)) (c .before .before .before .ride .ensures) (c .arrived .ensures))
 
-enum-known-number : tie.Need-enum-known-number Inv-loop μ-loop
-enum-known-number c = search needs
-
-cast-t47 : tie.Need-cast-t47 Inv-loop μ-loop
-cast-t47 c =
+cast-t48 : tie.Need-cast-t48 Inv-loop μ-loop
+cast-t48 c =
     let at-loop = c .before .before .before .before .before .before .before .before .before .before .before .before .before .before .before .before .before .before .before in
     omega (arith, stepping-small (at-loop .loop .inv .4))
 
@@ -140,19 +101,13 @@ same-length-2 c =
 returns : tie.Need-returns Inv-loop μ-loop
 returns c =
     let at-step = c .before .before .before .before .before .before .before .before .before in
-    let at-bit = at-step .before in
-    let at-from-words = at-bit .before .before .before .before .before in
+    let at-bit = at-step .before .before .before .before .before in
+    let at-from-words = at-bit .before in
     let at-announced-words = at-from-words .before in
     let at-look-from = at-announced-words .before in
     let at-loop-test = at-look-from .before in
     let at-loop = at-loop-test .before in
     step-stopped (at-loop .loop .inv .4) (at-loop-test .loop-test .taken) (at-loop .loop .inv .0) (at-look-from .look-from .ensures) (at-announced-words .announced-words .ensures) (at-from-words .from-words .ensures) (at-bit .bit .ensures) (at-step .step .result) (at-step .step .last .1 .1 .1 .1 .1 .0) (at-step .step .last .1 .1 .1 .0) (at-step .step .last .1 .1 .0) (at-step .step .last .1 .1 .1 .1 .0) (at-step .step .ensures) (c .before .number .given .1)
-
-slice-aggregate-counts-in : tie.Need-slice-aggregate-counts-in Inv-loop μ-loop
-slice-aggregate-counts-in c = search needs
-
-counts-in-requires : tie.Need-counts-in-requires Inv-loop μ-loop
-counts-in-requires c κs = search needs
 
 same-length-3 : tie.Need-same-length-3 Inv-loop μ-loop
 same-length-3 c = omega (arith, c .before .before .before .loop .inv .0)
@@ -169,32 +124,32 @@ steps-spec =
     (tie.spec
     Inv-loop
     μ-loop
-    slice-aggregate-put-counts
-    put-counts-requires
+    (λ c. search needs)
+    (λ c κs. search needs)
     loop-holds
-    look-from-requires
-    announced-words-requires
-    from-words-requires
-    array-read-before
-    slice-aggregate-step
-    slice-aggregate-step-2
-    bit-requires
+    (λ c κs. search needs)
+    (λ c κs. search needs)
+    (λ c κs. omega arith)
+    (λ c. search needs)
+    (λ c κs. search needs)
+    (λ c. search needs)
+    (λ c. search needs)
     step-requires
-    enum-known-next
-    array-read-learn
+    (λ c. search needs)
+    (λ c. search needs)
     learn-requires
     add-ride
     ride-requires
-    arrived-requires
+    (λ c κs. search needs)
     loop-less
     loop-again
-    enum-known-number
-    cast-t47
+    (λ c. search needs)
+    cast-t48
     same-length
     same-length-2
     returns
-    slice-aggregate-counts-in
-    counts-in-requires
+    (λ c. search needs)
+    (λ c κs. search needs)
     same-length-3
     same-length-4
     returns-2)

@@ -6,15 +6,6 @@ use Rattle.writer.specs.AheadContracts.{decided}
 use Rattle.writer.proofs.ahead.Look.answer.Statement.{statement}
 use Rattle.writer.proofs.ahead.Look.answer.Tie as tie
 
-enum-told : tie.Need-enum-told
-enum-told c = search needs
-
-enum-told-2 : tie.Need-enum-told-2
-enum-told-2 c = search needs
-
-enum-known-self : tie.Need-enum-known-self
-enum-known-self c = search needs
-
 returns : tie.Need-returns
 unfolding announced decided
 returns c = rw (c .enum-told .given .1)
@@ -29,4 +20,4 @@ returns-3 c = rw (c .before .self .given .1)
 
 pub answer-spec : {M : Type 1} → statement M
 answer-spec =
-    tie.close (tie.spec enum-told enum-told-2 enum-known-self returns returns-2 returns-3)
+    tie.close (tie.spec (λ c. search needs) (λ c. search needs) (λ c. search needs) returns returns-2 returns-3)

@@ -5,15 +5,6 @@ use Rattle.writer.specs.AheadContracts.{onward}
 use Rattle.writer.proofs.ahead.Look.goes_on.Statement.{statement}
 use Rattle.writer.proofs.ahead.Look.goes_on.Tie as tie
 
-enum-told : tie.Need-enum-told
-enum-told c = search needs
-
-enum-told-2 : tie.Need-enum-told-2
-enum-told-2 c = search needs
-
-enum-told-3 : tie.Need-enum-told-3
-enum-told-3 c = search needs
-
 returns : tie.Need-returns
 unfolding onward
 returns c = rw (c .enum-told .given .1)
@@ -27,4 +18,4 @@ unfolding onward
 returns-3 c = rw (c .enum-told3 .given .1)
 
 pub goes-on-spec : {M : Type 1} → statement M
-goes-on-spec = tie.close (tie.spec enum-told enum-told-2 enum-told-3 returns returns-2 returns-3)
+goes-on-spec = tie.close (tie.spec (λ c. search needs) (λ c. search needs) (λ c. search needs) returns returns-2 returns-3)

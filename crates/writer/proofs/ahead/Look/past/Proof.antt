@@ -5,21 +5,6 @@ use Rattle.writer.specs.AheadContracts.{decided}
 use Rattle.writer.proofs.ahead.Look.past.Statement.{statement}
 use Rattle.writer.proofs.ahead.Look.past.Tie as tie
 
-enum-told : tie.Need-enum-told
-enum-told c = search needs
-
-before-start-requires : tie.Need-before-start-requires
-before-start-requires c κs = search needs
-
-enum-told-2 : tie.Need-enum-told-2
-enum-told-2 c = search needs
-
-is-attribute-requires : tie.Need-is-attribute-requires
-is-attribute-requires c κs = search needs
-
-enum-known-self : tie.Need-enum-known-self
-enum-known-self c = search needs
-
 returns : tie.Need-returns
 unfolding decided
 returns c = λ es. rw (c .before .enum-told .given .1) (c .before-start .ensures es)
@@ -36,11 +21,11 @@ pub past-spec : {M : Type 1} → statement M
 past-spec =
     tie.close
     (tie.spec
-    enum-told
-    before-start-requires
-    enum-told-2
-    is-attribute-requires
-    enum-known-self
+    (λ c. search needs)
+    (λ c κs. search needs)
+    (λ c. search needs)
+    (λ c κs. search needs)
+    (λ c. search needs)
     returns
     returns-2
     returns-3)

@@ -10,17 +10,11 @@ use Rattle.writer.proofs.lane.Lane.pass.Tie as tie
 closed-requires : tie.Need-closed-requires
 closed-requires c κs = (omega arith, omega arith, omega arith)
 
-same-length : tie.Need-same-length
-same-length c = search needs
-
 returns : tie.Need-returns
 returns c = passed-end (c .before .before .before .before .before .before .before .args .w .now) (c .before .before .before .before .before .before .before .args .k) (length (c .before .before .before .before .before .before .before .args .out .now)) (c .before .before .before .before .before .before .before .pre) (omega arith) (c .before .before .closed .ensures)
 
 opened-requires : tie.Need-opened-requires
 opened-requires c κs = let n = c .before .before .before .before .pre .name (λ q. omega arith) in (omega arith, omega arith, omega arith, omega arith, omega arith)
-
-same-length-2 : tie.Need-same-length-2
-same-length-2 c = search needs
 
 returns-2 : tie.Need-returns-2
 returns-2 c = passed-start (c .before .before .before .before .before .before .before .args .w .now) (c .before .before .before .before .before .before .before .args .k) (length (c .before .before .before .before .before .before .before .args .out .now)) (c .before .before .before .before .before .before .before .pre) (λ q. omega arith) (c .before .before .opened .ensures)
@@ -28,4 +22,4 @@ returns-2 c = passed-start (c .before .before .before .before .before .before .b
 pub pass-spec : {M : Type 1} → statement M
 pass-spec =
     tie.close
-    (tie.spec closed-requires same-length returns opened-requires same-length-2 returns-2)
+    (tie.spec closed-requires (λ c. search needs) returns opened-requires (λ c. search needs) returns-2)

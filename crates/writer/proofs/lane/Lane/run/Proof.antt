@@ -34,9 +34,6 @@ loop-less c = let a = c .before .before .before .before .before .before .loop .i
 loop-again : tie.Need-loop-again Inv-loop μ-loop
 loop-again c = (omega arith, record { at = c .before .before .before .pass .ensures .at; level = c .before .before .before .pass .ensures .level; filed = c .before .before .before .before .before .before .loop .inv .1 .filed }, c .next2 .ensures, passes-on (c .before .before .before .before .before .before .loop .inv .0) (c .before .before .before .pass .ensures) (c .before .before .before .before .before .before .loop .inv .2 (c .before .before .before .before .before .loop-test .taken)) (c .before .before .before .before .before .before .loop .inv .3), let next = c .before .before .before .pass .ensures .next in let there = c .before .before .before .before .before .before .loop .inv .2 (c .before .before .before .before .before .loop-test .taken) .there in let on = c .before .before .before .before .before .before .loop .inv .4 .on in record { on = omega arith; inside = λ h. omega arith })
 
-same-length : tie.Need-same-length Inv-loop μ-loop
-same-length c = omega arith
-
 returns : tie.Need-returns Inv-loop μ-loop
 returns c = (c .before .loop .inv .1, c .before .loop .inv .4, c .before .loop .inv .3)
 
@@ -52,5 +49,5 @@ run-spec =
     next-requires-2
     loop-less
     loop-again
-    same-length
+    (λ c. omega arith)
     returns)

@@ -6,17 +6,8 @@ use Rattle.writer.proofs.PhaseLaws.{bounded-onward, ends-onward, ends-h
 use Rattle.writer.proofs.run.Phase.ended.Statement.{statement}
 use Rattle.writer.proofs.run.Phase.ended.Tie as tie
 
-enum-known-self : tie.Need-enum-known-self
-enum-known-self c = search needs
-
 finish-requires : tie.Need-finish-requires
 finish-requires c κs = bounded-onward _ (c .before .before .self .given .1) (c .before .before .before .before .before .pre)
-
-enum-known-self-2 : tie.Need-enum-known-self-2
-enum-known-self-2 c = search needs
-
-same-length : tie.Need-same-length
-same-length c = search needs
 
 returns : tie.Need-returns
 returns c = ends-onward _ _ _ (c .before .before .finish .result) (c .before .before .finish .last .1 .1 .0) _ _ _ (c .before .before .before .before .before .self .given .1) (c .before .before .finish .ensures)
@@ -27,4 +18,4 @@ returns-2 c = ends-halted _ _ _ _ (c .before .before .before .before .args .out 
 pub ended-spec : {M : Type 1} → statement M
 ended-spec =
     tie.close
-    (tie.spec enum-known-self finish-requires enum-known-self-2 same-length returns returns-2)
+    (tie.spec (λ c. search needs) finish-requires (λ c. search needs) (λ c. search needs) returns returns-2)

@@ -7,39 +7,12 @@ use Rattle.writer.proofs.PhaseLaws.{steady-onward, turn-on, turn-stop, 
 use Rattle.writer.proofs.run.Phase.turn.Statement.{statement}
 use Rattle.writer.proofs.run.Phase.turn.Tie as tie
 
-enum-known-self : tie.Need-enum-known-self
-enum-known-self c = search needs
-
-slice-aggregate-put-counts : tie.Need-slice-aggregate-put-counts
-slice-aggregate-put-counts c = search needs
-
-put-counts-requires : tie.Need-put-counts-requires
-put-counts-requires c κs = search needs
-
-slice-aggregate-step : tie.Need-slice-aggregate-step
-slice-aggregate-step c = search needs
-
-bit-requires : tie.Need-bit-requires
-bit-requires c κs = search needs
-
 step-requires : tie.Need-step-requires
 step-requires c κs =
     let at-self = c .before .before .before .before .before .before .before .before .before in
     let at-start = at-self .before .before .before .before .before .before in
     let steady = steady-onward (at-start .args .text .now) (at-start .args .i) (at-start .args .t .now) (at-start .args .index .now) (at-self .self .given .1) (at-start .pre) in
     rw (c .before .before .before .before .before .before .put-counts .ensures) (steady .0)
-
-enum-known-next : tie.Need-enum-known-next
-enum-known-next c = search needs
-
-slice-aggregate-counts-in : tie.Need-slice-aggregate-counts-in
-slice-aggregate-counts-in c = search needs
-
-counts-in-requires : tie.Need-counts-in-requires
-counts-in-requires c κs = search needs
-
-enum-known-number : tie.Need-enum-known-number
-enum-known-number c = search needs
 
 cast-t34 : tie.Need-cast-t34
 cast-t34 c =
@@ -48,18 +21,6 @@ cast-t34 c =
     let steady = steady-onward (at-start .args .text .now) (at-start .args .i) (at-start .args .t .now) (at-start .args .index .now) (at-self .self .given .1) (at-start .pre) in
     let a = steady .0 .at in
     omega arith
-
-enum-known-self-2 : tie.Need-enum-known-self-2
-enum-known-self-2 c = search needs
-
-same-length : tie.Need-same-length
-same-length c = search needs
-
-same-length-2 : tie.Need-same-length-2
-same-length-2 c = search needs
-
-same-length-3 : tie.Need-same-length-3
-same-length-3 c = search needs
 
 returns : tie.Need-returns
 returns c =
@@ -70,15 +31,6 @@ returns c =
     let at-start = at-self .before .before .before .before .before .before in
     let last = at-step .step .last in
     turn-on (at-start .args .text .now) (length (at-start .args .out .now)) (length (at-start .args .t .now)) (at-start .args .i) (at-start .args .out .now) (at-start .args .t .now) (at-start .args .index .now) (at-start .args .e) (at-start .args .a) (last .1 .1 .1 .1 .1 .0) (last .1 .1 .0) (last .1 .1 .1 .1 .0) _ _ (at-start .args .self) (at-self .self .given .1) (at-put-counts .put-counts .ensures) _ (at-bit .bit .ensures) (at-step .step .result) (last .1 .1 .1 .0) (at-step .step .ensures) _ _ (c .before .before .before .next .given .1) (c .counts-in .ensures)
-
-same-length-4 : tie.Need-same-length-4
-same-length-4 c = search needs
-
-same-length-5 : tie.Need-same-length-5
-same-length-5 c = search needs
-
-same-length-6 : tie.Need-same-length-6
-same-length-6 c = search needs
 
 returns-2 : tie.Need-returns-2
 returns-2 c =
@@ -99,24 +51,24 @@ pub turn-spec : {M : Type 1} → statement M
 turn-spec =
     tie.close
     (tie.spec
-    enum-known-self
-    slice-aggregate-put-counts
-    put-counts-requires
-    slice-aggregate-step
-    bit-requires
+    (λ c. search needs)
+    (λ c. search needs)
+    (λ c κs. search needs)
+    (λ c. search needs)
+    (λ c κs. search needs)
     step-requires
-    enum-known-next
-    slice-aggregate-counts-in
-    counts-in-requires
-    enum-known-number
+    (λ c. search needs)
+    (λ c. search needs)
+    (λ c κs. search needs)
+    (λ c. search needs)
     cast-t34
-    enum-known-self-2
-    same-length
-    same-length-2
-    same-length-3
+    (λ c. search needs)
+    (λ c. search needs)
+    (λ c. search needs)
+    (λ c. search needs)
     returns
-    same-length-4
-    same-length-5
-    same-length-6
+    (λ c. search needs)
+    (λ c. search needs)
+    (λ c. search needs)
     returns-2
     returns-3)
