@@ -2,3 +2,4 @@
 pub mod Hash
 pub mod Chain
 pub mod Indexed
+pub mod Ordered

@@ -104,7 +104,7 @@ module _ (s c w x : List ℕ) (tidy : Tidy s c w x) (t n : ℕ) (low : 8 ≤ t) 
   pub name-ranged : InRange (unlisted c) (tripleAt w (768 * t + 3 * (n - 1)))
   name-ranged =
       let l = length-names (unlisted c) w t low high in
-      rw name-at at (ranged-at (unlisted c) (names (vocabulary (unlisted c) w) (nameTableOf t)) (n - 1) (tidy .ranged (nameTableOf t)) (omega arith))
+      rw name-at at (ranged-at (unlisted c) (names (vocabulary (unlisted c) w) (nameTableOf t)) (n - 1) (tidy .more (nameTableOf t)) (omega arith))
 
   pub name-stays : (d v : List ℕ) → Grown c w d v → nameStringsAt v t n ≡ nameStringsAt w t n
   unfolding nameStringsAt

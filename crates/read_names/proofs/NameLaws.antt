@@ -49,24 +49,17 @@ use Rattle.read_names.specs.Contracts.{Ranged, searched, Tidy, Grown, Le
 use Rattle.read_names.specs.StringContracts.{heldOf}
 use Rattle.read_names.specs.NameContracts.{newName, seenNumber, NewRow}
 use Rattle.index.proofs.Counted.{count-at, one-more, one-more-words}
+use Rattle.index.proofs.Ordered.{ordered-name}
 use Rattle.read_names.proofs.Grown.{grown-none, grown-on, grown-stored, string-stays, InRange, name-at, name-ranged}
 use Rattle.read_names.proofs.StringLaws.{tests, ranged-kept}
 
 -- ---- a table's layout
 module _ (t : ℕ) (e : t ≡ 8) where
-  pub element-parts : 0x3C ≡ layoutOf t .inPartsBits
-  unfolding layoutOf ofElement
-  element-parts = rw (eq-eqb t 8 e)
-
   pub element-number : (s : List ℕ) (at : ℕ) → fieldAt (numbers 3) top 3 s at ≡ fieldAt (layoutOf t .numberForms) top (nameBit (layoutOf t .table)) s at
   unfolding layoutOf ofElement
   element-number s at = rw (eq-eqb t 8 e)
 
 module _ (t : ℕ) (e : t ≡ 8 → ⊥) where
-  pub attribute-parts : 0x78 ≡ layoutOf t .inPartsBits
-  unfolding layoutOf ofAttribute
-  attribute-parts = rw (ne-eqb t 8 e)
-
   pub attribute-number : (s : List ℕ) (at : ℕ) → fieldAt c25 top 2 s at ≡ fieldAt (layoutOf t .numberForms) top (nameBit (layoutOf t .table)) s at
   unfolding layoutOf ofAttribute
   attribute-number s at = rw (ne-eqb t 8 e)
@@ -195,19 +188,12 @@ module _ (c w : List ℕ) (t k next f : ℕ) (x : Triple) (low : 8 ≤ t) (high 
 
       left-named : (s i y : List ℕ) → Tidy s c w i → next ≤ length s → NameEntered s t (getD c t 0) x w i then-words y → Left s c w next then-counts then-words y
       left-named s i y tidy l e =
-          let n = count-at c ten t in
           let more = one-more c ten t in
           record {
-            tidy = record {
-              size = tidy .size;
-              ten = length-set c t (getD c t 0 + 1) ∙ ten;
-              room = stored-length w t (getD c t 0) (x .prefix) (x .namespace) (x .local) ∙ fits;
-              counted = rw more (counted-more (unlisted c) t high (omega arith) (tidy .counted));
-              clean = rw more (rw n at (clean-name (unlisted c) w t (tidy .counted) (omega arith) fits x low high (tidy .clean)));
-              inside = rw (is-added (tidy .counted)) (inside-name s (vocabulary (unlisted c) w) (nameTableOf t) x (tidy .inside));
-              ranged = rw (is-added (tidy .counted), more) (ranged-adding (unlisted c) (vocabulary (unlisted c) w) x ranged (tidy .ranged) t low high);
-              indexed = e .keeps .still searched (countOf (unlisted c)) (countOf (unlisted then-counts)) (one-more-words c ten t high) (tidy .indexed);
-            };
+            tidy =
+                ordered-name tidy t room x low high then-words y refl
+                (e .keeps .still searched (countOf (unlisted c)) (countOf (unlisted then-counts)) (one-more-words c ten t high) (tidy .indexed))
+                (rw (is-added (tidy .counted), more) (ranged-adding (unlisted c) (vocabulary (unlisted c) w) x ranged (tidy .more) t low high));
             within = l;
             grown = grown-stored c w t (x .prefix) (x .namespace) (x .local) ten high room (tidy .counted);
           }
@@ -276,7 +262,7 @@ pub local-new : (s c w i d v : List ℕ) (k k₁ : ℕ) (x : Seen) → Tidy s c 
 unfolding numberOfTriple
 local-new s c w i d v k k₁ x tidy e t p n h =
     let g = (rw (← e) at (same-names s (tableOf 2) k (vocabulary (unlisted c) w))) t in
-    rw g (unnamed (unlisted c) _ h (names (vocabulary (unlisted c) w) t) 1 (tidy .ranged t))
+    rw g (unnamed (unlisted c) _ h (names (vocabulary (unlisted c) w) t) 1 (tidy .more t))
 
 -- ---- a name's strings, read one behind the other, and what is said at the end
 abbrev pub Says : List ℕ → (t : ℕ) → Parts → Entry → Type 0

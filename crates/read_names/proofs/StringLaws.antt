@@ -46,6 +46,7 @@ use Rattle.read_names.specs.Strings.{got, refused, then, number, spellin
 use Rattle.read_names.specs.Contracts.{Ranged, searched, Tidy, Left, eventStringAt, Seen, seenId, IdLeft, Positive, seenField, FieldLeft, idSeen, optionalSeen, stringSeen}
 use Rattle.read_names.specs.StringContracts.{BehindWithin, stretchOf, NumberPositive, heldOf, saidOf, addedOf, addedCounts, addedWords, lengthFrom}
 use Rattle.index.proofs.Counted.{count-at, one-more, one-more-words}
+use Rattle.index.proofs.Ordered.{string-more, ordered-string}
 use Rattle.read_names.proofs.Grown.{searched-string, searched-not, grown-none, grown-stored}
 
 -- a test of a definition, taken apart
@@ -212,25 +213,15 @@ module _ (s c w x : List ℕ) (t place size : ℕ) (tidy : Tidy s c w x) (h : t 
   then-words = stored w t (getD c t 0) place size 0
 
   is-added : vocabulary (unlisted then-counts) then-words ≡ adding (vocabulary (unlisted c) w) (tableOf t) (stretch place size)
-  is-added =
-      let n = count-at c (tidy .ten) t in
-      rw (one-more c (tidy .ten) t) (rw n at (string-added (unlisted c) w t (tidy .counted) (omega arith) (tidy .room) place size h some))
+  is-added = string-more tidy t room place size h some
 
   left-more : (y : List ℕ) → Indexed searched s (countOf (unlisted then-counts)) then-words y → Left s c w (place + size) then-counts then-words y
   left-more y keeps =
-      let n = count-at c (tidy .ten) t in
       record {
-        tidy = record {
-          size = tidy .size;
-          ten = length-set c t (getD c t 0 + 1) ∙ tidy .ten;
-          room = stored-length w t (getD c t 0) place size 0 ∙ tidy .room;
-          counted = rw (one-more c (tidy .ten) t) (counted-more (unlisted c) t (omega arith) (omega arith) (tidy .counted));
-          clean = rw (one-more c (tidy .ten) t) (rw n at (clean-string (unlisted c) w t (tidy .counted) (omega arith) (tidy .room) place size h some (tidy .clean)));
-          inside = rw is-added (inside-string s (vocabulary (unlisted c) w) (tableOf t) (stretch place size) (tidy .inside) ends);
-          ranged = λ k. rw (is-added, names-adding (vocabulary (unlisted c) w) (tableOf t) (stretch place size) k)
-              (ranged-kept (unlisted c) (unlisted then-counts) (growing c t 0) (growing c t 1) (growing c t 2) (names (vocabulary (unlisted c) w) k) (tidy .ranged k));
-          indexed = keeps;
-        };
+        tidy =
+            ordered-string tidy t room place size h some ends then-words y refl keeps
+            (λ k. rw (is-added, names-adding (vocabulary (unlisted c) w) (tableOf t) (stretch place size) k)
+            (ranged-kept (unlisted c) (unlisted then-counts) (growing c t 0) (growing c t 1) (growing c t 2) (names (vocabulary (unlisted c) w) k) (tidy .more k)));
         within = ends;
         grown = grown-stored c w t place size 0 (tidy .ten) (omega arith) room (tidy .counted);
       }

@@ -11,8 +11,8 @@ use Rattle.tables.specs.declared.Counts.{Counts}
 use Rattle.tables.specs.Located.{Located}
 use Rattle.tables.specs.Counts.{tableWords}
 use Rattle.tables.specs.Rows.{tableOf, stringAt, tripleAt, vocabulary}
-use Rattle.tables.specs.Kept.{Counted, Clean, AllInside, countOf, unlisted, rowAt}
-use Rattle.index.specs.Indexed.{Indexed}
+use Rattle.tables.specs.Kept.{countOf, unlisted, rowAt}
+use Rattle.index.specs.Ordered.{Ordered}
 use Rattle.events.specs.declared.EventString.{EventString}
 use Rattle.events.specs.declared.EventString.the-variants.{Absent}
 use Rattle.events.specs.Records.{eventString, optionalEventString}
@@ -36,16 +36,9 @@ Ranged c (x ∷ xs) = (x .prefix ≤ c .prefix) × (x .namespace ≤ c .namespac
 unfoldable pub searched : ℕ → Bool
 searched table = ltb table 5 || leb 8 table
 
--- The tables of a document s in lent words are in order: c are the words of the counts, w those of the tables, x the octets of the index.
-pub record Tidy (s : Octets) (c w : Words) (x : Octets) : Type 0 where
-  pub size : length s ≤ 16384
-  pub ten : length c ≡ 10
-  pub room : length w ≡ tableWords
-  pub counted : Counted (unlisted c)
-  pub clean : Clean (unlisted c) w
-  pub inside : AllInside s (vocabulary (unlisted c) w)
-  pub ranged : (t : NameTable) → Ranged (unlisted c) (names (vocabulary (unlisted c) w) t)
-  pub indexed : Indexed searched s (countOf (unlisted c)) w x
+-- The tables of a document s in lent words are in order, and the numbers of names are those of entries: c are the words of the counts, w those of the tables, x the octets of the index.
+abbrev pub Tidy : Octets → (c w : Words) → Octets → Type 0
+Tidy s c w x = Ordered searched s c w x ((t : NameTable) → Ranged (unlisted c) (names (vocabulary (unlisted c) w) t))
 
 -- Words c and w of counts and tables became d and v: the rows that were there are the same.
 pub record Grown (c w d v : Words) : Type 0 where

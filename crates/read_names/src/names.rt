@@ -37,16 +37,6 @@ use format::table::PREFIX;
 use tables::Counts;
 use tables::Row;
 
-// The octet's part that begins a name in parts: 1111pn, or 11110pn.
-fn parts_bits(table: usize) -> u8
-    ensures { λ r. ⌜ r ≡ layoutOf table .inPartsBits ⌝ }
-{
-    if table == ELEMENT_NAME {
-        return 0x3C;
-    }
-    0x78
-}
-
 // The number of a name of table 8 or 9, C.27 or C.25.
 fn number(s: &[u8], at: usize, table: usize) -> Number
     ensures { λ r. ⌜ r ≡ fieldAt (layoutOf table .numberForms) top (nameBit (layoutOf table .table)) (now (s .entry)) at ⌝ }
@@ -190,7 +180,7 @@ pub fn name(
     requires { ⌜ (Tidy (now s) (now counts) (now t) (now index)) × (at < length (now s)) × (8 ≤ table) × (table < 10) ⌝ }
     ensures { λ r. ⌜ ReadsName (now (s .entry)) (now (counts .entry)) (now (t .entry)) table r (now (counts .exit)) (now (t .exit)) (now (index .exit)) (nameAt link (layoutOf table) (now (s .entry)) b at) ⌝ }
 {
-    if b < parts_bits(table) {
+    if b < tables::parts_bits(table) {
         return numbered(s, counts, table, at);
     }
     in_parts(s, t, counts, index, table, at, b)

@@ -78,7 +78,7 @@ good-counted : {s : List ℕ} {st : State} {b : Lent} → Good s st b → Good s
 good-counted g =
     let t = g .tidy in
     record {
-      tidy = record { size = t .size; ten = refl; room = t .room; counted = t .counted; clean = t .clean; inside = t .inside; ranged = t .ranged; indexed = t .indexed };
+      tidy = record { size = t .size; ten = refl; room = t .room; counted = t .counted; clean = t .clean; inside = t .inside; more = t .more; indexed = t .indexed };
       at = g .at;
       shallow = g .shallow;
     }

@@ -215,7 +215,7 @@ module _ (s : List ℕ) (body : ℕ) (t c x : List ℕ) (zeros : t ≡ replicate
           counted = counted-start;
           clean = rw zeros clean-start;
           inside = rw tables-start (inside-start s);
-          ranged = rw tables-start ranged-start;
+          more = rw tables-start ranged-start;
           indexed = rw zeros (indexed-start searched s (replicate tableWords 0) x (getD-replicate {A = ℕ} tableWords 1 0 0 (lit< tt)) (getD-replicate {A = ℕ} tableWords 769 0 0 (lit< tt)) clear);
         };
         at = omega arith;

@@ -9,7 +9,8 @@ ghost use Rattle.tables.specs.Located.{stretch, octetsOf, start};
 ghost use Rattle.tables.specs.Counts.{countsOf, tableWords};
 ghost use Rattle.tables.specs.Rows.{tableOf, builtIn, stringAt, tripleAt, entries};
 ghost use Rattle.tables.specs.Search.{numberIn};
-ghost use Rattle.tables.specs.Kept.{listed, unlisted, countOf, oneMore, rowAt, stored, Ends, Inside};
+ghost use Rattle.tables.specs.Kept.{listed, unlisted, countOf, oneMore, rowAt, stored, Ends, Inside, layoutOf};
+use format::table::ELEMENT_NAME;
 
 // How many entries each table has, in the required order.
 pub struct Counts {
@@ -305,4 +306,14 @@ pub fn is_name(t: &[u32], j: usize, prefix: u32, namespace: u32, local: u32) -> 
         return false;
     }
     t[j] == prefix
+}
+
+// The octet's part that begins a name of table 8 or 9 in parts: 1111pn, or 11110pn.
+pub fn parts_bits(table: usize) -> u8
+    ensures { λ r. ⌜ (r ≡ layoutOf table .inPartsBits) × (r ≤ 0x78) ⌝ }
+{
+    if table == ELEMENT_NAME {
+        return 0x3C;
+    }
+    0x78
 }

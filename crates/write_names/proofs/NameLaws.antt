@@ -23,6 +23,7 @@ use Rattle.tables.specs.Kept.{nameTableOf, layoutOf, tripleOf}
 use Rattle.tables.proofs.Adding.{names-adding}
 use Rattle.tables.proofs.Laws.{name-number-within}
 use Rattle.index.specs.Indexed.{slots, NamesIndexed}
+use Rattle.index.proofs.Ordered.{name-more}
 use Rattle.index.proofs.Counted.{count-at}
 use Rattle.events.specs.declared.EventString.{EventString}
 use Rattle.events.specs.declared.EventString.the-variants.{Absent, Empty, Stretch, XmlPrefix, XmlNamespace}
@@ -35,7 +36,7 @@ use Rattle.write_names.specs.declared.Wrote as W
 use Rattle.write_names.specs.declared.Wrote.the-variants.{Put, Full}
 use Rattle.write_names.specs.Choices.{Wrote, writeId, writeOptional, writeName, within}
 use Rattle.write_names.specs.Contracts.{stringMost, pairMost, nameMost, tablesIn, InOrder, heldAs, Looked, namedOf, Held, numberThen, tripleFor, nameHeldAs, Proper, New, Tripled, pairBehind, declaredBy, Stands, Meets}
-use Rattle.write_names.proofs.Order.{entries-count, triples-are, triples-count, counted-at, name-more, order-name, grows-on, grows-id, grows-optional, grows-name, within-grown, full-name}
+use Rattle.write_names.proofs.Order.{entries-count, triples-are, triples-count, counted-at, order-name, grows-on, grows-id, grows-optional, grows-name, within-grown, full-name}
 use Rattle.write_names.proofs.StringLaws.{held-is, stands-put}
 
 -- ---- a string's number once it is written
@@ -295,7 +296,7 @@ module _ (text : List ℕ) (v : Vocabulary Located) (b : ℕ) (x : QualifiedName
           (record {
             puts = rw o (puts-append (stands .puts) q);
             few = omega arith;
-            tables = rw (words-are, ← tables-then, e text .words) (name-more text c₂ w₂ i₂ (x .table) (then .order) room (tripleOf (k .then)) (proper .0) (proper .1));
+            tables = rw (words-are, ← tables-then, e text .words) (name-more (then .order) (x .table) room (tripleOf (k .then)) (proper .0) (proper .1));
             order = order-name text c₂ w₂ i₂ (x .table) (then .order) room (tripleOf (k .then)) (proper .0) (proper .1) w₃ i₃ (e text);
           })
 

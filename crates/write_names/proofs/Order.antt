@@ -22,7 +22,8 @@ use Rattle.tables.proofs.Laws.{strings-are, names-are, length-strings, length-n
 use Rattle.tables.proofs.Found.{both-true}
 use Rattle.tables.proofs.Rooms.{stored-length}
 use Rattle.index.specs.Indexed.{slots, StringEntered, NameEntered}
-use Rattle.index.proofs.Counted.{indexed-start, count-at, one-more, one-more-words}
+use Rattle.index.proofs.Counted.{indexed-start, count-at, one-more-words}
+use Rattle.index.proofs.Ordered.{string-more, ordered-string, name-more, ordered-name}
 use Rattle.write_names.specs.Choices.{Wrote, writeId, writeOptional, within}
 use Rattle.write_names.specs.Contracts.{tablesIn, Begins, every, InOrder}
 
@@ -59,52 +60,22 @@ module _ (text c w ix : List ℕ) (t : ℕ) (order : InOrder text c w ix) (room 
   abbrev then-counts : List ℕ
   then-counts = set c t (getD c t 0 + 1)
 
-  few : countOf (unlisted c) t < 256
-  few = rw (count-at c (order .ten) t) room
-
   module _ (p n : ℕ) (small : t < 8) (some : 0 < n) (lies : p + n ≤ length text) where
-    pub string-more : tablesIn then-counts (stored w t (getD c t 0) p n 0) ≡ adding (tablesIn c w) (tableOf t) (stretch p n)
-    string-more =
-        let k = count-at c (order .ten) t in
-        rw (one-more c (order .ten) t) (rw k at (string-added (unlisted c) w t (order .counted) few (order .room) p n small some))
-
     pub order-string : (v iv : List ℕ) → StringEntered text t (getD c t 0) p n w ix v iv → InOrder text then-counts v iv
     order-string v iv e =
-        let k = count-at c (order .ten) t in
-        let more : tablesIn then-counts v ≡ adding (tablesIn c w) (tableOf t) (stretch p n) = rw (e .words) string-more in
-        record {
-          size = order .size;
-          ten = length-set c t (getD c t 0 + 1) ∙ order .ten;
-          room = rw (e .words) (stored-length w t (getD c t 0) p n 0 ∙ order .room);
-          counted = rw (one-more c (order .ten) t) (counted-more (unlisted c) t (omega arith) few (order .counted));
-          clean = rw (e .words, one-more c (order .ten) t) (rw k at (clean-string (unlisted c) w t (order .counted) few (order .room) p n small some (order .clean)));
-          inside = rw more (inside-string text (tablesIn c w) (tableOf t) (stretch p n) (order .inside) lies);
-          prefix = rw (more, adding-is (tablesIn c w) (tableOf t) (stretch p n)) (begins-extended (eqb (place (tableOf t)) 0) builtInPrefix (stretch p n) (tablesIn c w .prefixes) (order .prefix));
-          namespace = rw (more, adding-is (tablesIn c w) (tableOf t) (stretch p n)) (begins-extended (eqb (place (tableOf t)) 1) builtInNamespace (stretch p n) (tablesIn c w .namespaces) (order .namespace));
-          indexed = e .keeps .still every (countOf (unlisted c)) (countOf (unlisted then-counts)) (one-more-words c (order .ten) t (omega arith)) (order .indexed);
-        }
+        let more : tablesIn then-counts v ≡ adding (tablesIn c w) (tableOf t) (stretch p n) = rw (e .words) (string-more order t room p n small some) in
+        ordered-string order t room p n small some lies v iv (e .words)
+        (e .keeps .still every (countOf (unlisted c)) (countOf (unlisted then-counts)) (one-more-words c (order .ten) t (omega arith)) (order .indexed))
+        (rw (more, adding-is (tablesIn c w) (tableOf t) (stretch p n))
+        (begins-extended (eqb (place (tableOf t)) 0) builtInPrefix (stretch p n) (tablesIn c w .prefixes) (order .more .0), begins-extended (eqb (place (tableOf t)) 1) builtInNamespace (stretch p n) (tablesIn c w .namespaces) (order .more .1)))
 
   module _ (x : Triple) (low : 8 ≤ t) (high : t < 10) where
-    pub name-more : tablesIn then-counts (stored w t (getD c t 0) (x .prefix) (x .namespace) (x .local)) ≡ addingName (tablesIn c w) (nameTableOf t) x
-    name-more =
-        let k = count-at c (order .ten) t in
-        rw (one-more c (order .ten) t) (rw k at (name-added (unlisted c) w t (order .counted) few (order .room) x low high))
-
     pub order-name : (v iv : List ℕ) → NameEntered text t (getD c t 0) x w ix v iv → InOrder text then-counts v iv
     order-name v iv e =
-        let k = count-at c (order .ten) t in
-        let more : tablesIn then-counts v ≡ addingName (tablesIn c w) (nameTableOf t) x = rw (e .words) name-more in
-        record {
-          size = order .size;
-          ten = length-set c t (getD c t 0 + 1) ∙ order .ten;
-          room = rw (e .words) (stored-length w t (getD c t 0) (x .prefix) (x .namespace) (x .local) ∙ order .room);
-          counted = rw (one-more c (order .ten) t) (counted-more (unlisted c) t high few (order .counted));
-          clean = rw (e .words, one-more c (order .ten) t) (rw k at (clean-name (unlisted c) w t (order .counted) few (order .room) x low high (order .clean)));
-          inside = rw more (inside-name text (tablesIn c w) (nameTableOf t) x (order .inside));
-          prefix = rw more (begins-named builtInPrefix builtInNamespace (tablesIn c w) (nameTableOf t) x (order .prefix) (order .namespace) .0);
-          namespace = rw more (begins-named builtInPrefix builtInNamespace (tablesIn c w) (nameTableOf t) x (order .prefix) (order .namespace) .1);
-          indexed = e .keeps .still every (countOf (unlisted c)) (countOf (unlisted then-counts)) (one-more-words c (order .ten) t high) (order .indexed);
-        }
+        let more : tablesIn then-counts v ≡ addingName (tablesIn c w) (nameTableOf t) x = rw (e .words) (name-more order t room x low high) in
+        ordered-name order t room x low high v iv (e .words)
+        (e .keeps .still every (countOf (unlisted c)) (countOf (unlisted then-counts)) (one-more-words c (order .ten) t high) (order .indexed))
+        (rw more (begins-named builtInPrefix builtInNamespace (tablesIn c w) (nameTableOf t) x (order .more .0) (order .more .1)))
 
 pub order-start : (text ix : List ℕ) → length text ≤ 16384 → ix ≡ replicate slots 0 → InOrder text (listed (countsOf (start link))) (replicate 7680 0) ix
 unfolding start starting link countsOf
@@ -117,8 +88,7 @@ order-start text ix h zeros =
       counted = counted-start;
       clean = clean-start;
       inside = rw is (inside-start text);
-      prefix = rw is refl;
-      namespace = rw is refl;
+      more = rw is (refl, refl);
       indexed = indexed-start every text (replicate 7680 0) ix refl refl zeros;
     }
 

@@ -24,6 +24,7 @@ use Rattle.tables.specs.Kept.{unlisted, Inside, layoutOf}
 use Rattle.tables.proofs.Laws.{number-within, inside-table}
 use Rattle.index.specs.Indexed.{slots, StringsIndexed}
 use Rattle.index.proofs.Counted.{count-at}
+use Rattle.index.proofs.Ordered.{string-more}
 use Rattle.events.specs.declared.EventString.{EventString}
 use Rattle.events.specs.declared.EventString.the-variants.{Absent, Empty, Stretch, XmlPrefix, XmlNamespace}
 use Rattle.events.specs.Records.{locatedOf, optionalOf}
@@ -35,7 +36,7 @@ use Rattle.write_names.specs.declared.Sought.{Sought}
 use Rattle.write_names.specs.declared.Spelling.{Spelling}
 use Rattle.write_names.specs.Choices.{Wrote, writeId, writeOptional, writeLiteral, writeValue, worthAdding, within}
 use Rattle.write_names.specs.Contracts.{stringMost, tablesIn, Begins, InOrder, Suits, Fills, Spells, heldAs, Looked, Added, spelledAs, Stands, Meets}
-use Rattle.write_names.proofs.Order.{entries-are, entries-count, counted-at, string-more, order-string, full-string}
+use Rattle.write_names.proofs.Order.{entries-are, entries-count, counted-at, order-string, full-string}
 
 -- ---- a string of an event
 pub has-none : (x : EventString) → stringTag x ≡ 0 → (0 ≡ has (optionalOf x)) × (0 ≤ 1)
@@ -68,19 +69,11 @@ absent XmlNamespace e = absurd (omega arith)
 
 -- ---- a name's layout
 module _ (t : ℕ) (e : t ≡ 8) where
-  pub element-parts : (0x3C ≡ layoutOf t .inPartsBits) × (0x3C ≤ 0x78)
-  unfolding layoutOf ofElement
-  element-parts = rw (eq-eqb t 8 e) (refl, omega arith)
-
   pub element-forms : layoutOf t .numberForms ≡ numbers 3
   unfolding layoutOf ofElement
   element-forms = rw (eq-eqb t 8 e)
 
 module _ (t : ℕ) (e : t ≡ 8 → ⊥) where
-  pub attribute-parts : (0x78 ≡ layoutOf t .inPartsBits) × (0x78 ≤ 0x78)
-  unfolding layoutOf ofAttribute
-  attribute-parts = rw (ne-eqb t 8 e) (refl, omega arith)
-
   pub attribute-forms : layoutOf t .numberForms ≡ c25
   unfolding layoutOf ofAttribute
   attribute-forms = rw (ne-eqb t 8 e)
@@ -115,13 +108,13 @@ module _ (text c w ix : List ℕ) (t : ℕ) (order : InOrder text c w ix) (x : E
   unfolding heldAs tableOf strings
   held-prefix e s =
       let z : t ≡ 0 = rw e at s in
-      (rw (e, z) (first-is text builtInPrefix (tablesIn c w .prefixes) (order .prefix)), omega arith)
+      (rw (e, z) (first-is text builtInPrefix (tablesIn c w .prefixes) (order .more .0)), omega arith)
 
   pub held-namespace : x ≡ XmlNamespace → Suits text t x → (1 ≡ heldAs text (tableOf t) (tablesIn c w) x) × (1 ≤ 256)
   unfolding heldAs tableOf strings
   held-namespace e s =
       let z : t ≡ 1 = rw e at s in
-      (rw (e, z) (first-is text builtInNamespace (tablesIn c w .namespaces) (order .namespace)), omega arith)
+      (rw (e, z) (first-is text builtInNamespace (tablesIn c w .namespaces) (order .more .1)), omega arith)
 
 -- what `find` asks
 pub find-ready : (text c w ix : List ℕ) (t : ℕ) → InOrder text c w ix → t < 8 → (x : EventString) (p n : ℕ) → x ≡ Stretch p n → Suits text t x
@@ -182,7 +175,7 @@ module _ (text c w ix : List ℕ) (order : InOrder text c w ix) {H : Type 0} (d 
       (record {
         puts = q;
         few = l;
-        tables = rw (e .1 .words) (string-more text c w ix t order room p n small full lies) ∙ is;
+        tables = rw (e .1 .words) (string-more order t room p n small full) ∙ is;
         order = order-string text c w ix t order room p n small full lies v iv (e .1);
       })
 

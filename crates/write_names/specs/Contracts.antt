@@ -18,8 +18,9 @@ use Rattle.tables.specs.Located.{Located, stretch, builtInPrefix, builtInNamesp
 use Rattle.tables.specs.Counts.{tableWords}
 use Rattle.tables.specs.Search.{numberIn, numberOfTriple}
 use Rattle.tables.specs.Rows.{tableOf, vocabulary}
-use Rattle.tables.specs.Kept.{unlisted, countOf, tripleOf, layoutOf, Counted, Clean, AllInside}
-use Rattle.index.specs.Indexed.{Indexed, StringEntered, NameEntered}
+use Rattle.tables.specs.Kept.{unlisted, countOf, tripleOf, layoutOf}
+use Rattle.index.specs.Indexed.{StringEntered, NameEntered}
+use Rattle.index.specs.Ordered.{Ordered}
 use Rattle.events.specs.declared.EventString.{EventString}
 use Rattle.events.specs.declared.EventString.the-variants.{Absent, Empty, Stretch, XmlPrefix, XmlNamespace}
 use Rattle.events.specs.Records.{locatedOf, optionalOf}
@@ -61,17 +62,9 @@ Begins x (y ∷ ys) = y ≡ x
 abbrev pub every : ℕ → Bool
 every table = true
 
--- The tables of a text area in lent words are in order, and indexed: c are the words of the counts, w those of the tables.
-pub record InOrder (text : Octets) (c w : Words) (index : Octets) : Type 0 where
-  pub size : length text ≤ 16384
-  pub ten : length c ≡ 10
-  pub room : length w ≡ tableWords
-  pub counted : Counted (unlisted c)
-  pub clean : Clean (unlisted c) w
-  pub inside : AllInside text (tablesIn c w)
-  pub prefix : Begins builtInPrefix (tablesIn c w .prefixes)
-  pub namespace : Begins builtInNamespace (tablesIn c w .namespaces)
-  pub indexed : Indexed every text (countOf (unlisted c)) w index
+-- The tables of a text area in lent words are in order, all of them indexed, and two begin with their built-in entry: c are the words of the counts, w those of the tables.
+abbrev pub InOrder : Octets → (c w : Words) → Octets → Type 0
+InOrder text c w index = Ordered every text c w index (Begins builtInPrefix (tablesIn c w .prefixes) × Begins builtInNamespace (tablesIn c w .namespaces))
 
 -- ---- strings
 -- The string of an event is one that a table of identifying strings may hold: a stretch that is not empty and lies in the text area, or the table's built-in one.

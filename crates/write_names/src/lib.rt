@@ -119,16 +119,6 @@ fn has(x: EventString) -> u8
     1
 }
 
-// The octet's part that begins a name in parts: 1111pn, or 11110pn.
-fn in_parts(table: usize) -> u8
-    ensures { λ r. ⌜ (r ≡ layoutOf table .inPartsBits) × (r ≤ 0x78) ⌝ }
-{
-    if table == ELEMENT_NAME {
-        return 0x3C;
-    }
-    0x78
-}
-
 // The number of a name of table 8 or 9, C.27 or C.25.
 fn put_name_number(out: &mut [u8], at: usize, table: usize, lead: u8, n: u32) -> usize
     requires { ⌜ (at ≤ lastPlace) × (lead ≤ 0x80) × (1 ≤ n) × (n ≤ 256) ⌝ }

@@ -15,7 +15,6 @@ use crate::Sought;
 use crate::Wrote;
 use crate::has;
 use crate::id;
-use crate::in_parts;
 use crate::number_of;
 use crate::optional;
 use crate::put_name_number;
@@ -118,7 +117,7 @@ fn parts(
     let found = k.found;
     let then = k.then;
     let opening = Opening {
-        first: name.lead + in_parts(table) + 2 * has(prefix) + has(namespace),
+        first: name.lead + tables::parts_bits(table) + 2 * has(prefix) + has(namespace),
         prefix: Sought {
             table: PREFIX,
             string: prefix,

@@ -1,9 +1,8 @@
 -- `parts_bits` meets its contract: the table picks its layout.
 -- Assumes nothing.
-
-use Rattle.read_names.proofs.NameLaws.{element-parts, attribute-parts}
-use Rattle.read_names.proofs.names.parts_bits.Statement.{statement}
-use Rattle.read_names.proofs.names.parts_bits.Tie as tie
+use Rattle.tables.proofs.Layouts.{element-parts, attribute-parts}
+use Rattle.tables.proofs.parts_bits.Statement.{statement}
+use Rattle.tables.proofs.parts_bits.Tie as tie
 
 returns : tie.Need-returns
 returns c = element-parts _ (c .if1 .taken)
