@@ -9,7 +9,7 @@ use native.Mathlib.Numerals.{add-one}
 use native.Mathlib.Decide.{decLt}
 use borrow.Author.Tests.{lt-ltb, le-ltb, le-leb, lt-leb, eq-eqb, ne-eqb}
 use lib.Dec.{eqb, ltb, leb}
-use lib.ListN.{length, getD, set, length-set}
+use lib.ListN.{length, getD, set}
 use Rattle.format.specs.Numbers.{pick, numbers, c25, lengths, top}
 use Rattle.fields.specs.Utf8.{isText}
 use Rattle.format.specs.Tables.{StringTable, PREFIX, NAMESPACE-NAME, LOCAL-NAME}
@@ -32,9 +32,8 @@ use Rattle.tables.specs.Rows.{tableOf, tripleAt, entries, vocabulary}
 use Rattle.tables.specs.Kept.{nameTableOf, unlisted, countOf, oneMore, Counted, rowAt, stored, layoutOf, tripleOf}
 use Rattle.tables.proofs.ByNumber.{eight-nine}
 use Rattle.tables.proofs.Adding.{names-adding}
-use Rattle.tables.proofs.Laws.{names-are, length-names, string-nth, counted-more, name-added, clean-name, holds-name-number, inside-name}
+use Rattle.tables.proofs.Laws.{names-are, length-names, string-nth, name-added, holds-name-number}
 use Rattle.tables.proofs.Entries.{stored-0, stored-1, stored-2}
-use Rattle.tables.proofs.Rooms.{stored-length}
 use Rattle.index.specs.Indexed.{NamesIndexed, NameEntered}
 use Rattle.events.specs.declared.EventString.{EventString}
 use Rattle.events.specs.declared.EventString.the-variants.{Absent}

@@ -9,7 +9,7 @@ use native.Mathlib.Omega.{arith}
 use native.Mathlib.Numerals.{add-one}
 use borrow.Author.Tests.{lt-ltb, le-ltb, le-leb, lt-leb, leb-true, eq-eqb, ne-eqb}
 use lib.Dec.{ltb, leb, eqb}
-use lib.ListN.{length, getD, set, take, drop, length-set, List·getD-eq-default}
+use lib.ListN.{length, getD, set, take, drop, List·getD-eq-default}
 use Rattle.format.specs.Numbers.{pick, Form, lengths, numbers, c25, top}
 use Rattle.fields.specs.Utf8.{isText}
 use Rattle.format.specs.Events.{spelled, numbered}
@@ -29,8 +29,7 @@ use Rattle.tables.specs.Kept.{unlisted, countOf, stored, rowAt, Inside}
 use Rattle.tables.proofs.Search.{octets-stretch}
 use Rattle.tables.proofs.Adding.{names-adding}
 use Rattle.tables.proofs.Entries.{stored-0, stored-1}
-use Rattle.tables.proofs.Rooms.{stored-length}
-use Rattle.tables.proofs.Laws.{strings-are, length-strings, string-nth, counted-more, string-added, clean-string, holds-number, inside-string, inside-table}
+use Rattle.tables.proofs.Laws.{strings-are, length-strings, string-nth, holds-number, inside-table}
 use Rattle.index.specs.declared.Added.the-variants.{Done, Known, Full}
 use Rattle.index.specs.Indexed.{listed, NewString, Indexed, StringsIndexed, StringEntered}
 use Rattle.index.proofs.Entered.{keeps-elsewhere}
@@ -45,7 +44,7 @@ use Rattle.read_names.specs.Strings as S
 use Rattle.read_names.specs.Strings.{got, refused, then, number, spelling, IdRead, StringRead, idAt, optionalAt, numberBit, spelledAt, literalAt, valueAt}
 use Rattle.read_names.specs.Contracts.{Ranged, searched, Tidy, Left, eventStringAt, Seen, seenId, IdLeft, Positive, seenField, FieldLeft, idSeen, optionalSeen, stringSeen}
 use Rattle.read_names.specs.StringContracts.{BehindWithin, stretchOf, NumberPositive, heldOf, saidOf, addedOf, addedCounts, addedWords, lengthFrom}
-use Rattle.index.proofs.Counted.{count-at, one-more, one-more-words}
+use Rattle.index.proofs.Counted.{count-at, one-more-words}
 use Rattle.index.proofs.Ordered.{string-more, ordered-string}
 use Rattle.read_names.proofs.Grown.{searched-string, searched-not, grown-none, grown-stored}
 

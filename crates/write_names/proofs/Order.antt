@@ -8,7 +8,7 @@ use Prim.Native.Nat.{ℕ, zero, suc, _+_, _*_, _≤_, _<_}
 use native.Mathlib.Omega.{arith}
 use borrow.Author.Tests.{leb-true, le-leb}
 use lib.Dec.{eqb}
-use lib.ListN.{length, getD, set, replicate, length-append, length-set, length-replicate}
+use lib.ListN.{length, getD, set, replicate, length-append, length-replicate}
 use Rattle.format.specs.Numbers.{pick}
 use Rattle.format.specs.Events.{How}
 use Rattle.format.specs.Tables.{StringTable, PREFIX, NAMESPACE-NAME, LOCAL-NAME, OTHER-NCNAME, NameTable, ELEMENT-NAME, ATTRIBUTE-NAME, Triple, Vocabulary, strings, names, adding, addingName, starting, link}
@@ -16,11 +16,10 @@ use Rattle.tables.specs.Located.{Located, stretch, builtInPrefix, builtInNamesp
 use Rattle.tables.specs.Search.{numberIn}
 use Rattle.tables.specs.Counts.{countsOf}
 use Rattle.tables.specs.Rows.{tableOf, place, stringAt, tripleAt, entries}
-use Rattle.tables.specs.Kept.{nameTableOf, listed, unlisted, countOf, stored}
+use Rattle.tables.specs.Kept.{nameTableOf, listed, unlisted, countOf}
 use Rattle.tables.proofs.Adding.{extended, adding-is}
-use Rattle.tables.proofs.Laws.{strings-are, names-are, length-strings, length-names, counted-start, counted-more, string-added, name-added, clean-start, clean-string, clean-name, inside-start, inside-string, inside-name, vocabulary-start}
+use Rattle.tables.proofs.Laws.{strings-are, names-are, length-strings, length-names, counted-start, clean-start, inside-start, vocabulary-start}
 use Rattle.tables.proofs.Found.{both-true}
-use Rattle.tables.proofs.Rooms.{stored-length}
 use Rattle.index.specs.Indexed.{slots, StringEntered, NameEntered}
 use Rattle.index.proofs.Counted.{indexed-start, count-at, one-more-words}
 use Rattle.index.proofs.Ordered.{string-more, ordered-string, name-more, ordered-name}

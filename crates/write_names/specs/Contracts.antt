@@ -15,10 +15,9 @@ use Rattle.format.specs.Names.{has, NameLayout}
 use Rattle.fields.specs.PutContracts.{Puts}
 use Rattle.tables.specs.declared.Row.{Row}
 use Rattle.tables.specs.Located.{Located, stretch, builtInPrefix, builtInNamespace, octetsOf}
-use Rattle.tables.specs.Counts.{tableWords}
 use Rattle.tables.specs.Search.{numberIn, numberOfTriple}
 use Rattle.tables.specs.Rows.{tableOf, vocabulary}
-use Rattle.tables.specs.Kept.{unlisted, countOf, tripleOf, layoutOf}
+use Rattle.tables.specs.Kept.{unlisted, tripleOf, layoutOf}
 use Rattle.index.specs.Indexed.{StringEntered, NameEntered}
 use Rattle.index.specs.Ordered.{Ordered}
 use Rattle.events.specs.declared.EventString.{EventString}

@@ -17,7 +17,7 @@ use fields::put::put_number;
 use states::State;
 
 // The word of a record that has the place of its name.
-const NAME_PLACE: usize = strings::NAME + 1;
+const NAME_PLACE: usize = events::strings::NAME + 1;
 
 // The bit of an element's first octet with which its name's number begins.
 const NAME_BIT: u32 = 3;
