@@ -1,11 +1,13 @@
 /* Holds the limit against the archive: the same answers, and the same words and octets in room that was full of other things, on the documents given and on seeded changes of
-   each; on all tails of one and two octets behind the starts given; and on the lists of events that the documents give, or that are given, and seeded changes of these.
+   each; on all tails of one and two octets behind the starts given; and on the lists of events that the documents give, or that are given, and seeded changes of these, with
+   the tables that the document has, too.
 
    usage: hold CHANGES SEED < inputs          an input is a letter and stretches, each its length in 4 octets and its octets: `d` and a document, `t` and a start, or `l`, a text
-                                              area and records
+                                              area, given words and records
 
    Prints the counts, and the first differences; the status is 1 where there is one. */
 #include "../include/lomphachit.h"
+#include "given.h"
 #include "limit/limit.h"
 #include <stdio.h>
 #include <stdlib.h>
@@ -20,6 +22,9 @@ struct room {
 };
 static struct room ours, limits;
 static uint32_t list[RECORD * MOST], changed_list[RECORD * MOST];
+/* Given words, of which the list that is held has the first so many. */
+static uint32_t given[2 * GIVEN], changed_given[2 * GIVEN];
+static size_t given_words;
 static uint8_t document[LONGEST], changed_document[LONGEST];
 static unsigned long checks, reads, writes, differences, read_answers[32], write_answers[32];
 
@@ -64,17 +69,40 @@ static uint64_t hold_read(const uint8_t *octets, size_t n, size_t words, size_t 
     return a;
 }
 
-static uint64_t hold_write(const uint32_t *records, size_t words, const uint8_t *text, size_t n, size_t room, size_t tables, size_t counts) {
+static uint64_t hold_write(const uint32_t *g, size_t g_words, const uint32_t *records, size_t words, const uint8_t *text, size_t n, size_t room, size_t tables, size_t counts) {
     dirty(&ours, 0, room), dirty(&limits, 0, room);
-    uint64_t a = lomphachit_write(records, words, text, n, ours.out, room, ours.tables, tables, ours.counts, counts);
-    uint64_t b = limit_write(records, words, text, n, limits.out, room, limits.tables, tables, limits.counts, counts);
+    uint64_t a = lomphachit_write(g, g_words, records, words, text, n, ours.out, room, ours.tables, tables, ours.counts, counts);
+    uint64_t b = limit_write(g, g_words, records, words, text, n, limits.out, room, limits.tables, tables, limits.counts, counts);
     writes++, write_answers[lomphachit_refusal_of(a)]++;
     if (a != b || !same_room(0, room)) differs("write", text, n, room, a, b);
     return a;
 }
 
 static uint64_t write_in(const uint32_t *records, size_t words, const uint8_t *text, size_t n, size_t room) {
-    return hold_write(records, words, text, n, room, LOMPHACHIT_TABLES, LOMPHACHIT_COUNTS);
+    return hold_write(given, given_words, records, words, text, n, room, LOMPHACHIT_TABLES, LOMPHACHIT_COUNTS);
+}
+
+/* One change of given tables: a word, an entry over another, a string a little shorter or longer. */
+static void change_given(uint32_t *g, size_t words, size_t n) {
+    size_t entries = (words - LOMPHACHIT_COUNTS) / LOMPHACHIT_ROW;
+    uint32_t *entry = g + LOMPHACHIT_COUNTS + LOMPHACHIT_ROW * dice(entries);
+    switch (dice(6)) {
+    case 0: g[dice(words)] = (uint32_t)dice(9); break;
+    case 1: g[dice(words)]++; break;
+    case 2: memcpy(entry, g + LOMPHACHIT_COUNTS + LOMPHACHIT_ROW * dice(entries), LOMPHACHIT_ROW * sizeof *entry); break;
+    case 3: entry[dice(LOMPHACHIT_ROW)] = (uint32_t)dice(n + 3); break;
+    case 4: if (entry[2] > 1) entry[2] -= 1 + (uint32_t)dice(entry[2] - 1); break;
+    default: entry[1 + dice(2)] += (uint32_t)dice(3) - 1;
+    }
+}
+
+/* A list with changed given words, or with more or fewer of them. */
+static void write_with_changed(const uint32_t *records, size_t words, const uint8_t *text, size_t n) {
+    size_t g_words = given_words;
+    memcpy(changed_given, given, sizeof given);
+    for (size_t many = dice(3); many; many--) change_given(changed_given, given_words, n);
+    if (!dice(8)) g_words = dice(2) ? dice(given_words) : given_words + dice(4);
+    hold_write(changed_given, g_words, records, words, text, n, dice(4) ? LOMPHACHIT_OCTETS : dice(n + 2), LOMPHACHIT_TABLES, LOMPHACHIT_COUNTS);
 }
 
 /* One change of an event: a word, a tag, a string a little shorter or longer, a whole record. */
@@ -98,8 +126,9 @@ static void hold_list(const uint32_t *records, size_t events, const uint8_t *tex
     if (used) write_in(records, RECORD * events, text, n, used), write_in(records, RECORD * events, text, n, used - 1);
     write_in(records, RECORD * events, text, n, dice(n + 2));
     write_in(records, RECORD * dice(events + 1) + dice(RECORD), text, n, n + 8);
-    hold_write(records, RECORD * events, text, n, n, LOMPHACHIT_TABLES - dice(2), LOMPHACHIT_COUNTS + 1 - dice(2));
+    hold_write(given, given_words, records, RECORD * events, text, n, n, LOMPHACHIT_TABLES - dice(2), LOMPHACHIT_COUNTS + 1 - dice(2));
     for (size_t i = 0; i < changes && events; i++) {
+        if (given_words > LOMPHACHIT_COUNTS) write_with_changed(records, RECORD * events, text, n);
         memcpy(changed_list, records, RECORD * events * sizeof *records);
         for (size_t many = 1 + dice(3); many; many--) change_event(changed_list, events, n);
         write_in(changed_list, RECORD * events, text, n, dice(4) ? LOMPHACHIT_OCTETS : used - dice(used / 2 + 1));
@@ -141,18 +170,22 @@ static void hold_document(const uint8_t *octets, size_t n, int all_rooms, size_t
     if (!alone) exit(2);
     memcpy(alone, octets, n);
     uint32_t answer = hold_check(alone, n);
-    size_t words = enough(answer, n), events = 0;
+    size_t words = enough(answer, n), events = 0, had = 0;
     if (all_rooms || !answer) {
         uint64_t read = hold_read(alone, n, words, LOMPHACHIT_TABLES, LOMPHACHIT_COUNTS);
         if (!answer) events = lomphachit_count_of(read), words = RECORD * events;
         memcpy(list, ours.records, RECORD * events * sizeof *list);
+        if (events) had = given_of(ours.tables, ours.counts, given);
     }
     if (all_rooms) {
         size_t rooms[] = {0, words, words ? words - 1 : 0, dice(words + 1)};
         for (size_t i = 0; i < sizeof rooms / sizeof *rooms; i++) hold_read(alone, n, rooms[i], LOMPHACHIT_TABLES, LOMPHACHIT_COUNTS);
         hold_read(alone, n, words, LOMPHACHIT_TABLES - dice(2), LOMPHACHIT_COUNTS + 1 - dice(2));
     }
+    given_words = 0;
     if (events || list_changes > 1) hold_list(list, events, alone, n, list_changes);
+    given_words = had;
+    if (events && (all_rooms || octets[4])) hold_list(list, events, alone, n, list_changes / 4);
     free(alone);
 }
 
@@ -201,7 +234,10 @@ int main(int argc, char **argv) {
         size_t n = take(document, sizeof document - 2);
         if (letter == 'd') hold_changes(n, changes);
         else if (letter == 't') hold_tails(n);
-        else hold_list(list, take(list, sizeof list) / RECORD / sizeof *list, document, n, changes / LIST_SHARE);
+        else {
+            given_words = take(given, sizeof given) / sizeof *given;
+            hold_list(list, take(list, sizeof list) / RECORD / sizeof *list, document, n, changes / LIST_SHARE);
+        }
     }
     show("reads", read_answers), show("writes", write_answers);
     printf("hold: %lu checks, %lu reads and %lu writes, %lu differences between archive and limit\n", checks, reads, writes, differences);

@@ -47,6 +47,20 @@ impl Known {
     }
 }
 
+impl Known {
+    /// The entries that are not built in, as words for the writer.
+    fn given(&self) -> Vec<u32> {
+        let built_in = |t: usize| usize::from(t <= NAMESPACE);
+        let mut words: Vec<u32> = (0..10).map(|t| self.counts[t] - built_in(t) as u32).collect();
+        for t in 0..10 {
+            for row in self.tables[t * ROWS * 3..].chunks_exact(3).take(self.counts[t] as usize).skip(built_in(t)) {
+                words.extend(if t < 8 { [2, row[0], row[1]] } else { [row[0], row[1], row[2]] });
+            }
+        }
+        words
+    }
+}
+
 fn check(octets: &[u8]) -> Option<usize> {
     reader::read(octets, 32768).ok().map(|done| done.events.len())
 }
@@ -63,9 +77,9 @@ fn read(octets: &[u8], records: &mut [u32], known: &mut Known) -> Option<usize> 
 }
 
 /// The number of octets, which are filled in.
-fn write(records: &[u32], text: &[u8], out: &mut [u8], known: &mut Known) -> Option<usize> {
+fn write(given: &[u32], records: &[u32], text: &[u8], out: &mut [u8], known: &mut Known) -> Option<usize> {
     let events: Vec<Option<Event>> = records.chunks_exact(RECORD).map(Event::from_record).collect();
-    let done = writer::write(&events, text, out.len()).ok()?;
+    let done = writer::write(given, &events, text, out.len()).ok()?;
     let n = done.octets.len();
     out[..n].copy_from_slice(&done.octets);
     out[n..].fill(0);
@@ -88,11 +102,12 @@ fn main() {
     let mut out = vec![0; octets.len()];
     let mut known = Known { tables: vec![0; TABLES], counts: vec![0; 10] };
     read(&octets, &mut records, &mut known);
+    let given = if octets[4] > 0 { known.given() } else { Vec::new() };
     for _ in 0..calls {
         let right = match arguments[1].as_str() {
             "check" => check(&octets) == Some(events),
             "read" => read(&octets, &mut records, &mut known) == Some(events),
-            _ => write(&records, &octets, &mut out, &mut known) == Some(octets.len()),
+            _ => write(&given, &records, &octets, &mut out, &mut known) == Some(octets.len()),
         };
         if !right {
             exit(1);

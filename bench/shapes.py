@@ -76,12 +76,42 @@ def repeated_names(size, middle=False):
     return OPEN + names + (again + b'\xf0') * ((size - 12 - len(names)) // 3) + again + ENDS
 
 
+def number_25(n, lead):
+    """C.25 behind a bit."""
+    return bytes([lead | n - 1]) if n <= 64 else bytes([lead | 0x40, n - 65])
+
+
+def listed_count(n):
+    """C.21."""
+    return bytes([n - 1]) if n <= 128 else bytes([0x80, 0, n - 129])
+
+
+def full_head(size):
+    """Half of the document, or as much as there is room for, is a head that lists as many entries in each of the ten tables, up to full ones; the other half elements with an
+    attribute and a chunk, all by number, all over the tables. It is written with the tables that it lists."""
+    count = min(ENTRIES, size // 2 // 30)
+    head = b'\xe0\x00\x00\x01\x20\x03\xff'
+    for table in range(8):
+        entries = count - (count == ENTRIES and table < 2)
+        # A value's length stands in other bits than a name's, but of two octets it is the same octet.
+        head += listed_count(entries) + b''.join(b'\x01' + unlike(k, 2) for k in range(entries))
+    head += (listed_count(count) + b''.join(b'\x00' + number_25(n, 0) for n in range(1, count + 1))) * 2
+    body, j = b'\x00', 0
+    while True:
+        n = 1 + 97 * j % count
+        start = bytes([0x40 | n - 1]) if n <= 32 else bytes([0x60 | n - 33 >> 8, n - 33 & 255])
+        item = start + number_25(n, 0) + number_25(n, 0x80) + b'\xf0' + numbered_chunk(n)
+        if len(head + body + item) + 3 > size:
+            return head + body[:-1] + ENDS
+        body, j = body + item + b'\xf0', j + 1
+
+
 # Names that are unlike in the last octets cost most where octets are compared from the first on. Those that are unlike in the middle tell whether another order only
 # moves the cost.
 SHAPES = [
     ('small elements', small_elements), ('full tables', full_tables),
     ('long texts', long_texts), ('long texts, not ASCII', lambda size: long_texts(size, '机场端口')),
-    ('new names', new_names), ('repeated names', repeated_names),
+    ('new names', new_names), ('repeated names', repeated_names), ('full head', full_head),
     ('new names, middle', lambda size: new_names(size, True)), ('repeated names, middle', lambda size: repeated_names(size, True)),
 ]
 SIZES = [1024, 4096, 16384]

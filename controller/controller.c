@@ -18,17 +18,17 @@ static const char *why(uint32_t refusal, size_t n) {
     case LOMPHACHIT_REFUSED_SIZE: return n ? "the document has over 16,384 octets" : "the document is empty";
     case LOMPHACHIT_REFUSED_TRUNCATED: return "the octets end too early, or a length passes the end";
     case LOMPHACHIT_REFUSED_HEADER: return "the first four octets are not e0 00 00 01";
-    case LOMPHACHIT_REFUSED_OPTIONAL_PART: return "an optional part is announced, and the link carries none";
+    case LOMPHACHIT_REFUSED_OPTIONAL_PART: return "an optional part is announced that the link does not carry";
     case LOMPHACHIT_REFUSED_CODE: return "these bits mean nothing at this place";
     case LOMPHACHIT_REFUSED_PADDING: return "padding bits are wrong, or an end stands elsewhere than it should";
-    case LOMPHACHIT_REFUSED_RANGE: return "a number is over 1,048,576";
+    case LOMPHACHIT_REFUSED_RANGE: return "a number, or how many entries a table lists, is over 1,048,576";
     case LOMPHACHIT_REFUSED_FORMAT: return "a string is not in utf-8 format, or this is an entity reference or a type declaration";
     case LOMPHACHIT_REFUSED_TEXT: return "the text of the string that starts here is not well-formed UTF-8";
     case LOMPHACHIT_REFUSED_INDEX: return "a number is beyond its table";
     case LOMPHACHIT_REFUSED_REPEAT: return "a string or name is spelled though its table holds it";
     case LOMPHACHIT_REFUSED_FULL: return "a table would get more than 256 entries";
     case LOMPHACHIT_REFUSED_DEPTH: return "elements are more than 32 deep";
-    case LOMPHACHIT_REFUSED_STRUCTURE: return "no root, a second root, an empty list, a prefix without namespace, or octets after the end";
+    case LOMPHACHIT_REFUSED_STRUCTURE: return "no root, a second root, an empty list or head, a prefix without namespace, or octets after the end";
     default: return "an answer that the check should not give; tell the people who built this program";
     }
 }

@@ -28,7 +28,8 @@
      it meanwhile.
 
    A length counts items of its pointer: octets_len, text_len and out_len count octets;
-   records_len, tables_len and counts_len count words of 32 bits. Places count octets from 0.
+   given_len, records_len, tables_len and counts_len count words of 32 bits. Places count octets
+   from 0.
    The names SIZE, TRUNCATED and so on are those of the requirements; docs/REQUIREMENTS.md says
    what each covers. */
 #ifndef LOMPHACHIT_H
@@ -115,13 +116,14 @@ enum lomphachit_refusal {
     LOMPHACHIT_REFUSED_TRUNCATED = 2,
     /* The first four octets are not E0 00 00 01. */
     LOMPHACHIT_REFUSED_HEADER = 3,
-    /* A presence bit of the fifth octet is 1. */
+    /* A presence bit is 1 of a part that is not read: in the fifth octet any but that of the head,
+       in a head those of external vocabulary, restricted alphabets and encoding algorithms. */
     LOMPHACHIT_REFUSED_OPTIONAL_PART = 4,
     /* Bits not assigned at this place. */
     LOMPHACHIT_REFUSED_CODE = 5,
     /* A padding bit that is not 0, or an end that does not stand where it is due. */
     LOMPHACHIT_REFUSED_PADDING = 6,
-    /* Number over 1,048,576. */
+    /* Number, or count of listed entries, over 1,048,576. */
     LOMPHACHIT_REFUSED_RANGE = 7,
     /* Other string format than utf-8, entity reference, type declaration. */
     LOMPHACHIT_REFUSED_FORMAT = 8,
@@ -129,7 +131,7 @@ enum lomphachit_refusal {
     LOMPHACHIT_REFUSED_TEXT = 9,
     /* Number beyond its table. */
     LOMPHACHIT_REFUSED_INDEX = 10,
-    /* Spelled though the table holds it. */
+    /* Spelled, listed or given though the table holds it. */
     LOMPHACHIT_REFUSED_REPEAT = 11,
     /* An entry too many. */
     LOMPHACHIT_REFUSED_FULL = 12,
@@ -137,18 +139,19 @@ enum lomphachit_refusal {
     LOMPHACHIT_REFUSED_DEPTH = 13,
     /* Event room or output full; tables or counts of another length. */
     LOMPHACHIT_REFUSED_ROOM = 14,
-    /* No root, second root, empty list, prefix without namespace in a name, octets after the
-       end. */
+    /* No root, second root, empty list, a head that lists nothing, prefix without namespace in a
+       name, octets after the end. */
     LOMPHACHIT_REFUSED_STRUCTURE = 15,
-    /* Writer: an event that cannot come here, or a string that is not allowed. */
+    /* Writer: an event that cannot come here, a string that is not allowed, a given entry that is
+       not right, or other given words than their counts say. */
     LOMPHACHIT_REFUSED_EVENT = 16
 };
 
 /* Whether these octets are a document of the link: 0 if so, else place times 32 plus the refusal.
 
    Promised:
-   - It answers 0 exactly for the octets that the rules of writing of X.891 write from some events,
-     within the limits of the link.
+   - It answers 0 exactly for the octets that the rules of writing of X.891 write from some head and
+     events, within the limits of the link.
    - Otherwise the first faulty field in octet order decides. The place is that of its first octet,
      or octets_len where that octet is missing. A name that is spelled again, or one too many, is
      refused at the octet that says which of its strings are there.
@@ -166,7 +169,8 @@ uint32_t lomphachit_check(const uint8_t *octets, size_t octets_len);
      counts, and 0 in every word beyond the part used. On a refusal: 0 in all records_len,
      tables_len and counts_len words.
    - Nothing that stood there before is read, and nothing of it is left.
-   - Stretches are places in the document, which the caller keeps as long as the records.
+   - Stretches are places in the document, which the caller keeps as long as the records. A string
+     that the head lists has its place there, and is in the tables from the start.
 
    Refusals: 1 to 15. */
 uint64_t lomphachit_read(const uint8_t *octets, size_t octets_len,
@@ -180,6 +184,14 @@ uint64_t lomphachit_read(const uint8_t *octets, size_t octets_len,
    octets. The place of a refusal is an event's number from 0, or the number of events where the
    list stops too soon or the last end has no room.
 
+   The words `given` are the tables that the document's head lists. No words, or ten that are 0, are
+   none, and the document has no head. Otherwise they are ten counts in the order of the tables, and
+   then three words for each entry, table by table, as lomphachit_given_words counts them: tag,
+   place and length of a string, which is a stretch of the text area; or the numbers of a name's
+   prefix, namespace and local name, 0 for none. The built-in entries are not among them, but the
+   numbers count them. What is wrong with the given tables is refused at place 0, before event 0:
+   EVENT, TEXT, REPEAT, FULL, ROOM, the first of these that is due for any of them.
+
    Promised:
    - It accepts every list that none of the refusals below is due for. X.891's rules write these
      octets from these events, and lomphachit_read gives back the same events and tables.
@@ -187,13 +199,14 @@ uint64_t lomphachit_read(const uint8_t *octets, size_t octets_len,
      in the text area) and their counts, and 0 beyond the part used. On a refusal: 0 in all out_len
      octets and all tables_len and counts_len words.
    - Nothing that stood there before is read, and nothing of it is left.
-   - Records and text are only read.
+   - Given words, records and text are only read.
 
    The records are the whole list: a blank one behind the last event is EVENT, so records_len is 13
    times the number of events.
 
-   Refusals: SIZE, TEXT, FULL, DEPTH, ROOM, EVENT. */
-uint64_t lomphachit_write(const uint32_t *records, size_t records_len,
+   Refusals: SIZE, TEXT, REPEAT (of given tables only), FULL, DEPTH, ROOM, EVENT. */
+uint64_t lomphachit_write(const uint32_t *given, size_t given_len,
+                          const uint32_t *records, size_t records_len,
                           const uint8_t *text, size_t text_len,
                           uint8_t *out, size_t out_len,
                           uint32_t *tables, size_t tables_len,
@@ -213,6 +226,11 @@ static inline uint32_t lomphachit_count_of(uint64_t answer) { return (uint32_t)(
 /* The first word of entry `number`, from 1 to the table's count, of a table. */
 static inline size_t lomphachit_row(size_t table, size_t number) {
     return LOMPHACHIT_ROW * (LOMPHACHIT_ROWS * table + number - 1);
+}
+
+/* How many words give a head that lists so many entries in all. */
+static inline size_t lomphachit_given_words(size_t entries) {
+    return LOMPHACHIT_COUNTS + LOMPHACHIT_ROW * entries;
 }
 
 /* The name of a refusal as people know it, "accepted" for 0; "unknown" for a number that no

@@ -1,11 +1,10 @@
 /* Reads documents in hex, one to a line, and prints for each what the archive answers: the check's number, and the listing of what lomphachit_read left in
-   lent room that was full of other things. Each document is read twice on the same room; any difference, and any word that is not blank behind the part
-   used, is printed as a fault and ends with status 1.
+   lent room that was full of other things. Each document is read twice on the same room, and once more in another place: all that is lent starts, and then ends,
+   at a page that may not be touched. Any difference, and any word that is not blank behind the part used, is printed as a fault and ends with status 1.
 
    usage: driver RECORDS < lines          a line of output for each line of input: NUMBER, a tab, the listing with ';' for line ends */
-#include <stdint.h>
-#include <stdio.h>
-#include <stdlib.h>
+#define _GNU_SOURCE
+#include "fenced.h"
 #include <string.h>
 
 uint32_t lomphachit_check(const uint8_t *octets, size_t n);
@@ -59,35 +58,76 @@ static int all_zero(const uint32_t *w, size_t from, size_t to) {
     return 1;
 }
 
+/* What is lent for one reading. */
+struct lent {
+    uint8_t *s;
+    uint32_t *r, *t, *c;
+};
+
+/* All room ending, or all starting, at a page that may not be touched. */
+static struct lent lend(const struct fenced *rooms, size_t n, size_t words, int at_end) {
+    return (struct lent){fenced_part(rooms[0], n, at_end), fenced_part(rooms[1], words * 4, at_end), fenced_part(rooms[2], TABLES * 4, at_end), fenced_part(rooms[3], COUNTS * 4, at_end)};
+}
+
+static void dirty_all(const struct lent *l, size_t words, uint32_t *seed) {
+    dirty(l->r, words, ++*seed), dirty(l->t, TABLES, ++*seed), dirty(l->c, COUNTS, ++*seed);
+}
+
+static uint64_t read_into(const struct lent *l, size_t n, size_t words) { return lomphachit_read(l->s, n, l->r, words, l->t, TABLES, l->c, COUNTS); }
+
+static int same(const struct lent *a, const struct lent *b, size_t words) {
+    return !memcmp(a->r, b->r, words * 4) && !memcmp(a->t, b->t, TABLES * 4) && !memcmp(a->c, b->c, COUNTS * 4);
+}
+
+static void copy(const struct lent *to, const struct lent *from, size_t words) {
+    memcpy(to->r, from->r, words * 4), memcpy(to->t, from->t, TABLES * 4), memcpy(to->c, from->c, COUNTS * 4);
+}
+
+/* What is not blank though it should be. */
+static void judge(const struct lent *l, size_t words, uint64_t a) {
+    size_t events = (size_t)(a >> 32);
+    if ((uint32_t)a && (events || !all_zero(l->t, 0, TABLES) || !all_zero(l->c, 0, COUNTS))) fault("a refusal leaves something");
+    if (!all_zero(l->r, events * RECORD, words)) fault("a record behind the events is not blank");
+    for (int k = 0; k < COUNTS; k++)
+        if (l->c[k] > ROWS || !all_zero(l->t, (ROWS * k + l->c[k]) * 3, ROWS * (k + 1) * 3)) fault("a row behind a table's entries is not blank");
+}
+
+static void print(const struct lent *l, uint32_t number, uint64_t a) {
+    uint32_t answer = (uint32_t)a;
+    printf("%u\t", number);
+    if (answer) printf("refused %u at %u;", answer % 32, answer / 32);
+    for (size_t i = 0; i < a >> 32; i++) event(l->s, l->r + i * RECORD);
+    if (!answer) printf("end %zu;", (size_t)(a >> 32));
+    putchar('\n');
+}
+
 int main(int argc, char **argv) {
     size_t room = argc > 1 ? strtoul(argv[1], 0, 10) : 512;
     size_t spare = 5; /* words behind the last whole record */
     size_t words = room * RECORD + spare;
     char *line = malloc(4 * MOST);
-    uint8_t *s = malloc(MOST);
-    uint32_t *r = malloc(words * 4 + 4), *r2 = malloc(words * 4 + 4), *t = malloc(TABLES * 4), *t2 = malloc(TABLES * 4), c[COUNTS], c2[COUNTS];
+    const struct fenced rooms[] = {fenced(MOST), fenced(words * 4), fenced(TABLES * 4), fenced(COUNTS * 4)};
+    const struct lent kept = {0, malloc(words * 4), malloc(TABLES * 4), malloc(COUNTS * 4)};
     uint32_t seed = 1;
     while (fgets(line, 4 * MOST, stdin)) {
+        static uint8_t s[MOST];
         size_t n = 0;
         unsigned x;
         for (char *p = line; sscanf(p, "%2x", &x) == 1; p += 2) s[n++] = (uint8_t)x;
-        uint32_t number = lomphachit_check(s, n);
-        dirty(r, words, ++seed), dirty(t, TABLES, ++seed), dirty(c, COUNTS, ++seed);
-        uint64_t a = lomphachit_read(s, n, r, words, t, TABLES, c, COUNTS);
-        memcpy(r2, r, words * 4), memcpy(t2, t, sizeof(uint32_t) * TABLES), memcpy(c2, c, sizeof c);
-        uint64_t b = lomphachit_read(s, n, r, words, t, TABLES, c, COUNTS);
-        if (a != b || memcmp(r, r2, words * 4) || memcmp(t, t2, sizeof(uint32_t) * TABLES) || memcmp(c, c2, sizeof c)) fault("the second reading differs");
-        uint32_t answer = (uint32_t)a;
-        size_t events = (size_t)(a >> 32);
-        if (answer && (events || !all_zero(t, 0, TABLES) || !all_zero(c, 0, COUNTS))) fault("a refusal leaves something");
-        if (!all_zero(r, events * RECORD, words)) fault("a record behind the events is not blank");
-        for (int k = 0; k < COUNTS; k++)
-            if (c[k] > ROWS || !all_zero(t, (ROWS * k + c[k]) * 3, ROWS * (k + 1) * 3)) fault("a row behind a table's entries is not blank");
-        printf("%u\t", number);
-        if (answer) printf("refused %u at %u;", answer % 32, answer / 32);
-        for (size_t i = 0; i < events; i++) event(s, r + i * RECORD);
-        if (!answer) printf("end %zu;", events);
-        putchar('\n');
+        struct lent first = lend(rooms, n, words, 0);
+        memcpy(first.s, s, n);
+        uint32_t number = lomphachit_check(first.s, n);
+        dirty_all(&first, words, &seed);
+        uint64_t a = read_into(&first, n, words);
+        copy(&kept, &first, words);
+        if (a != read_into(&first, n, words) || !same(&first, &kept, words)) fault("the second reading differs");
+        struct lent last = lend(rooms, n, words, 1);
+        memcpy(last.s, s, n);
+        if (number != lomphachit_check(last.s, n)) fault("the second check differs");
+        dirty_all(&last, words, &seed);
+        if (a != read_into(&last, n, words) || !same(&last, &kept, words)) fault("the reading in another place differs");
+        judge(&last, words, a);
+        print(&last, number, a);
     }
     return faults != 0;
 }

@@ -61,14 +61,30 @@ static void rest(void) {
     is("the count of NAMESPACE NAME", counts[LOMPHACHIT_TABLE_NAMESPACE_NAME], 1), is("the count of ATTRIBUTE VALUE", counts[LOMPHACHIT_TABLE_ATTRIBUTE_VALUE], 0);
 }
 
+/* A pointer is never null, even where nothing is given. */
+static const uint32_t NONE[1] = {0};
+
 /* The document is its own events' text area. */
 static void writing(void) {
-    uint64_t a = lomphachit_write(records, EVENTS * LOMPHACHIT_RECORD, SAMPLE, OCTETS, out, sizeof out, tables, LOMPHACHIT_TABLES, counts, LOMPHACHIT_COUNTS);
+    uint64_t a = lomphachit_write(NONE, 0, records, EVENTS * LOMPHACHIT_RECORD, SAMPLE, OCTETS, out, sizeof out, tables, LOMPHACHIT_TABLES, counts, LOMPHACHIT_COUNTS);
     is("the answer of writing", lomphachit_refusal_of(a), LOMPHACHIT_ACCEPTED), is("its count", lomphachit_count_of(a), OCTETS);
     is("a difference of what is written", (uint64_t)!!memcmp(out, SAMPLE, OCTETS), 0);
-    a = lomphachit_write(records, 3 * LOMPHACHIT_RECORD, SAMPLE, OCTETS, out, sizeof out, tables, LOMPHACHIT_TABLES, counts, LOMPHACHIT_COUNTS);
+    a = lomphachit_write(NONE, 0, records, 3 * LOMPHACHIT_RECORD, SAMPLE, OCTETS, out, sizeof out, tables, LOMPHACHIT_TABLES, counts, LOMPHACHIT_COUNTS);
     is("a list that stops", lomphachit_refusal_of(a), LOMPHACHIT_REFUSED_EVENT), is("its place", lomphachit_place_of(a), 3), is("its count", lomphachit_count_of(a), 0);
     is("an octet after a refusal", out[0], 0), is("a count after a refusal", counts[0], 0);
+}
+
+/* The sample behind a head that lists its names and its value. */
+static void listing(void) {
+    static const uint32_t given[] = {0, 0, 2, 0, 0, 1, 0, 0, 1, 1, LOMPHACHIT_TAG_STRETCH, 7, 1, LOMPHACHIT_TAG_STRETCH, 10, 1, LOMPHACHIT_TAG_STRETCH, 12, 1, 0, 0, 1, 0, 0, 2};
+    static const uint8_t wanted[] = {0xE0, 0, 0, 1, 0x20, 0, 0x93, 1, 0, 'a', 0, 'b', 0, 0, 'c', 0, 0, 0, 0, 0, 1, 0x40, 0, 0x80, 0xF0, 0x91, 'h', 'i', 0xFF};
+    uint64_t a = lomphachit_read(SAMPLE, OCTETS, records, EVENTS * LOMPHACHIT_RECORD, tables, LOMPHACHIT_TABLES, counts, LOMPHACHIT_COUNTS);
+    a = lomphachit_write(given, sizeof given / 4, records, EVENTS * LOMPHACHIT_RECORD, SAMPLE, OCTETS, out, sizeof out, tables, LOMPHACHIT_TABLES, counts, LOMPHACHIT_COUNTS);
+    is("the answer of writing a head", lomphachit_refusal_of(a), LOMPHACHIT_ACCEPTED), is("its count", lomphachit_count_of(a), sizeof wanted);
+    is("a difference of what is written with a head", (uint64_t)!!memcmp(out, wanted, sizeof wanted), 0);
+    is("the count of LOCAL NAME", counts[LOMPHACHIT_TABLE_LOCAL_NAME], 2), is("the check of a head", lomphachit_check(out, sizeof wanted), LOMPHACHIT_ACCEPTED);
+    a = lomphachit_write(given, 9, records, EVENTS * LOMPHACHIT_RECORD, SAMPLE, OCTETS, out, sizeof out, tables, LOMPHACHIT_TABLES, counts, LOMPHACHIT_COUNTS);
+    is("words that give no tables", a, LOMPHACHIT_REFUSED_EVENT);
 }
 
 static void checking(void) {
@@ -86,6 +102,7 @@ int main(void) {
     rest();
     reading();
     writing();
+    listing();
     checking();
     is("the words of the tables", LOMPHACHIT_TABLES, lomphachit_row(LOMPHACHIT_COUNTS, 1));
     is("the words of a row", lomphachit_row(0, 2), LOMPHACHIT_ROW), is("the words of a table", lomphachit_row(1, 1), LOMPHACHIT_ROWS * LOMPHACHIT_ROW);

@@ -1,21 +1,21 @@
 /* Reads event lists, one to a line, and prints for each what lomphachit_write answers and leaves in lent room that was full of other things. Each list is
-   written twice on the same room, and what was written is read back. A difference, an octet or word that is not 0 behind the part used or after a refusal, and
-   anything changed that was not lent to be changed, is printed as a fault and ends with status 1.
+   written twice on the same room, and what was written is read back. Then it is written in two other places: all that is lent starts, and then ends, at a page
+   that may not be touched. A difference, an octet or word that is not 0 behind the part used or after a refusal, and anything changed that was not lent to be changed,
+   is printed as a fault and ends with status 1.
 
    usage: writer < lines
-   A line has, with one blank between: the octets and the table and count words to lend, the text area in hex ('-' for none), the words of the records.
+   A line has, with one blank between: the octets and the table and count words to lend, the text area in hex ('-' for none), how many words give tables and these, the
+   words of the records.
    A line of output for each: "ok", the octets, the ten counts with commas between; or "refused", the number, the place. */
 #define _GNU_SOURCE
-#include <stdint.h>
-#include <stdio.h>
-#include <stdlib.h>
+#include "fenced.h"
 #include <string.h>
 
 uint64_t lomphachit_read(const uint8_t *octets, size_t n, uint32_t *records, size_t r, uint32_t *tables, size_t t, uint32_t *counts, size_t c);
-uint64_t lomphachit_write(const uint32_t *records, size_t r, const uint8_t *text, size_t n, uint8_t *out, size_t o, uint32_t *tables, size_t t, uint32_t *counts,
-                          size_t c);
+uint64_t lomphachit_write(const uint32_t *given, size_t g, const uint32_t *records, size_t r, const uint8_t *text, size_t n, uint8_t *out, size_t o, uint32_t *tables,
+                          size_t t, uint32_t *counts, size_t c);
 
-enum { RECORD = 13, STRINGS = 4, TABLES = 7680, COUNTS = 10, ROWS = 256, NAMES = 8, EVENTS = 1 << 15, OCTETS = 1 << 16, FENCE = 16 };
+enum { RECORD = 13, STRINGS = 4, TABLES = 7680, COUNTS = 10, ROWS = 256, NAMES = 8, EVENTS = 1 << 15, GIVEN = 1 << 14, OCTETS = 1 << 16, FENCE = 16 };
 static const char *const XML = "xml", *const XMLNS = "http://www.w3.org/XML/1998/namespace";
 
 /* What one call is lent, and what it is lent to read only. Behind each lent part stands a fence that no call may change. */
@@ -25,12 +25,12 @@ struct room {
     uint32_t tables[2 * TABLES], counts[COUNTS + FENCE];
 };
 struct list {
-    size_t r, n;
-    uint32_t records[EVENTS * RECORD];
+    size_t g, r, n;
+    uint32_t given[GIVEN], records[EVENTS * RECORD];
     uint8_t text[OCTETS];
 };
 static struct room first, second, dirt;
-static struct list list, given;
+static struct list list, before;
 static uint32_t back[EVENTS * RECORD], back_tables[TABLES], back_counts[COUNTS];
 static int faults;
 
@@ -93,12 +93,36 @@ static void read_back(size_t octets) {
     if (memcmp(first.counts, back_counts, sizeof back_counts) || !same_tables()) fault("the tables are read otherwise");
 }
 
-static uint64_t write_list(struct room *r) { return lomphachit_write(list.records, list.r, list.text, list.n, r->out, r->o, r->tables, r->t, r->counts, r->c); }
+static uint64_t write_list(struct room *r) {
+    return lomphachit_write(list.given, list.g, list.records, list.r, list.text, list.n, r->out, r->o, r->tables, r->t, r->counts, r->c);
+}
+
+/* A copy at a page that may not be touched. */
+static void *placed(struct fenced f, const void *from, size_t octets, int at_end) {
+    void *to = fenced_part(f, octets, at_end);
+    if (octets) memcpy(to, from, octets);
+    return to;
+}
+
+/* Once more in another place; what is lent is still dirty. */
+static void write_elsewhere(uint64_t a, int at_end) {
+    static struct fenced of[6];
+    if (!of[0].first) {
+        const size_t most[] = {sizeof list.given, sizeof list.records, OCTETS, OCTETS, sizeof first.tables, sizeof first.counts};
+        for (int k = 0; k < 6; k++) of[k] = fenced(most[k]);
+    }
+    const uint32_t *given = placed(of[0], list.given, list.g * 4, at_end), *records = placed(of[1], list.records, list.r * 4, at_end);
+    const uint8_t *text = placed(of[2], list.text, list.n, at_end);
+    uint8_t *out = placed(of[3], dirt.out, first.o, at_end);
+    uint32_t *tables = placed(of[4], dirt.tables, first.t * 4, at_end), *counts = placed(of[5], dirt.counts, first.c * 4, at_end);
+    uint64_t b = lomphachit_write(given, list.g, records, list.r, text, list.n, out, first.o, tables, first.t, counts, first.c);
+    if (a != b || memcmp(out, first.out, first.o) || memcmp(tables, first.tables, first.t * 4) || memcmp(counts, first.counts, first.c * 4)) fault("the writing in another place differs");
+}
 
 /* What both calls left, with the first one's answer. */
 static void judge(uint64_t a) {
     size_t used = (size_t)(a >> 32);
-    if (memcmp(list.records, given.records, list.r * 4) || memcmp(list.text, given.text, list.n)) fault("the list or its text is changed");
+    if (memcmp(list.given, before.given, list.g * 4) || memcmp(list.records, before.records, list.r * 4) || memcmp(list.text, before.text, list.n)) fault("the list or its text is changed");
     if (memcmp(first.out + first.o, dirt.out + first.o, FENCE) || memcmp(first.tables + first.t, dirt.tables + first.t, FENCE)
         || memcmp(first.counts + first.c, dirt.counts + first.c, FENCE))
         fault("something is written behind the lent room");
@@ -133,6 +157,8 @@ static char *hex(char *p) {
 static void take(char *p) {
     first.o = strtoul(p, &p, 10), first.t = strtoul(p, &p, 10), first.c = strtoul(p, &p, 10);
     p = hex(p + 1);
+    list.g = strtoul(p, &p, 10);
+    for (size_t i = 0; i < list.g; i++) list.given[i] = (uint32_t)strtoul(p, &p, 10);
     for (list.r = 0; *p == ' '; list.r++) list.records[list.r] = (uint32_t)strtoul(p, &p, 10);
 }
 
@@ -143,11 +169,12 @@ int main(void) {
         dirty(&first, sizeof first, seed);
         take(line);
         dirt = first;
-        memcpy(given.records, list.records, list.r * 4), memcpy(given.text, list.text, list.n);
+        memcpy(before.given, list.given, list.g * 4), memcpy(before.records, list.records, list.r * 4), memcpy(before.text, list.text, list.n);
         uint64_t a = write_list(&first);
         second = first;
         if (write_list(&second) != a || memcmp(&first, &second, sizeof first)) fault("the second writing differs");
         judge(a);
+        write_elsewhere(a, 0), write_elsewhere(a, 1);
         print(a);
     }
     return faults != 0;

@@ -29,11 +29,15 @@ BUILT_IN = {"X": b"xml", "U": b"http://www.w3.org/XML/1998/namespace"}
 # The slots of an event that a kind has.
 SLOTS = {"N": (1, 2), "S": (1, 2, 3), "A": (1, 2, 3, 4), "T": (4,), "C": (4,), "P": (3, 4), "E": ()}
 
+# The tables whose entries are identifying strings, and those of other strings.
+IDENTIFIED, OTHERS = (PREFIX, NAMESPACE, LOCAL, NCNAME, URI), (VALUE, CHUNK, STRING)
+
 # Starting bit: forms (code, zero bits, field bits), in order of their values.
 # A form's lowest value is one more than the highest of the form before it.
 NUMBERS = {2: (("0", 0, 6), ("10", 0, 13), ("110", 0, 20)),                     # C.25
            3: (("0", 0, 5), ("100", 0, 11), ("101", 0, 19), ("110", 7, 20)),    # C.27
            4: (("0", 0, 4), ("100", 0, 10), ("101", 0, 18), ("110", 6, 20))}    # C.28
+COUNTS = {1: (("0", 0, 7), ("1", 3, 20))}                                        # C.21
 LENGTHS = {2: (("0", 0, 6), ("10", 5, 8), ("11", 5, 32)),                       # C.22
            5: (("0", 0, 3), ("10", 2, 8), ("11", 2, 32)),                       # C.23
            7: (("0", 0, 1), ("10", 0, 8), ("11", 0, 32))}                       # C.24
@@ -155,6 +159,45 @@ class Reader:
             return "0"
         return self.encoded(table, 2, 0x80, 0x30, 0x40)
 
+    # The head
+
+    def head(self):
+        """C.2.5; both octets of presence bits are one field."""
+        place, octet = self.at, self.first()
+        judge(place, (octet & 0xE0, PADDING), (octet & 0x1C, OPTIONAL), (place + 1 == len(self.octets), TRUNCATED))
+        listed = f"{octet:08b}{self.octets[place + 1]:08b}"[6:]
+        judge(place, ("1" not in listed, STRUCTURE))
+        self.at += 2
+        for table in range(10):
+            if listed[table] == "1":
+                self.entries(table)
+
+    def entries(self, table):
+        place, count = self.at, self.coded(COUNTS, 1)
+        judge(place, (count > TOP_NUMBER, RANGE))
+        for _ in range(count):
+            if table in IDENTIFIED:
+                judge(self.at, (self.first() & 0x80, PADDING))
+                self.identifying(table)
+            elif table in OTHERS:
+                place, octet = self.at, self.first()
+                judge(place, (octet & 0xC0, PADDING), (octet & 0x30, FORMAT))
+                self.add(table, self.spelled(5), place)
+            else:
+                self.surrogate(table)
+
+    def surrogate(self, table):
+        """C.16: a name by the numbers of its parts."""
+        place, octet = self.at, self.first()
+        judge(place, (octet & 0xFC, PADDING), (octet & 3 == 2, STRUCTURE))
+        self.at += 1
+        triple = tuple(self.number(2, part, padding=self.first() & 0x80) if present else 0
+                       for part, present in ((PREFIX, octet & 2), (NAMESPACE, octet & 1), (LOCAL, True)))
+        judge(place, (triple in self.tables[table], REPEAT))
+        self.add(table, triple, place)
+
+    # Names
+
     def parts(self, octet):
         """The numbers of the prefix and namespace that bits 7 and 8 announce."""
         prefix = self.identifying(PREFIX) if octet & 2 else 0
@@ -264,8 +307,11 @@ def read(octets, room=32768, table_room=True):
           (len(octets) < 4, TRUNCATED), (octets[:4] != HEAD[:4], HEADER))
     reader = Reader(octets, room)
     reader.at = 4
-    judge(4, (reader.first() & 0x80, PADDING), (reader.first(), OPTIONAL))
+    octet = reader.first()
+    judge(4, (octet & 0x80, PADDING), (octet & 0x5F, OPTIONAL))
     reader.at = 5
+    if octet:
+        reader.head()
     while not reader.child():
         pass
     judge(reader.at, (reader.at < len(octets), STRUCTURE))
@@ -298,14 +344,19 @@ def listing(octets):
 # -------------------------------------------- held against the vectors at hand
 
 def rows(name):
-    return [line.split("\t") for line in (HERE / name).read_text().splitlines()]
+    return [line.split("\t") for line in (HERE / name).read_text().splitlines() if not line.startswith("#")]
+
+
+def documents():
+    """The documents given to the project: name, octets, check number, sha1 of the listing."""
+    return rows("read.tsv") + rows("items/read_1.tsv")
 
 
 def disagreements():
-    for name, octets, number, digest in rows("read.tsv"):
+    for name, octets, number, digest in documents():
         octets = bytes.fromhex(octets)
         if (check(octets)[0], hashlib.sha1(listing(octets).encode()).hexdigest()) != (int(number), digest):
-            yield "read.tsv: " + name
+            yield "read.tsv or read_1.tsv: " + name
     for name, octets, room, answer in rows("adversarial.tsv"):
         try:
             got = "accepted %d" % len(read(bytes.fromhex(octets), int(room)).events)
@@ -330,7 +381,7 @@ def shown(entry):
 
 
 def event_rows():
-    for name, octets, number, _ in rows("read.tsv"):
+    for name, octets, number, _ in documents():
         octets = bytes.fromhex(octets)
         if number == "0" and len(octets) <= 60:
             reader = read(octets)
@@ -541,8 +592,101 @@ def size_cases():
     yield "size 16385, an octet after the end", many + b"\0", SIZE
 
 
+# A head is a list of entries, as octets, for each table; behind it stands an element without content.
+
+TABLE_NAMES = ("PREFIX", "NAMESPACE NAME", "LOCAL NAME", "OTHER NCNAME", "OTHER URI", "ATTRIBUTE VALUE",
+               "CONTENT CHARACTER CHUNK", "OTHER STRING", "ELEMENT NAME", "ATTRIBUTE NAME")
+ROOT = b"\x3c\0~\xff"
+
+
+def root(listed):
+    """The root: by number, by the number of its local name, or spelled."""
+    return b"\0\xff" if ELEMENT in listed else b"\x3c\x80\xff" if LOCAL in listed else ROOT
+
+
+def headed(listed, body=None):
+    """A document with these entries listed, {table: entries}; a table may be {table: (count, entries)}."""
+    octets = bytearray(HEAD[:4] + b"\x20")
+    octets += sum(1 << 9 - table for table in listed).to_bytes(2, "big")
+    for table in sorted(listed):
+        count, entries = listed[table] if isinstance(listed[table], tuple) else (len(listed[table]), listed[table])
+        octets += code(COUNTS, 1, "", count) + b"".join(entries)
+    return bytes(octets) + (root(listed) if body is None else body)
+
+
+def listed_string(table, string):
+    return identifying(string) if table in IDENTIFIED else encoded(string, False)
+
+
+def surrogate(*triple):
+    prefix, namespace, local = triple
+    numbers = b"".join(code(NUMBERS, 2, "0", n) for n in triple if n)
+    return bytes([2 * (prefix > 0) + (namespace > 0)]) + numbers
+
+
+def entry(table, i):
+    """Entry i of a table, from 0; a name is that of local name i, or from 128 on of one in the built-in namespace."""
+    if table < ELEMENT:
+        return listed_string(table, word(i))
+    return surrogate(0, 0, i + 1) if i < 128 else surrogate(0, 1, i - 127)
+
+
+def listing_of(table, count):
+    """A head that lists so many entries for a table; names need local names."""
+    listed = {table: [entry(table, i) for i in range(count)]}
+    if table >= ELEMENT:
+        listed[LOCAL] = [entry(LOCAL, i) for i in range(min(count, 129))]
+    return listed
+
+
+def head_count_cases():
+    for table, name in enumerate(TABLE_NAMES):
+        most = TOP_ENTRIES - (table in (PREFIX, NAMESPACE))
+        for count in (1, 128, 129, most, most + 1):
+            yield "head, %d in %s" % (count, name), headed(listing_of(table, count)), FULL if count > most else 0
+        listed = listing_of(table, most)
+        again = listed | {table: listed[table] + listed[table][:1]}
+        yield "head, %s full and one again" % name, headed(again), REPEAT if table not in OTHERS else FULL
+        for count, refusal in ((1 << 20, TRUNCATED), ((1 << 20) + 1, RANGE)):
+            yield "head, %s announces %d" % (name, count), headed({table: (count, [])}, b""), refusal
+        few = {table: (129, listing_of(table, 128)[table])}
+        if table < ELEMENT:
+            yield "head, 128 in %s, where 129 are announced" % name, headed(few, b""), TRUNCATED
+    every = {table: listing_of(table, TOP_ENTRIES - (table in (PREFIX, NAMESPACE)))[table] for table in range(10)}
+    yield "head, all tables full", headed(every, element_number(256) + b"\xff"), 0
+    yield "head, all tables full, a new name behind it", headed(every, b"\x3c\x80\xff"), REPEAT
+    yield "head, all tables full, a new local name behind it", headed(every, ROOT), FULL
+
+
+def head_length_cases():
+    for table in IDENTIFIED + OTHERS:
+        for length in (64, 65, 320, 321) if table in IDENTIFIED else (8, 9, 264, 265):
+            listed = {table: [listed_string(table, long(length))]}
+            yield "head, %s of %d" % (TABLE_NAMES[table], length), headed(listed), 0
+            yield "head, %s of %d, one octet short" % (TABLE_NAMES[table], length), headed(listed, b"")[:-1], TRUNCATED
+        top = listed_string(table, long(321))[:-321 - 4] + b"\xff\xff\xff\xff"
+        yield "head, %s of the greatest length" % TABLE_NAMES[table], headed({table: [top]}), TRUNCATED
+
+
+def head_number_cases():
+    for table in (ELEMENT, ATTRIBUTE):
+        for part, name in enumerate(("prefix", "namespace", "local name")):
+            for count, number in ((64, 64), (64, 65), (65, 65), (256, 256), (256, 257), (2, 8256), (2, 8257), (2, TOP_NUMBER), (2, TOP_NUMBER + 1)):
+                listed = {LOCAL: [entry(LOCAL, 0)]} | {part: [entry(part, i) for i in range(count - (part != LOCAL))]}
+                triple = [1, 1, 1]
+                triple[part] = number
+                refusal = RANGE if number > TOP_NUMBER else INDEX if number > count else 0
+                yield ("head, %s, %s %d of %d" % (TABLE_NAMES[table], name, number, count),
+                       headed(listed | {table: [surrogate(*triple)]}), refusal)
+
+
+def head_size_cases():
+    for size, refusal in ((TOP_SIZE, 0), (TOP_SIZE + 1, SIZE)):
+        yield "size %d, one listed uri" % size, headed({URI: [identifying(long(size - 13 - len(ROOT)))]}), refusal
+
+
 def boundary_rows():
-    for cases in (depth_cases, length_cases, table_cases, size_cases):
+    for cases in (depth_cases, length_cases, table_cases, size_cases, head_count_cases, head_length_cases, head_number_cases, head_size_cases):
         for name, octets, refusal in cases():
             number, count = check(octets)
             assert number % 32 == refusal, (name, number)

@@ -12,7 +12,7 @@ struct run {
     const uint32_t *full; /* behind the last record lent */
     uint32_t counts[LOMPHACHIT_COUNTS];
     int root; /* has been opened */
-    struct strings strings[TARGET + 1];
+    struct strings strings[URI + 1];
     struct names names[2];
     uint32_t words[2][ROWS][RECORD - 1]; /* of each element's and attribute's name, a record's words behind the kind */
 };
@@ -192,7 +192,17 @@ ALWAYS uint32_t add_triple(struct run *run, uint32_t table, uint32_t key, const 
     return 0;
 }
 
-/* C.17.3, C.18.3: a name in its strings, which is new. Its number is then its table's count. */
+/* A name whose parts are known, which is new. */
+ALWAYS uint32_t keep_triple(struct run *run, uint32_t table, const struct triple *x) {
+    struct names *names = &run->names[table - ELEMENT];
+    uint32_t key = key_of(x->prefix.number, x->namespace.number, x->local.number);
+    if (run->counts[table] == 0) memset(names->first, 0, sizeof names->first);
+    /* With a new string the name is new. */
+    if (!x->local.fresh && !x->namespace.fresh && !x->prefix.fresh && find_name(names, key)) return REFUSED(REPEAT);
+    return add_triple(run, table, key, x);
+}
+
+/* C.17.3, C.18.3: a name in its strings. Its number is then its table's count. */
 ALWAYS uint32_t triple(struct run *run, const uint8_t **at, const uint8_t *end, uint32_t table) {
     const uint8_t *place = *at;
     uint32_t there = *place & 3, refusal;
@@ -202,13 +212,7 @@ ALWAYS uint32_t triple(struct run *run, const uint8_t **at, const uint8_t *end, 
     if (there & 2 && unlikely(refusal = identifying(run, at, end, PREFIX, &x.prefix))) return refusal;
     if (there & 1 && unlikely(refusal = identifying(run, at, end, NAMESPACE, &x.namespace))) return refusal;
     if (unlikely(refusal = identifying(run, at, end, LOCAL, &x.local))) return refusal;
-    struct names *names = &run->names[table - ELEMENT];
-    uint32_t key = key_of(x.prefix.number, x.namespace.number, x.local.number);
-    if (run->counts[table] == 0) memset(names->first, 0, sizeof names->first);
-    /* With a new string the name is new. */
-    if (!x.local.fresh && !x.namespace.fresh && !x.prefix.fresh && find_name(names, key)) refusal = REFUSED(REPEAT);
-    else refusal = add_triple(run, table, key, &x);
-    if (unlikely(refusal)) *at = place;
+    if (unlikely(refusal = keep_triple(run, table, &x))) *at = place;
     return refusal;
 }
 

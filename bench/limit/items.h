@@ -3,7 +3,7 @@
 #ifndef LIMIT_ITEMS_H
 #define LIMIT_ITEMS_H
 
-#include "fields.h"
+#include "head.h"
 
 /* What is at hand. Everything that has it is inlined, so that it stands in registers. */
 struct hand {
@@ -224,7 +224,7 @@ ALWAYS uint32_t refused_outside(const struct run *run, uint32_t octet) {
     return run->root ? REFUSED(PADDING) : REFUSED(STRUCTURE);
 }
 
-/* A run that stands behind the opening. */
+/* A run that stands behind the opening, where a head may be. */
 ALWAYS struct hand begin(struct run *run, const uint8_t *octets, size_t n, const struct room *room) {
     run->document = octets, run->root = 0;
     start_counts(run->counts);
@@ -254,6 +254,11 @@ static uint64_t items(const uint8_t *octets, size_t n, const struct room *room) 
     struct run run;
     struct hand h = begin(&run, octets, n, room);
     uint32_t refusal, octet;
+    if (unlikely(octets[4])) {
+        const uint8_t *at = h.at;
+        refusal = head(&run, &at, h.end), h.at = at;
+        if (refusal) goto refused;
+    }
 outside: MORE;
     if (begins(&run, *h.at)) goto *inside[*h.at];
     if (*h.at == 0xF0 && run.root) goto finish;
@@ -292,7 +297,7 @@ ALWAYS uint32_t opening(const uint8_t *octets, size_t n) {
     if (four(octets) != 0x010000E0) return REFUSED(HEADER);
     if (n < 5) return 4 * 32 + REFUSED(TRUNCATED);
     if (octets[4] & 0x80) return 4 * 32 + REFUSED(PADDING);
-    return octets[4] ? 4 * 32 + REFUSED(OPTIONAL_PART) : 0;
+    return octets[4] & 0x5F ? 4 * 32 + REFUSED(OPTIONAL_PART) : 0;
 }
 
 #endif

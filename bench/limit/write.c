@@ -14,7 +14,7 @@ struct seen { uint32_t place, length_and_table, number; };
 struct run {
     struct strings strings[OTHER + 1];
     struct names names[2];
-    uint32_t counts[LOMPHACHIT_COUNTS];
+    uint32_t counts[LOMPHACHIT_COUNTS], longest[OTHER + 1]; /* octets of a string that a table may have */
     struct seen seen[MEMO];     /* strings that have a number, by place, length and table */
     uint16_t named[2][MEMO];    /* numbers of names, by the place of the local name; 0 for none */
     uint32_t words[2][MEMO][9]; /* and the words of their strings */
@@ -92,7 +92,7 @@ ALWAYS int look(struct run *run, uint32_t table, struct string *x) {
         return 1;
     }
     if (!is_text(run->text + x->place, x->length, run->end)) return 0;
-    x->number = table < VALUE || x->length <= ADDED ? search(run, table, x->place, x->length, &x->hash) : 0;
+    x->number = table < VALUE || x->length <= run->longest[table] ? search(run, table, x->place, x->length, &x->hash) : 0;
     return 1;
 }
 
@@ -354,21 +354,25 @@ ALWAYS uint32_t last(struct run *run, struct hand *h) {
     return 0;
 }
 
+#include "given.h"
+
 ALWAYS void begin(struct run *run) {
     static const uint8_t opening[] = {0xE0, 0, 0, 1, 0};
     start_counts(run->counts);
     start_rows(run->tables);
     memset(run->seen, 0, sizeof run->seen);
     memset(run->named, 0, sizeof run->named);
+    run->longest[VALUE] = run->longest[CHUNK] = run->longest[OTHER] = ADDED;
     if (run->most >= sizeof opening) memcpy(run->out, opening, sizeof opening);
 }
 
 /* The document in lent room of the right lengths. */
-ALWAYS uint64_t events(struct run *run, const uint32_t *records, size_t n, uint32_t *counts) {
-    struct hand h = {5, 0, CONTENT, 0, 0, 0};
+ALWAYS uint64_t events(struct run *run, const uint32_t *given, size_t words, const uint32_t *records, size_t n, uint32_t *counts) {
     uint32_t refusal = 0;
-    size_t i = 0;
+    size_t i = 0, at = 5;
     begin(run);
+    if (words && (refusal = head(run, &at, given, words))) return refusal;
+    struct hand h = {at, 0, CONTENT, 0, 0, 0};
     for (; i < n; i++)
         if (unlikely(refusal = event(run, &h, records + RECORD * i, n - i))) break;
     if (!refusal) refusal = last(run, &h);
@@ -377,12 +381,12 @@ ALWAYS uint64_t events(struct run *run, const uint32_t *records, size_t n, uint3
     return (uint64_t)h.at << 32;
 }
 
-uint64_t limit_write(const uint32_t *records, size_t records_len, const uint8_t *text, size_t text_len, uint8_t *out, size_t out_len, uint32_t *tables, size_t tables_len,
-                     uint32_t *counts, size_t counts_len) {
+uint64_t limit_write(const uint32_t *given, size_t given_len, const uint32_t *records, size_t records_len, const uint8_t *text, size_t text_len, uint8_t *out, size_t out_len,
+                     uint32_t *tables, size_t tables_len, uint32_t *counts, size_t counts_len) {
     struct run run;
     uint64_t answer = text_len > LOMPHACHIT_OCTETS ? REFUSED(SIZE) : tables_len != LOMPHACHIT_TABLES || counts_len != LOMPHACHIT_COUNTS ? REFUSED(ROOM) : 0;
     run.text = text, run.end = text + text_len, run.tables = tables, run.out = out, run.most = out_len < LOMPHACHIT_OCTETS ? out_len : LOMPHACHIT_OCTETS;
-    if (!answer) answer = events(&run, records, records_len / RECORD, counts);
+    if (!answer) answer = events(&run, given, given_len, records, records_len / RECORD, counts);
     size_t used = lomphachit_count_of(answer);
     memset(out + used, 0, out_len - used);
     if (!lomphachit_refusal_of(answer)) return answer;

@@ -6,7 +6,20 @@ use std::ops::BitOr;
 extern "C" {
     fn lomphachit_check(octets: *const u8, n: usize) -> u32;
     fn lomphachit_read(octets: *const u8, n: usize, records: *mut u32, r: usize, tables: *mut u32, t: usize, counts: *mut u32, c: usize) -> u64;
-    fn lomphachit_write(records: *const u32, r: usize, text: *const u8, n: usize, out: *mut u8, o: usize, tables: *mut u32, t: usize, counts: *mut u32, c: usize) -> u64;
+    fn lomphachit_write(
+        given: *const u32,
+        g: usize,
+        records: *const u32,
+        r: usize,
+        text: *const u8,
+        n: usize,
+        out: *mut u8,
+        o: usize,
+        tables: *mut u32,
+        t: usize,
+        counts: *mut u32,
+        c: usize,
+    ) -> u64;
 }
 
 const FENCE: usize = 8;
@@ -132,16 +145,18 @@ pub fn compare_read(octets: &[u8], wanted: &Outcome, lent: &Lent) -> Result<(), 
 }
 
 /// The same for the writer, which is lent so many octets, table words and counts.
-pub fn compare_write(records: &[u32], text: &[u8], wanted: &Outcome, room: [usize; 3], seed: u32) -> Result<(), String> {
+pub fn compare_write(given: &[u32], records: &[u32], text: &[u8], wanted: &Outcome, room: [usize; 3], seed: u32) -> Result<(), String> {
     let lent = room[0];
     let mut out: Vec<u8> = (0..lent).map(|i| (i as u32).wrapping_mul(seed | 1) as u8 | 1).collect();
     out.resize(lent + FENCE, OCTET_POST);
     let mut tables = Room::dirty(room[1], seed ^ 0x5555);
     let mut counts = Room::dirty(room[2], seed ^ 0x3333);
-    let before = (records.to_vec(), text.to_vec());
+    let before = (given.to_vec(), records.to_vec(), text.to_vec());
     for call in 1..=2 {
         let answer = unsafe {
             lomphachit_write(
+                given.as_ptr(),
+                given.len(),
                 records.as_ptr(),
                 records.len(),
                 text.as_ptr(),
@@ -160,7 +175,7 @@ pub fn compare_write(records: &[u32], text: &[u8], wanted: &Outcome, room: [usiz
             .and_then(|_| same("counts", &wanted.counts, counts.left()));
         judged.map_err(|e| format!("write, call {call}: {e}"))?;
         let fenced = out[lent..].iter().all(|o| *o == OCTET_POST) && tables.fenced() && counts.fenced();
-        if !fenced || before.0 != records || before.1 != text {
+        if !fenced || before.0 != given || before.1 != records || before.2 != text {
             return Err(format!("write, call {call}: octets or words outside of the lent room are changed"));
         }
     }

@@ -105,7 +105,10 @@ fn splice(dice: &mut Dice, d: &mut Vec<u8>, place: usize, other: &[u8]) {
 /// Octets of no document, most of them behind a right header.
 pub fn random_octets(dice: &mut Dice) -> Vec<u8> {
     let mut d = if dice.percent(90) { vec![0xE0, 0, 0, 1, 0] } else { Vec::new() };
-    if dice.percent(60) {
+    if !d.is_empty() && dice.percent(30) {
+        d[4] = 0x20;
+        d.extend_from_slice(dice.pick::<&[u8]>(&[&[], &[0], &[0, 0x80], &[0, 0x82, 0, 0, 0x61], &[2, 0], &[0, 0x10, 1], &[3, 0xFF, 0]]));
+    } else if dice.percent(60) {
         d.extend_from_slice(&[0x3C, 0, 0x61]);
     }
     for _ in 0..dice.below(24) {

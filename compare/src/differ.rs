@@ -21,8 +21,8 @@ pub fn read(octets: &[u8], lent: &Lent) -> Compared {
 
 pub fn write(l: &List, seed: u32) -> Compared {
     let words = l.words();
-    let (wanted, refusal) = writer::outcome(&words, &l.text, l.out, l.tables, l.counts);
-    let compared = archive::compare_write(&words, &l.text, &wanted, [l.out, l.tables, l.counts], seed);
+    let (wanted, refusal) = writer::outcome(&l.given.words(), &words, &l.text, [l.out, l.tables, l.counts]);
+    let compared = archive::compare_write(&l.given.words(), &words, &l.text, &wanted, [l.out, l.tables, l.counts], seed);
     let own = if refusal.is_none() { reads_back(l, &wanted) } else { Ok(()) };
     (own.and(compared), refusal)
 }

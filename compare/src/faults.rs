@@ -9,6 +9,8 @@ const NUMBERS: Faults = &[&[0xBF], &[0xC0, 0xBF], &[0xC0, 0xC0], &[0xE0, 0, 0], 
 pub fn faults(kind: &str) -> Vec<&'static [u8]> {
     match kind {
         "prefix" | "namespace" | "local name" | "target" | "value" | "content" | "comment" => [of_kind(kind), NUMBERS].concat(),
+        "listed prefix" | "listed namespace" | "listed local name" | "listed target" | "listed uri" => [IDENTIFYING, LISTED].concat(),
+        "listed value" | "listed chunk" | "listed other string" => [VALUE, LISTED].concat(),
         _ => of_kind(kind).to_vec(),
     }
 }
@@ -17,6 +19,10 @@ fn of_kind(kind: &str) -> Faults {
     match kind {
         "header" => HEADER,
         "fifth octet" => FIFTH,
+        "head" => HEAD,
+        "length of a table" => LENGTH,
+        "listed element name" | "listed attribute name" => SURROGATE,
+        "number of a part" => PART,
         "child" => CHILD,
         "element" => ELEMENT,
         "name octet" => NAME,
@@ -32,7 +38,69 @@ fn of_kind(kind: &str) -> Faults {
 
 const HEADER: Faults = &[&[0xE0, 1, 0, 0], &[0xE0, 0, 0, 2], &[0x3C, 0x3F, 0x78, 0x6D], &[0, 0, 0, 1]];
 
-const FIFTH: Faults = &[&[0x80], &[0xC0], &[0x40], &[0x20], &[0x10], &[8], &[4], &[2], &[1]];
+const FIFTH: Faults = &[&[0x80], &[0xC0], &[0xA0], &[0x60], &[0x40], &[0x30], &[0x21], &[0x20], &[0x10], &[8], &[4], &[2], &[1], &[0]];
+
+const HEAD: Faults = &[
+    &[0x20, 0],
+    &[0x40, 0x82],
+    &[0x83, 0xFF],
+    &[0x30, 0],
+    &[0x10, 0x82],
+    &[8, 0],
+    &[4, 1],
+    &[0x1C, 0],
+    &[0x14],
+    &[0x80],
+    &[0, 0],
+    &[0],
+    &[3, 0xFF],
+    &[0, 1],
+    &[0, 0x08],
+];
+
+const LENGTH: Faults = &[
+    &[0],
+    &[1],
+    &[0x7F],
+    &[0x80, 0, 0],
+    &[0x80, 0, 1],
+    &[0x80],
+    &[0x80, 0],
+    &[0x90, 0, 0],
+    &[0xA0],
+    &[0xC0, 0, 0],
+    &[0xF0],
+    &[0x8F, 0xFF, 0x7F],
+    &[0x8F, 0xFF, 0x80],
+    &[0x8F, 0xFF, 0xFF],
+    &[0x9F, 0xFF, 0xFF],
+];
+
+/// Entries of a head with a bit of padding set, or another format behind it.
+const LISTED: Faults = &[&[0x80, 0x61], &[0x81], &[0xC0], &[0xE0, 0, 0, 0, 0], &[0x40, 0x68], &[0x50, 0x68], &[0x90], &[0xB0], &[0x20, 0x68]];
+
+const SURROGATE: Faults = &[&[4], &[8], &[0x10], &[0x20], &[0x40], &[0x80], &[0xFF], &[2], &[2, 0, 0], &[6], &[3, 0, 0, 0], &[1, 0, 0], &[0, 0], &[3], &[3, 0]];
+
+const PART: Faults = &[
+    &[0],
+    &[0x70],
+    &[0x77, 0, 0],
+    &[0xF0],
+    &[0xFF],
+    &[0x80],
+    &[0xE0, 0, 0],
+    &[0xC0],
+    &[0x3F],
+    &[0x40],
+    &[0x40, 0],
+    &[0x40, 0xBF],
+    &[0x40, 0xC0],
+    &[0x60, 0, 0],
+    &[0x6F, 0xDF, 0xBF],
+    &[0x6F, 0xDF, 0xC0],
+    &[0x6F, 0xDF],
+    &[0x6F],
+];
 
 const CHILD: Faults = &[&[0xC0], &[0xC4], &[0xC7], &[0xC8], &[0xCB], &[0xCC], &[0xD0], &[0xE0], &[0xE3], &[0xEF], &[0x80], &[0x3E], &[0xF0], &[0xFF]];
 

@@ -1,4 +1,4 @@
-//! Numbers and lengths of annex C: C.22 to C.28 as rows of a table, read and written bit by bit.
+//! Numbers and lengths of annex C: C.21 to C.28 as rows of a table, read and written bit by bit.
 
 /// One way to spell a number: the code bits, zero bits behind them, then a field that holds the number less `low`.
 pub struct Form {
@@ -15,6 +15,7 @@ const fn form(code: &'static str, zeros: usize, bits: usize, low: u64) -> Form {
 /// The highest number of a table entry (one-meg in 7.2.1).
 pub const TOP: u64 = 1 << 20;
 
+pub const C21: &[Form] = &[form("0", 0, 7, 1), form("1", 3, 20, 129)];
 pub const C22: &[Form] = &[form("0", 0, 6, 1), form("10", 5, 8, 65), form("11", 5, 32, 321)];
 pub const C23: &[Form] = &[form("0", 0, 3, 1), form("10", 2, 8, 9), form("11", 2, 32, 265)];
 pub const C24: &[Form] = &[form("0", 0, 1, 1), form("10", 0, 8, 3), form("11", 0, 32, 259)];

@@ -6,6 +6,7 @@ pub mod dice;
 pub mod differ;
 pub mod faults;
 pub mod forms;
+pub mod heads;
 pub mod inputs;
 pub mod judge;
 pub mod kept;

@@ -59,6 +59,7 @@ pub const PREFIX: usize = 0;
 pub const NAMESPACE: usize = 1;
 pub const LOCAL: usize = 2;
 pub const TARGET: usize = 3;
+pub const URI: usize = 4;
 pub const VALUE: usize = 5;
 pub const CHUNK: usize = 6;
 pub const OTHER: usize = 7;
@@ -78,6 +79,11 @@ impl Tables {
         t.strings[PREFIX].add(Text::XmlPrefix, XML);
         t.strings[NAMESPACE].add(Text::XmlNamespace, XML_NAMESPACE);
         t
+    }
+
+    /// Whether this is a table (0 to 7) of identifying strings, which never holds one twice.
+    pub fn identifies(table: usize) -> bool {
+        table <= URI
     }
 
     pub fn counts(&self) -> Vec<u32> {

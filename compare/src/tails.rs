@@ -1,4 +1,4 @@
-//! All tails of one and two octets behind a dozen starts: after the header, in an element, and in each kind of field.
+//! All tails of one and two octets behind some starts: after the header, in an element, in each kind of field of the body and of a head.
 use crate::archive::Lent;
 use crate::tally::Tally;
 use crate::words::{RECORD, TABLES};
@@ -19,9 +19,24 @@ const STARTS: [&[u8]; 12] = [
     &[0xE2, 0x40, 0x61, 0x3C, 0, 0x61, 0xF0, 0xE2],
 ];
 
+/// Starts of a head: before and behind its presence bits, in a length, before an entry of each kind and a second one, in a name and behind one.
+const HEADS: [&[u8]; 10] = [
+    &[],
+    &[0, 0x80],
+    &[0, 0x80, 0x80],
+    &[0, 0x80, 1],
+    &[0, 0x80, 1, 0, 0x61],
+    &[0, 0x08, 1],
+    &[0, 0x82, 0, 0, 0x61, 1],
+    &[0, 0x81, 0, 0, 0x61, 0, 3, 0],
+    &[0, 0x82, 0, 0, 0x61, 1, 0, 0],
+    &[0, 0x82, 0, 0, 0x61, 0, 0, 0],
+];
+
 /// The starts with their header.
 pub fn starts() -> Vec<Vec<u8>> {
-    STARTS.iter().map(|s| [&[0xE0, 0, 0, 1, 0], *s].concat()).collect()
+    let bodies = STARTS.iter().map(|s| [&[0xE0, 0, 0, 1, 0], *s].concat());
+    bodies.chain(HEADS.iter().map(|s| [&[0xE0, 0, 0, 1, 0x20], *s].concat())).collect()
 }
 
 /// All tails behind one start; false at a difference.

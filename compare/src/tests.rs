@@ -7,13 +7,15 @@ fn unhex(s: &str) -> Vec<u8> {
 }
 
 fn rows(file: &'static str) -> Vec<Vec<&'static str>> {
-    file.lines().map(|l| l.split('\t').collect()).collect()
+    file.lines().filter(|l| !l.starts_with('#')).map(|l| l.split('\t').collect()).collect()
 }
 
 const READ: &str = include_str!("../../vectors/read.tsv");
 const WRITE: &str = include_str!("../../vectors/write.tsv");
 const ADVERSARIAL: &str = include_str!("../../vectors/adversarial.tsv");
 const BOUNDARY: &str = include_str!("../../vectors/boundary.tsv");
+const READ_1: &str = include_str!("../../vectors/items/read_1.tsv");
+const WRITE_1: &str = include_str!("../../vectors/items/write_1.tsv");
 const EVENTS: &str = include_str!("../../vectors/events.tsv");
 
 fn string(s: &str) -> Text {
@@ -107,7 +109,7 @@ fn check(octets: &[u8]) -> u64 {
 
 #[test]
 fn documents_of_read_tsv() {
-    for r in rows(READ) {
+    for r in rows(READ).into_iter().chain(rows(READ_1)) {
         let octets = unhex(r[1]);
         assert_eq!(check(&octets).to_string(), r[2], "check of {}", r[0]);
         assert_eq!(sha1(listing(&octets).as_bytes()), r[3], "listing of {}", r[0]);
@@ -151,7 +153,7 @@ fn tables(t: &Tables) -> String {
 
 #[test]
 fn events_and_tables_of_events_tsv() {
-    let documents: std::collections::HashMap<_, _> = rows(READ).into_iter().map(|r| (r[0], r[1])).collect();
+    let documents: std::collections::HashMap<_, _> = rows(READ).into_iter().chain(rows(READ_1)).map(|r| (r[0], r[1])).collect();
     for r in rows(EVENTS) {
         let done = reader::read(&unhex(documents[r[0]]), 512).unwrap();
         assert_eq!(done.events.iter().map(|e| Some(*e)).collect::<Vec<_>>(), events(r[1]), "{}", r[0]);
@@ -159,20 +161,36 @@ fn events_and_tables_of_events_tsv() {
     }
 }
 
+/// The words of given tables: an entry is a string, or the numbers of a name with stops between.
+fn given(s: &str) -> Vec<u32> {
+    if s == "-" {
+        return Vec::new();
+    }
+    let tables: Vec<Vec<&str>> = s.split(';').map(|t| t.split(',').filter(|e| !e.is_empty()).collect()).collect();
+    let entry = |e: &str| if e.contains('.') { e.split('.').map(|n| n.parse().unwrap()).collect() } else { string(e).words().to_vec() };
+    let counts = tables.iter().map(|t| t.len() as u32);
+    counts.chain(tables.iter().flatten().flat_map(|e| entry(e))).collect()
+}
+
+fn written(given: &[u32], text: &str, room: &str, list: &str) -> String {
+    let records: Vec<u32> = events(list).iter().flat_map(|e| e.map_or([0; RECORD], |e| e.record())).collect();
+    let (got, refusal) = writer::outcome(given, &records, &unhex(text), [room.parse().unwrap(), TABLES, 10]);
+    match refusal {
+        Some(x) => format!("refused {} {}", x.number, x.place),
+        None => {
+            let counts: Vec<String> = got.counts.iter().map(|c| c.to_string()).collect();
+            format!("ok {} {}", crate::report::hex(&got.out[..(got.answer >> 32) as usize]), counts.join(","))
+        }
+    }
+}
+
 #[test]
 fn lists_of_write_tsv() {
     for (i, r) in rows(WRITE).iter().enumerate() {
-        let text = unhex(r[1]);
-        let records: Vec<u32> = events(r[3]).iter().flat_map(|e| e.map_or([0; RECORD], |e| e.record())).collect();
-        let (got, refusal) = writer::outcome(&records, &text, r[2].parse().unwrap(), TABLES, 10);
-        let answer = match refusal {
-            Some(x) => format!("refused {} {}", x.number, x.place),
-            None => {
-                let counts: Vec<String> = got.counts.iter().map(|c| c.to_string()).collect();
-                format!("ok {} {}", crate::report::hex(&got.out[..(got.answer >> 32) as usize]), counts.join(","))
-            }
-        };
-        assert_eq!(answer, r[4], "line {}, {}", i + 1, r[0]);
+        assert_eq!(written(&[], r[1], r[2], r[3]), r[4], "line {}, {}", i + 1, r[0]);
+    }
+    for (i, r) in rows(WRITE_1).iter().enumerate() {
+        assert_eq!(written(&given(r[4]), r[1], r[2], r[5]), r[6], "line {} of items, {}", i + 2, r[0]);
     }
 }
 
@@ -182,7 +200,7 @@ fn the_order_document_of_annex_d() {
     assert_eq!(listing(&octets), include_str!("../../vectors/d5_listing.txt"));
     let done = reader::read(&octets, 512).unwrap();
     let events: Vec<_> = done.events.into_iter().map(Some).collect();
-    assert_eq!(writer::write(&events, &octets, MOST).ok().unwrap().octets, octets);
+    assert_eq!(writer::write(&[], &events, &octets, MOST).ok().unwrap().octets, octets);
 }
 
 #[test]
@@ -197,7 +215,7 @@ fn shrinking_finds_the_shortest() {
 #[test]
 fn numbers_at_the_ends_of_their_forms() {
     use crate::forms::*;
-    for (start, forms) in [(2, C22), (5, C23), (7, C24), (2, C25), (3, C27), (4, C28)] {
+    for (start, forms) in [(1, C21), (2, C22), (5, C23), (7, C24), (2, C25), (3, C27), (4, C28)] {
         for f in forms {
             for value in [f.low, f.high()] {
                 let mut row = BitRow::default();

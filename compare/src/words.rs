@@ -55,7 +55,7 @@ impl Refusal {
 pub type Record = [u32; RECORD];
 
 impl Text {
-    fn words(self) -> [u32; 3] {
+    pub fn words(self) -> [u32; 3] {
         match self {
             Text::Absent => [0, 0, 0],
             Text::Empty => [1, 0, 0],
@@ -65,7 +65,7 @@ impl Text {
         }
     }
 
-    fn from_words(w: &[u32]) -> Option<Text> {
+    pub fn from_words(w: &[u32]) -> Option<Text> {
         match (w[0], w[1], w[2]) {
             (0, 0, 0) => Some(Text::Absent),
             (1, 0, 0) => Some(Text::Empty),

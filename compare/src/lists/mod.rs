@@ -1,5 +1,6 @@
-//! Event lists for the writer: of documents, and made from a small pool of strings so that they come again; good and damaged.
+//! Event lists for the writer: of documents, and made from a small pool of strings so that they come again; good and damaged, with and without given tables.
 mod damage;
+pub mod given;
 mod pool;
 
 use crate::dice::Dice;
@@ -7,11 +8,13 @@ use crate::make;
 use crate::reader::read;
 use crate::words::*;
 use crate::writer::{least_room, write};
+use given::Given;
 use pool::from_pool;
 
 /// All that is lent to the writer, and how much.
 #[derive(Clone)]
 pub struct List {
+    pub given: Given,
     pub records: Vec<Record>,
     pub text: Vec<u8>,
     pub out: usize,
@@ -31,7 +34,11 @@ impl List {
 
 pub fn list(dice: &mut Dice) -> List {
     let mut l = if dice.percent(40) { of_document(dice) } else { from_pool(dice) };
-    if dice.percent(45) {
+    if dice.percent(40) {
+        given::give(dice, &mut l);
+    }
+    let sound = if l.given.entries() > 0 { 25 } else { 45 };
+    if dice.percent(sound) {
         damage::damage(dice, &mut l);
     }
     lend(dice, &mut l);
@@ -39,7 +46,7 @@ pub fn list(dice: &mut Dice) -> List {
 }
 
 fn with(events: &[Event], text: Vec<u8>) -> List {
-    List { records: events.iter().map(Event::record).collect(), text, out: MOST, tables: TABLES, counts: 10, rest: 0 }
+    List { given: Given::default(), records: events.iter().map(Event::record).collect(), text, out: MOST, tables: TABLES, counts: 10, rest: 0 }
 }
 
 fn of_document(dice: &mut Dice) -> List {
@@ -54,12 +61,15 @@ fn of_document(dice: &mut Dice) -> List {
 /// Room for the output: enough, just enough, a little or much too little; now and then table room of another length.
 fn lend(dice: &mut Dice, l: &mut List) {
     let events: Vec<_> = l.records.iter().map(|r| Event::from_record(r)).collect();
+    let given = l.given.words();
+    // What header and head take, or nothing without a head.
+    let head = least_room(&given, &[], &l.text);
     let refused = match dice.below(100) {
         0..=9 => dice.below(60),
-        10..=39 => least_room(&events, &l.text),
+        10..=39 => least_room(&given, &events, &l.text),
         _ => MOST - 50,
     };
-    let needed = write(&events, &l.text, MOST).map_or(refused, |w| w.octets.len());
+    let needed = write(&given, &events, &l.text, MOST).map_or(refused, |w| w.octets.len());
     l.out = match dice.below(if needed == refused && refused == MOST - 50 { 90 } else { 10 }) {
         0 | 5 | 6 => needed,
         1 => needed.saturating_sub(1),
@@ -68,6 +78,14 @@ fn lend(dice: &mut Dice, l: &mut List) {
         4 if dice.percent(20) => MOST + dice.below(3),
         _ => needed + 50,
     };
+    if l.given.entries() > 0 && dice.percent(12) {
+        l.out = match dice.below(4) {
+            0 => head,
+            1 => head.saturating_sub(1),
+            2 => head + dice.below(3),
+            _ => dice.below(head + 1),
+        };
+    }
     if dice.percent(1) {
         l.tables = dice.pick(&[0, 1, TABLES - 1, TABLES + 1]);
     }

@@ -1,5 +1,6 @@
 //! Valid documents with random choices: every string and name numbered or spelled, added or not, wherever the rules leave it open.
 mod fill;
+mod head;
 mod items;
 mod strings;
 
@@ -23,20 +24,37 @@ pub struct Style {
     pub on: usize,
     /// Short strings only, so that full tables fit into a document.
     pub short: bool,
+    pub head: Head,
     /// A table (0 to 9, in the required order) that is filled to about its limit first.
     pub fill: Option<usize>,
     /// How often a string, number or name breaks the rule of its table, in a thousand.
     pub wrong: usize,
 }
 
+/// What the head of a document lists.
+#[derive(Clone, Copy)]
+pub struct Head {
+    /// How often a table is listed, in percent.
+    pub listed: usize,
+    /// A table (0 to 9) that lists many entries.
+    pub large: Option<usize>,
+}
+
+const NO_HEAD: Head = Head { listed: 0, large: None };
+
 impl Style {
     pub fn any(dice: &mut Dice) -> Style {
-        let usual = Style { items: 2 + dice.below(14), deepest: 32, entries: ROWS, fresh: 50, down: 40, on: 93, short: false, fill: None, wrong: 0 };
-        let many = Style { items: 1100, fresh: 95, down: dice.pick(&[5, 60, 90]), on: 100, short: true, ..usual };
+        let head = Head { listed: dice.pick(&[0, 0, 0, 15, 40, 100]), ..NO_HEAD };
+        let usual = Style { items: 2 + dice.below(14), deepest: 32, entries: ROWS, fresh: 50, down: 40, on: 93, short: false, head, fill: None, wrong: 0 };
+        let large = Style { short: true, head: Head { listed: dice.pick(&[0, 20]), large: Some(dice.below(10)) }, ..usual };
+        let many = Style { items: 1100, head: NO_HEAD, fresh: 95, down: dice.pick(&[5, 60, 90]), on: 100, short: true, ..usual };
         match dice.below(200) {
             0 => many,
-            65..=68 => Style { items: 30, on: 100, short: true, fill: Some(dice.pick(&FILLED)), ..usual },
-            69..=72 => Style { items: 30, on: 100, short: true, fill: Some(dice.pick(&FILLED)), entries: 300, ..usual },
+            65..=68 => Style { items: 30, on: 100, short: true, head: NO_HEAD, fill: Some(dice.pick(&FILLED)), ..usual },
+            69..=72 => Style { items: 30, on: 100, short: true, head: NO_HEAD, fill: Some(dice.pick(&FILLED)), entries: 300, ..usual },
+            73..=76 => large,
+            77..=79 => Style { entries: 300, ..large },
+            80..=81 => Style { wrong: 10, ..large },
             1 => Style { entries: 400, ..many },
             2..=6 => Style { items: 40, down: 97, on: 100, ..usual },
             7..=10 => Style { items: 45, down: 97, on: 100, deepest: 34, ..usual },
@@ -67,7 +85,7 @@ pub fn document(dice: &mut Dice, style: Style) -> Vec<u8> {
     let mut m = Maker { dice, style, bits: BitRow::default(), strings: Default::default(), names: Default::default() };
     m.strings[PREFIX].push(XML.to_vec());
     m.strings[NAMESPACE].push(XML_NAMESPACE.to_vec());
-    m.bits.text(&[0xE0, 0, 0, 1, 0]);
+    m.opening(style.head);
     m.beside_root();
     m.element(1);
     m.beside_root();

@@ -4,11 +4,11 @@ use crate::forms::{Form, C22, C23, C25};
 use crate::words::{LOCAL, NAMESPACE, PREFIX};
 
 impl<'d> Maker<'d> {
-    fn wrong(&mut self) -> bool {
+    pub(super) fn wrong(&mut self) -> bool {
         self.style.wrong > 0 && self.dice.below(1000) < self.style.wrong
     }
 
-    fn length(&mut self) -> usize {
+    pub(super) fn length(&mut self) -> usize {
         if self.style.short {
             1 + self.dice.below(3)
         } else {
@@ -33,7 +33,7 @@ impl<'d> Maker<'d> {
     }
 
     /// A number of a table, or, where it is to be wrong, one beyond it.
-    fn number_below(&mut self, count: usize) -> usize {
+    pub(super) fn number_below(&mut self, count: usize) -> usize {
         if self.wrong() {
             count + 1 + self.dice.below(2)
         } else {
@@ -41,7 +41,7 @@ impl<'d> Maker<'d> {
         }
     }
 
-    fn new_string(&mut self, table: usize) -> Vec<u8> {
+    pub(super) fn new_string(&mut self, table: usize) -> Vec<u8> {
         if !self.strings[table].is_empty() && self.wrong() {
             let i = self.dice.below(self.strings[table].len());
             return self.strings[table][i].clone();

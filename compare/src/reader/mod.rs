@@ -1,5 +1,6 @@
 //! An independent reader: recursive descent over annex C. Each field collects all its faults, and the requirements' order of judgement picks the one
 //! that is answered; nothing here decides the order by the order of its tests.
+mod head;
 mod items;
 mod strings;
 
@@ -34,7 +35,9 @@ pub fn read(octets: &[u8], room: usize) -> Got<Reading> {
         return Err(Refusal { number: 1, place: 0, field: "size" });
     }
     r.header()?;
-    r.fifth_octet()?;
+    if r.fifth_octet()? {
+        r.head()?;
+    }
     r.children()?;
     r.document_end()?;
     Ok(r.done)
@@ -89,11 +92,14 @@ impl<'a> Reader<'a> {
         self.close(f, 4)
     }
 
-    fn fifth_octet(&mut self) -> Got<()> {
+    /// Whether the document has a head.
+    fn fifth_octet(&mut self) -> Got<bool> {
         let mut f = self.field("fifth octet")?;
-        f.fault_if(self.first() & 0x80 != 0, Fault::Padding);
-        f.fault_if(self.first() & 0x7F != 0, Fault::Optional);
-        self.close(f, 5)
+        let octet = self.first();
+        f.fault_if(octet & 0x80 != 0, Fault::Padding);
+        f.fault_if(octet & 0x5F != 0, Fault::Optional);
+        self.close(f, 5)?;
+        Ok(octet & 0x20 != 0)
     }
 
     /// Whether an end stands here. A padded half before it means that the end was due there.

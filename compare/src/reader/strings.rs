@@ -10,7 +10,7 @@ fn is_text(octets: &[u8]) -> bool {
 
 impl<'a> Reader<'a> {
     /// A number or length from a bit of the field's first octet; None where a fault leaves no value. Second is the octet behind.
-    fn number(&self, f: &mut Field, start: usize, forms: &'static [Form]) -> Option<(u64, usize)> {
+    pub(super) fn number(&self, f: &mut Field, start: usize, forms: &'static [Form]) -> Option<(u64, usize)> {
         let from = f.place * 8 + start - 1;
         let form = match form_at(self.octets, from, forms) {
             Some(form) => form,
@@ -32,7 +32,7 @@ impl<'a> Reader<'a> {
     }
 
     /// A number into a table of `count` entries; 0 where it is at fault.
-    fn index(&self, f: &mut Field, start: usize, forms: &'static [Form], count: usize) -> (usize, usize) {
+    pub(super) fn index(&self, f: &mut Field, start: usize, forms: &'static [Form], count: usize) -> (usize, usize) {
         match self.number(f, start, forms) {
             None => (0, 0),
             Some((value, behind)) => {
@@ -99,7 +99,7 @@ impl<'a> Reader<'a> {
     }
 
     /// A length and its text; Absent where a fault leaves none.
-    fn spelled(&self, f: &mut Field, start: usize, forms: &'static [Form]) -> Text {
+    pub(super) fn spelled(&self, f: &mut Field, start: usize, forms: &'static [Form]) -> Text {
         let (length, from) = match self.number(f, start, forms) {
             Some(got) => got,
             None => return Text::Absent,
@@ -112,7 +112,7 @@ impl<'a> Reader<'a> {
         Text::Stretch(from, length as usize)
     }
 
-    fn close_behind(&mut self, f: Field, text: Text) -> Got<()> {
+    pub(super) fn close_behind(&mut self, f: Field, text: Text) -> Got<()> {
         match text {
             Text::Stretch(place, length) => self.close(f, place + length),
             _ => f.judge(),

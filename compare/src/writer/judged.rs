@@ -17,13 +17,18 @@ impl<'a> Writer<'a> {
         matches!(kind, Kind::Namespace | Kind::Start) && self.mode != Mode::Declaring
     }
 
+    /// Whether this is a stretch of the text area, of an octet at least.
+    pub(super) fn stretch(&self, s: Text) -> bool {
+        match s {
+            Text::Stretch(place, length) => length > 0 && place as u64 + length as u64 <= self.text.len() as u64,
+            _ => false,
+        }
+    }
+
     pub(super) fn strings_right(&self, e: &Event) -> bool {
         let [p, n, l, v] = e.strings;
         let none = |s: Text| s == Text::Absent;
-        let stretch = |s: Text| match s {
-            Text::Stretch(place, length) => length > 0 && place as u64 + length as u64 <= self.text.len() as u64,
-            _ => false,
-        };
+        let stretch = |s: Text| self.stretch(s);
         let prefix = none(p) || p == Text::XmlPrefix || stretch(p);
         let namespace = none(n) || n == Text::XmlNamespace || stretch(n);
         let pair = prefix && namespace;

@@ -1,4 +1,5 @@
 //! An independent writer with the required choices: events one by one into a row of bits, on which the ends that are owed are put before an event.
+mod head;
 mod items;
 mod judged;
 mod strings;
@@ -32,29 +33,29 @@ pub struct Writing {
     pub tables: Tables,
 }
 
-/// Writes records (None is a blank or malformed one) into so many octets.
-pub fn write(events: &[Option<Event>], text: &[u8], room: usize) -> Result<Writing, Refusal> {
+/// Writes records (None is a blank or malformed one) into so many octets, with the tables that these words give.
+pub fn write(given: &[u32], events: &[Option<Event>], text: &[u8], room: usize) -> Result<Writing, Refusal> {
     let mut w = Writer::new(text);
-    w.all(events, room.min(MOST))?;
+    w.all(given, events, room.min(MOST))?;
     Ok(Writing { octets: w.bits.octets, tables: w.tables })
 }
 
 /// The least room with which a refused list is refused alike: its faulty event needs none, since ROOM is judged last.
-pub fn least_room(events: &[Option<Event>], text: &[u8]) -> usize {
+pub fn least_room(given: &[u32], events: &[Option<Event>], text: &[u8]) -> usize {
     let mut w = Writer::new(text);
-    let _ = w.all(events, MOST);
+    let _ = w.all(given, events, MOST);
     w.right
 }
 
 /// What a call of the writer must answer and leave, with room of these lengths.
-pub fn outcome(records: &[u32], text: &[u8], out: usize, tables: usize, counts: usize) -> (Outcome, Option<Refusal>) {
+pub fn outcome(given: &[u32], records: &[u32], text: &[u8], [out, tables, counts]: [usize; 3]) -> (Outcome, Option<Refusal>) {
     let events: Vec<Option<Event>> = records.chunks_exact(RECORD).map(Event::from_record).collect();
     let got = if text.len() > MOST {
         Err(Refusal { number: 1, place: 0, field: "size" })
     } else if tables != TABLES || counts != 10 {
         Err(Refusal { number: 14, place: 0, field: "table room" })
     } else {
-        write(&events, text, out)
+        write(given, &events, text, out)
     };
     match got {
         Err(r) => (Outcome::refused(&r), Some(r)),
@@ -81,7 +82,8 @@ impl<'a> Writer<'a> {
         Writer { text, bits: BitRow::default(), tables: Tables::start(), mode: Mode::Content, open: 0, rooted: false, owed: false, right: 0 }
     }
 
-    fn all(&mut self, events: &[Option<Event>], room: usize) -> Result<(), Refusal> {
+    fn all(&mut self, given: &[u32], events: &[Option<Event>], room: usize) -> Result<(), Refusal> {
+        self.head(given, room)?;
         for (place, event) in events.iter().enumerate() {
             let field = event.map_or("blank record", |e| kind_name(e.kind));
             self.first(&events[place..], room).map_err(|number| Refusal { number, place, field })?;

@@ -54,7 +54,7 @@ from-past xs w at zero = refl
 from-past xs w at (suc n) = ap₂ _∷_ (record-past xs w at) (rw add-assoc (from-past xs w (at + 13) n))
 
 -- ---- the round trip
-text-back : (t : EventString) → toldBy (stringTag t) (stringPlace t) (stringSize t) ≡ Said t
+pub text-back : (t : EventString) → toldBy (stringTag t) (stringPlace t) (stringSize t) ≡ Said t
 unfolding toldBy toldByTag
 text-back Absent = refl
 text-back Empty = refl

@@ -7,6 +7,7 @@ use lib.Dec.{leb, eqb}
 use lib.ListN.{length, getD}
 use Rattle.format.specs.Octets.{Words}
 use Rattle.format.specs.Numbers.{pick}
+use Rattle.events.specs.declared.EventString.{EventString}
 use Rattle.events.specs.declared.EventString.the-variants.{Absent, Empty, Stretch, XmlPrefix, XmlNamespace}
 use Rattle.events.specs.declared.Kind.{Kind}
 use Rattle.events.specs.declared.Kind.the-variants.{Blank, Namespace, Start, Attribute, Chunk, Comment, Instruction, End}
@@ -38,6 +39,14 @@ toldBy tag place size = pick (eqb tag 2) (Said (Stretch place size)) (pick (eqb 
 -- The string of the three words from `at` on.
 abbrev pub toldAt : Words → (at : ℕ) → Told
 toldAt w at = toldBy (getD w at 0) (getD w (at + 1) 0) (getD w (at + 2) 0)
+
+-- The string that they say; absent where they say none.
+abbrev said : Told → EventString
+said (Said x) = x
+said Not = Absent
+
+unfoldable pub stringFrom : Words → (at : ℕ) → EventString
+stringFrom w at = said (toldAt w at)
 
 -- The record of a kind and its four strings, blank where one is not said.
 abbrev pub framed : Kind → (prefix namespace name value : Told) → Event

@@ -1,7 +1,9 @@
 -- Which records are events as the requirements have them ("Events"), over the octets that their stretches lie in: the document's for a reader, the text area's for a writer.
 use Prim.Native.Nat.{ℕ, _+_, _≤_, _<_}
 use mathlib.Core.Path.{_≡_}
+use mathlib.Core.Bool.{Bool, false, _&&_}
 use lib.ListN.{length}
+use lib.Dec.{ltb, leb}
 use Rattle.format.specs.Octets.{Octets}
 use Rattle.events.specs.declared.EventString.{EventString}
 use Rattle.events.specs.declared.EventString.the-variants.{Absent, Empty, Stretch, XmlPrefix, XmlNamespace}
@@ -11,6 +13,14 @@ use Rattle.events.specs.Records.{namespaceRecord, startRecord, attribute
 -- A stretch: its length is never 0, and it ends within the octets.
 pub data IsStretch (s : Octets) : EventString → Type 0 where
   inside : {place size : ℕ} → 0 < size → place + size ≤ length s → IsStretch s (Stretch place size)
+
+-- And as a test.
+abbrev pub isStretch : Octets → EventString → Bool
+isStretch s Absent = false
+isStretch s Empty = false
+isStretch s (Stretch place size) = ltb 0 size && leb (place + size) (length s)
+isStretch s XmlPrefix = false
+isStretch s XmlNamespace = false
 
 -- A prefix: absent, built in, or a stretch; a namespace likewise.
 pub data IsPrefix (s : Octets) : EventString → Type 0 where

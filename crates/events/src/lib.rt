@@ -6,8 +6,10 @@ pub mod tags;
 mod words;
 
 ghost use mathlib.Core.Path.{_≡_};
-ghost use Prim.Native.Nat.{_<_, _-_};
+ghost use mathlib.Core.Bool.{_&&_};
+ghost use Prim.Native.Nat.{_<_, _+_, _-_};
 ghost use mathlib.Core.List.{_++_};
+ghost use lib.Dec.{ltb, leb};
 ghost use lib.ListN.{length, set, getD, take, replicate};
 ghost use Rattle.events.specs.Records.{blank, namespaceRecord, startRecord, attributeRecord, chunkRecord, commentRecord, instructionRecord, endRecord};
 ghost use Rattle.events.specs.Words.{kindNumber, stringTag, stringPlace, stringSize};
@@ -105,6 +107,20 @@ impl EventString {
             EventString::XmlNamespace => 0,
         }
     }
+}
+
+// A stretch is not empty and lies in the octets. Place and size are the caller's and may be any numbers, so they are not added.
+pub fn lies_in(text: &[u8], place: u32, size: u32) -> bool
+    ensures { λ r. ⌜ r ≡ (ltb 0 size && leb (place + size) (length (now (text .entry)))) ⌝ }
+{
+    let n = size as usize;
+    if n == 0 {
+        return false;
+    }
+    if text.len() < n {
+        return false;
+    }
+    place as usize <= text.len() - n
 }
 
 // The records, from their strings. A blank one has no kind and no strings.

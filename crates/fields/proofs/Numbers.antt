@@ -1,12 +1,12 @@
 -- What the reading of a number is, from any starting bit: a law for each way out of `Cursor::longer_number`.
 -- Assumes nothing.
-use mathlib.Core.Path.{_≡_, refl}
+use mathlib.Core.Path.{_≡_, refl, sym, _∙_}
 use mathlib.Core.List.{List, [], _∷_, map}
-use Prim.Native.Nat.{ℕ, _+_, _-_, _*_, _^_, _≤_, _<_}
+use Prim.Native.Nat.{ℕ, _+_, _-_, _*_, _/_, _%_, _^_, _≤_, _<_}
 use native.Mathlib.Omega.{arith}
 use lib.ListN.{length, getD, take, drop}
 use lib.Pow.{pow-pos, pow-add}
-use Rattle.format.specs.Numbers.{numbers, c25, behindFirst, fromBits}
+use Rattle.format.specs.Numbers.{numbers, c21, c25, behindFirst, fromBits}
 use Rattle.fields.specs.declared.Number.the-variants.{Refused}
 use Rattle.fields.specs.Fields.{bitsOf, behind, Share, share, shareOf, fieldAt}
 use Rattle.fields.proofs.Laws.{sizesIn, roomsIn, Roomy}
@@ -25,6 +25,22 @@ numberShares bit =
     ∷ share (behindCode bit) 2 (2 ^ (22 - bit))
     ∷ share (behindCode bit) 3 (2 ^ 20)
     ∷ []
+
+-- C.21
+pub c21-are : map shareOf c21 ≡ share 128 0 128 ∷ share 128 2 1048576 ∷ []
+unfolding c21 shareOf behindFirst
+c21-are = refl
+
+pub c21-ordered : Ordered c21
+unfolding c21 behindFirst fromBits
+c21-ordered = omega arith
+
+-- behind the padding of C.21 the value starts with the octet's last four bits
+pub count-rest : (o x : ℕ) → bitsOf o 2 4 ≡ 0 → x ≡ bitsOf o 5 8 → x ≡ bitsOf o 2 8
+count-rest o x z e =
+    let n : o / 1 ≡ o = omega arith in
+    let p : 0 + o % 16 ≡ o % 16 = omega arith in
+    e ∙ sym (rw n (rw (z, n) at (split o 2 4 (omega arith) (omega arith)) ∙ p))
 
 -- C.25
 pub c25-are : map shareOf c25 ≡ share 64 0 64 ∷ share 32 1 8192 ∷ share 16 2 1048576 ∷ []

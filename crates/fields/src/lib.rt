@@ -7,7 +7,7 @@ ghost use mathlib.Core.Bool.{_&&_};
 ghost use Prim.Native.Nat.{_+_, _-_, _^_, _<_, _≤_};
 ghost use lib.Dec.{leb, ltb};
 ghost use lib.ListN.{length, getD, take, drop};
-ghost use Rattle.format.specs.Numbers.{lengths, numbers, c25, top};
+ghost use Rattle.format.specs.Numbers.{lengths, numbers, c21, c25, top};
 ghost use Rattle.fields.specs.Fields.{bitsOf, valueFrom, behind, fieldAt, noTop};
 ghost use Rattle.fields.specs.WeightContracts.{weight, Small};
 ghost use Rattle.fields.specs.Utf8.{isText, fromFirst, character, higher, highestOf};
@@ -16,6 +16,9 @@ ghost use Rattle.fields.specs.Utf8.{isText, fromFirst, character, higher
 pub const HEADER: [u8; 5] = [0xE0, 0x00, 0x00, 0x01, 0x00];
 
 pub const BODY: usize = HEADER.len();
+
+// The last octet of the header where a head follows, the initial vocabulary (C.2.3).
+pub const HEAD: u8 = 0x20;
 
 pub const OCTETS: usize = 16384;
 
@@ -196,6 +199,24 @@ impl Cursor {
             return self.behind(s, 0, 1, short + 1, 256, NO_TOP);
         }
         self.behind(s, 0, 4, short + 257, 0x1_0000_0000, NO_TOP)
+    }
+
+    // C.21: how many entries the head lists for a table, from bit 1, coded 0, or 1 and padding.
+    pub fn count(self, s: &[u8]) -> Number
+        ensures { λ r. ⌜ r ≡ fieldAt c21 top 1 (now (s .entry)) (self .at) ⌝ }
+    {
+        let at = self.at;
+        if s.len() <= at {
+            return Number::Refused(TRUNCATED, at);
+        }
+        let o = s[at];
+        if bits(o, 1, 1) == 0 {
+            return self.behind(s, bits(o, 2, 8), 0, 1, 128, TOP);
+        }
+        if bits(o, 2, 4) != 0 {
+            return Number::Refused(PADDING, at);
+        }
+        self.behind(s, bits(o, 5, 8), 2, 129, 1048576, TOP)
     }
 }
 

@@ -3,7 +3,7 @@ ghost use mathlib.Core.Path.{_≡_};
 ghost use mathlib.Core.List.{_∷_};
 ghost use Prim.Native.Nat.{_+_, _-_, _/_, _^_, _<_, _≤_, min};
 ghost use lib.ListN.{length, take, drop, set};
-ghost use Rattle.format.specs.Numbers.{lengths, numbers, c25, top, octets, spell};
+ghost use Rattle.format.specs.Numbers.{lengths, numbers, c21, c25, top, octets, spell};
 ghost use Rattle.fields.specs.PutContracts.{Puts};
 use crate::values;
 use crate::wide;
@@ -108,6 +108,19 @@ pub fn put_number_at_bit_2(out: &mut [u8], at: usize, lead: u8, n: u32) -> usize
     }
     v -= 8192;
     put_form(out, at, first + 96, v, 2)
+}
+
+// C.21: how many entries a table lists, n.
+pub fn put_count(out: &mut [u8], at: usize, n: u32) -> usize
+    requires { ⌜ (at < 2 ^ 32) × (1 ≤ n) × (n ≤ top) ⌝ }
+    ensures { λ r. ⌜ Puts (now (out .entry)) at r (now (out .exit)) (spell c21 0 n) × (r ≤ at + 3) ⌝ }
+{
+    let mut v = n as u64 - 1;
+    if v < 128 {
+        return put_form(out, at, 0, v, 0);
+    }
+    v -= 128;
+    put_form(out, at, 128, v, 2)
 }
 
 // How many of `size` octets an output of so many octets has room for, from `at` on.

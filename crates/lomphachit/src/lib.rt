@@ -31,18 +31,21 @@ pub extern "C" fn lomphachit_read(
     reader::read_words(octets, records, tables, counts)
 }
 
-// A document from records in words over a text area, into lent octets, tables and counts; the answer has the octet count above its low 32 bits, and in them 0
-// or the event's number times 32 plus the refusal's.
-// Wrong would be: on acceptance, an octet behind the document that stood there before the call; ROOM with the number of the event behind the one that does not fit.
+// A document from tables for its head in words, none being allowed, and records in words, both over a text area, into lent octets, tables and counts; the answer
+// has the octet count above its low 32 bits, and in them 0 or the event's number times 32 plus the refusal's; what is wrong with the given tables is refused at 0.
+// Wrong would be: on acceptance, an octet behind the document that stood there before the call; ROOM with the number of the event behind the one that does not fit;
+// FULL (12) for given tables that have too many local names and one of them twice, which is REPEAT (11); ROOM (14) at event 0 for given tables whose strings are no
+// text and whose head does not fit, which is TEXT (9).
 #[no_mangle]
 pub extern "C" fn lomphachit_write(
+    given: &[u32],
     records: &[u32],
     text: &[u8],
     out: &mut [u8],
     tables: &mut [u32],
     counts: &mut [u32],
 ) -> u64
-    ensures { λ r. ⌜ written r (now (out .exit)) (now (tables .exit)) (now (counts .exit)) ≡ writeWords link (now (records .entry)) (now (text .entry)) (length (now (out .entry))) (length (now (tables .entry))) (length (now (counts .entry))) ⌝ }
+    ensures { λ r. ⌜ written r (now (out .exit)) (now (tables .exit)) (now (counts .exit)) ≡ writeWords link (now (given .entry)) (now (records .entry)) (now (text .entry)) (length (now (out .entry))) (length (now (tables .entry))) (length (now (counts .entry))) ⌝ }
 {
-    writer::write_words(records, text, out, tables, counts)
+    writer::write_words(given, records, text, out, tables, counts)
 }

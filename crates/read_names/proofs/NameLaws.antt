@@ -46,10 +46,10 @@ use Rattle.read_names.specs.Strings.{IdRead, OptionalRead, idAt, optiona
 use Rattle.read_names.specs.Names.{NameRead, prefixBit, namespaceBit, nameBit, partOf, nameOf, noTriple, partsAt, numberedAt, nameAt, declaredAt}
 use Rattle.read_names.specs.Contracts.{Ranged, searched, Tidy, Grown, Left, eventStringAt, eventStringsAt, nameStringsAt, Seen, IdLeft, Positive, idSeen, optionalSeen, seenName, nameSeen, declaredSeen}
 use Rattle.read_names.specs.StringContracts.{heldOf}
-use Rattle.read_names.specs.NameContracts.{newName, seenNumber, NewRow}
+use Rattle.read_names.specs.NameContracts.{newName, seenNumber, NewRow, Addable, AddsName}
 use Rattle.index.proofs.Counted.{count-at, one-more, one-more-words}
 use Rattle.index.proofs.Ordered.{ordered-name}
-use Rattle.read_names.proofs.Grown.{grown-none, grown-on, grown-stored, string-stays, InRange, name-at, name-ranged}
+use Rattle.read_names.proofs.Grown.{searched-name, grown-none, grown-on, grown-stored, string-stays, InRange, name-at, name-ranged}
 use Rattle.read_names.proofs.StringLaws.{tests, ranged-kept}
 
 -- ---- a table's layout
@@ -143,11 +143,17 @@ ranged-adding c v x q r =
       | ATTRIBUTE-NAME ↦ ranged-more c (oneMore c 9) (omega arith) (omega arith) (omega arith) (v .attributes) x (r ATTRIBUTE-NAME) q
     ])
 
--- what the index is asked
-module _ (c w : List ℕ) (t : ℕ) (ten : length c ≡ 10) where
-  pub names-indexed : (x : List ℕ) → NamesIndexed w x t (countOf (unlisted c) t) → NamesIndexed w x t (getD c t 0)
-  names-indexed x h = rw (count-at c ten t) at h
+-- what is asked of a name to be added, and of the index
+pub addable : (s c w i : List ℕ) → Tidy s c w i → (t : ℕ) → 8 ≤ t → t < 10 → (x : Row) → Ranged (unlisted c) (tripleOf x ∷ []) → Addable c w i t x
+addable s c w i tidy t low high x ranged = (tidy .room, tidy .ten, tidy .indexed .size, low, high, tidy .counted, tidy .indexed .ofNames t low high (searched-name t low), ranged)
 
+pub search-asked : (c w i : List ℕ) (t : ℕ) (x : Row) → Addable c w i t x → (length w ≡ tableWords) × (length i ≡ 3840) × (t < 10) × (getD c t 0 ≤ 256) × NamesIndexed w i t (getD c t 0)
+search-asked c w i t x may =
+    let n = count-at c (may .1) t in
+    let few = may .5 t in
+    (may .0, may .2, may .4, omega arith, rw n at (may .6))
+
+module _ (c w : List ℕ) (t : ℕ) (ten : length c ≡ 10) where
   -- a name that its table does not hold is not in the words that hold the table
   pub words-unnamed : (x : Triple) → 8 ≤ t → t < 10 → 0 ≡ numberOfTriple (names (vocabulary (unlisted c) w) (nameTableOf t)) x → 0 ≡ numberOfTriple (entries (tripleAt w) (768 * t) (getD c t 0)) x
   words-unnamed x low high e = rw (names-are (unlisted c) w t low high, count-at c ten t) at e
@@ -164,12 +170,12 @@ module _ (c w : List ℕ) (t k next f : ℕ) (x : Triple) (low : 8 ≤ t) (high 
       (seenNumber r d v ≡ newName link (nameTableOf t) x k next (vocabulary (unlisted c) w)) × ((s : List ℕ) → Tidy s c w i → next ≤ length s → IdLeft s c w t r d v y)
       × NewRow v t x r
 
-  pub name-held : (i : List ℕ) → (f ≡ 0 → ⊥) → Named (NotNumbered 11 k) i c w i
+  name-held : (i : List ℕ) → (f ≡ 0 → ⊥) → Named (NotNumbered 11 k) i c w i
   unfolding newName
   name-held i h = rw (held-is, ne-eqb f 0 h) (refl, λ s tidy l. (ten, fits), tt)
 
   module _ (new : f ≡ 0) where
-    pub name-full : (i : List ℕ) → 256 ≤ getD c t 0 → Named (NotNumbered 12 k) i c w i
+    name-full : (i : List ℕ) → 256 ≤ getD c t 0 → Named (NotNumbered 12 k) i c w i
     unfolding newName link
     name-full i h = rw (held-is, eq-eqb f 0 new, length-names (unlisted c) w t low high, count-at c ten t, le-ltb _ _ h) (refl, λ s tidy l. (ten, fits), tt)
 
@@ -219,9 +225,21 @@ module _ (c w : List ℕ) (t k next f : ℕ) (x : Triple) (low : 8 ≤ t) (high 
             (omega arith, new-row),
           )
 
-      pub name-new : Counted (unlisted c) → (i v y : List ℕ) → ((s : List ℕ) → NameEntered s t (getD c t 0) x w i v y)
+      name-new : Counted (unlisted c) → (i v y : List ℕ) → ((s : List ℕ) → NameEntered s t (getD c t 0) x w i v y)
           → Named (Numbered (getD c t 0 + 1) next) i then-counts v y
       name-new small i v y e = rw (e [] .words) (name-stored small i y (λ s. rw (e [] .words) at (e s)))
+
+-- the same of a name that may be added: the answers of the functions that add one
+module _ (c w i : List ℕ) (t k next f : ℕ) (x : Row) (may : Addable c w i t x) (ef : f ≡ numberOfTriple (entries (tripleAt w) (768 * t) (getD c t 0)) (tripleOf x)) where
+  pub adds-held : (f ≡ 0 → ⊥) → AddsName c w i t k next x (NotNumbered 11 k) c w i
+  adds-held = name-held c w t k next f (tripleOf x) (may .3) (may .4) (may .1) (may .0) ef i
+
+  pub adds-full : f ≡ 0 → 256 ≤ getD c t 0 → AddsName c w i t k next x (NotNumbered 12 k) c w i
+  adds-full new = name-full c w t k next f (tripleOf x) (may .3) (may .4) (may .1) (may .0) ef new i
+
+  pub adds-new : f ≡ 0 → getD c t 0 < 256 → (v y : List ℕ) → ((s : List ℕ) → NameEntered s t (getD c t 0) (tripleOf x) w i v y)
+      → AddsName c w i t k next x (Numbered (getD c t 0 + 1) next) (set c t (getD c t 0 + 1)) v y
+  adds-new new room = name-new c w t k next f (tripleOf x) (may .3) (may .4) (may .1) (may .0) ef new room (may .7) (may .5) i
 
 -- ---- a string that is read leaves the names
 abbrev SameNames : Vocabulary Located → S.Got Seen → Type 0

@@ -36,7 +36,7 @@ module _ (s : List ℕ) where
   then-within (got b next v) f h k = k b next v h
   then-within (refused n p) f h k = h
 
-  number-within : {C : Type 0} (fs : List Form) (max bit k : ℕ) (f : ℕ → ℕ → Got C) → k ≤ length s → ((n next : ℕ) → next ≤ length s → Within (f n next))
+  pub number-within : {C : Type 0} (fs : List Form) (max bit k : ℕ) (f : ℕ → ℕ → Got C) → k ≤ length s → ((n next : ℕ) → next ≤ length s → Within (f n next))
       → Within (number (fieldAt fs max bit s k) f)
   number-within fs max bit k f h g = go (fieldAt fs max bit s k) refl
     where
@@ -65,7 +65,7 @@ module _ (s : List ℕ) where
     optional-within true t k v h = then-within (idAt ver s t k v) _ (id-within t k v h) λ i next w l. l
     optional-within false t k v h = h
 
-    spelled-within : (q : Layout) (t : StringTable) (k : ℕ) (added : Bool) (v : Vocabulary Located) → k ≤ length s → Within (spelledAt ver q s t k added v)
+    pub spelled-within : (q : Layout) (t : StringTable) (k : ℕ) (added : Bool) (v : Vocabulary Located) → k ≤ length s → Within (spelledAt ver q s t k added v)
     unfolding spelledAt
     spelled-within q t k added v h =
         number-within (lengths (q .lengthBit)) noTop (q .lengthBit) k _ h λ n next l. spelling-within k next n _ h λ e.

@@ -36,14 +36,16 @@ abbrev pub NewRow : Words → (table : ℕ) → Triple → Entry → Type 0
 NewRow v table x (Numbered n at) = (1 ≤ n) × (tripleAt v (768 * table + 3 * (n - 1)) ≡ x)
 NewRow v table x (NotNumbered n p) = Unit {0}
 
--- A name with the numbers x may be added: the tables of counts c and words w have room for a look at them, and the numbers name entries that are there. A name whose local name
--- is above `locals` has no entry.
-abbrev pub Addable : (c w : Words) → Octets → (table : ℕ) → Row → (locals : ℕ) → Type 0
-Addable c w index table x locals =
+-- A name with the numbers x may be added: the tables of counts c and words w have room for a look at them, and the numbers name entries that are there.
+abbrev pub Addable : (c w : Words) → Octets → (table : ℕ) → Row → Type 0
+Addable c w index table x =
     (length w ≡ tableWords) × (length c ≡ 10) × (length index ≡ 3840) × (8 ≤ table) × (table < 10) × Counted (unlisted c)
     × NamesIndexed w index table (countOf (unlisted c) table)
     × Ranged (unlisted c) (tripleOf x ∷ [])
-    × (locals < x .c → 0 ≡ numberOfTriple (names (vocabulary (unlisted c) w) (nameTableOf table)) (tripleOf x))
+
+-- A name whose local name is above `locals` has no entry.
+abbrev pub NewAbove : (c w : Words) → (table : ℕ) → Row → (locals : ℕ) → Type 0
+NewAbove c w table x locals = locals < x .c → 0 ≡ numberOfTriple (names (vocabulary (unlisted c) w) (nameTableOf table)) (tripleOf x)
 
 -- It was added, or not, as the definition says; what was in order is, and the row is the name's.
 abbrev pub AddsName : (c w : Words) → Octets → (table place next : ℕ) → Row → Entry → (d v : Words) → Octets → Type 0

@@ -11,8 +11,10 @@ pub use names::numbered;
 pub use names::string_at;
 pub use names::strings_of;
 pub use strings::chunk;
+pub use strings::held;
 pub use strings::id;
 pub use strings::octet;
+pub use strings::spelled;
 pub use strings::value;
 
 // The number of a string or a name in its table, and where the next field starts; or the refusal and its place.

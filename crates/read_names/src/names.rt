@@ -12,7 +12,7 @@ ghost use Rattle.tables.specs.Kept.{countOf, unlisted, layoutOf, tripleOf};
 ghost use Rattle.index.specs.Indexed.{NamesIndexed};
 ghost use Rattle.read_names.specs.Names.{nameBit, partsAt, nameAt, declaredAt};
 ghost use Rattle.read_names.specs.Contracts.{Tidy, Positive, eventStringAt, nameStringsAt, ReadsName, ReadsDeclared, NameThere};
-ghost use Rattle.read_names.specs.NameContracts.{Addable, AddsName, ReadsNumbered};
+ghost use Rattle.read_names.specs.NameContracts.{Addable, NewAbove, AddsName, ReadsNumbered};
 use crate::Declaration;
 use crate::Entry;
 use crate::Parts;
@@ -94,7 +94,7 @@ fn triple(
     x: Row,
     locals: u32,
 ) -> Entry
-    requires { ⌜ Addable (now counts) (now t) (now index) table x locals ⌝ }
+    requires { ⌜ Addable (now counts) (now t) (now index) table x × NewAbove (now counts) (now t) table x locals ⌝ }
     ensures { λ r. ⌜ AddsName (now (counts .entry)) (now (t .entry)) (now (index .entry)) table place next x r (now (counts .exit)) (now (t .exit)) (now (index .exit)) ⌝ }
 {
     let n = counts[table];

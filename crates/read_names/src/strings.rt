@@ -212,7 +212,7 @@ fn added(
 }
 
 // A spelled string of C.14 or C.15, its length read; it is added where its add bit says so.
-fn spelled(
+pub fn spelled(
     s: &[u8],
     t: &mut [u32],
     counts: &mut [u32],

@@ -18,11 +18,14 @@ use Rattle.tables.proofs.Counts as T
 use Rattle.tables.proofs.Counts.Laws as T′
 use Rattle.events.proofs.Event as E
 use Rattle.reader.specs.declared.Answer.{Answer}
+use Rattle.reader.specs.declared.run.Front.{Front}
 use Rattle.reader.specs.declared.run.Opening.{Opening}
 use Rattle.read_rows.specs.declared.Place.{Place}
 use Rattle.read_rows.specs.declared.Next.{Next}
 use Rattle.reader.proofs.Answer as R
 use Rattle.reader.proofs.Answer.Laws as R′
+use Rattle.reader.proofs.run.Front as F
+use Rattle.reader.proofs.run.Front.Laws as F′
 use Rattle.reader.proofs.run.Opening as O
 use Rattle.reader.proofs.run.Opening.Laws as O′
 use Rattle.read_rows.proofs.Place as P
@@ -68,6 +71,12 @@ valR = LE.val R.the-type R′.the-laws
 abbrev pub IsR : Answer → Type 0
 IsR w = Is R.the-row w (valR w ∷ [])
 
+abbrev pub valF : Front → Val
+valF = LL.val F.the-type F′.the-laws
+
+abbrev pub IsF : Front → Type 0
+IsF f = Is F.the-row f (valF f ∷ [])
+
 abbrev pub valO : Opening → Val
 valO = LE.val O.the-type O′.the-laws
 
@@ -84,6 +93,9 @@ module _ {M : Type 1} {𝓤 : URA M} {H : Heap 𝓤} {A : Atoms 𝓤} (W : Given
 
   pub typedN : (r : Next) → IsN r → Holds (hasTy N′.mir (valN r)) × WT (valN r)
   typedN r is = LE.lawful N.the-type N′.the-laws 𝓤 H A W tt .typed r _ is .0
+
+  pub typedF : (f : Front) → IsF f → Holds (hasTy F′.mir (valF f)) × WT (valF f)
+  typedF f is = LL.lawful F.the-type F′.the-laws 𝓤 H A W .typed f _ is .0
 
   pub typedR : (w : Answer) → IsR w → Holds (hasTy R′.mir (valR w)) × WT (valR w)
   typedR w is = LE.lawful R.the-type R′.the-laws 𝓤 H A W tt .typed w _ is .0

@@ -67,7 +67,7 @@ use Rattle.reader.proofs.RunLaws.{run-one, underway-more}
 -- ---- one behind the other
 module _ {s : Octets} {n : ℕ} {st : State} {t c r : Words} where
   pub onward-same : {full : ℕ} → n ≤ full → Tidied s c t → Onward s full st n t c r st n t c r
-  onward-same h d = record { less = omega arith; most = h; tidied = d; goes = λ {v} {room} {body} {left} f l u. let z : n + left - n ≡ left = omega arith in rw z u }
+  onward-same h d = record { less = omega arith; most = h; tidied = d; goes = λ {v} {room} {from} {left} f l u. let z : n + left - n ≡ left = omega arith in rw z u }
 
   onward-then : {full m k : ℕ} {st₁ st₂ : State} {t₁ c₁ r₁ t₂ c₂ r₂ : Words} → Onward s full st n t c r st₁ m t₁ c₁ r₁ → m < full → Onward s (m + 1) st₁ m t₁ c₁ r₁ st₂ k t₂ c₂ r₂ → Onward s full st n t c r st₂ k t₂ c₂ r₂
   onward-then {m = m} {k = k} a h b =
@@ -78,7 +78,7 @@ module _ {s : Octets} {n : ℕ} {st : State} {t c r : Words} where
         less = omega arith;
         most = omega arith;
         tidied = b .tidied;
-        goes = λ {v} {room} {body} {left} f l u.
+        goes = λ {v} {room} {from} {left} f l u.
             let z : m + (n + left - m) - k ≡ n + left - k = omega arith in
             rw z at (b .goes (omega arith) (omega arith) (a .goes f l u));
       }
@@ -92,7 +92,7 @@ module _ {s : Octets} {n : ℕ} {st : State} {t c r : Words} where
         less = omega arith;
         most = omega arith;
         tidied = d;
-        goes = λ {v} {room} {body} {left} {x} f l u.
+        goes = λ {v} {room} {from} {left} {x} f l u.
             let z : left - 1 ≡ n + left - (n + 1) = omega arith in
             rw z at (underway-more u (omega arith) (m x (u .good)) refl (λ q. omega arith) same);
       }
@@ -113,7 +113,7 @@ module _ (go : ℕ → Stand → Result) (m m′ : Stand) (q : m .state ≡ m′
   turn-kept w room I.done = refl
   turn-kept w room (I.stop j p) = refl
 
-module _ {s v : Words} {room body left n : ℕ} {st st′ : State} {a : Lent} (u : Underway s v room body left n st a) (h : 0 < left) (g : Good s st′ a)
+module _ {s v : Words} {room : ℕ} {from : Stand} {left n : ℕ} {st st′ : State} {a : Lent} (u : Underway s v room from left n st a) (h : 0 < left) (g : Good s st′ a)
     (q : standOf st a .state ≡ standOf st′ a .state) (e : step link s (standOf st a) ≡ step link s (standOf st′ a)) where
   abbrev go : ℕ → Stand → Result
   go k m = run link s (left - 1) k m
@@ -121,7 +121,7 @@ module _ {s v : Words} {room body left n : ℕ} {st st′ : State} {a : Lent} (u
   turned : run link s left (room - n) (standOf st a) ≡ turn go (room - n) (standOf st a) (step link s (standOf st′ a))
   turned = run-one s left (room - n) (standOf st a) h ∙ ap (turn go (room - n) (standOf st a)) e
 
-  underway-over : Underway s v room body left n st′ a
+  underway-over : Underway s v room from left n st′ a
   underway-over =
       record {
         good = g;
@@ -147,7 +147,7 @@ onward-over a f =
       less = a .less;
       most = a .most;
       tidied = a .tidied;
-      goes = λ {v} {room} {body} {left} {x} k l u. let w = a .goes k l u in let g = f x (w .good) in underway-over w (omega arith) (g .0) (g .1) (g .2);
+      goes = λ {v} {room} {from} {left} {x} k l u. let w = a .goes k l u in let g = f x (w .good) in underway-over w (omega arith) (g .0) (g .1) (g .2);
     }
 
 -- ---- a step among children

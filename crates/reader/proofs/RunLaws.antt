@@ -7,7 +7,7 @@ use Prim.Native.Nat.{ℕ, zero, suc, _+_, _-_, _*_, _/_, _≤_, _<_}
 use native.Mathlib.Omega.{arith}
 use native.Mathlib.Numerals.{add-one}
 use borrow.Author.Tests.{lt-ltb, le-ltb, le-leb, lt-leb, eq-eqb, ne-eqb, leb-true}
-use lib.Dec.{eqb, ltb, leb, lit<}
+use lib.Dec.{eqb, leb, lit<}
 use lib.ListN.{length, getD, take, drop, replicate, getD-replicate, length-replicate}
 use lib.Seq.{drop-cons, sets}
 use Rattle.format.specs.Tables.{NameTable, ELEMENT-NAME, ATTRIBUTE-NAME, names, starting, same, link}
@@ -15,7 +15,7 @@ use Rattle.format.specs.Document.{beginning}
 use Rattle.tables.specs.Located.{start}
 use Rattle.tables.specs.Counts.{tableWords, countsOf}
 use Rattle.tables.specs.Rows.{vocabulary}
-use Rattle.tables.specs.Kept.{listed}
+use Rattle.tables.specs.Kept.{listed, unlisted}
 use Rattle.tables.proofs.Laws.{vocabulary-start, counted-start, clean-start, inside-start}
 use Rattle.tables.proofs.Found.{both-true}
 use Rattle.index.specs.Indexed.{slots}
@@ -29,14 +29,21 @@ use Rattle.read_items.specs.declared.Step.the-variants.{More, Quiet, Done, Stop
 use Rattle.read_items.specs.Items as I
 use Rattle.read_items.specs.Items.{Stand}
 use Rattle.read_items.specs.Steps.{step}
-use Rattle.read_names.specs.Contracts.{Ranged, searched}
+use Rattle.read_names.specs.Contracts.{Ranged, searched, Tidy}
+use Rattle.read_head.specs.declared.Passed.{Passed}
+use Rattle.read_head.specs.declared.Passed.the-variants.{Behind, Refused as NoBody}
+use Rattle.read_head.specs.Head.{headAt}
+use Rattle.read_head.specs.Contracts.{PassedLeft, Passes}
 use Rattle.read_items.specs.Contracts.{Lent, lent, standOf, SeenStep, more, quiet, done, stop, seenStep, stepSeen, keptBy, Good, Met}
 use Rattle.reader.specs.declared.run.Ended.{Ended}
 use Rattle.reader.specs.declared.run.Ended.the-variants.{Accepted, Refused}
-use Rattle.reader.specs.Reading.{Opening, onward, halt, sized, opening, EventRead, recordRead, Result, accepted, refusal, plus, turn, run, origin, fuelOf, reading, numberOf, checkOf}
+use Rattle.reader.specs.declared.run.Front.{Front}
+use Rattle.reader.specs.declared.run.Opening.{Opening}
+use Rattle.reader.specs.declared.run.Opening.the-variants.{Onward, Halt}
+use Rattle.reader.specs.Reading as R
+use Rattle.reader.specs.Reading.{onward, halt, behindHead, sized, opening, EventRead, recordRead, Result, accepted, refusal, plus, turn, run, origin, reading, numberOf, checkOf}
 use Rattle.reader.specs.LaneContracts.{whole, Underway}
-use Rattle.reader.specs.RunContracts.{Ending, ended, faulty, endingOf, seenEnding, eventWords, keptFrom, Small, answerNumber, Ran}
-use Rattle.read_names.proofs.StringLaws.{tests}
+use Rattle.reader.specs.RunContracts.{Opened, StartsIn, Starts, Ending, ended, faulty, endingOf, seenEnding, eventWords, keptFrom, Small, answerNumber, Ran}
 use Rattle.read_items.proofs.Places.{Placed, step-placed}
 
 -- ---- the identification
@@ -76,6 +83,10 @@ module _ (s : List ℕ) where
   unfolding sized link
   size-some h = let l : 1 ≤ length s = omega arith in rw (le-leb _ _ l)
 
+  pub size-most : true ≡ sized link s → length s ≤ 16384
+  unfolding sized link
+  size-most e = leb-true (length s) 16384 (both-true (leb 1 (length s)) (leb (length s) 16384) (sym e) .1)
+
   pub open-size : false ≡ sized link s → halt 1 0 ≡ opening link s
   unfolding opening link
   open-size e = rw (← e)
@@ -100,34 +111,19 @@ module _ (s : List ℕ) where
           unfolding opening link
           open-padding b = rw (← size, le-leb _ _ l, ← e, le-leb _ _ h, le-ltb _ _ b)
 
-          pub open-optional : getD s 4 0 < 0x80 → (getD s 4 0 ≡ 0 → ⊥) → halt 4 4 ≡ opening link s
-          unfolding opening link
-          open-optional b n = rw (← size, le-leb _ _ l, ← e, le-leb _ _ h, lt-ltb _ _ b, ne-eqb _ _ n)
+          module _ (b : getD s 4 0 < 0x80) where
+            pub open-onward : getD s 4 0 ≡ 0 → onward 5 (start link) ≡ opening link s
+            unfolding opening link
+            open-onward z = rw (← size, le-leb _ _ l, ← e, le-leb _ _ h, z)
 
-          pub open-onward : getD s 4 0 ≡ 0 → onward 5 (start link) ≡ opening link s
-          unfolding opening link
-          open-onward z = rw (← size, le-leb _ _ l, ← e, le-leb _ _ h, z)
+            module _ (n : getD s 4 0 ≡ 0 → ⊥) where
+              pub open-optional : (getD s 4 0 ≡ 0x20 → ⊥) → halt 4 4 ≡ opening link s
+              unfolding opening link
+              open-optional m = rw (← size, le-leb _ _ l, ← e, le-leb _ _ h, lt-ltb _ _ b, ne-eqb _ _ n, ne-eqb _ _ m)
 
--- what every opening keeps to
-abbrev Opens : List ℕ → Opening → Type 0
-Opens s (onward body v) = (body ≤ length s) × (length s ≤ 16384)
-Opens s (halt k p) = (k ≤ 15) × (p ≤ 16384)
-
-pub opens : (s : List ℕ) (o : Opening) → o ≡ opening link s → Opens s o
-unfolding opening sized link
-opens s o e =
-    rw e
-    (tests (Opens s) (leb 1 (length s) && leb (length s) 16384) _ _
-    (λ a. tests (Opens s) (leb 4 (length s)) _ _
-    (λ _. tests (Opens s) (same (take 4 s) (link .identification)) _ _
-    (λ _. tests (Opens s) (leb 5 (length s)) _ _
-    (λ b. tests (Opens s) (ltb (getD s 4 0) 0x80) _ _
-    (λ _. tests (Opens s) (eqb (getD s 4 0) 0) _ _ (λ _. (leb-true _ _ b, leb-true (length s) 16384 (both-true (leb 1 (length s)) (leb (length s) 16384) a .1))) (λ _. omega arith))
-    (λ _. omega arith))
-    (λ _. omega arith))
-    (λ _. omega arith))
-    (λ _. omega arith))
-    (λ _. omega arith))
+              pub open-headed : getD s 4 0 ≡ 0x20 → behindHead (headAt link s 5 (start link)) ≡ opening link s
+              unfolding opening link
+              open-headed z = rw (← size, le-leb _ _ l, ← e, le-leb _ _ h, z)
 
 -- ---- what a turn comes to, by what is seen of its step and what it kept
 module _ (go : ℕ → Stand → Result) (m : Stand) (n : ℕ) where
@@ -189,58 +185,81 @@ placed-seen s (I.quiet k) h = tt
 placed-seen s I.done h = tt
 placed-seen s (I.stop j p) h = h
 
--- ---- before the first item: tables of zeros, the counts of the start, an index of zeros
-module _ (s : List ℕ) (body : ℕ) (t c x : List ℕ) (zeros : t ≡ replicate tableWords 0) (counts : c ≡ listed (countsOf (start link))) (clear : x ≡ replicate slots 0) where
-  tables-start : vocabulary (countsOf (start link)) t ≡ start link
-  tables-start = rw zeros (vocabulary-start (replicate tableWords 0) (getD-replicate {A = ℕ} tableWords 1 0 0 (lit< tt)) (getD-replicate {A = ℕ} tableWords 769 0 0 (lit< tt)))
+pub front-within : {s : List ℕ} {o : Opening} {x : R.Opening} {f : Front} → Opened s o x → o ≡ Onward f → (f .at ≤ length s) × (length s ≤ 16384)
+front-within e q = let g = rw q at e in g .within
 
-  pub start-is : (w : List ℕ) → standOf (fresh body) (lent t c x w) ≡ origin body (start link)
-  unfolding beginning modeOf rootOf
-  start-is w = rw (counts, tables-start)
+-- ---- before the head: tables of zeros, the counts of the start, an index of zeros
+module _ (s : List ℕ) (t c x : List ℕ) (zeros : t ≡ replicate tableWords 0) (counts : c ≡ listed (countsOf (start link))) (clear : x ≡ replicate slots 0) where
+  pub tables-start : vocabulary (unlisted c) t ≡ start link
+  tables-start = rw (counts, zeros) (vocabulary-start (replicate tableWords 0) (getD-replicate {A = ℕ} tableWords 1 0 0 (lit< tt)) (getD-replicate {A = ℕ} tableWords 769 0 0 (lit< tt)))
 
   ranged-start : (n : NameTable) → Ranged (countsOf (start link)) (names (start link) n)
   unfolding names start starting link
   ranged-start ELEMENT-NAME = tt
   ranged-start ATTRIBUTE-NAME = tt
 
-  pub good-start : body ≤ length s → length s ≤ 16384 → (w : List ℕ) → Good s (fresh body) (lent t c x w)
-  unfolding coming
-  good-start l h w =
+  pub tidy-start : length s ≤ 16384 → Tidy s c t x
+  tidy-start h =
+      let start-is : vocabulary (countsOf (start link)) t ≡ start link = rw counts at tables-start in
       rw counts
       (record {
-        tidy = record {
-          size = h;
-          ten = refl;
-          room = ap length zeros ∙ length-replicate {A = ℕ} tableWords 0;
-          counted = counted-start;
-          clean = rw zeros clean-start;
-          inside = rw tables-start (inside-start s);
-          more = rw tables-start ranged-start;
-          indexed = rw zeros (indexed-start searched s (replicate tableWords 0) x (getD-replicate {A = ℕ} tableWords 1 0 0 (lit< tt)) (getD-replicate {A = ℕ} tableWords 769 0 0 (lit< tt)) clear);
-        };
-        at = omega arith;
-        shallow = omega arith;
+        size = h;
+        ten = refl;
+        room = ap length zeros ∙ length-replicate {A = ℕ} tableWords 0;
+        counted = counted-start;
+        clean = rw zeros clean-start;
+        inside = rw start-is (inside-start s);
+        more = rw start-is ranged-start;
+        indexed = rw zeros (indexed-start searched s (replicate tableWords 0) x (getD-replicate {A = ℕ} tableWords 1 0 0 (lit< tt)) (getD-replicate {A = ℕ} tableWords 769 0 0 (lit< tt)) clear);
       })
 
-  pub underway-start : body ≤ length s → length s ≤ 16384 → (v : List ℕ) (room : ℕ) {st : State} → st ≡ fresh body → Underway s v room body (2 * length s + 1) 0 st (lent t c x v)
-  underway-start l h v room e =
-      let z : room - 0 ≡ room = omega arith in
-      rw e
-      (record {
-        good = good-start l h v;
-        fits = omega arith;
-        fuel = omega arith;
-        ends = rw (z, start-is v, add-one);
-        keeps = λ _. rw (z, start-is v, add-one);
-        same-length = refl;
-      })
+  -- o is what the header says
+  module _ {o : Opening} (e : Opened s o (opening link s)) where
+    pub starts-halt : {k p : ℕ} → o ≡ Halt k p → Starts s (NoBody k p) c t x
+    starts-halt q = let g = rw q at e in record { is = g .is; within = g .within }
+
+    module _ {f : Front} (q : o ≡ Onward f) where
+      pub starts-body : f .head ≡ false → Starts s (Behind (f .at)) c t x
+      starts-body n = let g = rw q at e in record { is = rw tables-start (rw n at (g .is)); within = (g .within .0, tidy-start (g .within .1)) }
+
+      pub starts-head : {r : Passed} {d v y : List ℕ} → f .head ≡ true → Passes s c t r d v y (headAt link s (f .at)) → Starts s r d v y
+      starts-head {r = r} {d} {v} {y} h p =
+          let g = rw q at e in
+          record { is = ap behindHead (p .0 ∙ ap (headAt link s (f .at)) tables-start) ∙ rw h at (g .is); within = by-answer r (g .within .1) (p .1) }
+        where
+          by-answer : (r : Passed) → length s ≤ 16384 → PassedLeft s c t r d v y → StartsIn s r d v y
+          by-answer (Behind body) h l = (l .within, l .tidy)
+          by-answer (NoBody k p) h l = omega arith
+
+-- ---- before the first item
+pub stand-start : (body : ℕ) (a : Lent) → standOf (fresh body) a ≡ origin body (vocabulary (unlisted (a .counts)) (a .tables))
+unfolding beginning modeOf rootOf
+stand-start body a = refl
+
+pub good-start : {s : List ℕ} {body : ℕ} (a : Lent) → body ≤ length s → Tidy s (a .counts) (a .tables) (a .index) → Good s (fresh body) a
+unfolding coming
+good-start a l h = record { tidy = h; at = omega arith; shallow = omega arith }
+
+pub underway-start : {s : List ℕ} {body : ℕ} {t c x : List ℕ} → body ≤ length s → Tidy s c t x → (v : List ℕ) (room : ℕ) {st : State} → st ≡ fresh body
+    → Underway s v room (origin body (vocabulary (unlisted c) t)) (2 * length s + 1) 0 st (lent t c x v)
+underway-start {body = body} {t} {c} {x} l h v room e =
+    let z : room - 0 ≡ room = omega arith in
+    rw e
+    (record {
+      good = good-start (lent t c x v) l h;
+      fits = omega arith;
+      fuel = omega arith;
+      ends = rw (z, stand-start body (lent t c x v), add-one);
+      keeps = λ _. rw (z, stand-start body (lent t c x v), add-one);
+      same-length = refl;
+    })
 
 pub run-one : (s : List ℕ) (left room : ℕ) (m : Stand) → 0 < left → run link s left room m ≡ turn (λ k j. run link s (left - 1) k j) room m (step link s m)
 unfolding run
 run-one s left room m h = let z : left ≡ suc (left - 1) = omega arith in ap (λ (k : ℕ). run link s k room m) z
 
-module _ {s v : List ℕ} {room body left n : ℕ} {st : State} {a : Lent} (u : Underway s v room body left n st a) where
-  pub ran-spent : left ≤ 0 → Ran room v (Refused 2 (st .at / 2)) (a .counts) (a .tables) (a .records) (whole s room body)
+module _ {s v : List ℕ} {room : ℕ} {from : Stand} {left n : ℕ} {st : State} {a : Lent} (u : Underway s v room from left n st a) where
+  pub ran-spent : left ≤ 0 → Ran room v (Refused 2 (st .at / 2)) (a .counts) (a .tables) (a .records) (whole s room from)
   unfolding run
   ran-spent h =
       let z : left ≡ 0 = omega arith in
@@ -255,10 +274,10 @@ module _ {s v : List ℕ} {room body left n : ℕ} {st : State} {a : Lent} (u : 
     one : run link s left (room - n) (standOf st a) ≡ turn onward-from (room - n) (standOf st a) (step link s (standOf st a))
     one = run-one s left (room - n) (standOf st a) h
 
-    ends-here : endsBy onward-from (standOf st a) n (room - n) (seenStep r b) ≡ endingOf 0 (whole s room body)
+    ends-here : endsBy onward-from (standOf st a) n (room - n) (seenStep r b) ≡ endingOf 0 (whole s room from)
     ends-here = rw (p .is) (sym (ap (endingOf n) one ∙ turn-ends onward-from (standOf st a) n (room - n) (step link s (standOf st a))) ∙ u .ends)
 
-    kept-here : 13 * room ≤ length v → leftBy onward-from (standOf st a) n (b .records) (room - n) (seenStep r b) ≡ keptFrom v 0 (whole s room body)
+    kept-here : 13 * room ≤ length v → leftBy onward-from (standOf st a) n (b .records) (room - n) (seenStep r b) ≡ keptFrom v 0 (whole s room from)
     kept-here k =
         let f = u .fits in
         let l = u .same-length in
@@ -268,7 +287,7 @@ module _ {s v : List ℕ} {room body left n : ℕ} {st : State} {a : Lent} (u : 
     placed-here = rw (p .is) (placed-seen s (step link s (standOf st a)) (step-placed s link (standOf st a) (u .good .at)))
 
     module _ {st′ : State} {k : ℕ} (q : r ≡ Quiet st′ k) (same : length (b .records) ≡ length (a .records)) where
-      pub underway-quiet : Underway s v room body (left - 1) n st′ b
+      pub underway-quiet : Underway s v room from (left - 1) n st′ b
       underway-quiet =
           let f = u .fuel in
           record {
@@ -284,7 +303,7 @@ module _ {s v : List ℕ} {room body left n : ℕ} {st : State} {a : Lent} (u : 
       pub more-place : place ≤ 16384
       more-place = let l : place ≤ length s = rw q at placed-here in let g = u .good .tidy .size in omega arith
 
-      pub underway-more : (n ≡ room → ⊥) → length (b .records) ≡ length (a .records) → Underway s v room body (left - 1) (n + 1) st′ b
+      pub underway-more : (n ≡ room → ⊥) → length (b .records) ≡ length (a .records) → Underway s v room from (left - 1) (n + 1) st′ b
       underway-more l same =
           let f = u .fuel in
           let i = u .fits in
@@ -298,13 +317,13 @@ module _ {s v : List ℕ} {room body left n : ℕ} {st : State} {a : Lent} (u : 
             same-length = same ∙ u .same-length;
           }
 
-      pub ran-full : n ≡ room → Ran room v (Refused 14 place) (b .counts) (b .tables) (b .records) (whole s room body)
+      pub ran-full : n ≡ room → Ran room v (Refused 14 place) (b .counts) (b .tables) (b .records) (whole s room from)
       ran-full l =
           let z : room - n ≡ 0 = omega arith in
           record { is = rw (q, z) at ends-here; small = (omega arith, more-place); settled = tt; keeps = λ _. tt }
 
     module _ {st′ : State} {k : ℕ} (q : r ≡ Done st′ k) where
-      pub ran-done : Ran room v (Accepted n) (b .counts) (b .tables) (b .records) (whole s room body)
+      pub ran-done : Ran room v (Accepted n) (b .counts) (b .tables) (b .records) (whole s room from)
       ran-done =
           let same : (b .counts ≡ a .counts) × (b .tables ≡ a .tables) = rw q at (p .good) in
           let g = u .good .tidy .size in
@@ -320,18 +339,25 @@ module _ {s v : List ℕ} {room body left n : ℕ} {st : State} {a : Lent} (u : 
       pub stop-place : (k ≤ 15) × (st′ .at ≤ 16384)
       stop-place = let l : (k ≤ 15) × (st′ .at ≤ length s) = rw q at placed-here in let g = u .good .tidy .size in omega arith
 
-      pub ran-stop : Ran room v (Refused k (st′ .at)) (b .counts) (b .tables) (b .records) (whole s room body)
+      pub ran-stop : Ran room v (Refused k (st′ .at)) (b .counts) (b .tables) (b .records) (whole s room from)
       ran-stop = record { is = rw q at ends-here; small = stop-place; settled = tt; keeps = λ _. tt }
 
 -- ---- a document
-module _ (s : List ℕ) {v : List ℕ} {room : ℕ} {r : Ended} {c t w : List ℕ} where
-  pub ran-halt : {k place : ℕ} → halt k place ≡ opening link s → r ≡ Refused k place → Ran room v r c t w (reading link s room)
-  unfolding reading
-  ran-halt e q = let o = opens s _ e in rw (← e, q) (record { is = refl; small = o; settled = tt; keeps = λ _. tt })
+module _ {s : List ℕ} {a : Passed} {c t x : List ℕ} (e : Starts s a c t x) where
+  pub halt-place : {k place : ℕ} → a ≡ NoBody k place → (k ≤ 15) × (place ≤ 16384)
+  halt-place q = let f = rw q at e in f .within
 
-  pub ran-onward : {body : ℕ} → onward body (start link) ≡ opening link s → Ran room v r c t w (run link s (fuelOf s) room (origin body (start link))) → Ran room v r c t w (reading link s room)
-  unfolding reading
-  ran-onward e p = rw (← e) p
+  pub body-start : {body : ℕ} → a ≡ Behind body → (body ≤ length s) × Tidy s c t x
+  body-start q = let f = rw q at e in f .within
+
+  module _ {v : List ℕ} {room : ℕ} {r : Ended} {d w u : List ℕ} where
+    pub ran-halt : {k place : ℕ} → a ≡ NoBody k place → r ≡ Refused k place → Ran room v r d w u (reading link s room)
+    unfolding reading
+    ran-halt q h = let f = rw q at e in rw (← f .is, h) (record { is = refl; small = f .within; settled = tt; keeps = λ _. tt })
+
+    pub ran-onward : {body : ℕ} → a ≡ Behind body → Ran room v r d w u (whole s room (origin body (vocabulary (unlisted c) t))) → Ran room v r d w u (reading link s room)
+    unfolding reading
+    ran-onward q p = let f = rw q at e in rw (← f .is) p
 
 pub small-refused : {r : Ended} {k p : ℕ} → r ≡ Refused k p → Small r → (k ≤ 15) × (p ≤ 16384)
 small-refused q h = rw q at h

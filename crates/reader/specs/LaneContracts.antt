@@ -9,29 +9,29 @@ use Rattle.format.specs.Numbers.{numbers, top}
 use Rattle.format.specs.Tables.{link}
 use Rattle.fields.specs.declared.Number.the-variants.{Got}
 use Rattle.fields.specs.Fields.{fieldAt}
-use Rattle.tables.specs.Located.{start}
 use Rattle.states.specs.declared.State.{State}
 use Rattle.events.specs.declared.EventString.the-variants.{Stretch}
 use Rattle.read_names.specs.declared.Field.the-variants as F
 use Rattle.read_names.specs.Contracts.{Tidy}
 use Rattle.read_names.specs.StringContracts.{addedOf, addedCounts, addedWords}
+use Rattle.read_items.specs.Items.{Stand}
 use Rattle.read_items.specs.Contracts.{Lent, lent, standOf, Good}
 use Rattle.reader.specs.declared.lane.Lane.{Lane}
 use Rattle.reader.specs.declared.lane.Named.{Named}
-use Rattle.reader.specs.Reading.{Result, run, origin, fuelOf}
+use Rattle.reader.specs.Reading.{Result, run, fuelOf}
 use Rattle.reader.specs.RunContracts.{endingOf, keptFrom}
 
--- A run of a document s with records for `room` events.
-abbrev pub whole : Octets → (room body : ℕ) → Result
-whole s room body = run link s (fuelOf s) room (origin body (start link))
+-- A run of a document s from its first item on, with records for `room` events.
+abbrev pub whole : Octets → (room : ℕ) → Stand → Result
+whole s room from = run link s (fuelOf s) room from
 
 -- The words for records were v. There is fuel for `left` steps more, and there were n events; a is what is lent.
-pub record Underway (s v : Words) (room body left n : ℕ) (st : State) (a : Lent) : Type 0 where
+pub record Underway (s v : Words) (room : ℕ) (from : Stand) (left n : ℕ) (st : State) (a : Lent) : Type 0 where
   pub good : Good s st a
   pub fits : n ≤ room
   pub fuel : n + left ≤ 2 * length s + 1
-  pub ends : endingOf n (run link s left (room - n) (standOf st a)) ≡ endingOf 0 (whole s room body)
-  pub keeps : 13 * room ≤ length v → keptFrom (a .records) n (run link s left (room - n) (standOf st a)) ≡ keptFrom v 0 (whole s room body)
+  pub ends : endingOf n (run link s left (room - n) (standOf st a)) ≡ endingOf 0 (whole s room from)
+  pub keeps : 13 * room ≤ length v → keptFrom (a .records) n (run link s left (room - n) (standOf st a)) ≡ keptFrom v 0 (whole s room from)
   pub same-length : length (a .records) ≡ length v
 
 -- ---- the lane
@@ -45,7 +45,7 @@ pub record Onward (s : Octets) (full : ℕ) (st : State) (n : ℕ) (t c r : Word
   pub less : n ≤ n′
   pub most : n′ ≤ full
   pub tidied : Tidied s c′ t′
-  pub goes : {v : Words} {room body left : ℕ} {x : Octets} → full ≤ room → full < n + left → Underway s v room body left n st (lent t c x r) → Underway s v room body (n + left - n′) n′ st′ (lent t′ c′ x r′)
+  pub goes : {v : Words} {room : ℕ} {from : Stand} {left : ℕ} {x : Octets} → full ≤ room → full < n + left → Underway s v room from left n st (lent t c x r) → Underway s v room from (n + left - n′) n′ st′ (lent t′ c′ x r′)
 
 -- Among children inside the root, at an octet.
 abbrev pub inLane : Lane → State
@@ -70,7 +70,7 @@ pub record Skims (s : Octets) (full : ℕ) (y : Lane) (t c r : Words) (z : Lane)
 pub record Advances (s : Octets) (room left : ℕ) (st : State) (n : ℕ) (t c r : Words) (st′ : State) (n′ : ℕ) (t′ c′ r′ : Words) : Type 0 where
   pub less : n ≤ n′
   pub short : n′ < n + left
-  pub goes : {v : Words} {body : ℕ} {x : Octets} → Underway s v room body left n st (lent t c x r) → Underway s v room body (n + left - n′) n′ st′ (lent t′ c′ x r′)
+  pub goes : {v : Words} {from : Stand} {x : Octets} → Underway s v room from left n st (lent t c x r) → Underway s v room from (n + left - n′) n′ st′ (lent t′ c′ x r′)
 
 -- A number of one or two octets, from a bit of the octet: b is what its bits of the first octet hold, of which those below `ones` stand alone.
 abbrev pub ReadsShort : Octets → (at b ones : ℕ) → Named → Type 0

@@ -20,6 +20,8 @@ use Rattle.tables.specs.Located.{Located, plain, plainState, start}
 use Rattle.events.specs.Records.{blank, recordAt}
 use Rattle.reader.specs.declared.Answer as A
 use Rattle.reader.specs.declared.Answer.the-variants.{Accepted, Refused}
+use Rattle.read_names.specs.Strings.{got, refused}
+use Rattle.read_head.specs.Head.{Passed, headAt}
 use Rattle.read_items.specs.Steps.{step}
 use Rattle.read_items.specs.Items.{Stand, Step, more, quiet, done, stop}
 
@@ -83,7 +85,13 @@ pub data Opening : Type 0 where
   onward : (body : ℕ) → Vocabulary Located → Opening
   halt : (number place : ℕ) → Opening
 
--- SIZE (1). The identification: missing (2), other octets (3). The octet behind it: missing (2), its padding bit (6), a presence bit (4).
+-- A head lets the body be read from behind it, with its tables.
+abbrev pub behindHead : Passed → Opening
+behindHead (got b next v) = onward next v
+behindHead (refused n p) = halt n p
+
+-- SIZE (1). The identification: missing (2), other octets (3). The octet behind it: missing (2), its padding bit (6), a presence bit (4), unless it is that of a head
+-- alone, which is read then.
 unfoldable pub opening : Version → Octets → Opening
 opening ver s =
     let n : ℕ = length (ver .identification) in
@@ -91,7 +99,9 @@ opening ver s =
     (pick (leb n (length s))
     (pick (same (take n s) (ver .identification))
     (pick (leb (suc n) (length s))
-    (pick (ltb (getD s n 0) 0x80) (pick (eqb (getD s n 0) 0) (onward (suc n) (start ver)) (halt OPTIONAL-PART n)) (halt PADDING n))
+    (pick (ltb (getD s n 0) 0x80)
+    (pick (eqb (getD s n 0) 0) (onward (suc n) (start ver)) (pick (ver .heads && eqb (getD s n 0) 0x20) (behindHead (headAt ver s (suc n) (start ver))) (halt OPTIONAL-PART n)))
+    (halt PADDING n))
     (halt TRUNCATED n))
     (halt HEADER 0))
     (halt TRUNCATED 0))

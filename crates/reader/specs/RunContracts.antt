@@ -1,15 +1,21 @@
 -- Contracts of the code, not definitions to be believed. How a run's answers stand for the reading definition, and what it keeps in lent words.
 use Prim.Native.Nat.{ℕ, _+_, _*_, _≤_}
 use mathlib.Core.Path.{_≡_}
+use mathlib.Core.Bool.{Bool, true, false}
 use mathlib.Core.List.{List, [], _∷_, _++_}
 use lib.ListN.{length}
 use lib.Seq.{sets}
-use Rattle.format.specs.Octets.{Words}
+use Rattle.format.specs.Octets.{Octets, Words}
 use Rattle.format.specs.Tables.{Vocabulary, link}
 use Rattle.tables.specs.Located.{Located, start}
 use Rattle.tables.specs.Rows.{vocabulary}
 use Rattle.tables.specs.Kept.{unlisted, Clean}
 use Rattle.events.specs.Words.{recordWords}
+use Rattle.read_names.specs.Contracts.{Tidy}
+use Rattle.read_head.specs.declared.Passed.{Passed}
+use Rattle.read_head.specs.declared.Passed.the-variants.{Behind, Refused as NoBody}
+use Rattle.read_head.specs.Head.{headAt}
+use Rattle.read_head.specs.Contracts.{seenPassed}
 use Rattle.reader.specs.declared.run.Ended.{Ended}
 use Rattle.reader.specs.declared.run.Ended.the-variants.{Accepted, Refused}
 use Rattle.reader.specs.declared.run.Opening.{Opening}
@@ -17,9 +23,33 @@ use Rattle.reader.specs.declared.run.Opening.the-variants.{Onward, Halt}
 use Rattle.reader.specs.Reading as R
 use Rattle.reader.specs.Reading.{EventRead, recordRead, Result, accepted, refusal}
 
-abbrev pub openingOf : Opening → R.Opening
-openingOf (Onward body) = R.onward body (start link)
-openingOf (Halt n p) = R.halt n p
+-- ---- what stands before the first item
+-- Behind the header of s, from octet `at` on: a head, which is still to be read from the starting tables; or the body.
+abbrev pub fronted : (head : Bool) → Octets → (at : ℕ) → R.Opening
+fronted true s at = R.behindHead (headAt link s at (start link))
+fronted false s at = R.onward at (start link)
+
+abbrev pub openingOf : Octets → Opening → R.Opening
+openingOf s (Onward f) = fronted (f .head) s (f .at)
+openingOf s (Halt n p) = R.halt n p
+
+abbrev pub OpenedIn : Octets → Opening → Type 0
+OpenedIn s (Onward f) = (f .at ≤ length s) × (length s ≤ 16384)
+OpenedIn s (Halt n p) = (n ≤ 15) × (p ≤ 16384)
+
+-- The answer stands for the definition's, and its place is one of the document.
+pub record Opened (s : Octets) (r : Opening) (o : R.Opening) : Type 0 where
+  pub is : openingOf s r ≡ o
+  pub within : OpenedIn s r
+
+-- Where the body starts: the words of counts and tables are c and w then, the index is x, and they are in order.
+abbrev pub StartsIn : Octets → Passed → (c w : Words) → Octets → Type 0
+StartsIn s (Behind body) c w x = (body ≤ length s) × Tidy s c w x
+StartsIn s (NoBody n p) c w x = (n ≤ 15) × (p ≤ 16384)
+
+pub record Starts (s : Octets) (r : Passed) (c w : Words) (x : Octets) : Type 0 where
+  pub is : R.behindHead (seenPassed r c w) ≡ R.opening link s
+  pub within : StartsIn s r c w x
 
 -- ---- how a run ends: so many events, and the tables; or a refusal
 pub data Ending : Type 0 where

@@ -1,8 +1,9 @@
 // Reading a document: octets in, events and tables out, or a refusal and its place.
-// May depend on format, fields, tables, index, states, events, read_names and read_items.
+// May depend on format, fields, tables, index, states, events, read_names, read_head and read_items.
 mod lane;
 mod run;
 
+pub use run::Front;
 pub use run::Opening;
 pub use run::check;
 pub use run::opened;

@@ -4,10 +4,14 @@ ghost use mathlib.Core.Path.{_≡_};
 ghost use Prim.Native.Nat.{_≤_};
 ghost use lib.ListN.{length, take, replicate};
 ghost use Rattle.format.specs.Tables.{link, same};
-ghost use Rattle.tables.specs.Located.{start};
 ghost use Rattle.tables.specs.Counts.{tableWords};
-ghost use Rattle.reader.specs.Reading.{sized, opening, run, origin, fuelOf, reading, checkOf};
-ghost use Rattle.reader.specs.RunContracts.{openingOf, Ran, Small, answerNumber};
+ghost use Rattle.tables.specs.Rows.{vocabulary};
+ghost use Rattle.tables.specs.Kept.{unlisted};
+ghost use Rattle.index.specs.Indexed.{slots};
+ghost use Rattle.read_names.specs.Contracts.{Tidy};
+ghost use Rattle.reader.specs.Reading.{sized, opening, origin, reading, checkOf};
+ghost use Rattle.reader.specs.RunContracts.{Opened, Starts, Ran, Small, answerNumber};
+ghost use Rattle.reader.specs.LaneContracts.{whole};
 ghost use Rattle.reader.specs.Words.{leaving, readWords};
 use crate::lane;
 use events::RECORD;
@@ -17,6 +21,7 @@ use format::refusals::PADDING;
 use format::refusals::ROOM;
 use format::refusals::SIZE;
 use format::refusals::TRUNCATED;
+use read_head::Passed;
 use read_items::Step;
 use states::State;
 use tables::Counts;
@@ -33,9 +38,15 @@ enum Ended {
     Refused(u32, u32),
 }
 
-// What stands before the first item: the octet where the body starts, or the refusal and its place.
+// The octet behind the header, and whether a head starts there; else it is the body.
+pub struct Front {
+    pub at: usize,
+    pub head: bool,
+}
+
+// What the header says: what stands behind it, or the refusal and its place.
 pub enum Opening {
-    Onward(usize),
+    Onward(Front),
     Halt(u32, usize),
 }
 
@@ -64,7 +75,7 @@ fn headed(s: &[u8]) -> bool
 
 // SIZE, the identification, the octet behind it.
 pub fn opened(s: &[u8]) -> Opening
-    ensures { λ r. ⌜ openingOf r ≡ opening link (now (s .entry)) ⌝ }
+    ensures { λ r. ⌜ Opened (now (s .entry)) r (opening link (now (s .entry))) ⌝ }
 {
     if !sized(s) {
         return Opening::Halt(SIZE, 0);
@@ -82,10 +93,36 @@ pub fn opened(s: &[u8]) -> Opening
     if 0x80 <= o {
         return Opening::Halt(PADDING, FIRST);
     }
-    if o != 0 {
+    if o == 0 {
+        return Opening::Onward(Front {
+            at: fields::BODY,
+            head: false,
+        });
+    }
+    if o != fields::HEAD {
         return Opening::Halt(OPTIONAL_PART, FIRST);
     }
-    Opening::Onward(fields::BODY)
+    Opening::Onward(Front {
+        at: fields::BODY,
+        head: true,
+    })
+}
+
+// What stands before the first item, into tables and an index that are clear: where the body starts, with the starting tables or those of a head; or the refusal and its place.
+fn begun(s: &[u8], t: &mut [u32], counts: &mut [u32], index: &mut [u8]) -> Passed
+    requires { ⌜ (now t ≡ replicate tableWords 0) × (length (now counts) ≡ 10) × (now index ≡ replicate slots 0) ⌝ }
+    ensures { λ r. ⌜ Starts (now (s .entry)) r (now (counts .exit)) (now (t .exit)) (now (index .exit)) ⌝ }
+{
+    tables::put_counts(counts, Counts::start());
+    match opened(s) {
+        Opening::Halt(k, p) => Passed::Refused(k, p),
+        Opening::Onward(front) => {
+            if !front.head {
+                return Passed::Behind(front.at);
+            }
+            read_head::head(s, t, counts, index, front.at)
+        }
+    }
 }
 
 fn refused(k: u32, p: usize) -> Ended
@@ -95,20 +132,19 @@ fn refused(k: u32, p: usize) -> Ended
     Ended::Refused(k, p as u32)
 }
 
-// Steps until the document's end, with records for `room` events; `records` keeps those for which it has words.
+// Steps from the first item to the document's end, with records for `room` events; `records` keeps those for which it has words.
 fn steps(
     s: &[u8],
     t: &mut [u32],
     counts: &mut [u32],
+    index: &mut [u8],
     records: &mut [u32],
     room: usize,
     body: usize,
 ) -> Ended
-    requires { ⌜ (body ≤ length (now s)) × (length (now s) ≤ 16384) × (now t ≡ replicate tableWords 0) × (length (now counts) ≡ 10) ⌝ }
-    ensures { λ r. ⌜ Ran room (now (records .entry)) r (now (counts .exit)) (now (t .exit)) (now (records .exit)) (run link (now (s .entry)) (fuelOf (now (s .entry))) room (origin body (start link))) ⌝ }
+    requires { ⌜ (body ≤ length (now s)) × Tidy (now s) (now counts) (now t) (now index) ⌝ }
+    ensures { λ r. ⌜ Ran room (now (records .entry)) r (now (counts .exit)) (now (t .exit)) (now (records .exit)) (whole (now (s .entry)) room (origin body (vocabulary (unlisted (now (counts .entry))) (now (t .entry))))) ⌝ }
 {
-    tables::put_counts(counts, Counts::start());
-    let mut index = [0u8; index::SLOTS];
     let mut st = State::begin(body);
     let mut n = 0;
     let mut left = 2 * s.len() + 1;
@@ -116,7 +152,7 @@ fn steps(
         let y = lane::skim(s, t, counts, records, room, left, st, n);
         left = n + left - y.n - 1;
         n = y.n;
-        match read_items::items::step(y.state, s, t, counts, &mut index, records, n) {
+        match read_items::items::step(y.state, s, t, counts, index, records, n) {
             Step::More(next, place) => {
                 if n == room {
                     return refused(ROOM, place);
@@ -143,9 +179,10 @@ fn reading(s: &[u8], t: &mut [u32], counts: &mut [u32], records: &mut [u32], roo
     requires { ⌜ (now t ≡ replicate tableWords 0) × (length (now counts) ≡ 10) ⌝ }
     ensures { λ r. ⌜ Ran room (now (records .entry)) r (now (counts .exit)) (now (t .exit)) (now (records .exit)) (reading link (now (s .entry)) room) ⌝ }
 {
-    match opened(s) {
-        Opening::Halt(k, p) => refused(k, p),
-        Opening::Onward(body) => steps(s, t, counts, records, room, body),
+    let mut index = [0u8; index::SLOTS];
+    match begun(s, t, counts, &mut index) {
+        Passed::Refused(k, p) => refused(k, p),
+        Passed::Behind(body) => steps(s, t, counts, &mut index, records, room, body),
     }
 }
 

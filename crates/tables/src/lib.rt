@@ -213,7 +213,7 @@ fn same_short(x: &[u8], a: usize, y: &[u8], b: usize, n: usize) -> bool
 // Whether m octets of x, from a on, are n octets of y, from b on. Lengths are compared before octets, and octets from the last ones back: names
 // that are alike, as those of ports, mostly differ at their end. The first eight are compared at once as well, some of them a second time where n is
 // no multiple of eight: that is cheaper than the few octet by octet.
-fn same_octets(x: &[u8], a: usize, m: usize, y: &[u8], b: usize, n: usize) -> bool
+pub fn same_octets(x: &[u8], a: usize, m: usize, y: &[u8], b: usize, n: usize) -> bool
     requires { ⌜ (a + m ≤ length (now x)) × (b + n ≤ length (now y)) ⌝ }
     ensures { λ r. ⌜ r ≡ same (octetsOf (now (x .entry)) (stretch a m)) (octetsOf (now (y .entry)) (stretch b n)) ⌝ }
 {

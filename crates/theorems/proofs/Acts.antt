@@ -1,19 +1,21 @@
 -- The acts of what is written use every number of its choices, and after each item the tables hold what the acts up to it made.
 use Prim.Native.Nat.{ℕ}
-use mathlib.Core.Path.{_≡_, refl, ap, ap₂, _∙_}
+use mathlib.Core.Path.{_≡_, refl, sym, ap, ap₂, _∙_, subst}
 use mathlib.Core.Bool.{true, false}
 use mathlib.Core.Option.{Option}
 use mathlib.Core.List.{List, [], _∷_, _++_, append-nil}
 use Rattle.format.specs.Octets.{Octets, Halves}
 use Rattle.format.specs.Events.{Name, How, NameHow, Item}
-use Rattle.format.specs.Tables.{StringTable, PREFIX, NAMESPACE-NAME, LOCAL-NAME, OTHER-NCNAME, ATTRIBUTE-VALUE, CONTENT-CHARACTER-CHUNK, OTHER-STRING, NameTable, ELEMENT-NAME, ATTRIBUTE-NAME, Tables, Vocabulary, starting, xmlPrefix, xmlNamespace, Version}
+use Rattle.format.specs.Tables.{StringTable, PREFIX, NAMESPACE-NAME, LOCAL-NAME, OTHER-NCNAME, ATTRIBUTE-VALUE, CONTENT-CHARACTER-CHUNK, OTHER-STRING, NameTable, ELEMENT-NAME, ATTRIBUTE-NAME, Tables, Vocabulary, Version}
 use Rattle.format.specs.Items.{State}
 use Rattle.format.specs.Document.{Written, document-end, attributes-end, element-end, item, knownAfter, beginning, Document}
-use Rattle.format.specs.Uses.{Act, makes, uses, makesName, usesName, ofString, ofOption, ofName, ofItem, acts, after, Holds}
+use Rattle.format.specs.Uses.{Act, makes, uses, makesName, usesName, ofString, ofOption, ofName, ofItem, acts, Holds}
+use Rattle.theorems.specs.Heads.{headed}
 use Rattle.theorems.specs.Acts.{numberIn, numberIfAny, numbersInName, numbersIn, allNumbers, used, HoldAfter}
 use Rattle.theorems.proofs.Effects.{IdDone, id-made, id-used, PartDone, no-part, a-part, StringDone, string-made, string-used, ValueDone, empty-value, a-value, NameDone, name-made, name-used}
 use Rattle.theorems.proofs.Effects.{ItemDone, done-namespace, done-start, done-attribute, done-text, done-comment, done-instruction, done-end, Done, no-item, an-item, octets-done, document-done}
-use Rattle.theorems.proofs.Earlier.{item-does, holds-start}
+use Rattle.theorems.proofs.Earlier.{item-does}
+use Rattle.theorems.proofs.Heads.{opened-is}
 
 used-append : {S : Type 0} (a b : List (Act S)) → used (a ++ b) ≡ used a ++ used b
 used-append [] b = refl
@@ -70,8 +72,8 @@ module _ {S : Type 0} {d : S} {Spelt : S → Type 0} where
   all-numbers no-item = refl
   all-numbers (an-item {i = i} {items = items} u r) = both (ofItem i) (acts items) (item-numbers u) (all-numbers r)
 
-pub every-number : (ver : Version) (items : List (Item Octets)) (z : State Octets) (s : Octets) → Document ver items z s → used (acts items) ≡ allNumbers items
-every-number ver items z s w = all-numbers (document-done w)
+pub every-number : (ver : Version) (h : Vocabulary Octets) (items : List (Item Octets)) (z : State Octets) (s : Octets) → Document ver h items z s → used (acts items) ≡ allNumbers items
+every-number ver h items z s w = all-numbers (document-done w)
 
 module _ (ver : Version) where
   hold-after : {at : ℕ} {v z : State Octets} {items : List (Item Octets)} {hs : Halves} (r : Written ver at v items hs z) (t : Tables Octets (Name Octets)) → Holds (v .tables) t → HoldAfter t items (knownAfter ver r)
@@ -81,6 +83,7 @@ module _ (ver : Version) where
   hold-after (element-end md lv r) t h = (h, hold-after r t h)
   hold-after (item u r) t h = let g = item-does (octets-done u) .then t h in (g, hold-after r _ g)
 
-  pub tables-after : (items : List (Item Octets)) (z : State Octets) (s : Octets) (w : Document ver items z s) → HoldAfter (starting ver xmlPrefix xmlNamespace) items (knownAfter ver (w .rule))
+  pub tables-after : (h : Vocabulary Octets) (items : List (Item Octets)) (z : State Octets) (s : Octets) (w : Document ver h items z s) (begins : Tables Octets (Name Octets)) → Holds (headed ver h) begins
+      → HoldAfter begins items (knownAfter ver (w .rule))
   unfolding beginning
-  tables-after items z s w = hold-after (w .rule) _ (holds-start ver xmlPrefix xmlNamespace)
+  tables-after h items z s w begins a = hold-after (w .rule) begins (subst (λ (v : Vocabulary Octets). Holds v begins) (sym (opened-is (w .opens))) a)

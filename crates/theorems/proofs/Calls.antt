@@ -11,7 +11,7 @@ use lib.Dec.{eqb}
 use Rattle.format.specs.Octets.{Octets, Words, AreOctets}
 use Rattle.format.specs.Numbers.{pick}
 use Rattle.format.specs.Events.{Item}
-use Rattle.format.specs.Tables.{Version}
+use Rattle.format.specs.Tables.{Vocabulary, Version}
 use Rattle.format.specs.Items.{State}
 use Rattle.format.specs.Document.{Document}
 use Rattle.tables.specs.declared.Counts.{Counts}
@@ -27,23 +27,25 @@ use Rattle.theorems.proofs.Fits.{accepted-sized}
 use Rattle.theorems.proofs.Document as Whole
 use Rattle.theorems.proofs.Demands.{check-needs-none}
 
--- The octets are what the rules write, from some items.
+-- The octets are what the rules write, from some head and items.
 pub record Written (ver : Version) (s : Octets) : Type 0 where
+  pub head : Vocabulary Octets
   pub items : List (Item Octets)
   pub last : State Octets
-  pub writes : Document ver items last s
+  pub writes : Document ver head items last s
 
--- A call with this room left the records of these events, blank records behind them, and these tables; and the rules write s from the events.
+-- A call with this room left the records of these events, blank records behind them, and these tables; and the rules write s from some head and the events.
 pub record Handed (ver : Version) (s : Octets) (room : ℕ) (o : Outcome) : Type 0 where
+  pub head : Vocabulary Octets
   pub events : List EventRead
   pub last : State Located
   pub is : o ≡ accepting (map recordRead events) (last .tables) room
-  pub writes : Document ver (map (plain s) (itemsRead events)) (plainState s last) s
+  pub writes : Document ver head (map (plain s) (itemsRead events)) (plainState s last) s
 
 module _ (ver : Version) (ok : Bounded ver) (s : Octets) (bytes : AreOctets s) where
   module _ (room : ℕ) where
     from-result : (a : Result) → Whole.Means ver ok s bytes a → (n : ℕ) (c : Counts) → outcome a room .answer ≡ Accepted n c → Handed ver s room (outcome a room)
-    from-result (accepted es m) w n c e = record { events = es; last = m .state; is = refl; writes = w }
+    from-result (accepted es m) w n c e = record { head = w .0; events = es; last = m .state; is = refl; writes = w .1 }
     from-result (refusal k p) w n c e = absurd (let z : _≡_ {A = ℕ} 0 1 = cc in omega arith)
 
     by-room : (table n : ℕ) (c : Counts) (b d : Bool)
@@ -60,24 +62,26 @@ module _ (ver : Version) (ok : Bounded ver) (s : Octets) (bytes : AreOctets s) w
 
     --     And all that the rules write, if there is a record for each event and the table room is right; the events in the row are those of the items, and the
     --     tables in the words those that the rules know at the end.
-    pub written-is-read : (items : List (Item Octets)) (z : State Octets) → Document ver items z s → length items ≤ room
-        → (h : Handed ver s room (readOf ver s room tableWords)) × (map (plain s) (itemsRead (h .events)) ≡ items) × (plainState s (h .last) ≡ z)
+    pub written-is-read : (h : Vocabulary Octets) (items : List (Item Octets)) (z : State Octets) → Document ver h items z s → length items ≤ room
+        → (r : Handed ver s room (readOf ver s room tableWords)) × (r .head ≡ h) × (map (plain s) (itemsRead (r .events)) ≡ items) × (plainState s (r .last) ≡ z)
     unfolding readOf
-    written-is-read items z w h =
-        let a = Whole.accepts ver s items z w room h in
+    written-is-read h items z w few =
+        let a = Whole.accepts ver s h items z w room few in
         let y = accepted-sized ver s room (a .events) (a .last) (a .reads) in (
           record {
+            head = h;
             events = a .events;
             last = a .last .state;
             is = rw (y, a .reads);
             writes = rw (a .are, a .end-is) w;
           },
+          refl,
           a .are,
           a .end-is,
         )
 
   from-number : (a : Result) → Whole.Means ver ok s bytes a → numberOf a ≡ 0 → Written ver s
-  from-number (accepted es m) w e = record { items = map (plain s) (itemsRead es); last = plainState s (m .state); writes = w }
+  from-number (accepted es m) w e = record { head = w .0; items = map (plain s) (itemsRead es); last = plainState s (m .state); writes = w .1 }
   from-number (refusal n p) w e = absurd (omega arith)
 
   -- 14. THE CHECK answers 0 for what the rules write, and for nothing else.
@@ -85,9 +89,9 @@ module _ (ver : Version) (ok : Bounded ver) (s : Octets) (bytes : AreOctets s) w
   unfolding checkOf
   check-accepts e = from-number (reading ver s (2 * ver .octets)) (Whole.means ver ok s bytes (2 * ver .octets)) e
 
-  pub written-is-checked : (items : List (Item Octets)) (z : State Octets) → Document ver items z s → checkOf ver s ≡ 0
-  written-is-checked items z w =
-      let a = Whole.accepts ver s items z w (2 * ver .octets + length items) (omega arith) in
+  pub written-is-checked : (h : Vocabulary Octets) (items : List (Item Octets)) (z : State Octets) → Document ver h items z s → checkOf ver s ≡ 0
+  written-is-checked h items z w =
+      let a = Whole.accepts ver s h items z w (2 * ver .octets + length items) (omega arith) in
       check-needs-none ver ok s bytes (2 * ver .octets + length items) (omega arith) ∙ ap numberOf (a .reads)
 
   -- 15. READ INTO WORDS: what is accepted is left as the words of what `read` leaves; so the rules write s from the events in these words (13).
@@ -124,12 +128,12 @@ module _ (ver : Version) (ok : Bounded ver) (s : Octets) (bytes : AreOctets s) w
     words-accept c n e = by-words c n (sized ver s) (eqb c 10) e
 
   --     And all that the rules write is, if there are words for each event and the tables' room is right.
-  pub written-is-worded : (items : List (Item Octets)) (z : State Octets) → Document ver items z s → (r : ℕ) → length items ≤ r / 13
+  pub written-is-worded : (h : Vocabulary Octets) (items : List (Item Octets)) (z : State Octets) → Document ver h items z s → (r : ℕ) → length items ≤ r / 13
       → Handed ver s (r / 13) (readOf ver s (r / 13) tableWords) × (readWords ver s r tableWords 10 ≡ inWords r (readOf ver s (r / 13) tableWords))
   unfolding readWords
-  written-is-worded items z w r h =
-      let a = Whole.accepts ver s items z w (r / 13) h in
-      (written-is-read (r / 13) items z w h .0, rw (accepted-sized ver s (r / 13) (a .events) (a .last) (a .reads)))
+  written-is-worded h items z w r few =
+      let a = Whole.accepts ver s h items z w (r / 13) few in
+      (written-is-read (r / 13) h items z w few .0, rw (accepted-sized ver s (r / 13) (a .events) (a .last) (a .reads)))
 
 -- 16. DEMAND 1: what a call answers and leaves depends on the octets, and on how much room is lent, but not on what stood in it: e and t before one call, f and u
 --     before another.

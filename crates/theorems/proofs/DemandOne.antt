@@ -1,13 +1,11 @@
 -- What demand 1 says of each call: it answers; a refusal has one of the requirements' numbers and a place, and blanks everything. (That what stood in the room never matters is Calls'
 -- and WriterCalls'.)
 use Prim.Native.Nat.{ℕ, _/_, _%_, _≤_, _*_}
-use mathlib.Core.Path.{_≡_, refl, ap, _∙_}
+use mathlib.Core.Path.{_≡_, refl, sym, ap, _∙_, subst}
 use mathlib.Core.List.{List, _∷_}
 use native.Mathlib.Decide.{ℕ-discrete}
 use native.Mathlib.Omega.{arith}
-use borrow.Author.Tests.{leb-true}
 use lib.ListN.{length, length-append}
-use lib.Dec.{leb}
 use Rattle.format.specs.Octets.{Octets, Words, AreOctets}
 use Rattle.format.specs.Tables.{Version}
 use Rattle.tables.specs.Counts.{tableWords}
@@ -17,14 +15,17 @@ use Rattle.events.specs.FromWords.{recordsOf}
 use Rattle.reader.specs.Reading as Read
 use Rattle.reader.specs.Words as ReadWords
 use Rattle.events.proofs.BlankWords.{blank-all}
+use Rattle.write_head.specs.Given.{Given, givenOf}
+use Rattle.write_head.specs.Head.{headOctets}
 use Rattle.writer.specs.Writing as Write
 use Rattle.writer.specs.Words as WriteWords
 use Rattle.theorems.specs.Bounded.{Bounded}
-use Rattle.theorems.specs.Verdicts.{Fault, not-an-event, not-text, too-deep, too-many, no-room, Refused, at-event, too-soon, no-room-for-end}
+use Rattle.theorems.specs.Verdicts.{headOf, HeadFault, not-entries, not-texts, not-new, not-few, not-room, Fault, not-an-event, not-text, too-deep, too-many, no-room, Refused, at-event, too-soon, no-room-for-end}
 use Rattle.theorems.specs.Demands.{WriterNumber, CheckAnswers, ReadAnswers, ReadWordsAnswer, WriteAnswers, WriteWordsAnswer, InReadWords, InWriteWords}
 use Rattle.theorems.proofs.Lists.{either, either-eq}
 use Rattle.theorems.proofs.Document as Whole
-use Rattle.theorems.proofs.WriterDocument.{refused-by}
+use Rattle.theorems.proofs.WriterDocument.{RefusedWith, by-head, by-event, refused-by}
+use Rattle.theorems.proofs.Asked.{result, by-asked}
 use Rattle.theorems.proofs.Demands.{check-never-14}
 use Rattle.theorems.proofs.InWords.{read-worded, read-zeros, write-worded, write-zeros}
 
@@ -71,35 +72,49 @@ module _ (ver : Version) (ok : Bounded ver) (s : Octets) (bytes : AreOctets s) w
         ]
 
 -- ---- the writer
-module _ (ver : Version) (ok : Bounded ver) (es : List Event) (text : Octets) where
+module _ (ver : Version) (ok : Bounded ver) (given : Words) (es : List Event) (text : Octets) where
+  abbrev g : Given
+  g = givenOf given
+
   module _ (room : ℕ) where
-    fault-number : {before : List Event} {e : Event} {n : ℕ} → Fault ver text room before e n → WriterNumber n
+    head-number : {n : ℕ} → HeadFault ver text g room n → WriterNumber n
+    head-number (not-entries a) = WriterNumber.event
+    head-number (not-texts i a) = WriterNumber.text
+    head-number (not-new i t a) = WriterNumber.repeat
+    head-number (not-few i t n a) = WriterNumber.full
+    head-number (not-room i t n f a) = WriterNumber.room
+
+    fault-number : {before : List Event} {e : Event} {n : ℕ} → Fault ver (headOf ver text g) text room before e n → WriterNumber n
     fault-number (not-an-event a) = WriterNumber.event
     fault-number (not-text i a) = WriterNumber.text
     fault-number (too-deep i t a) = WriterNumber.depth
     fault-number (too-many i t s a) = WriterNumber.full
     fault-number (no-room i t s f a) = WriterNumber.room
 
-    refused-number : {n p : ℕ} → Refused ver text room es n p → WriterNumber n × (p ≤ length es)
-    refused-number (at-event {before = b} {e = x} after is all f) = let k = ap length is in let l = length-append b (x ∷ after) in (fault-number f, omega arith)
-    refused-number (too-soon all nay) = (WriterNumber.event, omega arith)
-    refused-number (no-room-for-end all d nay) = (WriterNumber.room, omega arith)
+    event-number : {n p : ℕ} → Refused ver (headOf ver text g) text room es n p → WriterNumber n × (p ≤ length es)
+    event-number (at-event {before = b} {e = x} after is all f) = let k = ap length is in let l = length-append b (x ∷ after) in (fault-number f, omega arith)
+    event-number (too-soon all nay) = (WriterNumber.event, omega arith)
+    event-number (no-room-for-end all d nay) = (WriterNumber.room, omega arith)
 
-    write-result : length text ≤ ver .octets → (a : Write.Result) → Write.writing ver text room es ≡ a → WriteAnswers es room tableWords (Write.outcome ver a room)
-    write-result short (Write.written is hs z) e = WriteAnswers.accepts refl refl
-    write-result short (Write.refusal n p) e = let w = refused-number (refused-by ver ok text short room es n p e) in WriteAnswers.refuses (w .0) (w .1) refl refl refl
+    module _ (short : length text ≤ ver .octets) where
+      refused-number : {n p : ℕ} → RefusedWith ver ok text short room g es n p → WriterNumber n × (p ≤ length es)
+      refused-number (by-head f) = (head-number f, omega arith)
+      refused-number (by-event right r) = event-number r
 
-    pub write-answers : (table : ℕ) → WriteAnswers es room table (Write.writeOf ver es text room table)
-    unfolding Write.writeOf
+      write-result : (a : Write.Result) → Write.writing ver g text room es ≡ a → WriteAnswers es room tableWords (Write.outcome ver (headOctets ver text g) a room)
+      write-result (Write.written is hs z) e = WriteAnswers.accepts refl refl
+      write-result (Write.refusal n p) e = let w = refused-number (refused-by ver ok text short room g es n p e) in WriteAnswers.refuses (w .0) (w .1) refl refl refl
+
+    pub write-answers : (table : ℕ) → WriteAnswers es room table (Write.writeOf ver given es text room table)
     write-answers table =
-        either (WriteAnswers es room table) (leb (length text) (ver .octets)) _ _
-        (λ y. either-eq (WriteAnswers es room table) table tableWords _ _
-        (λ e. rw e (write-result (leb-true _ _ y) (Write.writing ver text room es) refl))
-        (λ n. WriteAnswers.refuses {p = 0} WriterNumber.room (omega arith) refl refl refl))
-        (λ y. WriteAnswers.refuses {p = 0} WriterNumber.size (omega arith) refl refl refl)
+        by-asked ver given es text room table (WriteAnswers es room table)
+        (λ short right e. subst (λ (n : ℕ). WriteAnswers es room n (result ver given es text room table)) (sym right) (write-result short (Write.writing ver g text room es) refl))
+        (λ l. WriteAnswers.refuses {p = 0} WriterNumber.size (omega arith) refl refl refl)
+        (λ l n. WriteAnswers.refuses {p = 0} WriterNumber.room (omega arith) refl refl refl)
+        (λ l right n. WriteAnswers.refuses {p = 0} WriterNumber.event (omega arith) refl refl refl)
 
 -- in words
-module _ (ver : Version) (ok : Bounded ver) (records : Words) (text : Octets) where
+module _ (ver : Version) (ok : Bounded ver) (given records : Words) (text : Octets) where
   module _ (r t : ℕ) where
     write-words : (o : Write.Outcome) (w : WriteWords.WordsLeft) → InWriteWords o w → WriteAnswers (recordsOf records) r t o → WriteWordsAnswer (recordsOf records) r t 10 w
     write-words o w i (WriteAnswers.accepts n p) = WriteWordsAnswer.accepts (omega arith)
@@ -107,12 +122,12 @@ module _ (ver : Version) (ok : Bounded ver) (records : Words) (text : Octets) wh
         let q = i .answer ∙ ap wholeWord told in
         WriteWordsAnswer.refuses {n = n} {p = p} k h (omega arith) (i .out ∙ out) (i .tables ∙ tables) (i .counts ∙ ap (λ (x : Told). x .counts) told)
 
-    pub write-words-answer : (c : ℕ) → WriteWordsAnswer (recordsOf records) r t c (WriteWords.writeWords ver records text r t c)
+    pub write-words-answer : (c : ℕ) → WriteWordsAnswer (recordsOf records) r t c (WriteWords.writeWords ver given records text r t c)
     write-words-answer c =
         elim (ℕ-discrete c 10) [
-          | yes h ↦ rw h (write-words (Write.writeOf ver (recordsOf records) text r t) _ (write-worded ver records text r t 10 refl) (write-answers ver ok (recordsOf records) text r t))
+          | yes h ↦ rw h (write-words (Write.writeOf ver given (recordsOf records) text r t) _ (write-worded ver given records text r t 10 refl) (write-answers ver ok given (recordsOf records) text r t))
           | no h ↦
-              write-zeros ver records text r t c h (WriteWordsAnswer (recordsOf records) r t c)
+              write-zeros ver given records text r t c h (WriteWordsAnswer (recordsOf records) r t c)
               (λ l. WriteWordsAnswer.refuses {p = 0} WriterNumber.size (omega arith) refl refl refl refl)
               (λ l. WriteWordsAnswer.refuses {p = 0} WriterNumber.room (omega arith) refl refl refl refl)
         ]

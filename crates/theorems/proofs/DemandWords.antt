@@ -12,7 +12,7 @@ use lib.ListN.{length}
 use Rattle.format.specs.Octets.{Octets, Words, AreOctets}
 use Rattle.format.specs.Numbers.{pick}
 use Rattle.format.specs.Events.{Item}
-use Rattle.format.specs.Tables.{Version}
+use Rattle.format.specs.Tables.{Vocabulary, Version}
 use Rattle.format.specs.Items.{State}
 use Rattle.format.specs.Document.{Document}
 use Rattle.tables.specs.Counts.{tableWords}
@@ -33,8 +33,8 @@ use Rattle.theorems.proofs.DemandTwo.{write-exactly}
 
 -- ---- reading
 module _ (ver : Version) (ok : Bounded ver) (s : Octets) (bytes : AreOctets s) where
-  pub check-exactly : (Read.checkOf ver s ≡ 0) ↔ ((items : List (Item Octets)) × (z : State Octets) × Document ver items z s)
-  check-exactly = (λ e. let w = check-accepts ver ok s bytes e in (w .items, w .last, w .writes), λ w. written-is-checked ver ok s bytes (w .0) (w .1) (w .2))
+  pub check-exactly : (Read.checkOf ver s ≡ 0) ↔ ((h : Vocabulary Octets) × (items : List (Item Octets)) × (z : State Octets) × Document ver h items z s)
+  check-exactly = (λ e. let w = check-accepts ver ok s bytes e in (w .head, w .items, w .last, w .writes), λ w. written-is-checked ver ok s bytes (w .0) (w .1) (w .2) (w .3))
 
   -- The check answers as the reader with an event record for each half of the longest document: 32,768 on the link.
   pub check-is-reading : Read.checkOf ver s ≡ lowWord (Read.readOf ver s (2 * ver .octets) tableWords .told)
@@ -63,14 +63,14 @@ module _ (ver : Version) (ok : Bounded ver) (s : Octets) (bytes : AreOctets s) w
         ]
 
     read-words-only : (c : ℕ) → ReadWords.readWords ver s r t c .answer % 2 ^ 32 ≡ 0
-        → (items : List (Item Octets)) × (z : State Octets) × Document ver items z s × (length items ≤ r / 13) × (t ≡ tableWords) × (c ≡ 10)
-    read-words-only c e = let a = read-words-accepted c e in let b = read-exactly ver ok s bytes (r / 13) t .only (a .1) in (b .0, b .1, b .2, b .3, b .4, a .0)
+        → (h : Vocabulary Octets) × (items : List (Item Octets)) × (z : State Octets) × Document ver h items z s × (length items ≤ r / 13) × (t ≡ tableWords) × (c ≡ 10)
+    read-words-only c e = let a = read-words-accepted c e in let b = read-exactly ver ok s bytes (r / 13) t .only (a .1) in (b .0, b .1, b .2, b .3, b .4, b .5, a .0)
 
     -- DEMAND 3 of `lomphachit_read`
     pub read-words-exactly : (c : ℕ) → ReadsExactlyInWords ver s r t c (ReadWords.readWords ver s r t c)
     read-words-exactly c =
         record {
-          accepts = λ items z w l m h. (rows-read ver s r t, read-exactly ver ok s bytes (r / 13) t .accepts items z w l m, read-worded ver s r t c h);
+          accepts = λ head items z w l m h. (rows-read ver s r t, read-exactly ver ok s bytes (r / 13) t .accepts head items z w l m, read-worded ver s r t c h);
           only = read-words-only c;
         }
 
@@ -78,12 +78,13 @@ module _ (ver : Version) (ok : Bounded ver) (s : Octets) (bytes : AreOctets s) w
 numbered : {n : ℕ} → WriterNumber n → (1 ≤ n) × (n < 32)
 numbered WriterNumber.size = omega arith
 numbered WriterNumber.text = omega arith
+numbered WriterNumber.repeat = omega arith
 numbered WriterNumber.full = omega arith
 numbered WriterNumber.depth = omega arith
 numbered WriterNumber.room = omega arith
 numbered WriterNumber.event = omega arith
 
-module _ (ver : Version) (ok : Bounded ver) (records : Words) (text : Octets) (r t : ℕ) where
+module _ (ver : Version) (ok : Bounded ver) (given records : Words) (text : Octets) (r t : ℕ) where
   abbrev es : List Event
   es = recordsOf records
 
@@ -103,42 +104,42 @@ module _ (ver : Version) (ok : Bounded ver) (records : Words) (text : Octets) (r
 
   module _ (c : ℕ) where
     abbrev left : WriteWords.WordsLeft
-    left = WriteWords.writeWords ver records text r t c
+    left = WriteWords.writeWords ver given records text r t c
 
-    write-words-accepted : left .answer % 2 ^ 32 ≡ 0 → (c ≡ 10) × (rows-written ver records text r t .told .number ≡ 0)
+    write-words-accepted : left .answer % 2 ^ 32 ≡ 0 → (c ≡ 10) × (rows-written ver given records text r t .told .number ≡ 0)
     write-words-accepted e =
         elim (ℕ-discrete c 10) [
-          | yes h ↦ (h, row-written (rows-written ver records text r t) (write-answers ver ok es text r t) (let w = write-worded ver records text r t c h in rw (w .answer) at e))
-          | no h ↦ absurd (write-zeros ver records text r t c h (λ w. w .answer % 2 ^ 32 ≡ 0 → ⊥) (λ l z. omega arith) (λ l z. omega arith) e)
+          | yes h ↦ (h, row-written (rows-written ver given records text r t) (write-answers ver ok given es text r t) (let w = write-worded ver given records text r t c h in rw (w .answer) at e))
+          | no h ↦ absurd (write-zeros ver given records text r t c h (λ w. w .answer % 2 ^ 32 ≡ 0 → ⊥) (λ l z. omega arith) (λ l z. omega arith) e)
         ]
 
-    abbrev d : WritesExactly ver es text r t (rows-written ver records text r t)
-    d = write-exactly ver ok es text r t
+    abbrev d : WritesExactly ver given es text r t (rows-written ver given records text r t)
+    d = write-exactly ver ok given es text r t
 
-    refused-so : (n p : ℕ) → 1 ≤ n → n < 32 → left .answer ≡ p * 32 + n → WordsRefusedBy ver es text r t c n p
+    refused-so : (n p : ℕ) → 1 ≤ n → n < 32 → left .answer ≡ p * 32 + n → WordsRefusedBy ver given es text r t c n p
     refused-so n p low high e =
         elim (ℕ-discrete c 10) [
           | yes h ↦
-              let w = write-worded ver records text r t c h in
-              WordsRefusedBy.as-records h (d .refuses n p .0 (row-refused (rows-written ver records text r t) (write-answers ver ok es text r t) n p low high (rw (w .answer) at e)))
+              let w = write-worded ver given records text r t c h in
+              WordsRefusedBy.as-records h (d .refuses n p .0 (row-refused (rows-written ver given records text r t) (write-answers ver ok given es text r t) n p low high (rw (w .answer) at e)))
           | no h ↦
-              write-zeros ver records text r t c h (λ w. w .answer ≡ p * 32 + n → WordsRefusedBy ver es text r t c n p)
+              write-zeros ver given records text r t c h (λ w. w .answer ≡ p * 32 + n → WordsRefusedBy ver given es text r t c n p)
               (λ l q. let a : n ≡ 1 = omega arith in let b : p ≡ 0 = omega arith in rw (a, b) (WordsRefusedBy.text-too-long l))
               (λ l q. let a : n ≡ 14 = omega arith in let b : p ≡ 0 = omega arith in rw (a, b) (WordsRefusedBy.wrong-count-room l h))
               e
         ]
 
-    refuses-so : {n p : ℕ} → WordsRefusedBy ver es text r t c n p → left .answer ≡ p * 32 + n
+    refuses-so : {n p : ℕ} → WordsRefusedBy ver given es text r t c n p → left .answer ≡ p * 32 + n
     unfolding WriteWords.writeWords
     refuses-so (WordsRefusedBy.text-too-long l) = rw (lt-leb _ _ l)
     refuses-so (WordsRefusedBy.wrong-count-room l h) = rw (le-leb _ _ l, ne-eqb _ _ h)
-    refuses-so {n} {p} (WordsRefusedBy.as-records h f) = let w = write-worded ver records text r t c h in let e = w .answer ∙ ap wholeWord (d .refuses n p .1 f) in omega arith
+    refuses-so {n} {p} (WordsRefusedBy.as-records h f) = let w = write-worded ver given records text r t c h in let e = w .answer ∙ ap wholeWord (d .refuses n p .1 f) in omega arith
 
     -- DEMAND 2 of `lomphachit_write`
-    pub write-words-exactly : WritesExactlyInWords ver es text r t c left
+    pub write-words-exactly : WritesExactlyInWords ver given es text r t c left
     write-words-exactly =
         record {
-          accepts = λ s z a h. (rows-written ver records text r t, d .accepts s z a, write-worded ver records text r t c h);
+          accepts = λ s z a h. (rows-written ver given records text r t, d .accepts s z a, write-worded ver given records text r t c h);
           only = λ e. let a = write-words-accepted e in (a .0, d .only (a .1));
           refuses = λ n p low high. (refused-so n p low high, refuses-so);
         }

@@ -1,5 +1,5 @@
--- Numbers name what was made earlier: every number in the choices of a written document, save the 0 of the empty string, is that of an entry which the starting
--- tables have or which was made before it, and what that entry holds is what the event says; and the tables at the end hold what was made, and nothing else.
+-- Numbers name what was made earlier: every number in the choices of a written document, save the 0 of the empty string, is that of an entry which the tables
+-- have at its start or which was made before it, and what that entry holds is what the event says; and the tables at the end hold what was made, and nothing else.
 use Prim.Native.Nat.{ℕ, suc}
 use mathlib.Core.Path.{_≡_, refl, sym, ap, _∙_, subst}
 use mathlib.Core.Bool.{Bool, true, false}
@@ -8,11 +8,10 @@ use mathlib.Core.List.{List, [], _∷_, _++_, append-assoc, append-nil}
 use lib.Dec.{eqb}
 use Rattle.format.specs.Events.{Name, How, NameHow, Item}
 use Rattle.format.specs.Tables.{StringTable}
-use Rattle.format.specs.Tables.{NameTable, ELEMENT-NAME, ATTRIBUTE-NAME, Triple, Tables, Vocabulary, strings, names, adding, addingName, starting, Entry, first, later, an-entry, Means, Version}
+use Rattle.format.specs.Tables.{NameTable, Triple, Tables, Vocabulary, strings, names, adding, addingName, Entry, first, later, an-entry, Means}
 use Rattle.format.specs.Uses.{Act, makes, uses, makesName, usesName, ofString, ofOption, ofName, ofItem, acts, after, Known, AllMean, no-triple, a-triple, Holds}
 use Rattle.tables.specs.Rows.{place}
 use Rattle.tables.proofs.Adding.{extended, sameNames, strings-adding, names-adding, strings-adding-name, names-adding-name}
-use Rattle.tables.proofs.ByNumber.{by-table}
 use Rattle.read_names.specs.Names.{nameOf}
 use Rattle.theorems.proofs.Triples.{means-is}
 use Rattle.theorems.proofs.Effects.{IdDone, id-made, id-used, PartDone, no-part, a-part, StringDone, string-made, string-used, ValueDone, empty-value, a-value, NameDone, name-made, name-used}
@@ -124,19 +123,6 @@ module _ {S : Type 0} where
             };
       }
 
-  -- at the start the tables hold no name
-  same-start : (ver : Version) (p u : S) → Same {N = Triple} {M = Name S} (starting ver p u) (starting ver p u)
-  unfolding strings starting
-  same-start ver p u = by-table _ refl refl refl refl refl refl refl refl
-
-  pub holds-start : (ver : Version) (p u : S) → Holds (starting ver p u) (starting ver p u)
-  unfolding names starting
-  holds-start ver p u = record { strings-are = same-start ver p u; names-are = λ t. elim t [ ELEMENT-NAME ↦ no-triple | ATTRIBUTE-NAME ↦ no-triple ] }
-
-  -- what acts add to the starting tables
-  pub adds-start : (ver : Version) (p u : S) {l : List (Act S)} {z : Vocabulary S} → Adds (starting ver p u) l z → Same z (after (starting ver p u) l)
-  adds-start ver p u f = f .then (starting ver p u) (same-start ver p u)
-
 module _ {S : Type 0} {d : S} {Spelt : S → Type 0} where
   id-does : {t : StringTable} {v w : Vocabulary S} {x : S} {h : How} {n : ℕ} → IdDone d Spelt t v x h n w → Does v (ofString t x h) w
   id-does {t} {v} (id-made {x = x} sp) = makes-string v t x
@@ -172,9 +158,10 @@ module _ {S : Type 0} {d : S} {Spelt : S → Type 0} where
   all-does no-item = none-done
   all-does (an-item u r) = both (item-does u) (all-does r)
 
-  pub earlier : (ver : Version) (p u : S) {items : List (Item S)} {z : Vocabulary S} → Done d Spelt (starting ver p u) items z → Known (starting ver p u) (acts items)
-  earlier ver p u {items} r = subst (Known (starting ver p u)) (append-nil (acts items)) (all-does r .known (starting ver p u) (holds-start ver p u) [] tt)
+  -- from tables that are y with the names themselves
+  pub earlier : {v z : Vocabulary S} {y : Tables S (Name S)} {items : List (Item S)} → Holds v y → Done d Spelt v items z → Known y (acts items)
+  earlier {y = y} {items} a r = subst (Known y) (append-nil (acts items)) (all-does r .known y a [] tt)
 
   -- and at the end what was made, behind that
-  pub made : (ver : Version) (p u : S) {items : List (Item S)} {z : Vocabulary S} → Done d Spelt (starting ver p u) items z → Holds z (after (starting ver p u) (acts items))
-  made ver p u r = all-does r .then (starting ver p u) (holds-start ver p u)
+  pub made : {v z : Vocabulary S} {y : Tables S (Name S)} {items : List (Item S)} → Holds v y → Done d Spelt v items z → Holds z (after y (acts items))
+  made {y = y} a r = all-does r .then y a

@@ -14,7 +14,7 @@ use Rattle.format.specs.Tables.{NameTable, ELEMENT-NAME, ATTRIBUTE-NAME, Triple
 use Rattle.format.specs.Strings.{keeping, Identifying, id-spelled, id-numbered, Optional, absent, present, Layout, Literal, literal-spelled, literal-numbered, Value, value-empty, value}
 use Rattle.format.specs.Names.{has, NameLayout, ofElement, ofAttribute, Named, in-parts, by-number, Declared, declared}
 use Rattle.format.specs.Items.{State, ItemWrittenAs, o-start, o-first-namespace, o-namespace, o-named-start, o-attribute, o-text, o-comment, o-instruction}
-use Rattle.format.specs.Document.{beginning, Written, document-end, attributes-end, element-end, item, Document, started}
+use Rattle.format.specs.Document.{beginning, Written, document-end, attributes-end, element-end, item, Document}
 use Rattle.format.specs.Allowed.{Said}
 use Rattle.read_names.specs.Names.{nameOf}
 use Rattle.theorems.proofs.Triples.{means-is}
@@ -105,7 +105,7 @@ module _ {ver : Version} where
   written-done (element-end md lv w) = an-item done-end (written-done w)
   written-done (item u w) = an-item (octets-done u) (written-done w)
 
-  pub document-done : {items : List (Item Octets)} {z : State Octets} {s : Octets}
-      → Document ver items z s → Done [] Said (started ver) items (z .tables)
+  pub document-done : {h : Vocabulary Octets} {items : List (Item Octets)} {z : State Octets} {s : Octets}
+      (d : Document ver h items z s) → Done [] Said (d .listed) items (z .tables)
   unfolding beginning
   document-done d = written-done (d .rule)

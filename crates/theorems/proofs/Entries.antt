@@ -7,14 +7,11 @@ use native.Mathlib.Omega.{arith}
 use lib.Dec.{eqb}
 use lib.ListN.{length, length-append}
 use Rattle.format.specs.Octets.{Octets}
-use Rattle.format.specs.Numbers.{pick}
 use Rattle.format.specs.Events.{Name, Event, NameHow, Choice, Item}
-use Rattle.format.specs.Tables.{StringTable, PREFIX, NAMESPACE-NAME, LOCAL-NAME, OTHER-NCNAME, OTHER-URI, ATTRIBUTE-VALUE, CONTENT-CHARACTER-CHUNK, OTHER-STRING, NameTable, ELEMENT-NAME, ATTRIBUTE-NAME, Vocabulary, strings, names, starting, Version, InLimits, xmlPrefix, xmlNamespace}
+use Rattle.format.specs.Tables.{StringTable, PREFIX, NAMESPACE-NAME, LOCAL-NAME, OTHER-NCNAME, OTHER-URI, ATTRIBUTE-VALUE, CONTENT-CHARACTER-CHUNK, OTHER-STRING, NameTable, ELEMENT-NAME, ATTRIBUTE-NAME, Vocabulary, strings, names, Version, InLimits}
 use Rattle.format.specs.Strings.{bit}
-use Rattle.format.specs.Document.{started}
 use Rattle.fields.proofs.Laws.{case}
 use Rattle.tables.specs.Rows.{place}
-use Rattle.tables.proofs.EntryLaws.{entry-made}
 use Rattle.tables.proofs.Adding.{extended, sameNames, strings-adding, strings-adding-name, names-adding-name}
 use Rattle.tables.proofs.ByNumber.{by-table}
 use Rattle.write_names.specs.Chosen.{chooseFor, chosen, tablesAfter}
@@ -102,30 +99,18 @@ unfolding chosen
 chosen-events C v [] = refl
 chosen-events C v (e ∷ es) = ap (λ (l : List (Event Octets)). e ∷ l) (chosen-events C (chooseFor C v e .tables) es)
 
--- ---- from the tables with which every document starts
-at-most-one : (b : Bool) (x : Octets) → length (pick b (x ∷ []) []) ≤ 1
-at-most-one true x = omega arith
-at-most-one false x = omega arith
-
-few-started : (ver : Version) (t : StringTable) → length (strings (started ver) t) ≤ 1
-unfolding strings starting
-few-started ver = by-table _ (at-most-one (ver .builtIn) xmlPrefix) (at-most-one (ver .builtIn) xmlNamespace) (omega arith) (omega arith) (omega arith) (omega arith) (omega arith) (omega arith)
-
-none-started : (ver : Version) (t : NameTable) → length (names (started ver) t) ≡ 0
-unfolding names starting
-none-started ver ELEMENT-NAME = refl
-none-started ver ATTRIBUTE-NAME = refl
-
-pub ranged-started : (ver : Version) → Ranged (started ver)
-ranged-started ver t k x e = absurd (let z = none-started ver t in let h = entry-made e in omega arith)
+-- ---- from tables none of which has more than so many entries
+pub record AtMost (n : ℕ) (v : Vocabulary Octets) : Type 0 where
+  pub few : (t : StringTable) → length (strings v t) ≤ n
+  pub few-names : (t : NameTable) → length (names v t) ≤ n
 
 -- a list that is short enough passes no limit
-pub few-after : (ver : Version) {items : List (Item Octets)} {w : Vocabulary Octets} → PermitsAll (started ver) items w → length items < ver .entries → InLimits ver w
-few-after ver ps h =
+pub few-after : (M : Version) {n : ℕ} {items : List (Item Octets)} {v w : Vocabulary Octets} → AtMost n v → PermitsAll v items w → n + length items ≤ M .entries → InLimits M w
+few-after M c ps h =
     let a = all-add ps in
     record {
-      few = λ t. let x = a .few t in let y = few-started ver t in omega arith;
-      few-names = λ t. let x = a .few-names t in let y = none-started ver t in omega arith;
+      few = λ t. let x = a .few t in let y = c .few t in omega arith;
+      few-names = λ t. let x = a .few-names t in let y = c .few-names t in omega arith;
     }
 
 -- ---- a limit is kept by every table, or passed by one

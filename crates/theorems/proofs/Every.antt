@@ -1,7 +1,7 @@
 -- The rules can write every document with every permitted choice: nothing in them is narrower than the requirements. So with the required choices every list of events that is a document is written, and
 -- within the limits of a version too, unless it is over one of them.
-use Prim.Native.Nat.{ℕ, _*_, _≤_, _<_}
-use mathlib.Core.Path.{_≡_, refl, sym, ap, subst}
+use Prim.Native.Nat.{ℕ, _+_, _*_, _≤_, _<_}
+use mathlib.Core.Path.{_≡_, refl, sym, ap, subst, subst₂}
 use mathlib.Core.Bool.{Bool, true, false, _&&_}
 use mathlib.Core.List.{List, [], _∷_, _++_}
 use native.Mathlib.Omega.{arith}
@@ -11,16 +11,19 @@ use lib.ListN.{length, length-map}
 use Rattle.format.specs.Octets.{Octets, Halves}
 use Rattle.format.specs.Numbers.{top}
 use Rattle.format.specs.Events.{Event, Namespace, Start, Attribute, Text, Comment, Instruction, End, Item, IsDocument, openThen, deepest, stringsOf}
-use Rattle.format.specs.Tables.{Vocabulary, Version, standard, InLimits, starting}
+use Rattle.format.specs.Tables.{Vocabulary, noEntries, Version, standard, InLimits, starting}
 use Rattle.format.specs.Items.{State, knowing}
-use Rattle.format.specs.Document.{Written, document-end, beginning, header, started}
+use Rattle.format.specs.Head.{Opens}
+use Rattle.format.specs.Document.{Written, document-end, beginning, Document}
 use Rattle.format.specs.Allowed.{All, Allowed}
-use Rattle.write_names.specs.Chosen.{chosen, tablesAfter}
+use Rattle.write_names.specs.Chosen.{tablesAfter}
 use Rattle.writer.specs.Writing.{opens, joined}
 use Rattle.fields.proofs.Laws.{case}
-use Rattle.theorems.specs.Verdicts.{WrittenAs, WrittenWidely, OrPasses, within-limits, over-depth, over-entries, over-octets, WrittenUnlessLong}
+use Rattle.theorems.specs.Bounded.{Bounded}
+use Rattle.theorems.specs.Heads.{headed, HeadAllowed}
+use Rattle.theorems.specs.Verdicts.{itemsOf, WrittenAs, WrittenWidely, OrPasses, within-limits, over-depth, over-entries, over-octets, WrittenUnlessLong}
 use Rattle.theorems.specs.Permitted.{Permits, PermitsAll, no-item, an-item}
-use Rattle.theorems.proofs.OneWriting.{later, one-writing, later-start, later-declared}
+use Rattle.theorems.proofs.OneWriting.{later, later-start, later-declared}
 use Rattle.theorems.proofs.Wider.{written}
 use Rattle.theorems.proofs.Structure.{Rest, Sane, stepped, attributeFirst, goes, on, sane-on, ended, deep, sane-first, all-left}
 use Rattle.theorems.proofs.Documents.{events}
@@ -30,7 +33,10 @@ use Rattle.theorems.proofs.Produced.{Said}
 use Rattle.theorems.proofs.Sayable.{Short, by-kind, said}
 use Rattle.theorems.proofs.Step.{Ahead, words-settled, front, next-state, ahead-next}
 use Rattle.theorems.proofs.Joined.{document-of}
-use Rattle.theorems.proofs.Entries.{all-grow, chosen-permitted, chosen-events, ranged-started, few-after, in-limits}
+use Rattle.theorems.proofs.HeadKeeps.{few-started, none-started}
+use Rattle.theorems.proofs.Heads.{head-allowed, every-head, headed-none, opened-ranged, wider}
+use Rattle.theorems.proofs.Headed.{no-head, one-document}
+use Rattle.theorems.proofs.Entries.{all-grow, chosen-permitted, chosen-events, AtMost, few-after, in-limits}
 
 -- Whether an attribute follows the Start with which the events begin, or the Start behind the declarations with which they begin.
 unfoldable pub announcedBy : List (Event Octets) → Bool
@@ -86,66 +92,86 @@ sayable : (es : List (Event Octets)) → All Allowed es → All (λ e. All Short
 sayable [] a b = tt
 sayable (e ∷ es) a b = (said e (a .0) (by-kind Short e (b .0)), sayable es (a .1) (b .1))
 
-module _ (ver : Version) (items : List (Item Octets)) {w : Vocabulary Octets} (doc : IsDocument (events items)) (allowed : All Allowed (events items)) (short : All (λ e. All Short (stringsOf e)) (events items)) (may : PermitsAll (started ver) items w) where
-  -- within the limits of another version
-  from-start : (M : Version) → M .entries ≤ top → deepest 0 (events items) ≤ M .depth → InLimits M w → CanWrite M (2 * length (header ver)) (beginning (started ver)) items w
-  unfolding beginning
-  from-start M small shallow i =
-      can-write M small items (2 * length (header ver)) (beginning (started ver)) (all-left (started ver) (events items) .0 doc) (sane-first (started ver)) (sayable (events items) allowed short) shallow i tt may
+module _ (ver : Version) (ok : Bounded ver) (h : Vocabulary Octets) (right : HeadAllowed ver h) where
+  -- what stands before the body
+  abbrev lead : Octets
+  lead = every-head ok right .0
 
-  -- Every list of items whose events are a document, its strings as the requirements allow them, and whose choices are permitted, is written; it only has to be shorter than a table may be.
-  pub every-choice : length items < top → WrittenAs ver items w
-  unfolding standard starting header
-  every-choice few =
-      let c = from-start (standard ver (deepest 0 (events items)) 0) (omega arith) (omega arith) (few-after (standard ver (deepest 0 (events items)) 0) may few) in
-      record {
-        octets = header ver ++ joined (c .halves);
-        last = c .last;
-        writes = λ depth size deep long. document-of (written (omega arith) (omega arith) deep (c .rule)) long;
-        known = c .known;
-      }
+  abbrev opens-it : Opens ver h lead (headed ver h)
+  opens-it = every-head ok right .1
 
-  -- Within the version's own limits too.
-  pub every-choice-within : ver .entries ≤ top → deepest 0 (events items) ≤ ver .depth → InLimits ver w → WrittenUnlessLong ver items w
-  every-choice-within small shallow i =
-      let c = from-start ver small shallow i in
-      record { octets = header ver ++ joined (c .halves); last = c .last; writes = λ long. document-of (c .rule) long; known = c .known }
+  module _ (items : List (Item Octets)) {w : Vocabulary Octets} (doc : IsDocument (events items)) (allowed : All Allowed (events items)) (short : All (λ e. All Short (stringsOf e)) (events items)) (may : PermitsAll (headed ver h) items w) where
+    -- within the limits of another version
+    from-start : (M : Version) → M .entries ≤ top → deepest 0 (events items) ≤ M .depth → InLimits M w → CanWrite M (2 * length lead) (beginning (headed ver h)) items w
+    unfolding beginning
+    from-start M small shallow i =
+        can-write M small items (2 * length lead) (beginning (headed ver h)) (all-left (headed ver h) (events items) .0 doc) (sane-first (headed ver h)) (sayable (events items) allowed short) shallow i tt may
 
--- So every document is, with the required choices.
-module _ (ver : Version) (es : List (Event Octets)) (doc : IsDocument es) (allowed : All Allowed es) (short : All (λ e. All Short (stringsOf e)) es) where
-  abbrev same : events (chosen ver (started ver) es) ≡ es
-  same = chosen-events ver (started ver) es
+    -- Every list of items whose events are a document, its strings as the requirements allow them, and whose choices are permitted behind a head that they allow, is written; it only has to be shorter than
+    -- the room that the head leaves in a table.
+    pub every-choice : {n : ℕ} → AtMost n (headed ver h) → n + length items ≤ top → WrittenAs ver h items w
+    unfolding standard starting
+    every-choice most few =
+        let c = from-start (standard ver (deepest 0 (events items)) 0) (omega arith) (omega arith) (few-after (standard ver (deepest 0 (events items)) 0) most may few) in
+        record {
+          octets = lead ++ joined (c .halves);
+          last = c .last;
+          writes = λ depth size deep long. document-of (wider (ok .few-entries) refl refl refl opens-it) (written (omega arith) (omega arith) deep (c .rule)) long;
+          known = c .known;
+        }
 
-  abbrev may : PermitsAll (started ver) (chosen ver (started ver) es) (tablesAfter ver (started ver) es)
-  may = chosen-permitted ver (started ver) es (ranged-started ver)
+    -- Within the version's own limits too.
+    pub every-choice-within : deepest 0 (events items) ≤ ver .depth → InLimits ver w → WrittenUnlessLong ver h items w
+    every-choice-within shallow i =
+        let c = from-start ver (ok .few-entries) shallow i in
+        record { octets = lead ++ joined (c .halves); last = c .last; writes = λ long. document-of opens-it (c .rule) long; known = c .known }
 
-  abbrev doc′ : IsDocument (events (chosen ver (started ver) es))
-  doc′ = subst IsDocument (sym same) doc
+  -- So every document is, with the required choices.
+  module _ (es : List (Event Octets)) (doc : IsDocument es) (allowed : All Allowed es) (short : All (λ e. All Short (stringsOf e)) es) where
+    abbrev same : events (itemsOf ver h es) ≡ es
+    same = chosen-events ver (headed ver h) es
 
-  abbrev allowed′ : All Allowed (events (chosen ver (started ver) es))
-  allowed′ = subst (All Allowed) (sym same) allowed
+    abbrev may : PermitsAll (headed ver h) (itemsOf ver h es) (tablesAfter ver (headed ver h) es)
+    may = chosen-permitted ver (headed ver h) es (opened-ranged opens-it)
 
-  abbrev short′ : All (λ e. All Short (stringsOf e)) (events (chosen ver (started ver) es))
-  short′ = subst (All (λ e. All Short (stringsOf e))) (sym same) short
+    abbrev doc′ : IsDocument (events (itemsOf ver h es))
+    doc′ = subst IsDocument (sym same) doc
 
-  pub every-document : length es < top → WrittenWidely ver es
-  every-document few =
-      let l = length-map (chosen ver (started ver) es) (λ (i : Item Octets). i .event) in
-      let k = ap length same in
-      let c = every-choice ver (chosen ver (started ver) es) doc′ allowed′ short′ may (omega arith) in
-      record { octets = c .octets; last = c .last; writes = λ depth size deep long. c .writes depth size (rw same deep) long; tables = c .known }
+    abbrev allowed′ : All Allowed (events (itemsOf ver h es))
+    allowed′ = subst (All Allowed) (sym same) allowed
 
-  -- Within the version's limits too, unless it is over one.
-  pub beyond-limits : ver .entries ≤ top → (w : WrittenWidely ver es) → OrPasses ver es (w .last) (w .octets)
-  unfolding standard starting header
-  beyond-limits small w =
-      case (ver .depth) (deepest 0 es) over-depth λ shallow.
-      case (ver .octets) (length (w .octets)) over-octets λ long.
-      elim (in-limits ver (tablesAfter ver (started ver) es)) [
-        | no f ↦ over-entries f
-        | yes i ↦
-            let d = w .writes (ver .depth) (ver .octets) shallow long in
-            let c = from-start ver (chosen ver (started ver) es) doc′ allowed′ short′ may ver small (rw same shallow) i in
-            let o = one-writing (d .rule) (written (omega arith) (omega arith) (omega arith) (c .rule)) in
-            within-limits (record { body = d .body; here = d .here; rule = rw (o .0, o .1) (c .rule); short = long })
-      ]
+    abbrev short′ : All (λ e. All Short (stringsOf e)) (events (itemsOf ver h es))
+    short′ = subst (All (λ e. All Short (stringsOf e))) (sym same) short
+
+    pub every-document : {n : ℕ} → AtMost n (headed ver h) → n + length es ≤ top → WrittenWidely ver h es
+    every-document most few =
+        let l = length-map (itemsOf ver h es) (λ (i : Item Octets). i .event) in
+        let k = ap length same in
+        let c = every-choice (itemsOf ver h es) doc′ allowed′ short′ may most (omega arith) in
+        record { octets = c .octets; last = c .last; writes = λ depth size deep long. c .writes depth size (rw same deep) long; tables = c .known }
+
+    -- Within the version's limits too, unless it is over one.
+    pub beyond-limits : (w : WrittenWidely ver h es) → OrPasses ver h es (w .last) (w .octets)
+    unfolding standard starting
+    beyond-limits w =
+        case (ver .depth) (deepest 0 es) over-depth λ shallow.
+        case (ver .octets) (length (w .octets)) over-octets λ long.
+        elim (in-limits ver (tablesAfter ver (headed ver h) es)) [
+          | no f ↦ over-entries f
+          | yes i ↦
+              let c = from-start (itemsOf ver h es) doc′ allowed′ short′ may ver (ok .few-entries) (rw same shallow) i in
+              let ours : Octets = lead ++ joined (c .halves) in
+              let size : ℕ = ver .octets + length ours in
+              let wide : Document (standard ver (ver .depth) size) h (itemsOf ver h es) (c .last) ours =
+              document-of (wider (ok .few-entries) refl refl refl opens-it) (written (omega arith) (omega arith) (omega arith) (c .rule)) (omega arith) in
+              let o = one-document wide (w .writes (ver .depth) size shallow (omega arith)) in
+              let l = ap length (o .0) in
+              within-limits (subst₂ (λ (s : Octets) (z : State Octets). Document ver h (itemsOf ver h es) z s) (o .0) (o .1) (document-of opens-it (c .rule) (omega arith)))
+        ]
+
+-- No head is a head that is allowed, and each table has at most its built-in entry then.
+pub no-head-allowed : (ver : Version) → Bounded ver → HeadAllowed ver noEntries
+no-head-allowed ver ok = head-allowed ok (no-head ver) .0
+
+pub no-head-few : (ver : Version) → AtMost 1 (headed ver noEntries)
+no-head-few ver = rw (headed-none ver) (record { few = few-started ver; few-names = λ t. rw (none-started ver t) (omega arith) })

@@ -12,6 +12,7 @@ use Rattle.format.specs.Items.{State}
 use Rattle.events.specs.declared.Event.{Event}
 use Rattle.events.specs.Records.{recordOf}
 use Rattle.tables.specs.Located.{Located}
+use Rattle.write_head.specs.Given.{Given}
 use Rattle.writer.specs.Events.{wellMade, eventOf, goesOn}
 use Rattle.writer.specs.Writing.{written, judge, writing}
 use Rattle.theorems.proofs.Turns.{as-written}
@@ -28,7 +29,7 @@ passed text e goes n q = record-back text (made-is text e (e .kind) refl (from (
 abbrev pub recordsOf : List (Item Located) → List Event
 recordsOf items = map (λ (i : Item Located). recordOf (i .event)) items
 
-pub given-back : (ver : Version) (text : Octets) (room : ℕ) (es : List Event) (items : List (Item Located)) (hs : Halves) (z : State Located) → writing ver text room es ≡ written items hs z → recordsOf items ≡ es
+pub given-back : (ver : Version) (text : Octets) (room : ℕ) (g : Given) (es : List Event) (items : List (Item Located)) (hs : Halves) (z : State Located) → writing ver g text room es ≡ written items hs z → recordsOf items ≡ es
 unfolding judge
 given-back ver text room =
     as-written ver text room (λ es at v items hs z. recordsOf items ≡ es) (λ at v f. refl)

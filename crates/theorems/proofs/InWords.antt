@@ -15,10 +15,13 @@ use Rattle.events.specs.FromWords.{recordsOf}
 use Rattle.events.proofs.BlankWords.{blank-all}
 use Rattle.reader.specs.Reading as Read
 use Rattle.reader.specs.Words as ReadWords
+use Rattle.write_head.specs.Given.{givenOf}
+use Rattle.write_head.specs.Head.{headOctets}
 use Rattle.writer.specs.Writing as Write
 use Rattle.writer.specs.Words as WriteWords
 use Rattle.theorems.specs.Demands.{InReadWords, InWriteWords}
 use Rattle.theorems.proofs.Lists.{either}
+use Rattle.theorems.proofs.Asked.{by-asked}
 
 -- ---- reading
 module _ (ver : Version) (s : Octets) (r t : ℕ) where
@@ -54,34 +57,33 @@ module _ (ver : Version) (s : Octets) (r t : ℕ) where
     read-zeros h P f g = rw (ne-eqb _ _ h) (either P (Read.sized ver s) _ _ (λ e. g) (λ e. f))
 
 -- ---- writing
-module _ (ver : Version) (records : Words) (text : Octets) (r t : ℕ) where
+module _ (ver : Version) (given records : Words) (text : Octets) (r t : ℕ) where
   abbrev pub rows-written : Write.Outcome
-  rows-written = Write.writeOf ver (recordsOf records) text r t
+  rows-written = Write.writeOf ver given (recordsOf records) text r t
 
-  write-result : (a : Write.Result) → Write.told (Write.outcome ver a r .answer) ≡ Write.outcome ver a r .told
-  write-result (Write.written is hs z) = ap (toldAccepted _) (sym (entries-are (z .tables)))
-  write-result (Write.refusal n p) = refl
+  write-result : (before : Octets) (a : Write.Result) → Write.told (Write.outcome ver before a r .answer) ≡ Write.outcome ver before a r .told
+  write-result before (Write.written is hs z) = ap (toldAccepted _) (sym (entries-are (z .tables)))
+  write-result before (Write.refusal n p) = refl
 
   write-told : Write.told (rows-written .answer) ≡ rows-written .told
-  unfolding Write.writeOf
   write-told =
-      let P : Write.Outcome → Type 0 = λ o. Write.told (o .answer) ≡ o .told in
-      either P (leb (length text) (ver .octets)) _ _ (λ y. either P (eqb t tableWords) _ _ (λ e. write-result (Write.writing ver text r (recordsOf records))) (λ n. refl)) (λ n. refl)
+      by-asked ver given (recordsOf records) text r t (λ (o : Write.Outcome). Write.told (o .answer) ≡ o .told)
+      (λ l m e. write-result (headOctets ver text (givenOf given)) (Write.writing ver (givenOf given) text r (recordsOf records))) (λ l. refl) (λ l m. refl) (λ l m e. refl)
 
   pub in-write-words : InWriteWords rows-written (WriteWords.inWords rows-written)
   unfolding WriteWords.inWords
   in-write-words = record { answer = ap wholeWord write-told; out = refl; tables = refl; counts = ap (λ (u : Told). u .counts) write-told }
 
   module _ (c : ℕ) where
-    write-sized : c ≡ 10 → (b : Bool) → leb (length text) (ver .octets) ≡ b → WriteWords.inWords rows-written ≡ WriteWords.writeWords ver records text r t c
+    write-sized : c ≡ 10 → (b : Bool) → leb (length text) (ver .octets) ≡ b → WriteWords.inWords rows-written ≡ WriteWords.writeWords ver given records text r t c
     unfolding WriteWords.writeWords Write.writeOf WriteWords.inWords
     write-sized h true e = rw (e, eq-eqb _ _ h)
     write-sized h false e = rw (e, h)
 
-    pub write-worded : c ≡ 10 → InWriteWords rows-written (WriteWords.writeWords ver records text r t c)
+    pub write-worded : c ≡ 10 → InWriteWords rows-written (WriteWords.writeWords ver given records text r t c)
     write-worded h = subst (InWriteWords rows-written) (write-sized h (leb (length text) (ver .octets)) refl) in-write-words
 
     pub write-zeros : (c ≡ 10 → ⊥) → (P : WriteWords.WordsLeft → Type 0) → (ver .octets < length text → P (WriteWords.nothing 1 r t c)) → (length text ≤ ver .octets → P (WriteWords.nothing 14 r t c))
-        → P (WriteWords.writeWords ver records text r t c)
+        → P (WriteWords.writeWords ver given records text r t c)
     unfolding WriteWords.writeWords
     write-zeros h P f g = rw (ne-eqb _ _ h) (either P (leb (length text) (ver .octets)) _ _ (λ e. g (leb-true _ _ e)) (λ e. f (leb-false _ _ e)))

@@ -1,4 +1,4 @@
--- The octets of a document: the halves that the rules write, joined two by two behind the header.
+-- The octets of a document: the halves that the rules write, joined two by two behind what stands before the body.
 use Prim.Native.Nat.{ℕ, zero, suc, _+_, _*_, _/_, _%_, _≤_, _<_}
 use mathlib.Core.Path.{_≡_, refl, ap, _∙_}
 use mathlib.Core.List.{List, [], _∷_, _++_}
@@ -6,9 +6,10 @@ use native.Mathlib.Omega.{arith}
 use lib.ListN.{length}
 use Rattle.format.specs.Octets.{Octets, Halves}
 use Rattle.format.specs.Events.{Item}
-use Rattle.format.specs.Tables.{Version}
+use Rattle.format.specs.Tables.{Vocabulary, Version}
+use Rattle.format.specs.Head.{Opens}
 use Rattle.format.specs.Items.{State}
-use Rattle.format.specs.Document.{halves, pad, aligned, Written, document-end, attributes-end, element-end, item, beginning, Document, header, started}
+use Rattle.format.specs.Document.{halves, pad, aligned, Written, document-end, attributes-end, element-end, item, beginning, Document}
 use Rattle.writer.specs.Writing.{joined}
 use Rattle.theorems.proofs.Lists.{parity, halves-append}
 
@@ -51,11 +52,13 @@ joins-from (item {at = at} {o = o} {hs = hs} u w) =
     let y : (at + at % 2 + 2 * length o) % 2 ≡ 0 = omega arith in
     join-item at o hs (rw y at (joins-from w))
 
--- ---- behind the header
-module _ {ver : Version} {v z : State Octets} {items : List (Item Octets)} {hs : Halves} where
-  pub joins : Written ver (2 * length (header ver)) v items hs z → halves (joined hs) ≡ hs
-  joins w = let e : 2 * length (header ver) % 2 ≡ 0 = omega arith in rw e at (joins-from w)
+-- ---- from a whole octet
+pub joins : {ver : Version} (n : ℕ) {v z : State Octets} {items : List (Item Octets)} {hs : Halves} → Written ver (2 * n) v items hs z → halves (joined hs) ≡ hs
+joins n w = let e : 2 * n % 2 ≡ 0 = omega arith in rw e at (joins-from w)
 
-abbrev pub document-of : {ver : Version} {z : State Octets} {items : List (Item Octets)} {hs : Halves} → Written ver (2 * length (header ver)) (beginning (started ver)) items hs z → length (header ver ++ joined hs) ≤ ver .octets
-    → Document ver items z (header ver ++ joined hs)
-document-of {ver} {hs = hs} w short = record { body = hs; here = halves-append (header ver) (joined hs) ∙ ap (λ (l : Octets). halves (header ver) ++ l) (joins w); rule = w; short = short }
+-- A document: behind these octets, which open it with these tables.
+module _ {ver : Version} {h : Vocabulary Octets} {o : Octets} {v : Vocabulary Octets} (op : Opens ver h o v) where
+  abbrev pub document-of : {z : State Octets} {items : List (Item Octets)} {hs : Halves} → Written ver (2 * length o) (beginning v) items hs z → length (o ++ joined hs) ≤ ver .octets
+      → Document ver h items z (o ++ joined hs)
+  document-of {hs = hs} w short =
+      record { before = o; listed = v; opens = op; body = hs; here = halves-append o (joined hs) ∙ ap (λ (l : Octets). halves o ++ l) (joins (length o) w); rule = w; short = short }

@@ -7,7 +7,15 @@ mod Strings
 mod Names
 mod Items
 mod Run
+mod Alls
+mod TenTables
+mod HeadOctets
+mod HeadEntries
+mod HeadReading
+mod HeadWritten
 mod Opening
+mod HeadKeeps
+mod Heads
 mod Document
 mod Fits
 mod OneWriting
@@ -17,6 +25,7 @@ mod Growing
 mod Earlier
 mod Acts
 mod Wider
+mod Headed
 mod Structure
 mod Documents
 mod Begun
@@ -27,6 +36,10 @@ mod Chosen
 mod Produced
 mod WriterChoices
 mod Sayable
+mod GivenTests
+mod GivenHeads
+mod GivenWords
+mod GivenOnly
 mod Step
 mod PlainStep
 mod Append
@@ -36,6 +49,7 @@ mod Permitted
 mod Every
 mod RuleTables
 mod Turns
+mod Asked
 mod WriterRun
 mod WriterDocument
 mod WriterTables

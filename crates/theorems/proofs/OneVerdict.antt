@@ -6,16 +6,17 @@ use native.Mathlib.Omega.{arith}
 use lib.ListN.{length}
 use Rattle.format.specs.Octets.{Octets}
 use Rattle.format.specs.Events.{IsDocument}
-use Rattle.format.specs.Tables.{Version}
-use Rattle.format.specs.Document.{aligned, header}
+use Rattle.format.specs.Tables.{Vocabulary, Version}
+use Rattle.format.specs.Document.{aligned}
 use Rattle.events.specs.declared.Event.{Event}
 use Rattle.theorems.specs.Verdicts.{plains, itemsOf, WrittenIn, Right, Fault, not-an-event, not-text, too-deep, too-many, no-room, AllRight, Refused, at-event, too-soon, no-room-for-end}
+use Rattle.theorems.proofs.Heads.{one-head}
 use Rattle.theorems.proofs.Splits.{splits}
 use Rattle.theorems.proofs.Begun.{begun-size}
 
-module _ (ver : Version) (text : Octets) (room : ℕ) where
+module _ (ver : Version) (h : Vocabulary Octets) (text : Octets) (room : ℕ) where
   -- ---- one fault
-  fault-one : {before : List Event} {e : Event} {m n : ℕ} → Fault ver text room before e m → Fault ver text room before e n → m ≡ n
+  fault-one : {before : List Event} {e : Event} {m n : ℕ} → Fault ver h text room before e m → Fault ver h text room before e n → m ≡ n
   fault-one (not-an-event a) (not-an-event b) = refl
   fault-one (not-an-event a) (not-text i b) = absurd (a i)
   fault-one (not-an-event a) (too-deep i t b) = absurd (a i)
@@ -42,21 +43,24 @@ module _ (ver : Version) (text : Octets) (room : ℕ) where
   fault-one (no-room i t s f a) (too-many j u r b) = absurd (b f)
   fault-one (no-room i t s f a) (no-room j u r g b) = refl
 
-  not-right : {before : List Event} {e : Event} {n : ℕ} → Fault ver text room before e n → Right ver text room before e → ⊥
+  not-right : {before : List Event} {e : Event} {n : ℕ} → Fault ver h text room before e n → Right ver h text room before e → ⊥
   not-right (not-an-event a) r = a (r .is-event)
   not-right (not-text i a) r = a (r .is-text)
   not-right (too-deep i t a) r = a (r .is-shallow)
   not-right (too-many i t s a) r = a (r .has-entries)
   not-right (no-room i t s f a) r =
-      let l : length (a .halves) ≡ length (r .has-room .halves) = begun-size (a .are) (r .has-room .are) .0 in
-      let k : min room (ver .octets) < aligned (2 * length (header ver) + length (r .has-room .halves)) / 2 = rw (← l) (a .over) in
+      let fits = r .has-room in
+      let o : fits .before ≡ a .before = one-head (fits .opens) (a .opens) .0 in
+      let l : length (a .halves) ≡ length (fits .halves) = begun-size (a .are) (rw o at (fits .are)) .0 in
+      let k : min room (ver .octets) < aligned (2 * length (fits .before) + length (fits .halves)) / 2 = rw (o, ← l) (a .over) in
+      let f = fits .fit in
       omega arith
 
   -- ---- one refusal
-  pub refused-one : {es : List Event} {m n p q : ℕ} → Refused ver text room es m p → Refused ver text room es n q → (m ≡ n) × (p ≡ q)
+  pub refused-one : {es : List Event} {m n p q : ℕ} → Refused ver h text room es m p → Refused ver h text room es n q → (m ≡ n) × (p ≡ q)
   refused-one (at-event {before = b} {e = x} {n = i} after is all f) (at-event {before = c} {e = y} behind are right g) =
       splits b x after c y behind (sym is ∙ are)
-      (λ same e. (fault-one (subst (λ (z : Event). Fault ver text room c z i) e (subst (λ (l : List Event). Fault ver text room l x i) same f)) g, ap length same))
+      (λ same e. (fault-one (subst (λ (z : Event). Fault ver h text room c z i) e (subst (λ (l : List Event). Fault ver h text room l x i) same f)) g, ap length same))
       (λ mid k. absurd (not-right f (right b x mid k)))
       (λ mid k. absurd (not-right g (all c y mid k)))
   refused-one (at-event after is all f) (too-soon right nay) = absurd (not-right f (right _ _ after is))
@@ -69,7 +73,7 @@ module _ (ver : Version) (text : Octets) (room : ℕ) where
   refused-one (no-room-for-end right d nay) (no-room-for-end right′ d′ nay′) = (refl, refl)
 
   -- a list that is written and fits, all its events right, is not refused
-  pub not-refused : {es : List Event} {n p : ℕ} → AllRight ver text room es → WrittenIn ver room (itemsOf ver (plains text es)) → IsDocument (plains text es) → Refused ver text room es n p → ⊥
+  pub not-refused : {es : List Event} {n p : ℕ} → AllRight ver h text room es → WrittenIn ver h room (itemsOf ver h (plains text es)) → IsDocument (plains text es) → Refused ver h text room es n p → ⊥
   not-refused right w d (at-event after is all f) = not-right f (right _ _ after is)
   not-refused right w d (too-soon all nay) = nay d
   not-refused right w d (no-room-for-end all d′ nay) = nay w

@@ -13,7 +13,7 @@ use Rattle.format.specs.Names.{has, NameLayout, Named, in-parts, by-number, Dec
 use Rattle.format.specs.Items.{Mode, content, declaring, listing, State, afterStart, knowing, moved, opened, ItemWrittenAs, o-start, o-first-namespace, o-namespace, o-named-start, o-attribute, o-text, o-comment, o-instruction}
 use Rattle.writer.specs.Writing.{isAttribute}
 use Rattle.tables.proofs.Found.{clash as false-true}
-use Rattle.format.specs.Document.{halves, pad, Written, document-end, attributes-end, element-end, item, Document, header}
+use Rattle.format.specs.Document.{halves, pad, Written, document-end, attributes-end, element-end, item}
 use Rattle.theorems.proofs.Lists.{octet-is}
 
 -- Whether attributes follow is decided by the items: by the next, and behind declarations by the one behind the Start.
@@ -81,7 +81,7 @@ no-member true e = clash (cc)
 no-member false e = clash (cc)
 
 -- Halves of octets determine the octets.
-halves-one : (a b : Octets) → halves a ≡ halves b → a ≡ b
+pub halves-one : (a b : Octets) → halves a ≡ halves b → a ≡ b
 unfolding halves
 halves-one [] [] e = refl
 halves-one [] (y ∷ b) e = cc
@@ -238,10 +238,3 @@ module _ {ver : Version} where
       let q = octets-one u u′ (mode-is u w ∙ sym (mode-is u′ w′)) in
       let r = one-writing w (rw (← (q .0), ← (q .1)) at w′) in
       ((λ j. pad at ++ (halves (q .0 j) ++ r .0 j)), r .1)
-
-  pub one-document : {items : List (Item Octets)} {z z′ : State Octets} {s s′ : Octets}
-      → Document ver items z s → Document ver items z′ s′
-      → (s ≡ s′) × (z ≡ z′)
-  one-document {s = s} {s′ = s′} d d′ =
-      let r = one-writing (d .rule) (d′ .rule) in
-      (halves-one s s′ (d .here ∙ ap (λ (l : Octets). halves (header ver) ++ l) (r .0) ∙ sym (d′ .here)), r .1)

@@ -1,49 +1,32 @@
 -- The strings of written events are as the requirements allow; and, for any kind of strings, what holds of all that is spelled holds of every string of an event.
-use Prim.Native.Nat.{ℕ, _≤_}
+use Prim.Native.Nat.{ℕ, zero, suc, _≤_}
 use mathlib.Core.Path.{_≡_, refl, sym, subst}
-use mathlib.Core.Bool.{Bool, true, false}
+use mathlib.Core.Bool.{true, false}
 use mathlib.Core.Option.{Option, none, some}
-use mathlib.Core.List.{List, [], _∷_, _++_}
-use native.Mathlib.Omega.{arith}
+use mathlib.Core.List.{List, []}
 use lib.Dec.{eqb}
 use Rattle.format.specs.Octets.{Octets}
 use Rattle.format.specs.Characters.{utf8s, IsText}
-use Rattle.format.specs.Numbers.{pick}
 use Rattle.format.specs.Events.{Name, Event, Namespace, Start, Attribute, Text, Comment, Instruction, End, How, NameHow, Item}
 use Rattle.format.specs.Tables.{StringTable, PREFIX, NAMESPACE-NAME, LOCAL-NAME, OTHER-NCNAME, ATTRIBUTE-VALUE, CONTENT-CHARACTER-CHUNK, OTHER-STRING}
-use Rattle.format.specs.Tables.{NameTable, ELEMENT-NAME, ATTRIBUTE-NAME, Triple, Vocabulary, strings, names, adding, addingName, starting, Version}
-use Rattle.format.specs.Tables.{xmlPrefix, xmlNamespace, Entry, first as lowest, later, Means}
+use Rattle.format.specs.Tables.{NameTable, Triple, Vocabulary, strings, names, adding, addingName, Version}
+use Rattle.format.specs.Tables.{Behind, nothing, an-entry, Means}
+use Rattle.format.specs.Head.{some?}
 use Rattle.format.specs.Names.{has}
 use Rattle.format.specs.Items.{State}
 use Rattle.format.specs.Allowed.{Said, SaidIfAny, AllowedName, Allowed, All}
 use Rattle.format.specs.Document.{Document}
-use Rattle.fields.specs.Utf8.{rows, between, first, next, after, isText}
-use Rattle.fields.proofs.Characters.{text-exact}
 use Rattle.tables.specs.Rows.{place}
-use Rattle.tables.proofs.Adding.{extended, sameNames, strings-adding, names-adding, strings-adding-name, names-adding-name}
-use Rattle.tables.proofs.ByNumber.{by-table}
+use Rattle.tables.proofs.Adding.{sameNames, strings-adding, names-adding, strings-adding-name, names-adding-name}
+use Rattle.theorems.proofs.Alls.{all-extended, all-entry, all-so}
 use Rattle.theorems.proofs.Effects.{IdDone, id-made, id-used, PartDone, no-part, a-part, StringDone, string-made, string-used, ValueDone, empty-value, a-value, NameDone, name-made, name-used}
 use Rattle.theorems.proofs.Effects.{ItemDone, done-namespace, done-start, done-attribute, done-text, done-comment, done-instruction, done-end, Done, no-item, an-item, document-done}
-use Rattle.theorems.proofs.Triples.{means-is}
+use Rattle.read_names.specs.Names.{partOf, nameOf}
+use Rattle.theorems.specs.Heads.{NamesParts}
+use Rattle.theorems.proofs.Triples.{means-is, means-at}
+use Rattle.theorems.proofs.Heads.{opened-spelled, opened-named}
 use Rattle.theorems.proofs.Growing.{same-table, means-kept, Keeps}
 use Rattle.theorems.proofs.Growing.{keeps-adding-name, keeps-adding, parts-mean}
-
-module _ {A : Type 0} (P : A → Type 0) where
-  all-last : (l : List A) (x : A) → All P l → P x → All P (l ++ (x ∷ []))
-  all-last [] x a p = (p, tt)
-  all-last (y ∷ l) x a p = (a .0, all-last l x (a .1) p)
-
-  all-extended : (b : Bool) (l : List A) (x : A) → All P l → (b ≡ true → P x) → All P (extended b l x)
-  all-extended true l x a p = all-last l x a (p refl)
-  all-extended false l x a p = a
-
-  all-entry : {l : List A} {k : ℕ} {x : A} → All P l → Entry l k x → P x
-  all-entry a lowest = a .0
-  all-entry a (later e) = all-entry (a .1) e
-
-  pub all-so : {Q : A → Type 0} → ((x : A) → Q x → P x) → (l : List A) → All Q l → All P l
-  all-so f [] a = tt
-  all-so f (x ∷ l) a = (f x (a .0), all-so f l (a .1))
 
 -- ---- P is what holds of the strings of a table; d is the empty string
 module _ {S : Type 0} (P : StringTable → S → Type 0) (d : S) where
@@ -99,6 +82,29 @@ module _ {S : Type 0} (P : StringTable → S → Type 0) (d : S) where
             (all-extended (Meant (addingName v t x)) (sameNames t u) (names v u) x (still-meant k (names v u) (g .of-names u)) (λ e. (y, means-kept k m, a)));
       }
 
+  -- a triple whose parts are there, in tables that hold only such strings
+  behind-holds : (t : StringTable) {l : List S} {n : ℕ} {x : Option S} → All (P t) l → Behind l n x → IfAny t x
+  behind-holds t a nothing = tt
+  behind-holds t a (an-entry e) = all-entry (P t) a e
+
+  part-has : (l : List S) (n : ℕ) → has (partOf l d n) ≡ some? n
+  part-has l zero = refl
+  part-has l (suc k) = refl
+
+  triple-meant : (v : Vocabulary S) → ((t : StringTable) → All (P t) (strings v t)) → (x : Triple) → NamesParts v x → Meant v x
+  unfolding strings nameOf
+  triple-meant v a x k =
+      let m = means-at d v x (k .prefix) (k .namespace) (k .has-local) (k .local) in (
+        nameOf v d x,
+        m,
+        record {
+          prefix = behind-holds PREFIX (a PREFIX) (m .prefix);
+          namespace = behind-holds NAMESPACE-NAME (a NAMESPACE-NAME) (m .namespace);
+          local = behind-holds LOCAL-NAME (a LOCAL-NAME) (m .local);
+          not-alone = rw (part-has (v .prefixes) (x .prefix), part-has (v .namespaces) (x .namespace)) (k .not-alone);
+        },
+      )
+
   -- P holds of all that can be spelled
   module _ (Spelt : S → Type 0) (of-spelt : (t : StringTable) (x : S) → Spelt x → P t x) where
     id-holds : {t : StringTable} {v w : Vocabulary S} {x : S} {h : How} {n : ℕ} → IdDone d Spelt t v x h n w → Good v → P t x × Good w
@@ -142,20 +148,9 @@ module _ {S : Type 0} (P : StringTable → S → Type 0) (d : S) where
     all-hold no-item g = tt
     all-hold (an-item u r) g = let a = item-holds u g in (a .0, all-hold r (a .1))
 
-    -- at the start the tables hold at most two strings, and no name
-    good-start : (ver : Version) {p n : S} → P PREFIX p → P NAMESPACE-NAME n → Good (starting ver p n)
-    unfolding strings names starting
-    good-start ver {p} {n} a b = record { of-strings = two-strings; of-names = λ t. elim t [ ELEMENT-NAME ↦ tt | ATTRIBUTE-NAME ↦ tt ] }
-      where
-        if-built-in : (t : StringTable) (x : S) → P t x → (b : Bool) → All (P t) (pick b (x ∷ []) [])
-        if-built-in t x h true = (h, tt)
-        if-built-in t x h false = tt
-
-        two-strings : (t : StringTable) → All (P t) (strings {N = Triple} (starting ver p n) t)
-        two-strings = by-table _ (if-built-in PREFIX p a (ver .builtIn)) (if-built-in NAMESPACE-NAME n b (ver .builtIn)) tt tt tt tt tt tt
-
-    pub holds : (ver : Version) {p n : S} {items : List (Item S)} {z : Vocabulary S} → P PREFIX p → P NAMESPACE-NAME n → Done d Spelt (starting ver p n) items z → All (λ i. Holds (i .event)) items
-    holds ver a b r = all-hold r (good-start ver a b)
+    pub holds : {v z : Vocabulary S} {items : List (Item S)} → ((t : StringTable) → All (P t) (strings v t)) → ((t : NameTable) → All (NamesParts v) (names v t)) → Done d Spelt v items z
+        → All (λ i. Holds (i .event)) items
+    holds {v} a b r = all-hold r (record { of-strings = a; of-names = λ t. all-so (Meant v) (triple-meant v a) (names v t) (b t) })
 
 -- ---- the requirements' strings
 abbrev OfTable : StringTable → Octets → Type 0
@@ -182,10 +177,6 @@ as-allowed (Comment y) a = as-text a
 as-allowed (Instruction x y) a = (a .0, as-text (a .1))
 as-allowed End a = tt
 
-two-said : Said xmlPrefix × Said xmlNamespace
-unfolding xmlPrefix xmlNamespace rows between first next after isText
-two-said = ((omega arith, text-exact xmlPrefix .0 refl), (omega arith, text-exact xmlNamespace .0 refl))
-
-pub all-allowed : {ver : Version} {items : List (Item Octets)} {z : State Octets} {s : Octets} → Document ver items z s → All (λ i. Allowed (i .event)) items
-all-allowed {ver} {items} w =
-    all-so (λ i. Allowed (i .event)) (λ i a. as-allowed (i .event) a) items (holds OfTable [] Said (λ t x a. a) ver (two-said .0) (two-said .1) (document-done w))
+pub all-allowed : {ver : Version} {h : Vocabulary Octets} {items : List (Item Octets)} {z : State Octets} {s : Octets} → Document ver h items z s → All (λ i. Allowed (i .event)) items
+all-allowed {items = items} w =
+    all-so (λ i. Allowed (i .event)) (λ i a. as-allowed (i .event) a) items (holds OfTable [] Said (λ t x a. a) (opened-spelled (w .opens)) (opened-named (w .opens)) (document-done w))

@@ -1,7 +1,7 @@
 -- What the reading definition does with the tables, by where the strings stand: what it spells is a stretch of the document, and what it reads by a number is
 -- the entry that it has there.
 use Prim.Native.Nat.{ℕ, zero, suc, _+_, _-_, _*_, _/_, _%_, _^_, _≤_}
-use mathlib.Core.Path.{_≡_, refl, subst}
+use mathlib.Core.Path.{_≡_, refl, sym, ap, _∙_, subst}
 use mathlib.Core.Bool.{Bool, true, false, not, _&&_, _||_}
 use mathlib.Core.List.{List, map}
 use native.Mathlib.Omega.{arith}
@@ -9,7 +9,6 @@ use borrow.Author.Tests.{eqb-false}
 use lib.Dec.{eqb, ltb, leb}
 use lib.ListN.{length, getD}
 use Rattle.format.specs.Octets.{Octets}
-use Rattle.theorems.proofs.Opening.{Opened, opening-sound}
 use Rattle.format.specs.Numbers.{pick, Form, lengths, c25, top}
 use Rattle.fields.specs.Utf8.{isText}
 use Rattle.format.specs.Events.{Namespace, forNamespace, _by_}
@@ -23,7 +22,7 @@ use Rattle.fields.specs.declared.Number.{Number}
 use Rattle.fields.specs.declared.Number.the-variants.{Got as Num, Refused as NoNum}
 use Rattle.fields.specs.Fields.{fieldAt, noTop}
 use Rattle.fields.proofs.Bounds.{field-got}
-use Rattle.tables.specs.Located.{Located, empty, stretch, octetsOf, start}
+use Rattle.tables.specs.Located.{Located, empty, stretch, octetsOf}
 use Rattle.events.specs.Records.{eventString}
 use Rattle.events.specs.WellMade.{IsStretch, inside}
 use Rattle.read_names.specs.Strings.{Got, got, refused, then, number, spelling, IdRead, OptionalRead, StringRead, idAt, optionalAt, spelledAt, literalAt, valueAt, numberBit}
@@ -31,7 +30,7 @@ use Rattle.tables.proofs.EntryLaws.{entry-at}
 use Rattle.read_names.specs.Names.{noTriple, NameRead, DeclaredRead, prefixBit, namespaceBit, lonePrefix, partsAt, numberedAt, nameAt, declaredAt, nameBit}
 use Rattle.read_items.specs.Items.{Stand, Step, more, quiet, done, stop, into, namePadding, startOf, namespaceAt, elementAt, namedAt, attributeAt, chunkAt, commentAt, instructionAt, otherAt, childAt, declaringAt, itemAt}
 use Rattle.read_items.specs.Steps.{endsAt, padsAt, documentEnd, endAt, byHalves, step}
-use Rattle.reader.specs.Reading.{EventRead, itemsRead, Result, accepted, refusal, plus, turn, run, Opening, onward, halt, opening, origin, fuelOf, resultFrom, reading}
+use Rattle.reader.specs.Reading.{EventRead, itemsRead, Result, accepted, refusal, plus, turn, run, onward, opening, origin, fuelOf, resultFrom, reading}
 use Rattle.theorems.proofs.Lists.{test, test-le, test-not, either}
 use Rattle.theorems.proofs.Names.{bits-paired}
 use Rattle.theorems.proofs.Effects.{IdDone, id-made, id-used, PartDone, no-part, a-part, StringDone, string-made, string-used, ValueDone, empty-value, a-value, NameDone, name-made, name-used}
@@ -299,17 +298,8 @@ module _ (ver : Version) (s : Octets) where
   run-gave zero room m = tt
   run-gave (suc fuel) room m = turn-gave (λ r n. run ver s fuel r n) (λ r n. run-gave fuel r n) room m (step ver s m) (step-gave m)
 
-module _ (ver : Version) (s : Octets) (room : ℕ) where
-  from-gave : (o : Opening) → Opened ver s o → GaveAll ver s (start ver) (resultFrom ver s room o)
-  unfolding beginning
-  from-gave (onward body tables) k =
-      let w : tables ≡ start ver = opens-with (k .0) in
-      subst (λ (v : Vocabulary Located). GaveAll ver s v (run ver s (fuelOf s) room (origin body tables))) w (run-gave ver s (fuelOf s) room (origin body tables))
-    where
-      opens-with : {b c : ℕ} {v w : Vocabulary Located} → onward b v ≡ onward c w → v ≡ w
-      opens-with e = cc
-  from-gave (halt n p) k = tt
-
-  pub reading-done : (es : List EventRead) (m : Stand) → reading ver s room ≡ accepted es m → Done empty (Lies s) (start ver) (itemsRead es) (m .state .tables)
-  unfolding reading
-  reading-done es m e = subst (GaveAll ver s (start ver)) e (from-gave (opening ver s) (opening-sound ver s))
+-- from where the opening lets it begin
+pub reading-done : (ver : Version) (s : Octets) (room body : ℕ) (tables : Vocabulary Located) → opening ver s ≡ onward body tables → (es : List EventRead) (m : Stand) → reading ver s room ≡ accepted es m
+    → Done empty (Lies s) tables (itemsRead es) (m .state .tables)
+unfolding reading beginning
+reading-done ver s room body tables o es m e = subst (GaveAll ver s tables) (ap (resultFrom ver s room) (sym o) ∙ e) (run-gave ver s (fuelOf s) room (origin body tables))

@@ -1,23 +1,36 @@
 -- The records that a reader hands out are well made: their stretches lie in the document and are not empty, a built-in string stands only where it can, and a
 -- prefix only with a namespace.
-use Prim.Native.Nat.{ℕ, _≤_}
+use Prim.Native.Nat.{ℕ, _+_, _-_, _*_, _/_, _%_, _≤_, _<_}
 use mathlib.Core.Path.{_≡_, refl}
 use mathlib.Core.Option.{Option, none, some}
-use mathlib.Core.List.{List, [], _∷_, map}
+use mathlib.Core.Bool.{Bool, true, false}
+use mathlib.Core.List.{List, [], _∷_, _++_, map}
 use native.Mathlib.Omega.{arith}
+use lib.ListN.{length, length-append, length-map}
 use Rattle.format.specs.Octets.{Octets}
 use Rattle.format.specs.Events.{Name, Event, Namespace, Start, Attribute, Text, Comment, Instruction, End, Item}
-use Rattle.format.specs.Tables.{StringTable, PREFIX, NAMESPACE-NAME, Version}
+use Rattle.format.specs.Numbers.{pick, spell, lengths, c21}
+use Rattle.format.specs.Tables.{StringTable, PREFIX, NAMESPACE-NAME, LOCAL-NAME, OTHER-NCNAME, OTHER-URI, ATTRIBUTE-VALUE, CONTENT-CHARACTER-CHUNK, OTHER-STRING}
+use Rattle.format.specs.Tables.{NameTable, ELEMENT-NAME, ATTRIBUTE-NAME, Triple, Vocabulary, strings, names, vocabularyMap, followedBy, Version, starting}
+use Rattle.format.specs.Strings.{id-spelled, literal-spelled}
+use Rattle.format.specs.Head.{Table, tenTables, presence, ofStrings, ofNames, sizeOf, c19, StringListed, an-identifying, another, Each, no-entry, an-entry, TablesListed, no-table, absent, present, Opens, without-head, with-head}
 use Rattle.format.specs.Names.{has}
 use Rattle.format.specs.Allowed.{All}
 use Rattle.tables.specs.Rows.{place}
-use Rattle.tables.specs.Located.{Located, empty, stretch, builtInPrefix, builtInNamespace, start}
+use Rattle.tables.specs.Located.{Located, empty, stretch, builtInPrefix, builtInNamespace, octetsOf, plainTables, start}
+use Rattle.tables.proofs.ByNumber.{by-table}
 use Rattle.events.specs.declared.EventString.the-variants.{Absent}
 use Rattle.events.specs.Records.{eventString, optionalEventString, recordOf}
 use Rattle.events.specs.WellMade as W
-use Rattle.events.specs.WellMade.{IsStretch, IsPrefix, IsNamespace, IsValue, IsName, WellMade}
+use Rattle.events.specs.WellMade.{IsStretch, inside, IsPrefix, IsNamespace, IsValue, IsName, WellMade}
 use Rattle.read_items.specs.Items.{Stand}
 use Rattle.reader.specs.Reading.{EventRead, itemsRead, recordRead, accepted, reading}
+use Rattle.theorems.specs.Heads.{NamesParts, allListed}
+use Rattle.theorems.specs.Places.{inEntries, inTables, listedIn}
+use Rattle.theorems.proofs.Alls.{all-both, both-all, all-so}
+use Rattle.theorems.proofs.Opening.{OpensAt}
+use Rattle.theorems.proofs.Heads.{opened-named}
+use Rattle.theorems.proofs.TenTables.{list-followed}
 use Rattle.theorems.proofs.Plain.{IfAny, Parts, OrEmpty, is-empty, not-empty, Holds, holds}
 use Rattle.theorems.proofs.ReadEffects.{Lies, reading-done}
 
@@ -84,6 +97,91 @@ module _ (s : Octets) where
   as-records [] a = tt
   as-records (e ∷ es) a = (as-record (e .item .event) (a .0), as-records es (a .1))
 
-  pub well-made : (ver : Version) (room : ℕ) (es : List EventRead) (m : Stand) → reading ver s room ≡ accepted es m → All (WellMade s) (map recordRead es)
-  unfolding start
-  well-made ver room es m e = as-records es (holds Stands empty (Lies s) (λ t x l. spelled-here l) ver the-prefix the-namespace (reading-done ver s room es m e))
+-- ---- the strings of a head stand where the rules list them
+module _ (s : Octets) where
+  -- behind its length
+  behind : (k : ℕ) (n x : Octets) → 0 < length x → k + length (n ++ x) ≤ length s → Lies s (stretch (k + length (n ++ x) - length x) (length x))
+  behind k n x long h = let l = length-append n x in inside {place = k + length (n ++ x) - length x} long (omega arith)
+
+module _ (ver : Version) (s : Octets) where
+  entry-lies : (k : ℕ) {t : StringTable} {v w : Vocabulary Octets} {x o : Octets} → StringListed ver t v x o w → k + length o ≤ length s → Lies s (stretch (k + length o - length x) (length x))
+  entry-lies k (an-identifying is (id-spelled {x = x} sp new room)) h = behind s k (spell (lengths 2) 0 (length x)) x (sp .some) h
+  entry-lies k (another is (literal-spelled {x = x} sp room)) h = behind s k (spell (lengths (c19 .lengthBit)) (c19 .spelledBits + c19 .addBit * 1) (length x)) x (sp .some) h
+
+  entries-lie : (k : ℕ) {t : StringTable} {v w : Vocabulary Octets} {xs : List Octets} {o : Octets} (e : Each ver (StringListed ver t) v xs o w) → k + length o ≤ length s → All (Lies s) (inEntries k e)
+  entries-lie k no-entry h = tt
+  entries-lie k (an-entry {o = o} {os = os} u rest) h = let l = length-append o os in (entry-lies k u (omega arith), entries-lie (k + length o) rest (omega arith))
+
+  tables-lie : (k : ℕ) {h v w : Vocabulary Octets} {ts : List Table} {o : Octets} (e : TablesListed ver h ts v o w) → k + length o ≤ length s → All (Lies s) (inTables k e)
+  unfolding inTables
+  tables-lie k no-table h = tt
+  tables-lie k (absent none-listed rest) h = tables-lie k rest h
+  tables-lie k {h = g} (present {t = ofStrings t} o {os = os} any few u rest) h =
+      let n : Octets = spell c21 0 (sizeOf g (ofStrings t)) in
+      let l = length-append n (o ++ os) in
+      let m = length-append o os in
+      all-both (Lies s) (inEntries (k + length n) u) (inTables (k + length n + length o) rest) (entries-lie (k + length n) u (omega arith)) (tables-lie (k + length n + length o) rest (omega arith))
+  tables-lie k {h = g} (present {t = ofNames t} o {os = os} any few u rest) h =
+      let n : Octets = spell c21 0 (sizeOf g (ofNames t)) in
+      let l = length-append n (o ++ os) in
+      let m = length-append o os in
+      tables-lie (k + length n + length o) rest (omega arith)
+
+  listed-lie : {h w : Vocabulary Octets} {o : Octets} (op : Opens ver h o w) → length o ≤ length s → All (Lies s) (listedIn op)
+  listed-lie without-head long = tt
+  listed-lie {h} (with-head {o = o} heads any u) long =
+      let l = length-append (ver .identification) (0x20 ∷ presence h tenTables / 256 ∷ presence h tenTables % 256 ∷ o) in
+      tables-lie (length (ver .identification) + 3) u (omega arith)
+
+  -- ---- the tables behind a head
+  if-built-in : {t : StringTable} {x : Located} → Stands s t x → (b : Bool) → All (Stands s t) (pick b (x ∷ []) [])
+  if-built-in h true = (h, tt)
+  if-built-in h false = tt
+
+  start-stands : (t : StringTable) → All (Stands s t) (strings (start ver) t)
+  unfolding strings start starting
+  start-stands = by-table _ (if-built-in the-prefix (ver .builtIn)) (if-built-in the-namespace (ver .builtIn)) tt tt tt tt tt tt
+
+  -- table by table
+  head-lies : (h : Vocabulary Located) → All (Lies s) (allListed h) → (t : StringTable) → All (Lies s) (strings h t)
+  head-lies h a =
+      let P : Located → Type 0 = Lies s in
+      let b = both-all P (strings h PREFIX) _ a in
+      let c = both-all P (strings h NAMESPACE-NAME) _ (b .1) in
+      let d = both-all P (strings h LOCAL-NAME) _ (c .1) in
+      let e = both-all P (strings h OTHER-NCNAME) _ (d .1) in
+      let f = both-all P (strings h OTHER-URI) _ (e .1) in
+      let g = both-all P (strings h ATTRIBUTE-VALUE) _ (f .1) in
+      let i = both-all P (strings h CONTENT-CHARACTER-CHUNK) (strings h OTHER-STRING) (g .1) in
+      by-table _ (b .0) (c .0) (d .0) (e .0) (f .0) (g .0) (i .0) (i .1)
+
+  tables-stand : (h : Vocabulary Located) → All (Lies s) (allListed h) → (t : StringTable) → All (Stands s t) (strings (followedBy (start ver) h) t)
+  tables-stand h a t =
+      rw (list-followed (start ver) h (ofStrings t))
+      (all-both (Stands s t) (strings (start ver) t) (strings h t) (start-stands t) (all-so (Stands s t) (λ x l. spelled-here l) (strings h t) (head-lies h a t)))
+
+  -- the parts of a name are there, as octets or by where they stand
+  parts-there : (v : Vocabulary Located) (x : Triple) → NamesParts (plainTables s v) x → NamesParts v x
+  unfolding vocabularyMap
+  parts-there v x k =
+      let p = length-map (v .prefixes) (octetsOf s) in
+      let n = length-map (v .namespaces) (octetsOf s) in
+      let l = length-map (v .locals) (octetsOf s) in
+      let kp = k .prefix in
+      let kn = k .namespace in
+      let kl = k .local in
+      record { prefix = omega arith; namespace = omega arith; local = omega arith; has-local = k .has-local; not-alone = k .not-alone }
+
+  pub named-there : (v : Vocabulary Located) → ((t : NameTable) → All (NamesParts (plainTables s v)) (names (plainTables s v) t)) → (t : NameTable) → All (NamesParts v) (names v t)
+  unfolding names vocabularyMap
+  named-there v a ELEMENT-NAME = all-so (NamesParts v) (parts-there v) (v .elements) (a ELEMENT-NAME)
+  named-there v a ATTRIBUTE-NAME = all-so (NamesParts v) (parts-there v) (v .attributes) (a ATTRIBUTE-NAME)
+
+  pub well-made : {h : Vocabulary Octets} {o : Octets} {v : Vocabulary Octets} (op : Opens ver h o v) (at : OpensAt ver s op) → length o ≤ length s
+      → (room : ℕ) (es : List EventRead) (m : Stand) → reading ver s room ≡ accepted es m → All (WellMade s) (map recordRead es)
+  well-made {o = o} {v = v} op at long room es m e =
+      as-records s es
+      (holds (Stands s) empty (Lies s) (λ t x l. spelled-here l)
+      (λ t. rw (at .tables-are) (tables-stand (at .head) (rw (at .listed-are) (listed-lie op long)) t))
+      (named-there (at .tables) (λ t. rw (at .are) (opened-named op t)))
+      (reading-done ver s room (length o) (at .tables) (at .answers) es m e))

@@ -37,7 +37,7 @@ use Rattle.theorems.specs.Verdicts.{plainOf}
 use Rattle.theorems.proofs.Chosen.{SpellingIfAny, SpellingIfSome, NameSaid}
 use Rattle.theorems.proofs.Produced.{Said}
 
-both : {a b : Bool} → a ≡ true → b ≡ true → (a && b) ≡ true
+pub both : {a b : Bool} → a ≡ true → b ≡ true → (a && b) ≡ true
 both p q = ap₂ (λ (x y : Bool). x && y) p q
 
 absent-is : (x : EventString) → isAbsent x ≡ true → Absent ≡ x
@@ -49,14 +49,14 @@ absent-is XmlNamespace e = clash e
 
 -- ---- the writer's test of a record, and what the requirements say of it
 module _ (s : Octets) where
-  stretch-is : (x : EventString) → isStretch s x ≡ true → IsStretch s x
+  pub stretch-is : (x : EventString) → isStretch s x ≡ true → IsStretch s x
   stretch-is Absent e = clash e
   stretch-is Empty e = clash e
   stretch-is (Stretch p n) e = let a = both-true (ltb 0 n) (leb (p + n) (length s)) e in inside (ltb-true 0 n (a .0)) (leb-true (p + n) (length s) (a .1))
   stretch-is XmlPrefix e = clash e
   stretch-is XmlNamespace e = clash e
 
-  is-stretch : {x : EventString} → IsStretch s x → isStretch s x ≡ true
+  pub is-stretch : {x : EventString} → IsStretch s x → isStretch s x ≡ true
   is-stretch (inside h k) = both (lt-ltb _ _ h) (le-leb _ _ k)
 
   prefix-is : (x : EventString) → isPrefix s x ≡ true → IsPrefix s x

@@ -1,11 +1,16 @@
 -- THE THEOREMS: the three demands hold of every bounded version, and so of the link, which is the version that the contracts of the code name; and its rules are exact. Their
 -- statements are specs/Demands.
 use mathlib.Core.Path.{refl}
+use mathlib.Core.List.{[]}
 use Rattle.format.specs.Tables.{Version, link}
+use Rattle.write_head.specs.Given.{givenOf}
 use Rattle.theorems.specs.Bounded.{Bounded}
 use Rattle.theorems.specs.Demands.{Demand1, Demand2, Demand3, RulesExact, AsRequired}
 use Rattle.theorems.proofs.Document.{link-bounded}
-use Rattle.theorems.proofs.Demands.{a-document, allowed, permitted, one-document, every-choice-within}
+use Rattle.theorems.proofs.Heads.{head-allowed, every-head, opened-ranged, begins, holds-begins}
+use Rattle.theorems.proofs.GivenWords.{given-back}
+use Rattle.theorems.proofs.GivenOnly.{given-none, given-only}
+use Rattle.theorems.proofs.Demands.{head-read-back, a-document, allowed, permitted, one-document, every-choice-within}
 use Rattle.theorems.proofs.Acts.{every-number, tables-after}
 use Rattle.theorems.proofs.Calls.{whatever-stood, words-whatever-stood}
 use Rattle.theorems.proofs.WriterCalls.{write-whatever-stood, written-whatever-stood}
@@ -30,7 +35,16 @@ module _ (ver : Version) (ok : Bounded ver) where
       }
 
   pub demand-2 : Demand2 ver
-  demand-2 = record { write = write-exactly ver ok; write-words = write-words-exactly ver ok; same-tables = tables-same ver ok }
+  demand-2 =
+      record {
+        write = write-exactly ver ok;
+        write-words = write-words-exactly ver ok;
+        same-head = λ given es text room table s z a. head-read-back ver text (givenOf given) _ z s (a .writes);
+        same-tables = tables-same ver ok;
+        given-back = given-back;
+        given-none = given-none;
+        given-only = λ words text e a some. given-only words text _ e (a .strings-are) (a .names-are) some;
+      }
 
   pub demand-3 : Demand3 ver
   demand-3 = record { read = read-exactly ver ok; read-words = read-words-exactly ver ok; check = check-exactly ver ok }
@@ -38,19 +52,22 @@ module _ (ver : Version) (ok : Bounded ver) where
   pub rules-exact : RulesExact ver
   rules-exact =
       record {
+        head-allowed = λ h o v op. head-allowed ok op;
+        every-head = λ h right. every-head ok right;
+        begins = λ h o v op. (begins [] v, holds-begins [] v (opened-ranged op));
         a-document = a-document ver;
         allowed = allowed ver;
         permitted = permitted ver;
         one-document = one-document ver;
         every-number = every-number ver;
         tables-after = tables-after ver;
-        every-choice = λ items w doc may short permits shallow i. every-choice-within ver items w ok doc may short permits shallow i;
+        every-choice = λ h items w right. every-choice-within ver ok h items w right;
       }
 
 -- Of the link, whose values are the requirements'.
 pub link-as-required : AsRequired link
 unfolding link
-link-as-required = record { octets = refl; entries = refl; depth = refl; identification = refl; built-in = refl }
+link-as-required = record { octets = refl; entries = refl; depth = refl; identification = refl; built-in = refl; heads = refl }
 
 pub link-demand-1 : Demand1 link
 link-demand-1 = demand-1 link link-bounded

@@ -1,23 +1,40 @@
 -- What holds of all that the writer's run writes, where it holds at the end and, with one event in front of the rest, goes on to hold.
-use mathlib.Core.Path.{_≡_, refl, subst}
+use mathlib.Core.Path.{_≡_, refl, sym, ap, _∙_, subst}
 use mathlib.Core.Bool.{true, _&&_}
 use mathlib.Core.List.{List, [], _∷_, _++_}
-use Prim.Native.Nat.{ℕ, zero, suc, _+_, _*_}
+use Prim.Native.Nat.{ℕ, zero, suc, _+_, _*_, _<_}
+use native.Mathlib.Omega.{arith}
 use lib.Dec.{eqb}
 use lib.ListN.{length}
 use Rattle.format.specs.Octets.{Octets, Halves}
 use Rattle.format.specs.Events.{Item, _by_}
 use Rattle.format.specs.Tables.{Version}
 use Rattle.format.specs.Items.{State}
-use Rattle.format.specs.Document.{pad, beginning, header}
+use Rattle.format.specs.Document.{pad, beginning}
 use Rattle.events.specs.declared.Event.{Event}
-use Rattle.tables.specs.Located.{Located, start}
+use Rattle.tables.specs.Located.{Located}
+use Rattle.write_head.specs.Given.{Given}
+use Rattle.write_head.specs.Head.{tablesOf, headOctets, faultOfHead}
 use Rattle.writer.specs.Events.{isContent, eventOf}
 use Rattle.writer.specs.Items.{WroteItem, writeItem}
 use Rattle.writer.specs.Writing.{announced, Result, written, refusal, plus, settled, fits, halvesOf, judge, finish, run, writing}
 use Rattle.theorems.proofs.Lists.{test}
 
 module _ (ver : Version) (text : Octets) (room : ℕ) where
+  -- a result is of the run, if the head is right, or the head's refusal
+  pub by-head : (g : Given) (es : List Event) (P : Result → Type 0) → (faultOfHead ver text g room ≡ 0 → P (run ver text room (2 * length (headOctets ver text g)) (beginning (tablesOf ver g)) 0 es))
+      → ((n : ℕ) → faultOfHead ver text g room ≡ suc n → P (refusal (suc n) 0)) → P (writing ver g text room es)
+  unfolding writing
+  by-head g es P right wrong = from (faultOfHead ver text g room) refl
+    where
+      from : (n : ℕ) → faultOfHead ver text g room ≡ n
+          → P (elim n [ zero ↦ run ver text room (2 * length (headOctets ver text g)) (beginning (tablesOf ver g)) 0 es | suc n ↦ refusal (suc n) 0 ])
+      from zero e = right e
+      from (suc n) e = wrong n e
+
+  pub head-refused : (g : Given) (es : List Event) (n : ℕ) → faultOfHead ver text g room ≡ n → 0 < n → writing ver g text room es ≡ refusal n 0
+  head-refused g es n e k = by-head g es (λ r. r ≡ refusal n 0) (λ z. absurd (omega arith)) (λ m q. ap (λ (j : ℕ). refusal j 0) (sym q ∙ e))
+
   -- what an event is written as, and its halves, where es follow it
   abbrev pub wroteOf : Event → List Event → State Located → WroteItem
   wroteOf e es v = writeItem ver text (announced (e ∷ es)) (settled v (eventOf (e .kind) e)) (eventOf (e .kind) e)
@@ -50,7 +67,9 @@ module _ (ver : Version) (text : Octets) (room : ℕ) where
           let v′ : State Located = wroteOf e es v .state in
           turned e es at v i (run ver text room at′ v′ (suc i) es) (all-written es at′ v′ (suc i)) (judge ver text room at v e (wroteOf e es v) (ownOf e es at v)) refl
 
-      pub as-written : (es : List Event) (items : List (Item Located)) (hs : Halves) (z : State Located) → writing ver text room es ≡ written items hs z
-          → P es (2 * length (header ver)) (beginning (start ver)) items hs z
-      unfolding writing
-      as-written es items hs z e = subst (IfWritten es (2 * length (header ver)) (beginning (start ver))) e (all-written es (2 * length (header ver)) (beginning (start ver)) 0)
+      pub as-written : (g : Given) (es : List Event) (items : List (Item Located)) (hs : Halves) (z : State Located) → writing ver g text room es ≡ written items hs z
+          → P es (2 * length (headOctets ver text g)) (beginning (tablesOf ver g)) items hs z
+      as-written g es items hs z e =
+          let at : ℕ = 2 * length (headOctets ver text g) in
+          let v : State Located = beginning (tablesOf ver g) in
+          subst (IfWritten es at v) e (by-head g es (IfWritten es at v) (λ r. all-written es at v 0) (λ n f. tt))

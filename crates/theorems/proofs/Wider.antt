@@ -4,13 +4,12 @@ use mathlib.Core.Option.{Option}
 use mathlib.Core.List.{List}
 use native.Mathlib.Omega.{arith}
 use Rattle.format.specs.Octets.{Octets, Halves}
-use Rattle.format.specs.Numbers.{top}
 use Rattle.format.specs.Events.{Name, How, NameHow, Item}
-use Rattle.format.specs.Tables.{StringTable, Vocabulary, Version, standard, starting}
+use Rattle.format.specs.Tables.{StringTable, Vocabulary, Version}
 use Rattle.format.specs.Strings.{Identifying, id-spelled, id-numbered, Optional, absent, present, Layout, Literal, literal-spelled, literal-numbered, Value, value-empty, value}
 use Rattle.format.specs.Names.{NameLayout, Named, in-parts, by-number, Declared, declared}
 use Rattle.format.specs.Items.{State, ItemWrittenAs, o-start, o-first-namespace, o-namespace, o-named-start, o-attribute, o-text, o-comment, o-instruction}
-use Rattle.format.specs.Document.{Written, document-end, attributes-end, element-end, item, header, Document}
+use Rattle.format.specs.Document.{Written, document-end, attributes-end, element-end, item}
 
 module _ {ver M : Version} (long : ver .octets ≤ M .octets) (many : ver .entries ≤ M .entries) (deep : ver .depth ≤ M .depth) where
   identifying : {t : StringTable} {v w : Vocabulary Octets} {x : Octets} {h : How} {n : ℕ} {o : Octets}
@@ -54,9 +53,3 @@ module _ {ver M : Version} (long : ver .octets ≤ M .octets) (many : ver .entri
   written (attributes-end md w) = attributes-end md (written w)
   written (element-end md lv w) = element-end md lv (written w)
   written (item u w) = item (octets u) (written w)
-
--- within the standard's own limits
-pub in-standard : {ver : Version} {items : List (Item Octets)} {z : State Octets} {s : Octets} (depth octets : ℕ) → ver .entries ≤ top → ver .octets ≤ octets → ver .depth ≤ depth
-    → Document ver items z s → Document (standard ver depth octets) items z s
-unfolding standard starting header
-in-standard depth octets few long deep d = record { body = d .body; here = d .here; rule = written long few deep (d .rule); short = omega arith }

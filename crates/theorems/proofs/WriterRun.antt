@@ -16,7 +16,8 @@ use Rattle.format.specs.Events as E
 use Rattle.format.specs.Events.{Item, _by_, IsDocument, BeginsDocument, openAfter, declaresLast, isDeclaration, isStart, opensElement}
 use Rattle.format.specs.Tables.{Vocabulary, InLimits, Version}
 use Rattle.format.specs.Items.{Mode, content, declaring, listing, State, knowing}
-use Rattle.format.specs.Document.{halves, pad, aligned, Written, document-end, knownAfter, beginning, Begun, header, started}
+use Rattle.format.specs.Document.{halves, pad, aligned, Written, document-end, knownAfter, beginning, Begun}
+use Rattle.format.specs.Head.{Opens}
 use Rattle.events.specs.declared.Event.{Event}
 use Rattle.events.specs.WellMade.{WellMade}
 use Rattle.tables.specs.Located.{Located, octetsOf, plain, plainTables, plainState}
@@ -27,11 +28,14 @@ use Rattle.writer.specs.Items.{WroteItem, writeItem}
 use Rattle.writer.specs.Writing.{attributeNext, announced, Result, written, refusal, plus, opens, settled, fits, halvesOf, judge, finish, run, trace}
 use Rattle.tables.proofs.Found.{clash, both-true}
 use Rattle.theorems.specs.Bounded.{Bounded}
+use Rattle.theorems.specs.Heads.{headed}
 use Rattle.theorems.specs.Verdicts.{plainOf, plains, itemsOf, Overflows, WrittenIn, upTo, IsEvent, IsShallow, HasEntries, HasRoom, Right, Fault, not-an-event, not-text, too-deep, too-many, no-room, AllRight, Refused, at-event, too-soon, no-room-for-end}
 use Rattle.theorems.proofs.Lists.{halves-length, pad-length, align-is}
 use Rattle.theorems.proofs.Splits.{splits-last}
 use Rattle.theorems.proofs.Words.{map-append}
 use Rattle.theorems.proofs.OneWriting.{one-writing}
+use Rattle.theorems.proofs.Heads.{one-head}
+use Rattle.theorems.proofs.Headed.{rule-headed}
 use Rattle.theorems.proofs.Structure as Tree
 use Rattle.theorems.proofs.Structure.{Sane, attributeFirst, stepped}
 use Rattle.theorems.proofs.Begun as Begun
@@ -46,13 +50,14 @@ use Rattle.theorems.proofs.Entries.{chosen-events}
 abbrev pub Knows : Version → ℕ → State Octets → List (Item Octets) → Octets → State Octets → List (State Octets) → Type 0
 Knows ver at v items hs z ks = (w : Written ver at v items hs z) × (knownAfter ver w ≡ ks)
 
-module _ (ver : Version) (ok : Bounded ver) (text : Octets) where
+-- Behind these octets, with which a document opens that has the head h.
+module _ (ver : Version) (ok : Bounded ver) (text : Octets) (h : Vocabulary Octets) (lead : Octets) (op : Opens ver h lead (headed ver h)) where
   -- Where the writer stands behind the plain events ps, with es ahead.
   pub record Stands (ps : List (E.Event Octets)) (at : ℕ) (v : State Located) (es : List Event) : Type 0 where
     pub halves : Halves
-    pub begun : Begun ver (2 * length (header ver)) (beginning (started ver)) (itemsOf ver ps) halves (plainState text v)
-    pub at-is : at ≡ 2 * length (header ver) + length halves
-    pub tables : plainTables text (v .tables) ≡ tablesAfter ver (started ver) ps
+    pub begun : Begun ver (2 * length lead) (beginning (headed ver h)) (itemsOf ver h ps) halves (plainState text v)
+    pub at-is : at ≡ 2 * length lead + length halves
+    pub tables : plainTables text (v .tables) ≡ tablesAfter ver (headed ver h) ps
     pub order : Order ver (plainTables text (v .tables))
     pub ahead : Ahead (v .mode) (announced es)
     pub sane : Sane (plainState text v)
@@ -82,48 +87,48 @@ module _ (ver : Version) (ok : Bounded ver) (text : Octets) where
     hs = halvesOf ver text room at v ev wi
 
     -- 16: the structure
-    goes-if : BeginsDocument (upTo ver text room before e) → goesOn v ev ≡ true
+    goes-if : BeginsDocument (upTo ver h text room before e) → goesOn v ev ≡ true
     goes-if b =
         let d : IsDocument (ps ++ (pe ∷ b .rest)) = rw append-assoc at (b .whole) in
         sym (Tree.same-kind (octetsOf text) ev .goes-too (plainTables text (v .tables)) v) ∙ Tree.goes pv pe (b .rest) (st .sane) (st .forth (pe ∷ b .rest) (sym (next-is text e es)) d)
 
-    begins : goesOn v ev ≡ true → BeginsDocument (upTo ver text room before e)
+    begins : goesOn v ev ≡ true → BeginsDocument (upTo ver h text room before e)
     begins go =
         let c = Tree.completes (record { prefix = none; namespace = none; local = [] }) (stepped a pv pe) in
         let d = st .back (pe ∷ c .0) (Tree.back a pv pe (c .0) (Tree.same-kind (octetsOf text) ev .goes-too (plainTables text (v .tables)) v ∙ go) (c .1)) in
         record { rest = c .0; whole = rw append-assoc d }
 
-    is-event : wellMade text (e .kind) e ≡ true → goesOn v ev ≡ true → IsEvent ver text room before e
+    is-event : wellMade text (e .kind) e ≡ true → goesOn v ev ≡ true → IsEvent ver h text room before e
     is-event m go = (made-is text e (e .kind) refl m, begins go)
 
-    event-is : IsEvent ver text room before e → (wellMade text (e .kind) e && goesOn v ev) ≡ true
+    event-is : IsEvent ver h text room before e → (wellMade text (e .kind) e && goesOn v ev) ≡ true
     event-is i = ap₂ (λ (x y : Bool). x && y) (is-made text (i .0)) (goes-if (i .1))
 
     -- 13: the open elements
     level-is : v .level ≡ openAfter 0 ps
     unfolding beginning
-    level-is = Begun.level-is (st .begun) ∙ ap (openAfter 0) (chosen-events ver (started ver) ps)
+    level-is = Begun.level-is (st .begun) ∙ ap (openAfter 0) (chosen-events ver (headed ver h) ps)
 
     declaring-is : isDeclaring (v .mode) ≡ declaresLast false ps
     unfolding beginning
-    declaring-is = Begun.declaring-is (st .begun) ∙ ap (declaresLast false) (chosen-events ver (started ver) ps)
+    declaring-is = Begun.declaring-is (st .begun) ∙ ap (declaresLast false) (chosen-events ver (headed ver h) ps)
 
     opens-element : opens (v .mode) ev ≡ opensElement ps pe
     unfolding opensElement
     opens-element = sym (Tree.same-kind (octetsOf text) ev .opens-too (v .mode)) ∙ opens-is (v .mode) pe ∙ ap (λ (b : Bool). (isDeclaration pe || isStart pe) && not b) declaring-is
 
-    shallow-from : (b : Bool) → opens (v .mode) ev ≡ b → (b && leb (ver .depth) (v .level)) ≡ false → IsShallow ver text room before e
+    shallow-from : (b : Bool) → opens (v .mode) ev ≡ b → (b && leb (ver .depth) (v .level)) ≡ false → IsShallow ver h text room before e
     shallow-from true q f o = let l = leb-false (ver .depth) (v .level) f in let k = level-is in omega arith
     shallow-from false q f o = clash (sym q ∙ opens-element ∙ o)
 
-    from-shallow : (b : Bool) → opens (v .mode) ev ≡ b → IsShallow ver text room before e → (b && leb (ver .depth) (v .level)) ≡ false
+    from-shallow : (b : Bool) → opens (v .mode) ev ≡ b → IsShallow ver h text room before e → (b && leb (ver .depth) (v .level)) ≡ false
     from-shallow true q f = let l = f (sym opens-element ∙ q) in let k = level-is in lt-leb (ver .depth) (v .level) (omega arith)
     from-shallow false q f = refl
 
     -- 12: the tables
-    tables-are : tablesAfter ver (started ver) (upTo ver text room before e) ≡ chooseFor ver (pv .tables) pe .tables
+    tables-are : tablesAfter ver (headed ver h) (upTo ver h text room before e) ≡ chooseFor ver (pv .tables) pe .tables
     unfolding tablesAfter
-    tables-are = tables-append ver (started ver) ps (pe ∷ []) ∙ ap (λ (w : Vocabulary Octets). chooseFor ver w pe .tables) (sym (st .tables))
+    tables-are = tables-append ver (headed ver h) ps (pe ∷ []) ∙ ap (λ (w : Vocabulary Octets). chooseFor ver w pe .tables) (sym (st .tables))
 
     words-next : plainTables text (wi .state .tables) ≡ chooseFor ver (pv .tables) pe .tables
     words-next = ap (λ (u : State Octets). u .tables) (next-plain ver text a v ev) ∙ next-words ver a pv pe
@@ -134,13 +139,13 @@ module _ (ver : Version) (ok : Bounded ver) (text : Octets) where
     entries-if : within ver (wi .state .tables) ≡ true → InLimits ver (chooseFor ver (pv .tables) pe .tables)
     entries-if i = fits-of ver _ (within-is ∙ i) (rest-for ver (pv .tables) pe (st .order))
 
-    if-entries : HasEntries ver text room before e → within ver (wi .state .tables) ≡ true
+    if-entries : HasEntries ver h text room before e → within ver (wi .state .tables) ≡ true
     if-entries i = sym within-is ∙ of-fits ver _ (subst (InLimits ver) tables-are i)
 
     -- 14: the room
-    items-are : itemsOf ver (upTo ver text room before e) ≡ itemsOf ver ps ++ ((pe by chooseFor ver (pv .tables) pe .how) ∷ [])
+    items-are : itemsOf ver h (upTo ver h text room before e) ≡ itemsOf ver h ps ++ ((pe by chooseFor ver (pv .tables) pe .how) ∷ [])
     unfolding chosen
-    items-are = chosen-append ver (started ver) ps (pe ∷ []) ∙ ap (λ (w : Vocabulary Octets). itemsOf ver ps ++ ((pe by chooseFor ver w pe .how) ∷ [])) (sym (st .tables))
+    items-are = chosen-append ver (headed ver h) ps (pe ∷ []) ∙ ap (λ (w : Vocabulary Octets). itemsOf ver h ps ++ ((pe by chooseFor ver w pe .how) ∷ [])) (sym (st .tables))
 
     -- an event whose other tests are passed
     module _ (go : goesOn v ev ≡ true) (sd : Said pe) (deep : (opens (v .mode) ev && leb (ver .depth) (v .level)) ≡ false) (few : InLimits ver (chooseFor ver (pv .tables) pe .tables)) where
@@ -149,19 +154,19 @@ module _ (ver : Version) (ok : Bounded ver) (text : Octets) where
           rw (halves-plain ver text a v ev room at, next-plain ver text a v ev)
           (front-by ver (ok .few-entries) ver at a pv pe (st .ahead) (st .order .ranged) sd (Tree.same-kind (octetsOf text) ev .goes-too (plainTables text (v .tables)) v ∙ go) (rw (Tree.same-kind (octetsOf text) ev .opens-too (v .mode)) deep) few)
 
-      so-far : Begun ver (2 * length (header ver)) (beginning (started ver)) (itemsOf ver (upTo ver text room before e)) (st .halves ++ hs) (plainState text (wi .state))
+      so-far : Begun ver (2 * length lead) (beginning (headed ver h)) (itemsOf ver h (upTo ver h text room before e)) (st .halves ++ hs) (plainState text (wi .state))
       so-far = rw items-are (Begun.begun-more (st .begun) (subst (λ (k : ℕ). Begun ver k pv ((pe by chooseFor ver (pv .tables) pe .how) ∷ []) hs (plainState text (wi .state))) (st .at-is) one))
 
-      at-then : at + length hs ≡ 2 * length (header ver) + length (st .halves ++ hs)
+      at-then : at + length hs ≡ 2 * length lead + length (st .halves ++ hs)
       at-then = let l = length-append (st .halves) hs in omega arith
 
-      room-if : fits ver text room (at + length hs) ≡ true → HasRoom ver text room before e
+      room-if : fits ver text room (at + length hs) ≡ true → HasRoom ver h text room before e
       unfolding fits
-      room-if f = record { halves = st .halves ++ hs; last = plainState text (wi .state); are = so-far; fit = leb-true _ _ (rw at-then at f) }
+      room-if f = record { before = lead; opens = op; halves = st .halves ++ hs; last = plainState text (wi .state); are = so-far; fit = leb-true _ _ (rw at-then at f) }
 
-      over-if : fits ver text room (at + length hs) ≡ false → Overflows ver room (itemsOf ver (upTo ver text room before e))
+      over-if : fits ver text room (at + length hs) ≡ false → Overflows ver h room (itemsOf ver h (upTo ver h text room before e))
       unfolding fits
-      over-if f = record { halves = st .halves ++ hs; last = plainState text (wi .state); are = so-far; over = leb-false _ _ (rw at-then at f) }
+      over-if f = record { before = lead; opens = op; halves = st .halves ++ hs; last = plainState text (wi .state); are = so-far; over = leb-false _ _ (rw at-then at f) }
 
       -- and so the writer stands behind it
       goes-plain : goesOn pv pe ≡ true
@@ -190,8 +195,8 @@ module _ (ver : Version) (ok : Bounded ver) (text : Octets) where
     -- the verdict: the event is right, and the writer goes on behind it; or its first fault
     abbrev Verdict : ℕ → Type 0
     Verdict n = elim n [
-      | zero ↦ Right ver text room before e × Stands (plains text (before ++ (e ∷ []))) (at + length hs) (wi .state) es × Begun ver at pv ((pe by chooseFor ver (pv .tables) pe .how) ∷ []) hs (plainState text (wi .state))
-      | suc k ↦ Fault ver text room before e (suc k)
+      | zero ↦ Right ver h text room before e × Stands (plains text (before ++ (e ∷ []))) (at + length hs) (wi .state) es × Begun ver at pv ((pe by chooseFor ver (pv .tables) pe .how) ∷ []) hs (plainState text (wi .state))
+      | suc k ↦ Fault ver h text room before e (suc k)
     ]
 
     can-say : WellMade text e → Each IsText pe → Said pe
@@ -205,7 +210,7 @@ module _ (ver : Version) (ok : Bounded ver) (text : Octets) where
         m : (wellMade text (e .kind) e ≡ true) × (goesOn v ev ≡ true)
         m = both-true (wellMade text (e .kind) e) (goesOn v ev) e1
 
-        i : IsEvent ver text room before e
+        i : IsEvent ver h text room before e
         i = is-event (m .0) (m .1)
 
         said-from : (b2 b3 b4 b5 : Bool) → allText text ev ≡ b2 → (opens (v .mode) ev && leb (ver .depth) (v .level)) ≡ b3 → within ver (wi .state .tables) ≡ b4 → fits ver text room (at + length hs) ≡ b5
@@ -249,18 +254,18 @@ module _ (ver : Version) (ok : Bounded ver) (text : Octets) where
     Judged before at v es ks (written items hs z) =
         Knows ver at (plainState text v) (map (plain text) items) hs (plainState text z) (map (plainState text) ks)
         × (map (plain text) items ≡ chosen ver (plainTables text (v .tables)) (plains text es))
-        × AllRight ver text room (before ++ es)
-    Judged before at v es ks (refusal n p) = Refused ver text room (before ++ es) n p
+        × AllRight ver h text room (before ++ es)
+    Judged before at v es ks (refusal n p) = Refused ver h text room (before ++ es) n p
 
-    right-last : (before : List Event) (e : Event) → AllRight ver text room before → Right ver text room before e → AllRight ver text room (before ++ (e ∷ []))
+    right-last : (before : List Event) (e : Event) → AllRight ver h text room before → Right ver h text room before e → AllRight ver h text room (before ++ (e ∷ []))
     right-last before e all r b y after q =
-        splits-last before e b y after q (λ same is. subst (λ (l : List Event). Right ver text room l y) same (subst (Right ver text room before) is r)) (λ mid p. all b y mid p)
+        splits-last before e b y after q (λ same is. subst (λ (l : List Event). Right ver h text room l y) same (subst (Right ver h text room before) is r)) (λ mid p. all b y mid p)
 
-    module _ (before : List Event) (at : ℕ) (v : State Located) (i : ℕ) (is : i ≡ length before) (st : Stands (plains text before) at v []) (all : AllRight ver text room before) where
-      nothing-more : AllRight ver text room (before ++ [])
+    module _ (before : List Event) (at : ℕ) (v : State Located) (i : ℕ) (is : i ≡ length before) (st : Stands (plains text before) at v []) (all : AllRight ver h text room before) where
+      nothing-more : AllRight ver h text room (before ++ [])
       nothing-more = rw (append-nil before) all
 
-      refused-at : {n : ℕ} → Refused ver text room before n (length before) → Refused ver text room (before ++ []) n i
+      refused-at : {n : ℕ} → Refused ver h text room before n (length before) → Refused ver h text room (before ++ []) n i
       refused-at r = rw (append-nil before, is) r
 
       at-end : IsDocument (plains text before) → (isContent (v .mode) && (eqb (v .level) 0 && v .root)) ≡ true
@@ -284,20 +289,22 @@ module _ (ver : Version) (ok : Bounded ver) (text : Octets) where
         a-document = rw (append-nil (plains text before)) at (st .back [] (Tree.ended-back (plainState text v) ended))
 
         -- the whole, if the rules write it, is as long as what the writer counts
-        whole-fits : WrittenIn ver room (itemsOf ver (plains text before)) → fits ver text room (suc at) ≡ true
+        whole-fits : WrittenIn ver h room (itemsOf ver h (plains text before)) → fits ver text room (suc at) ≡ true
         unfolding fits
         whole-fits w =
-            let ours = Begun.begun-written (st .begun) (document-end {at = 2 * length (header ver) + length (st .halves)} (ended .0) (ended .1) (ended .2)) in
-            let same = one-writing (w .writes .rule) (rw (append-nil (itemsOf ver (plains text before))) at ours) .0 in
+            let ours = Begun.begun-written (st .begun) (document-end {at = 2 * length lead + length (st .halves)} (ended .0) (ended .1) (ended .2)) in
+            let o : w .writes .before ≡ lead = one-head (w .writes .opens) op .0 in
+            let same = one-writing (rw o at (rule-headed (w .writes))) (rw (append-nil (itemsOf ver h (plains text before))) at ours) .0 in
+            let l0 = ap length o in
             let l1 = ap length (w .writes .here) in
             let l2 = halves-length (w .octets) in
-            let l3 = length-append (halves (header ver)) (w .writes .body) in
-            let l4 = halves-length (header ver) in
+            let l3 = length-append (halves (w .writes .before)) (w .writes .body) in
+            let l4 = halves-length (w .writes .before) in
             let l5 = ap length same in
-            let l6 = length-append (st .halves) (15 ∷ pad (suc (2 * length (header ver) + length (st .halves)))) in
-            let l7 = pad-length (suc (2 * length (header ver) + length (st .halves))) in
-            let l8 = align-is (suc (2 * length (header ver) + length (st .halves))) in
-            rw (st .at-is) (le-leb (aligned (suc (2 * length (header ver) + length (st .halves))) / 2) (min room (ver .octets)) (omega arith))
+            let l6 = length-append (st .halves) (15 ∷ pad (suc (2 * length lead + length (st .halves)))) in
+            let l7 = pad-length (suc (2 * length lead + length (st .halves))) in
+            let l8 = align-is (suc (2 * length lead + length (st .halves))) in
+            rw (st .at-is) (le-leb (aligned (suc (2 * length lead + length (st .halves))) / 2) (min room (ver .octets)) (omega arith))
 
       finish-judged : Judged before at v [] [] (finish ver text room at v i)
       unfolding finish chosen knownAfter
@@ -313,7 +320,7 @@ module _ (ver : Version) (ok : Bounded ver) (text : Octets) where
               from-room false f = refused-at (no-room-for-end all (a-document t) (λ w. clash (sym f ∙ whole-fits t w)))
 
     -- an event in front of the rest
-    module _ (before : List Event) (e : Event) (es : List Event) (at : ℕ) (v : State Located) (st : Stands (plains text before) at v (e ∷ es)) (all : AllRight ver text room before) where
+    module _ (before : List Event) (e : Event) (es : List Event) (at : ℕ) (v : State Located) (st : Stands (plains text before) at v (e ∷ es)) (all : AllRight ver h text room before) where
       abbrev item : WroteItem
       item = wi short room before e es at v st
 
@@ -340,13 +347,13 @@ module _ (ver : Version) (ok : Bounded ver) (text : Octets) where
       in-front b ks (refusal n p) j = rw regrouped at j
 
       turned : (i : ℕ) → i ≡ length before → (ks : List (State Located)) (r : Result)
-          → (Stands (plains text (before ++ (e ∷ []))) (at + length own) (item .state) es → AllRight ver text room (before ++ (e ∷ [])) → Judged (before ++ (e ∷ [])) (at + length own) (item .state) es ks r)
+          → (Stands (plains text (before ++ (e ∷ []))) (at + length own) (item .state) es → AllRight ver h text room (before ++ (e ∷ [])) → Judged (before ++ (e ∷ [])) (at + length own) (item .state) es ks r)
           → (n : ℕ) → Verdict short room before e es at v st n
           → Judged before at v (e ∷ es) (elim n [ zero ↦ item .state ∷ ks | suc k ↦ [] ]) (elim n [ zero ↦ plus (eventOf (e .kind) e by item .choice) own r | suc k ↦ refusal (suc k) i ])
       turned i is ks r rec zero o = in-front (o .2) ks r (rec (o .1) (right-last before e all (o .0)))
       turned i is ks r rec (suc k) f = rw is (at-event es refl all f)
 
-    pub run-judged : (es : List Event) (before : List Event) (at : ℕ) (v : State Located) (i : ℕ) → i ≡ length before → Stands (plains text before) at v es → AllRight ver text room before
+    pub run-judged : (es : List Event) (before : List Event) (at : ℕ) (v : State Located) (i : ℕ) → i ≡ length before → Stands (plains text before) at v es → AllRight ver h text room before
         → Judged before at v es (trace ver text room at v es) (run ver text room at v i es)
     unfolding run trace
     run-judged [] before at v i is st all = finish-judged before at v i is st all

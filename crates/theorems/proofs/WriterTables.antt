@@ -10,22 +10,24 @@ use lib.ListN.{length}
 use Rattle.format.specs.Octets.{Octets, Halves}
 use Rattle.format.specs.Events as E
 use Rattle.format.specs.Events.{Name, How, spelled, numbered, NameHow, Item, _by_}
-use Rattle.format.specs.Tables.{StringTable, PREFIX, NAMESPACE-NAME, LOCAL-NAME, OTHER-NCNAME, ATTRIBUTE-VALUE, CONTENT-CHARACTER-CHUNK, OTHER-STRING, Vocabulary, strings, names, starting, Version}
+use Rattle.format.specs.Tables.{StringTable, PREFIX, NAMESPACE-NAME, LOCAL-NAME, OTHER-NCNAME, ATTRIBUTE-VALUE, CONTENT-CHARACTER-CHUNK, OTHER-STRING, Tables, Vocabulary, strings, names, Version}
 use Rattle.format.specs.Strings.{keeping, Layout, c14, c15}
 use Rattle.format.specs.Names.{NameLayout, ofElement, ofAttribute}
 use Rattle.format.specs.Items.{State}
 use Rattle.format.specs.Document.{beginning}
-use Rattle.format.specs.Uses.{ofString, ofOption, ofName, ofItem, acts, after}
+use Rattle.format.specs.Uses.{ofString, ofOption, ofName, ofItem, acts, after, Holds}
 use Rattle.events.specs.declared.Event.{Event}
-use Rattle.tables.specs.Located.{Located, builtInPrefix, builtInNamespace, octetsOf, start}
+use Rattle.tables.specs.Located.{Located, octetsOf}
 use Rattle.tables.specs.Search.{numberIn, numberOfTriple}
 use Rattle.write_names.specs.Choices.{Wrote, writeId, writeOptional, writeName, worthAdding, writeLiteral, writeValue}
+use Rattle.write_head.specs.Given.{Given}
+use Rattle.write_head.specs.Head.{tablesOf}
 use Rattle.writer.specs.Events.{isListing, eventOf}
 use Rattle.writer.specs.Items.{writeItem, nameLead}
 use Rattle.writer.specs.Writing.{announced, written, isAttribute, settled, writing}
 use Rattle.theorems.proofs.Lists.{either}
 use Rattle.theorems.proofs.Turns.{as-written}
-use Rattle.theorems.proofs.Earlier.{Adds, adds-none, adds-both, adds-string, adds-name, adds-number, adds-name-number, adds-start}
+use Rattle.theorems.proofs.Earlier.{Adds, adds-none, adds-both, adds-string, adds-name, adds-number, adds-name-number}
 
 -- ---- strings and names
 number-adds : (t : StringTable) (v : Vocabulary Located) (x : Located) (k : ℕ) → Adds v (ofString t x (numbered k)) v
@@ -98,11 +100,10 @@ module _ (text : Octets) where
         either (λ (u : State Located). Adds (v .tables) (ofItem (e by writeItem ver text a u e .choice)) (writeItem ver text a u e .state .tables))
         (isListing (v .mode) && not (isAttribute e)) _ _ (λ q. item-adds a _ e) (λ q. item-adds a v e)
 
--- ---- a document
-pub strings-written : (ver : Version) (text : Octets) (room : ℕ) (es : List Event) (items : List (Item Located)) (hs : Halves) (z : State Located) → writing ver text room es ≡ written items hs z
-    → (t : StringTable) → strings (z .tables) t ≡ strings (after (starting ver builtInPrefix builtInNamespace) (acts items)) t
-unfolding beginning start
-strings-written ver text room es items hs z e =
-    adds-start ver builtInPrefix builtInNamespace
-    (as-written ver text room (λ es at v items hs z. Adds (v .tables) (acts items) (z .tables)) (λ at v f. adds-none)
-    (λ e es at v items rest z q h. adds-both (settled-adds text ver (announced (e ∷ es)) v (eventOf (e .kind) e)) h) es items hs z e)
+-- ---- a document: from tables that are y with the names themselves
+pub strings-written : (ver : Version) (text : Octets) (room : ℕ) (g : Given) (es : List Event) (items : List (Item Located)) (hs : Halves) (z : State Located) → writing ver g text room es ≡ written items hs z
+    → (y : Tables Located (Name Located)) → Holds (tablesOf ver g) y → (t : StringTable) → strings (z .tables) t ≡ strings (after y (acts items)) t
+unfolding beginning
+strings-written ver text room g es items hs z e y held =
+    as-written ver text room (λ es at v items hs z. Adds (v .tables) (acts items) (z .tables)) (λ at v f. adds-none)
+    (λ e es at v items rest z q h. adds-both (settled-adds text ver (announced (e ∷ es)) v (eventOf (e .kind) e)) h) g es items hs z e .then y (held .strings-are)

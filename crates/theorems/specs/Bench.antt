@@ -1,41 +1,47 @@
 -- The bench (the requirements, "Documents on the bench"): the cases of its first two tables, and others with what these leave out, in one list. That each is found as it is wanted is proofs/Bench.
-use Prim.Native.Nat.{ℕ}
+use Prim.Native.Nat.{ℕ, zero, suc}
 use mathlib.Core.Option.{none, some}
 use mathlib.Core.List.{List, [], _∷_, _++_, map}
 use lib.ListN.{replicate}
 use Rattle.format.specs.Octets.{Octets}
 use Rattle.format.specs.Events.{Name, Event, Namespace, Start, Attribute, Text, Comment, Instruction, End, eventMap}
-use Rattle.format.specs.Tables.{Triple, Vocabulary, xmlPrefix, xmlNamespace, link}
-use Rattle.format.specs.Document.{header}
+use Rattle.format.specs.Tables.{Triple, Vocabulary, noEntries, xmlPrefix, xmlNamespace, link}
 use Rattle.tables.specs.Located.{Located, octetsOf, plainTables}
+use Rattle.events.specs.declared.EventString.{EventString}
+use Rattle.events.specs.declared.EventString.the-variants.{Stretch}
 use Rattle.reader.specs.Reading as RReading
+use Rattle.write_head.specs.Given.{Given}
+use Rattle.write_head.specs.Head.{headOctets}
 use Rattle.writer.specs.Writing as WWriting
 
--- A document, the events and the tables that it stands for; or octets, the refusal's number and its place.
+-- A document, the tables that its head lists, as they are given to the writer with the document as text area, and the events and the tables that it stands for; or octets, the refusal's
+-- number and its place.
 pub data Case : Type 0 where
-  document : Octets → List (Event Octets) → Vocabulary Octets → Case
+  document : Octets → Given → List (Event Octets) → Vocabulary Octets → Case
   refused : Octets → (number place : ℕ) → Case
 
--- What reading finds: events and tables, and what writing these events, with the document as text area, gives; or a refusal.
+-- What reading finds: events and tables, and what writing these events behind the given tables, with the document as text area, gives; or a refusal.
 pub data Found : Type 0 where
   found : List (Event Octets) → Vocabulary Octets → Octets → Vocabulary Octets → Found
   number : ℕ → ℕ → Found
 
-abbrev pub both : Octets → List RReading.EventRead → Vocabulary Located → WWriting.Result → Found
-both s es v (WWriting.written js hs z) =
-    found (map (λ (e : RReading.EventRead). eventMap (octetsOf s) (e .item .event)) es) (plainTables s v) (header link ++ WWriting.joined hs) (plainTables s (z .tables))
-both s es v (WWriting.refusal n p) = number n p
+abbrev eventsIn : Octets → List RReading.EventRead → List (Event Octets)
+eventsIn s es = map (λ (e : RReading.EventRead). eventMap (octetsOf s) (e .item .event)) es
 
-abbrev pub read : Octets → RReading.Result → Found
-read s (RReading.accepted es m) = both s es (m .state .tables) (WWriting.writing link s 16384 (map RReading.recordRead es))
-read s (RReading.refusal n p) = number n p
+abbrev pub both : Octets → Given → List RReading.EventRead → Vocabulary Located → WWriting.Result → Found
+both s g es v (WWriting.written js hs z) = found (eventsIn s es) (plainTables s v) (headOctets link s g ++ WWriting.joined hs) (plainTables s (z .tables))
+both s g es v (WWriting.refusal n p) = number n p
+
+abbrev pub read : Octets → Given → RReading.Result → Found
+read s g (RReading.accepted es m) = both s g es (m .state .tables) (WWriting.writing link g s 16384 (map RReading.recordRead es))
+read s g (RReading.refusal n p) = number n p
 
 abbrev pub finds : Case → Found
-finds (document s es v) = read s (RReading.reading link s 32768)
-finds (refused s n p) = read s (RReading.reading link s 32768)
+finds (document s g es v) = read s g (RReading.reading link s 32768)
+finds (refused s n p) = read s noEntries (RReading.reading link s 32768)
 
 abbrev pub wants : Case → Found
-wants (document s es v) = found es v s v
+wants (document s g es v) = found es v s v
 wants (refused s n p) = number n p
 
 -- Strings of the cases.
@@ -67,6 +73,10 @@ fives = 0x66 ∷ 0x69 ∷ 0x76 ∷ 0x65 ∷ 0x73 ∷ []
 abbrev sixsix : Octets
 sixsix = 0x73 ∷ 0x69 ∷ 0x78 ∷ 0x73 ∷ 0x69 ∷ 0x78 ∷ []
 
+-- Strings of nine octets, which differ in the last: their length takes one octet from bit 2 (C.22), and two from bit 5 (C.23).
+abbrev nine : ℕ → Octets
+nine k = 0x6E ∷ 0x69 ∷ 0x6E ∷ 0x65 ∷ 0x2D ∷ 0x6E ∷ 0x69 ∷ 0x6E ∷ k ∷ []
+
 abbrev local : Octets → Name Octets
 local x = record { prefix = none; namespace = none; local = x }
 
@@ -81,36 +91,75 @@ tables ns ls vs cs es ts =
 abbrev behindHeader : Octets → Octets
 behindHeader x = 0xE0 ∷ 0x00 ∷ 0x00 ∷ 0x01 ∷ 0x00 ∷ x
 
+-- A document that has no head.
+abbrev plain : Octets → List (Event Octets) → Vocabulary Octets → Case
+plain s es v = document s noEntries es v
+
+-- Behind the identification and the octet that announces a head.
+abbrev inHead : Octets → Octets
+inHead x = 0xE0 ∷ 0x00 ∷ 0x00 ∷ 0x01 ∷ 0x20 ∷ x
+
+-- Behind a head's table of local names, which lists a, where its table of names of elements begins.
+abbrev inNames : Octets → Octets
+inNames x = inHead (0x00 ∷ 0x82 ∷ 0x00 ∷ 0x00 ∷ 0x61 ∷ x)
+
+-- What the heads of the cases list: one octet at each of these places, as local names, values and chunks; and names of elements.
+abbrev at : ℕ → EventString
+at place = Stretch place 1
+
+abbrev listing : (locals values chunks : List EventString) (elements : List Triple) → Given
+listing ls vs cs es = record { prefixes = []; namespaces = []; locals = ls; ncnames = []; uris = []; values = vs; chunks = cs; others = []; elements = es; attributes = [] }
+
+-- The same octets so many times.
+abbrev times : ℕ → Octets → Octets
+times zero x = []
+times (suc n) x = x ++ times n x
+
+-- A string of nine octets in each table of strings, another in each; a name of an element and one of an attribute; then an element by its number.
+abbrev identified : ℕ → Octets
+identified k = 0x00 ∷ 0x08 ∷ nine k
+
+abbrev another : ℕ → Octets
+another k = 0x00 ∷ 0x08 ∷ 0x00 ∷ nine k
+
+abbrev tenListed : Octets
+tenListed =
+    let names : Octets = 0x00 ∷ 0x03 ∷ 0x01 ∷ 0x00 ∷ 0x00 ∷ 0x00 ∷ 0x00 ∷ 0x00 ∷ [] in
+    inHead
+    (0x03
+    ∷ 0xFF
+    ∷ (identified 0x61 ++ identified 0x62 ++ identified 0x63 ++ identified 0x64 ++ identified 0x65 ++ another 0x66 ++ another 0x67 ++ another 0x68 ++ names ++ (0x00 ∷ 0xFF ∷ [])))
+
 abbrev pub cases : List Case
 cases =
     -- <a/>
-    document (behindHeader (0x3C ∷ 0x00 ∷ 0x61 ∷ 0xFF ∷ [])) (Start (local a) ∷ End ∷ []) (tables [] (a ∷ []) [] [] (triple 0 0 1 ∷ []) [])
+    plain (behindHeader (0x3C ∷ 0x00 ∷ 0x61 ∷ 0xFF ∷ [])) (Start (local a) ∷ End ∷ []) (tables [] (a ∷ []) [] [] (triple 0 0 1 ∷ []) [])
     -- <a><a/></a>
-    ∷ document (behindHeader (0x3C ∷ 0x00 ∷ 0x61 ∷ 0x00 ∷ 0xFF ∷ 0xF0 ∷ [])) (Start (local a) ∷ Start (local a) ∷ End ∷ End ∷ []) (tables [] (a ∷ []) [] [] (triple 0 0 1 ∷ []) [])
+    ∷ plain (behindHeader (0x3C ∷ 0x00 ∷ 0x61 ∷ 0x00 ∷ 0xFF ∷ 0xF0 ∷ [])) (Start (local a) ∷ Start (local a) ∷ End ∷ End ∷ []) (tables [] (a ∷ []) [] [] (triple 0 0 1 ∷ []) [])
     -- <a b="c">hi</a>
-    ∷ document (behindHeader (0x7C ∷ 0x00 ∷ 0x61 ∷ 0x78 ∷ 0x00 ∷ 0x62 ∷ 0x40 ∷ 0x63 ∷ 0xF0 ∷ 0x91 ∷ 0x68 ∷ 0x69 ∷ 0xFF ∷ []))
+    ∷ plain (behindHeader (0x7C ∷ 0x00 ∷ 0x61 ∷ 0x78 ∷ 0x00 ∷ 0x62 ∷ 0x40 ∷ 0x63 ∷ 0xF0 ∷ 0x91 ∷ 0x68 ∷ 0x69 ∷ 0xFF ∷ []))
     (Start (local a) ∷ Attribute (local b) c ∷ Text hi ∷ End ∷ []) (tables [] (a ∷ b ∷ []) (c ∷ []) (hi ∷ []) (triple 0 0 1 ∷ []) (triple 0 0 2 ∷ []))
     -- <a b=""/>
-    ∷ document (behindHeader (0x7C ∷ 0x00 ∷ 0x61 ∷ 0x78 ∷ 0x00 ∷ 0x62 ∷ 0xFF ∷ 0xFF ∷ 0xF0 ∷ []))
+    ∷ plain (behindHeader (0x7C ∷ 0x00 ∷ 0x61 ∷ 0x78 ∷ 0x00 ∷ 0x62 ∷ 0xFF ∷ 0xFF ∷ 0xF0 ∷ []))
     (Start (local a) ∷ Attribute (local b) [] ∷ End ∷ []) (tables [] (a ∷ b ∷ []) [] [] (triple 0 0 1 ∷ []) (triple 0 0 2 ∷ []))
     -- <a xmlns="u"/>
-    ∷ document (behindHeader (0x38 ∷ 0xCD ∷ 0x00 ∷ 0x75 ∷ 0xF0 ∷ 0x3D ∷ 0x81 ∷ 0x00 ∷ 0x61 ∷ 0xFF ∷ []))
+    ∷ plain (behindHeader (0x38 ∷ 0xCD ∷ 0x00 ∷ 0x75 ∷ 0xF0 ∷ 0x3D ∷ 0x81 ∷ 0x00 ∷ 0x61 ∷ 0xFF ∷ []))
     (Namespace none (some u) ∷ Start (record { prefix = none; namespace = some u; local = a }) ∷ End ∷ []) (tables (u ∷ []) (a ∷ []) [] [] (triple 0 2 1 ∷ []) [])
     -- <a>hihi</a>, written as two chunks: they are two events
-    ∷ document (behindHeader (0x3C ∷ 0x00 ∷ 0x61 ∷ 0x91 ∷ 0x68 ∷ 0x69 ∷ 0xA0 ∷ 0xFF ∷ [])) (Start (local a) ∷ Text hi ∷ Text hi ∷ End ∷ [])
+    ∷ plain (behindHeader (0x3C ∷ 0x00 ∷ 0x61 ∷ 0x91 ∷ 0x68 ∷ 0x69 ∷ 0xA0 ∷ 0xFF ∷ [])) (Start (local a) ∷ Text hi ∷ Text hi ∷ End ∷ [])
     (tables [] (a ∷ []) [] (hi ∷ []) (triple 0 0 1 ∷ []) [])
     -- <!--c--><a><?t u?></a>
-    ∷ document (behindHeader (0xE2 ∷ 0x40 ∷ 0x63 ∷ 0x3C ∷ 0x00 ∷ 0x61 ∷ 0xE1 ∷ 0x00 ∷ 0x74 ∷ 0x40 ∷ 0x75 ∷ 0xFF ∷ [])) (Comment c ∷ Start (local a) ∷ Instruction t u ∷ End ∷ [])
+    ∷ plain (behindHeader (0xE2 ∷ 0x40 ∷ 0x63 ∷ 0x3C ∷ 0x00 ∷ 0x61 ∷ 0xE1 ∷ 0x00 ∷ 0x74 ∷ 0x40 ∷ 0x75 ∷ 0xFF ∷ [])) (Comment c ∷ Start (local a) ∷ Instruction t u ∷ End ∷ [])
     (record { prefixes = xmlPrefix ∷ []; namespaces = xmlNamespace ∷ []; locals = a ∷ []; ncnames = t ∷ []; uris = []; values = []; chunks = []; others = c ∷ u ∷ []; elements = triple 0 0 1 ∷ []; attributes = [] })
     -- <p:a xmlns:p="u"/>
-    ∷ document (behindHeader (0x38 ∷ 0xCF ∷ 0x00 ∷ 0x70 ∷ 0x00 ∷ 0x75 ∷ 0xF0 ∷ 0x3F ∷ 0x81 ∷ 0x81 ∷ 0x00 ∷ 0x61 ∷ 0xFF ∷ []))
+    ∷ plain (behindHeader (0x38 ∷ 0xCF ∷ 0x00 ∷ 0x70 ∷ 0x00 ∷ 0x75 ∷ 0xF0 ∷ 0x3F ∷ 0x81 ∷ 0x81 ∷ 0x00 ∷ 0x61 ∷ 0xFF ∷ []))
     (Namespace (some p) (some u) ∷ Start (record { prefix = some p; namespace = some u; local = a }) ∷ End ∷ [])
     (record { prefixes = xmlPrefix ∷ p ∷ []; namespaces = xmlNamespace ∷ u ∷ []; locals = a ∷ []; ncnames = []; uris = []; values = []; chunks = []; others = []; elements = triple 2 2 1 ∷ []; attributes = [] })
     -- a chunk of five octets, which is added, and one of six, which is not
-    ∷ document (behindHeader (0x3C ∷ 0x00 ∷ 0x61 ∷ 0x92 ∷ 0x02 ∷ (fives ++ (0x82 ∷ 0x03 ∷ (sixsix ++ (0xFF ∷ [])))))) (Start (local a) ∷ Text fives ∷ Text sixsix ∷ End ∷ [])
+    ∷ plain (behindHeader (0x3C ∷ 0x00 ∷ 0x61 ∷ 0x92 ∷ 0x02 ∷ (fives ++ (0x82 ∷ 0x03 ∷ (sixsix ++ (0xFF ∷ [])))))) (Start (local a) ∷ Text fives ∷ Text sixsix ∷ End ∷ [])
     (tables [] (a ∷ []) [] (fives ∷ []) (triple 0 0 1 ∷ []) [])
     -- 32 open elements, and one more
-    ∷ document (behindHeader (0x3C ∷ 0x00 ∷ 0x61 ∷ (replicate 31 0x00 ++ (replicate 16 0xFF ++ (0xF0 ∷ []))))) (replicate 32 (Start (local a)) ++ replicate 32 End) (tables [] (a ∷ []) [] [] (triple 0 0 1 ∷ []) [])
+    ∷ plain (behindHeader (0x3C ∷ 0x00 ∷ 0x61 ∷ (replicate 31 0x00 ++ (replicate 16 0xFF ++ (0xF0 ∷ []))))) (replicate 32 (Start (local a)) ++ replicate 32 End) (tables [] (a ∷ []) [] [] (triple 0 0 1 ∷ []) [])
     ∷ refused (behindHeader (0x3C ∷ 0x00 ∷ 0x61 ∷ replicate 32 0x00)) 13 39
     ∷ refused (behindHeader (0xF0 ∷ [])) 15 5
     ∷ refused (behindHeader (0x00 ∷ [])) 10 5
@@ -118,4 +167,74 @@ cases =
     ∷ refused (0xE0 ∷ 0x00 ∷ 0x00 ∷ 0x01 ∷ []) 2 4
     ∷ refused (behindHeader (0x3C ∷ 0x00 ∷ 0x61 ∷ 0xF0 ∷ 0xF0 ∷ [])) 6 9
     ∷ refused (behindHeader (0x3C ∷ 0x00 ∷ 0x61 ∷ 0xFF ∷ 0x00 ∷ [])) 15 9
+    -- <a/>, whose local name and name the head lists
+    ∷ document (inNames (0x00 ∷ 0x00 ∷ 0x00 ∷ 0x00 ∷ 0xFF ∷ [])) (listing (at 9 ∷ []) [] [] (triple 0 0 1 ∷ [])) (Start (local a) ∷ End ∷ []) (tables [] (a ∷ []) [] [] (triple 0 0 1 ∷ []) [])
+    -- <xml:a/>, whose listed name has both built-in entries
+    ∷ document (inNames (0x00 ∷ 0x03 ∷ 0x00 ∷ 0x00 ∷ 0x00 ∷ 0x00 ∷ 0xFF ∷ [])) (listing (at 9 ∷ []) [] [] (triple 1 1 1 ∷ []))
+    (Start (record { prefix = some xmlPrefix; namespace = some xmlNamespace; local = a }) ∷ End ∷ []) (tables [] (a ∷ []) [] [] (triple 1 1 1 ∷ []) [])
+    -- <a>p</a>, whose chunk the head lists
+    ∷ document (inHead (0x00 ∷ 0x08 ∷ 0x00 ∷ 0x00 ∷ 0x70 ∷ 0x3C ∷ 0x00 ∷ 0x61 ∷ 0xA0 ∷ 0xFF ∷ [])) (listing [] [] (at 9 ∷ []) []) (Start (local a) ∷ Text p ∷ End ∷ []) (tables [] (a ∷ []) [] (p ∷ []) (triple 0 0 1 ∷ []) [])
+    -- a value that is listed twice is two entries
+    ∷ document (inHead (0x00 ∷ 0x10 ∷ 0x01 ∷ 0x00 ∷ 0x61 ∷ 0x00 ∷ 0x61 ∷ 0x3C ∷ 0x00 ∷ 0x61 ∷ 0xFF ∷ [])) (listing [] (at 9 ∷ at 11 ∷ []) [] []) (Start (local a) ∷ End ∷ []) (tables [] (a ∷ []) (a ∷ a ∷ []) [] (triple 0 0 1 ∷ []) [])
+    -- <a xmlns:p=""/>, whose prefix the head lists as entry 2
+    ∷ document (inHead (0x02 ∷ 0x00 ∷ 0x00 ∷ 0x00 ∷ 0x70 ∷ 0x38 ∷ 0xCE ∷ 0x81 ∷ 0xF0 ∷ 0x3C ∷ 0x00 ∷ 0x61 ∷ 0xFF ∷ []))
+    (record { prefixes = at 9 ∷ []; namespaces = []; locals = []; ncnames = []; uris = []; values = []; chunks = []; others = []; elements = []; attributes = [] })
+    (Namespace (some p) none ∷ Start (local a) ∷ End ∷ [])
+    (record { prefixes = xmlPrefix ∷ p ∷ []; namespaces = xmlNamespace ∷ []; locals = a ∷ []; ncnames = []; uris = []; values = []; chunks = []; others = []; elements = triple 0 0 1 ∷ []; attributes = [] })
+    -- a head that lists an entry for each of the ten tables
+    ∷ document tenListed
+    (record {
+      prefixes = Stretch 9 9 ∷ [];
+      namespaces = Stretch 20 9 ∷ [];
+      locals = Stretch 31 9 ∷ [];
+      ncnames = Stretch 42 9 ∷ [];
+      uris = Stretch 53 9 ∷ [];
+      values = Stretch 65 9 ∷ [];
+      chunks = Stretch 77 9 ∷ [];
+      others = Stretch 89 9 ∷ [];
+      elements = triple 2 1 1 ∷ [];
+      attributes = triple 0 0 1 ∷ [];
+    })
+    (Start (record { prefix = some (nine 0x61); namespace = some xmlNamespace; local = nine 0x63 }) ∷ End ∷ [])
+    (record {
+      prefixes = xmlPrefix ∷ nine 0x61 ∷ [];
+      namespaces = xmlNamespace ∷ nine 0x62 ∷ [];
+      locals = nine 0x63 ∷ [];
+      ncnames = nine 0x64 ∷ [];
+      uris = nine 0x65 ∷ [];
+      values = nine 0x66 ∷ [];
+      chunks = nine 0x67 ∷ [];
+      others = nine 0x68 ∷ [];
+      elements = triple 2 1 1 ∷ [];
+      attributes = triple 0 0 1 ∷ [];
+    })
+    -- the fifth octet: padding before another optional part
+    ∷ refused (0xE0 ∷ 0x00 ∷ 0x00 ∷ 0x01 ∷ 0xA0 ∷ []) 6 4
+    ∷ refused (0xE0 ∷ 0x00 ∷ 0x00 ∷ 0x01 ∷ 0x60 ∷ 0x00 ∷ 0x82 ∷ []) 4 4
+    -- the head's two octets: missing, nothing listed, an external vocabulary, padding
+    ∷ refused (inHead []) 2 5
+    ∷ refused (inHead (0x00 ∷ [])) 2 5
+    ∷ refused (inHead (0x00 ∷ 0x00 ∷ [])) 15 5
+    ∷ refused (inHead (0x10 ∷ [])) 4 5
+    ∷ refused (inHead (0x30 ∷ 0x00 ∷ [])) 6 5
+    -- the length of a table: padding, too high, the highest
+    ∷ refused (inHead (0x00 ∷ 0x80 ∷ 0x90 ∷ 0x00 ∷ 0x00 ∷ [])) 6 7
+    ∷ refused (inHead (0x00 ∷ 0x80 ∷ 0x8F ∷ 0xFF ∷ 0xFF ∷ [])) 7 7
+    ∷ refused (inHead (0x00 ∷ 0x80 ∷ 0x8F ∷ 0xFF ∷ 0x7F ∷ [])) 2 10
+    -- an entry: padding before an identifying string, twice, and before a chunk; listed twice; the built-in prefix and namespace
+    ∷ refused (inHead (0x00 ∷ 0x80 ∷ 0x00 ∷ 0x80 ∷ 0x61 ∷ [])) 6 8
+    ∷ refused (inHead (0x00 ∷ 0x80 ∷ 0x00 ∷ 0xFF ∷ [])) 6 8
+    ∷ refused (inHead (0x00 ∷ 0x08 ∷ 0x00 ∷ 0x40 ∷ 0x68 ∷ [])) 6 8
+    ∷ refused (inHead (0x00 ∷ 0x80 ∷ 0x01 ∷ 0x00 ∷ 0x61 ∷ 0x00 ∷ 0x61 ∷ [])) 11 10
+    ∷ refused (inHead (0x02 ∷ 0x00 ∷ 0x00 ∷ 0x02 ∷ xmlPrefix)) 11 8
+    ∷ refused (inHead (0x01 ∷ 0x00 ∷ 0x00 ∷ 0x23 ∷ xmlNamespace)) 11 8
+    -- an entry too many: the 257th value
+    ∷ refused (inHead (0x00 ∷ 0x10 ∷ 0x80 ∷ 0x00 ∷ 0x80 ∷ times 257 (0x00 ∷ 0x61 ∷ []))) 12 522
+    -- a name: a prefix without a namespace; padding; its local name not there, the code 111, padding; listed twice
+    ∷ refused (inNames (0x00 ∷ 0x02 ∷ 0x00 ∷ [])) 15 11
+    ∷ refused (inNames (0x00 ∷ 0x04 ∷ 0x00 ∷ [])) 6 11
+    ∷ refused (inNames (0x00 ∷ 0x00 ∷ 0x01 ∷ [])) 10 12
+    ∷ refused (inNames (0x00 ∷ 0x00 ∷ 0xF0 ∷ [])) 5 12
+    ∷ refused (inNames (0x00 ∷ 0x00 ∷ 0xE0 ∷ [])) 6 12
+    ∷ refused (inNames (0x01 ∷ 0x00 ∷ 0x00 ∷ 0x00 ∷ 0x00 ∷ [])) 11 13
     ∷ []

@@ -1,7 +1,9 @@
--- The statements of the theorems. Read Demands, with Verdicts, Places and Permitted for the terms that it uses; Bounded says of which versions they hold, Bench has cases.
+-- The statements of the theorems. Read Demands, with Heads, Verdicts, Places and Permitted for the terms that it uses; Bounded says of which versions they hold, Bench has cases.
 pub mod Bounded
 pub mod Bench
 pub mod Acts
+pub mod Heads
+pub mod Given
 pub mod Verdicts
 pub mod Permitted
 pub mod Places

@@ -1,12 +1,14 @@
--- Where strings are spelled: which strings of an item its choice spells, and at which octets the rules write them.
+-- Where strings are spelled: which strings of an item its choice spells, and at which octets the rules write them; and at which they list those of a head.
 use Prim.Native.Nat.{ℕ, suc, _+_, _-_, _/_}
 use mathlib.Core.Option.{Option, none, some}
 use mathlib.Core.List.{List, [], _∷_, _++_}
 use lib.ListN.{length}
 use Rattle.format.specs.Octets.{Octets, Halves}
 use Rattle.format.specs.Events.{Name, How, spelled, numbered, NameHow, inParts, byNumber, Item}
-use Rattle.format.specs.Tables.{Vocabulary, Version}
+use Rattle.format.specs.Numbers.{spell, c21}
+use Rattle.format.specs.Tables.{StringTable, Vocabulary, Version}
 use Rattle.format.specs.Names.{NameLayout, Named, in-parts, by-number, Declared, declared}
+use Rattle.format.specs.Head.{Table, ofStrings, ofNames, sizeOf, StringListed, Each, no-entry, an-entry, TablesListed, no-table, absent, present, Opens, without-head, with-head}
 use Rattle.format.specs.Items.{State, ItemWrittenAs, o-start, o-first-namespace, o-namespace, o-named-start, o-attribute, o-text, o-comment, o-instruction}
 use Rattle.format.specs.Document.{aligned, Written, document-end, attributes-end, element-end, item}
 use Rattle.format.specs.Uses.{Part, string, name, parts, PartHow, stringHow, nameHow, hows, inTurn}
@@ -75,3 +77,21 @@ module _ {ver : Version} where
   spelledIn (attributes-end md rest) = spelledIn rest
   spelledIn (element-end md lv rest) = spelledIn rest
   spelledIn (item {at = at} u rest) = inItem (aligned at / 2) u ++ spelledIn rest
+
+  -- ---- where the rules list strings: entries, and tables, from octet k on
+  abbrev pub inEntries : (k : ℕ) {t : StringTable} {v w : Vocabulary Octets} {xs : List Octets} {o : Octets} → Each ver (StringListed ver t) v xs o w → List Located
+  inEntries k no-entry = []
+  inEntries k (an-entry {x = x} {o = o} u rest) = stretch (k + length o - length x) (length x) ∷ inEntries (k + length o) rest
+
+  unfoldable pub inTables : (k : ℕ) {h v w : Vocabulary Octets} {ts : List Table} {o : Octets} → TablesListed ver h ts v o w → List Located
+  inTables k no-table = []
+  inTables k (absent empty rest) = inTables k rest
+  inTables k {h} (present {t = ofStrings t} o any few u rest) =
+      let n : ℕ = length (spell c21 0 (sizeOf h (ofStrings t))) in
+      inEntries (k + n) u ++ inTables (k + n + length o) rest
+  inTables k {h} (present {t = ofNames t} o any few u rest) = inTables (k + length (spell c21 0 (sizeOf h (ofNames t))) + length o) rest
+
+  -- and of a head, whose tables stand behind the identification, the octet 20 and the presence bits
+  abbrev pub listedIn : {h w : Vocabulary Octets} {o : Octets} → Opens ver h o w → List Located
+  listedIn without-head = []
+  listedIn (with-head heads any u) = inTables (length (ver .identification) + 3) u

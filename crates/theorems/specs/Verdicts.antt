@@ -1,23 +1,27 @@
--- What the requirements say of each event that is given to the writer, in the words of the rules: which events are right, and the refusal that the first wrong one gives.
+-- What the requirements say of the tables and of each event that are given to the writer, in the words of the rules: which are right, and the refusal that the first wrong one gives.
 use Prim.Native.Nat.{ℕ, _+_, _*_, _/_, _≤_, _<_, min}
 use mathlib.Core.Path.{_≡_}
 use mathlib.Core.Bool.{true}
 use mathlib.Core.List.{List, [], _∷_, _++_, map}
 use lib.ListN.{length}
 use Rattle.format.specs.Octets.{Octets, Halves}
-use Rattle.format.specs.Refusals.{TEXT, FULL, DEPTH, ROOM, EVENT}
+use Rattle.format.specs.Refusals.{TEXT, REPEAT, FULL, DEPTH, ROOM, EVENT}
 use Rattle.format.specs.Characters.{IsText}
 use Rattle.format.specs.Events as E
 use Rattle.format.specs.Events.{Item, eventMap, IsDocument, BeginsDocument, openAfter, deepest, opensElement, stringsOf}
-use Rattle.format.specs.Tables.{Vocabulary, Version, standard, InLimits}
+use Rattle.format.specs.Tables.{StringTable, NameTable, Vocabulary, strings, names, noEntries, Version, standard, InLimits}
 use Rattle.format.specs.Items.{State}
-use Rattle.format.specs.Document.{aligned, beginning, Begun, Document, header, started}
+use Rattle.format.specs.Head.{Opens}
+use Rattle.format.specs.Document.{aligned, beginning, Begun, Document}
 use Rattle.format.specs.Allowed.{All}
-use Rattle.tables.specs.Located.{octetsOf}
+use Rattle.tables.specs.Located.{octetsOf, plainTables}
 use Rattle.events.specs.declared.Event.{Event}
-use Rattle.events.specs.WellMade.{WellMade}
+use Rattle.events.specs.WellMade.{IsStretch, WellMade}
 use Rattle.write_names.specs.Chosen.{chosen, tablesAfter}
 use Rattle.writer.specs.Events.{eventOf}
+use Rattle.write_head.specs.Given.{Given}
+use Rattle.write_head.specs.Head.{listedOf}
+use Rattle.theorems.specs.Heads.{headed, AllDistinct, NamesParts}
 
 -- The plain event of a record over a text area; those of a list.
 abbrev pub plainOf : Octets → Event → E.Event Octets
@@ -26,61 +30,118 @@ plainOf text e = eventMap (octetsOf text) (eventOf (e .kind) e)
 abbrev pub plains : Octets → List Event → List (E.Event Octets)
 plains text es = map (plainOf text) es
 
--- A plain list with the required choices.
-abbrev pub itemsOf : Version → List (E.Event Octets) → List (Item Octets)
-itemsOf ver es = chosen ver (started ver) es
+-- A plain list with the required choices, behind a head.
+abbrev pub itemsOf : Version → (head : Vocabulary Octets) → List (E.Event Octets) → List (Item Octets)
+itemsOf ver h es = chosen ver (headed ver h) es
 
--- The rules write these items as one document, however deep it is and however long, and these are the tables then.
-pub record WrittenAs (ver : Version) (items : List (Item Octets)) (tables : Vocabulary Octets) : Type 0 where
+-- The rules write these items behind this head as one document, however deep it is and however long, and these are the tables then.
+pub record WrittenAs (ver : Version) (head : Vocabulary Octets) (items : List (Item Octets)) (tables : Vocabulary Octets) : Type 0 where
   pub octets : Octets
   pub last : State Octets
-  pub writes : (depth size : ℕ) → deepest 0 (map (λ (i : Item Octets). i .event) items) ≤ depth → length octets ≤ size → Document (standard ver depth size) items last octets
+  pub writes : (depth size : ℕ) → deepest 0 (map (λ (i : Item Octets). i .event) items) ≤ depth → length octets ≤ size → Document (standard ver depth size) head items last octets
   pub known : last .tables ≡ tables
 
--- The rules of a version write these items, and these are the tables then; it is a document of the version unless there are too many octets.
-pub record WrittenUnlessLong (ver : Version) (items : List (Item Octets)) (tables : Vocabulary Octets) : Type 0 where
+-- The rules of a version write these items behind this head, and these are the tables then; it is a document of the version unless there are too many octets.
+pub record WrittenUnlessLong (ver : Version) (head : Vocabulary Octets) (items : List (Item Octets)) (tables : Vocabulary Octets) : Type 0 where
   pub octets : Octets
   pub last : State Octets
-  pub writes : length octets ≤ ver .octets → Document ver items last octets
+  pub writes : length octets ≤ ver .octets → Document ver head items last octets
   pub known : last .tables ≡ tables
 
--- The rules write these events, with the required choices, as one document, however deep it is and however long: within every limit on open elements and octets that
+-- The rules write these events behind this head, with the required choices, as one document, however deep it is and however long: within every limit on open elements and octets that
 -- it keeps. The limit on the entries of a table is the standard's own.
-pub record WrittenWidely (ver : Version) (es : List (E.Event Octets)) : Type 0 where
+pub record WrittenWidely (ver : Version) (head : Vocabulary Octets) (es : List (E.Event Octets)) : Type 0 where
   pub octets : Octets
   pub last : State Octets
-  pub writes : (depth size : ℕ) → deepest 0 es ≤ depth → length octets ≤ size → Document (standard ver depth size) (itemsOf ver es) last octets
-  pub tables : last .tables ≡ tablesAfter ver (started ver) es
+  pub writes : (depth size : ℕ) → deepest 0 es ≤ depth → length octets ≤ size → Document (standard ver depth size) head (itemsOf ver head es) last octets
+  pub tables : last .tables ≡ tablesAfter ver (headed ver head) es
 
 -- What is written of these events is a document of the version, or it is over one of its three limits: nothing else keeps it out.
-pub data OrPasses (ver : Version) (es : List (E.Event Octets)) (last : State Octets) (octets : Octets) : Type 0 where
-  within-limits : Document ver (itemsOf ver es) last octets → OrPasses ver es last octets
-  over-depth : ver .depth < deepest 0 es → OrPasses ver es last octets
-  over-entries : (InLimits ver (tablesAfter ver (started ver) es) → ⊥) → OrPasses ver es last octets
-  over-octets : ver .octets < length octets → OrPasses ver es last octets
+pub data OrPasses (ver : Version) (head : Vocabulary Octets) (es : List (E.Event Octets)) (last : State Octets) (octets : Octets) : Type 0 where
+  within-limits : Document ver head (itemsOf ver head es) last octets → OrPasses ver head es last octets
+  over-depth : ver .depth < deepest 0 es → OrPasses ver head es last octets
+  over-entries : (InLimits ver (tablesAfter ver (headed ver head) es) → ⊥) → OrPasses ver head es last octets
+  over-octets : ver .octets < length octets → OrPasses ver head es last octets
 
--- The header and these items, filled up to octets, fit the output lent and the limit of a document.
-pub record FitsIn (ver : Version) (room : ℕ) (items : List (Item Octets)) : Type 0 where
+-- What stands before the body and these items, filled up to octets, fit the output lent and the limit of a document.
+pub record FitsIn (ver : Version) (head : Vocabulary Octets) (room : ℕ) (items : List (Item Octets)) : Type 0 where
+  pub before : Octets
+  pub opens : Opens ver head before (headed ver head)
   pub halves : Halves
   pub last : State Octets
-  pub are : Begun ver (2 * length (header ver)) (beginning (started ver)) items halves last
-  pub fit : aligned (2 * length (header ver) + length halves) / 2 ≤ min room (ver .octets)
+  pub are : Begun ver (2 * length before) (beginning (headed ver head)) items halves last
+  pub fit : aligned (2 * length before + length halves) / 2 ≤ min room (ver .octets)
 
--- The rules write these items behind the header, but what they write does not fit.
-pub record Overflows (ver : Version) (room : ℕ) (items : List (Item Octets)) : Type 0 where
+-- The rules write these items behind the head, but what they write does not fit.
+pub record Overflows (ver : Version) (head : Vocabulary Octets) (room : ℕ) (items : List (Item Octets)) : Type 0 where
+  pub before : Octets
+  pub opens : Opens ver head before (headed ver head)
   pub halves : Halves
   pub last : State Octets
-  pub are : Begun ver (2 * length (header ver)) (beginning (started ver)) items halves last
-  pub over : min room (ver .octets) < aligned (2 * length (header ver) + length halves) / 2
+  pub are : Begun ver (2 * length before) (beginning (headed ver head)) items halves last
+  pub over : min room (ver .octets) < aligned (2 * length before + length halves) / 2
 
 -- The rules write the document of these items, and it fits the output lent.
-pub record WrittenIn (ver : Version) (room : ℕ) (items : List (Item Octets)) : Type 0 where
+pub record WrittenIn (ver : Version) (head : Vocabulary Octets) (room : ℕ) (items : List (Item Octets)) : Type 0 where
   pub octets : Octets
   pub last : State Octets
-  pub writes : Document ver items last octets
+  pub writes : Document ver head items last octets
   pub fit : length octets ≤ room
 
-module _ (ver : Version) (text : Octets) (room : ℕ) where
+-- The tables g that are given for the head, over a text area: the requirements' tests of them, in their order, each of the whole head. A test that fails gives the number beside it.
+module _ (ver : Version) (text : Octets) (g : Given) where
+  -- The head that they stand for.
+  abbrev pub headOf : Vocabulary Octets
+  headOf = plainTables text (listedOf g)
+
+  -- EVENT: each string is a stretch of the text area, each name names entries that are there; none is given if the version has no heads
+  pub record AreEntries : Type 0 where
+    pub strings-are : (t : StringTable) → All (IsStretch text) (strings g t)
+    pub names-are : (t : NameTable) → All (NamesParts (headed ver headOf)) (names g t)
+    pub none-given : (ver .heads ≡ true → ⊥) → headOf ≡ noEntries
+
+  -- TEXT: the strings are text
+  abbrev pub AreTexts : Type 0
+  AreTexts = (t : StringTable) → All IsText (strings headOf t)
+
+  -- REPEAT: no identifying string and no name is listed twice, or is built in
+  abbrev pub AreNew : Type 0
+  AreNew = AllDistinct (headed ver headOf)
+
+  -- FULL: no table has an entry too many
+  abbrev pub AreFew : Type 0
+  AreFew = InLimits ver (headed ver headOf)
+
+  -- ROOM: what the rules write before the body fits; without a head, that is asked with the first event
+  module _ (room : ℕ) where
+    pub record HeadFits : Type 0 where
+      pub before : Octets
+      pub opens : Opens ver headOf before (headed ver headOf)
+      pub fit : (headOf ≡ noEntries → ⊥) → length before ≤ min room (ver .octets)
+
+    pub record HeadOverflows : Type 0 where
+      pub before : Octets
+      pub opens : Opens ver headOf before (headed ver headOf)
+      pub over : min room (ver .octets) < length before
+      pub entries : headOf ≡ noEntries → ⊥
+
+    pub record HeadRight : Type 0 where
+      pub are-entries : AreEntries
+      pub are-texts : AreTexts
+      pub are-new : AreNew
+      pub are-few : AreFew
+      pub fits : HeadFits
+
+    -- Its first fault.
+    pub data HeadFault : ℕ → Type 0 where
+      not-entries : (AreEntries → ⊥) → HeadFault EVENT
+      not-texts : AreEntries → (AreTexts → ⊥) → HeadFault TEXT
+      not-new : AreEntries → AreTexts → (AreNew → ⊥) → HeadFault REPEAT
+      not-few : AreEntries → AreTexts → AreNew → (AreFew → ⊥) → HeadFault FULL
+      not-room : AreEntries → AreTexts → AreNew → AreFew → HeadOverflows → HeadFault ROOM
+
+-- Behind a head that is right.
+module _ (ver : Version) (head : Vocabulary Octets) (text : Octets) (room : ℕ) where
   -- The event e behind the events `before` and all these: the requirements' tests, in their order. A test that fails gives the number beside it.
   module _ (before : List Event) (e : Event) where
     abbrev pub upTo : List (E.Event Octets)
@@ -100,11 +161,11 @@ module _ (ver : Version) (text : Octets) (room : ℕ) where
 
     -- FULL: no table has an entry too many
     abbrev pub HasEntries : Type 0
-    HasEntries = InLimits ver (tablesAfter ver (started ver) upTo)
+    HasEntries = InLimits ver (tablesAfter ver (headed ver head) upTo)
 
     -- ROOM: what is written so far fits
     abbrev pub HasRoom : Type 0
-    HasRoom = FitsIn ver room (itemsOf ver upTo)
+    HasRoom = FitsIn ver head room (itemsOf ver head upTo)
 
     pub record Right : Type 0 where
       pub is-event : IsEvent
@@ -119,7 +180,7 @@ module _ (ver : Version) (text : Octets) (room : ℕ) where
       not-text : IsEvent → (AreText → ⊥) → Fault TEXT
       too-deep : IsEvent → AreText → (IsShallow → ⊥) → Fault DEPTH
       too-many : IsEvent → AreText → IsShallow → (HasEntries → ⊥) → Fault FULL
-      no-room : IsEvent → AreText → IsShallow → HasEntries → Overflows ver room (itemsOf ver upTo) → Fault ROOM
+      no-room : IsEvent → AreText → IsShallow → HasEntries → Overflows ver head room (itemsOf ver head upTo) → Fault ROOM
 
   -- Each event of the list is right behind those before it.
   abbrev pub AllRight : List Event → Type 0
@@ -130,4 +191,4 @@ module _ (ver : Version) (text : Octets) (room : ℕ) where
   pub data Refused (es : List Event) : (number place : ℕ) → Type 0 where
     at-event : {before : List Event} {e : Event} {n : ℕ} (after : List Event) → es ≡ before ++ (e ∷ after) → AllRight before → Fault before e n → Refused es n (length before)
     too-soon : AllRight es → (IsDocument (plains text es) → ⊥) → Refused es EVENT (length es)
-    no-room-for-end : AllRight es → IsDocument (plains text es) → (WrittenIn ver room (itemsOf ver (plains text es)) → ⊥) → Refused es ROOM (length es)
+    no-room-for-end : AllRight es → IsDocument (plains text es) → (WrittenIn ver head room (itemsOf ver head (plains text es)) → ⊥) → Refused es ROOM (length es)

@@ -30,7 +30,7 @@ use Rattle.writer.specs.declared.lane.Lane.{Lane}
 use Rattle.writer.specs.Events.{noName, wellMade, eventOf, isListing, goesOn, allText, nameOf}
 use Rattle.writer.specs.Contracts.{faultOf}
 use Rattle.writer.specs.Items.{writeItem}
-use Rattle.writer.specs.Writing.{announced, isAttribute, isEnd, settled, fits}
+use Rattle.writer.specs.Writing.{announced, isAttribute, isEnd, settled, fits, Outcome}
 use Rattle.writer.specs.OutputContracts.{Grown}
 use Rattle.writer.specs.StepContracts.{itemOf, halvesFor, verdict}
 use Rattle.writer.specs.RunContracts.{behind}
@@ -72,11 +72,11 @@ start-no-end : (k : Kind) (e : Event) → k ≡ Start → isEnd (eventOf k e) �
 unfolding eventOf
 start-no-end k e q = rw q
 
-module _ (text : List ℕ) (room : ℕ) (es : List Event) (v : Vocabulary Located) (in-tables : within link v ≡ true) where
-  taken : {l l′ : Lane} {out out′ : List ℕ} {e : Event} (o : OnWay text room es v l out) → drop (l .i) es ≡ e ∷ drop (suc (l .i)) es
+module _ (to : Outcome) (text : List ℕ) (room : ℕ) (es : List Event) (v : Vocabulary Located) (in-tables : within link v ≡ true) where
+  taken : {l l′ : Lane} {out out′ : List ℕ} {e : Event} (o : OnWay to text room es v l out) → drop (l .i) es ≡ e ∷ drop (suc (l .i)) es
       → Faultless text (standing v l) e → itemOf text (bitAhead es l e) (standing v l) e .state ≡ standing v l′
       → Grown room (o .hs) (halvesFor text room (bitAhead es l e) (l .at) (standing v l) e) (l .at) (l′ .at) out′ → fits link text room (l′ .at) ≡ true → l′ .i ≡ l .i + 1 → l .at < l′ .at
-      → OnWay text room es v l′ out′
+      → OnWay to text room es v l′ out′
   unfolding verdict
   taken {l} {l′} {e = e} o d f s g t n m =
       let j : verdict text room (bitAhead es l e) (l .at) (standing v l) e ≡ 0 =
@@ -89,8 +89,8 @@ module _ (text : List ℕ) (room : ℕ) (es : List Event) (v : Vocabulary Locate
         leads = rw (← s, g .place, n, add-one (l .i)) (sym (behind-on text room (l .at) (standing v l) e (drop (suc (l .i)) es) (l .i) (o .hs) j) ∙ (rw d at (o .leads)));
       }
 
-  module _ {l : Lane} {out : List ℕ} (among : l .listing ≡ false) (inside : 0 < l .level) (room-left : l .at / 2 + 5 ≤ room) (limit : l .at / 2 + 5 ≤ 16384) (o : OnWay text room es v l out) where
-    pub end-taken : {l′ : Lane} {out′ : List ℕ} → drop (l .i) es ≡ endRecord ∷ drop (suc (l .i)) es → Ended l out l′ out′ → OnWay text room es v l′ out′
+  module _ {l : Lane} {out : List ℕ} (among : l .listing ≡ false) (inside : 0 < l .level) (room-left : l .at / 2 + 5 ≤ room) (limit : l .at / 2 + 5 ≤ 16384) (o : OnWay to text room es v l out) where
+    pub end-taken : {l′ : Lane} {out′ : List ℕ} → drop (l .i) es ≡ endRecord ∷ drop (suc (l .i)) es → Ended l out l′ out′ → OnWay to text room es v l′ out′
     unfolding wellMade noName goesOn allText eventOf itemOf settled writeItem halvesFor
     end-taken d p =
         rw (p .is)
@@ -133,7 +133,7 @@ module _ (text : List ℕ) (room : ℕ) (es : List Event) (v : Vocabulary Locate
 
       pub start-taken : {l′ : Lane} {out′ : List ℕ} → l .level < 32 → drop (l .i) es ≡ e ∷ drop (suc (l .i)) es → (b : Bool) → b ≡ bitAhead es l e → (octet : ℕ)
           → Puts out (aligned (l .at) / 2) octet out′ (spell (numbers 3) (64 * bit b) k) → octet ≤ aligned (l .at) / 2 + 4
-          → l′ ≡ record { at = 2 * octet; level = l .level + 1; i = l .i + 1; listing = b } → OnWay text room es v l′ out′
+          → l′ ≡ record { at = 2 * octet; level = l .level + 1; i = l .i + 1; listing = b } → OnWay to text room es v l′ out′
       unfolding aligned
       start-taken h d b q octet p few is =
           let n = start-some b in
@@ -155,13 +155,13 @@ module _ (w memory : List ℕ) {room : ℕ} {l : Lane} {k : ℕ} (a : Ahead w me
 
 module _ (w memory : List ℕ) (room : ℕ) {l l′ : Lane} {out out′ : List ℕ} {k : ℕ} (a : Ahead w memory l room k) where
   pub end-passes : k ≡ 512 → Ended l out l′ out′ → Passes w memory room l out l′ out′
-  end-passes q p text v in-tables r o =
-      end-taken text room (recordsOf w) v in-tables (a .among) (a .inside) (a .fits) (a .limit) o (records-drop w (l .i) (a .there) ∙ rw (a .end q)) p
+  end-passes q p to text v in-tables r o =
+      end-taken to text room (recordsOf w) v in-tables (a .among) (a .inside) (a .fits) (a .limit) o (records-drop w (l .i) (a .there) ∙ rw (a .end q)) p
 
   pub start-passes : (k ≡ 512 → ⊥) → Started w l out k l′ out′ → Passes w memory room l out l′ out′
-  start-passes n p text v in-tables r o =
+  start-passes n p to text v in-tables r o =
       let t = taught-here w memory a n text v r in
-      start-taken text room (recordsOf w) v in-tables (a .among) (a .inside) (a .fits) (a .limit) o t (a .start n .1) (records-drop w (l .i) (a .there)) _
+      start-taken to text room (recordsOf w) v in-tables (a .among) (a .inside) (a .fits) (a .limit) o t (a .start n .1) (records-drop w (l .i) (a .there)) _
       (sym (bit-listed (recordsOf w) (l .i) (recordAt w (13 * l .i)) (t .kind))) (p .octet) (p .puts) (p .few) (p .is)
 
 -- ---- each way out of the code
@@ -214,8 +214,8 @@ ahead-passable {w} {memory} {l} {k = k} s a n =
 -- and was, behind what was passed before
 pub passes-on : {w memory : List ℕ} {room n : ℕ} {l₀ l l′ : Lane} {out₀ out out′ : List ℕ} {k : ℕ} → n ≡ room → Passed w n l out k l′ out′ → Ahead w memory l n k
     → Passes w memory room l₀ out₀ l out → Passes w memory room l₀ out₀ l′ out′
-passes-on {w} {memory} {l = l} {l′ = l′} {out = out} {out′ = out′} e p a s text v t r o =
-    subst (λ (m : ℕ). Passes w memory m l out l′ out′) e (p .passes memory a) text v t r (s text v t r o)
+passes-on {w} {memory} {l = l} {l′ = l′} {out = out} {out′ = out′} e p a s to text v t r o =
+    subst (λ (m : ℕ). Passes w memory m l out l′ out′) e (p .passes memory a) to text v t r (s to text v t r o)
 
 -- ---- what is remembered
 zero-at : (n s : ℕ) → getD (replicate {A = ℕ} n 0) s 0 ≡ 0

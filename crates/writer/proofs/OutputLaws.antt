@@ -14,7 +14,7 @@ use lib.Seq.{sets, sets-eq, set-set, append-snoc}
 use Rattle.format.specs.Events as E
 use Rattle.format.specs.Tables.{link}
 use Rattle.format.specs.Items.{State}
-use Rattle.format.specs.Document.{halves, pad, aligned, header}
+use Rattle.format.specs.Document.{halves, pad, aligned}
 use Rattle.fields.specs.PutContracts.{Puts}
 use Rattle.fields.proofs.Puts.{puts-nothing, puts-one, puts-append}
 use Rattle.tables.specs.Located.{Located}
@@ -64,22 +64,18 @@ drop-zeros zero room = let z : room - 0 ≡ room = omega arith in rw z
 drop-zeros (suc n) zero = let z : 0 - suc n ≡ 0 = omega arith in rw z
 drop-zeros (suc n) (suc room) = let z : suc room - suc n ≡ room - n = omega arith in rw z (drop-zeros n room)
 
-length-document : (hs : List ℕ) → length (header link ++ joined hs) ≡ length (header link) + (length hs + 1) / 2
-length-document hs = let l = length-joined hs in length-append (header link) (joined hs) ∙ omega arith
-
 -- ---- one octet behind halves that fill theirs
 
 sets-last : (l xs : List ℕ) (b : ℕ) → sets l 0 (xs ++ (b ∷ [])) ≡ set (sets l 0 xs) (length xs) b
 sets-last l xs b = let p : Puts l 0 (length xs) (sets l 0 xs) xs = record { behind = omega arith; is = refl } in sym (puts-append p (puts-one refl) .is)
 
-octet-more : (l hs ks : List ℕ) (b : ℕ) → length hs % 2 ≡ 0 → joined ks ≡ b ∷ [] → sets l 0 (header link ++ joined (hs ++ ks)) ≡ set (sets l 0 (header link ++ joined hs)) (length (header link) + length hs / 2) b
+octet-more : (l hs ks : List ℕ) (b : ℕ) → length hs % 2 ≡ 0 → joined ks ≡ b ∷ [] → sets l 0 (joined (hs ++ ks)) ≡ set (sets l 0 (joined hs)) (length hs / 2) b
 octet-more l hs ks b e q =
-    let n : length (header link ++ joined hs) ≡ length (header link) + length hs / 2 = length-document hs ∙ omega arith in
-    rw (joined-append hs ks e, q, ← append-assoc (header link) (joined hs) (b ∷ []), ← n) (sets-last l (header link ++ joined hs) b)
+    let n : length (joined hs) ≡ length hs / 2 = length-joined hs ∙ omega arith in
+    rw (joined-append hs ks e, q, ← n) (sets-last l (joined hs) b)
 
 -- an end behind another, which is put again with it
-octet-again : (l ks : List ℕ) → length ks % 2 ≡ 0
-    → set (sets l 0 (header link ++ joined (ks ++ (15 ∷ [])))) (length (header link) + length ks / 2) 0xFF ≡ sets l 0 (header link ++ joined (ks ++ (15 ∷ 15 ∷ [])))
+octet-again : (l ks : List ℕ) → length ks % 2 ≡ 0 → set (sets l 0 (joined (ks ++ (15 ∷ [])))) (length ks / 2) 0xFF ≡ sets l 0 (joined (ks ++ (15 ∷ 15 ∷ [])))
 unfolding joined
 octet-again l ks e = rw (octet-more l ks (15 ∷ []) 0xF0 e refl, octet-more l ks (15 ∷ 15 ∷ []) 0xFF e refl, set-set)
 
@@ -96,22 +92,25 @@ module _ (at : ℕ) where
 
 -- ---- what is held goes on
 
--- nothing but the header
-pub header-held : {room : ℕ} {out out′ : List ℕ} → out ≡ replicate room 0 → out′ ≡ sets out 0 (header link) → Holds room [] (2 * length (header link)) out′
-unfolding joined
-header-held e f = record { behind = omega arith; is = rw (f, e, append-nil); ends = λ o. absurd (omega arith) }
+-- nothing but what stands before the body
+pub head-held : {room at : ℕ} {out : List ℕ} (before : List ℕ) → at ≡ length before → out ≡ sets (replicate room 0) 0 before → Holds room (halves before) (2 * at) out
+head-held before n e =
+    record { behind = rw (n, length-halves before); is = rw (joined-halves before) e; ends = λ o. absurd (omega arith) }
+
+pub joined-head : (before ks : List ℕ) → joined (halves before ++ ks) ≡ before ++ joined ks
+joined-head before ks = let n = length-halves before in joined-append (halves before) ks (omega arith) ∙ rw (joined-halves before)
 
 module _ {room at : ℕ} {hs out : List ℕ} (h : Holds room hs at out) where
-  pub held-length : length (header link ++ joined hs) ≡ aligned at / 2
+  pub held-length : length (joined hs) ≡ aligned at / 2
   unfolding aligned
-  held-length = let l = length-document hs in omega arith
+  held-length = let l = length-joined hs in let b = h .behind in omega arith
 
   -- all of it, where it has room
-  pub held-whole : aligned at / 2 ≤ room → out ≡ (header link ++ joined hs) ++ replicate (room - length (header link ++ joined hs)) 0
+  pub held-whole : aligned at / 2 ≤ room → out ≡ joined hs ++ replicate (room - length (joined hs)) 0
   held-whole k =
       let l = held-length in
       let z = length-replicate {A = ℕ} room 0 in
-      h .is ∙ sets-eq (header link ++ joined hs) (replicate room 0) 0 (omega arith) ∙ simp (zero-add, drop-zeros)
+      h .is ∙ sets-eq (joined hs) (replicate room 0) 0 (omega arith) ∙ simp (zero-add, drop-zeros)
 
   joined-item : (os : List ℕ) → joined (hs ++ (pad at ++ halves os)) ≡ joined hs ++ os
   joined-item os =
@@ -123,24 +122,24 @@ module _ {room at : ℕ} {hs out : List ℕ} (h : Holds room hs at out) where
   unfolding aligned
   item-held {r} {out′} {os} p =
       let l = held-length in
-      let q : Puts (replicate room 0) 0 (aligned at / 2) out (header link ++ joined hs) = record { behind = omega arith; is = h .is } in
+      let q : Puts (replicate room 0) 0 (aligned at / 2) out (joined hs) = record { behind = omega arith; is = h .is } in
       record {
         behind = simp (length-append, length-pad, length-halves) (omega arith);
-        is = puts-append q p .is ∙ rw (append-assoc (header link) (joined hs) os, joined-item os);
+        is = puts-append q p .is ∙ rw (joined-item os);
         ends = λ o. absurd (omega arith);
       }
 
-  end-even : {out′ : List ℕ} → at % 2 ≡ 0 → out′ ≡ set out (at / 2) 0xF0 → out′ ≡ sets (replicate room 0) 0 (header link ++ joined (hs ++ (15 ∷ [])))
+  end-even : {out′ : List ℕ} → at % 2 ≡ 0 → out′ ≡ set out (at / 2) 0xF0 → out′ ≡ sets (replicate room 0) 0 (joined (hs ++ (15 ∷ [])))
   unfolding joined
   end-even z e =
-      let n : at / 2 ≡ length (header link) + length hs / 2 = omega arith in
+      let n : at / 2 ≡ length hs / 2 = omega arith in
       rw (octet-more (replicate room 0) hs (15 ∷ []) 0xF0 (omega arith) refl, ← (h .is), ← n) e
 
-  end-odd : {out′ : List ℕ} → at % 2 ≡ 1 → out′ ≡ set out (at / 2) 0xFF → out′ ≡ sets (replicate room 0) 0 (header link ++ joined (hs ++ (15 ∷ [])))
+  end-odd : {out′ : List ℕ} → at % 2 ≡ 1 → out′ ≡ set out (at / 2) 0xFF → out′ ≡ sets (replicate room 0) 0 (joined (hs ++ (15 ∷ [])))
   end-odd {out′} z e =
       let ks = h .ends z .before in
       let n : length hs ≡ length ks + 1 = rw (h .ends z .is) (simp length-append) in
-      let m : at / 2 ≡ length (header link) + length ks / 2 = omega arith in
+      let m : at / 2 ≡ length ks / 2 = omega arith in
       e ∙ rw (h .is, m, h .ends z .is, append-snoc) (octet-again (replicate room 0) ks (omega arith))
 
   pub end-held : {out′ : List ℕ} → out′ ≡ set out (at / 2) (endOctet at) → Holds room (hs ++ (15 ∷ [])) (at + 1) out′

@@ -3,10 +3,9 @@
 use mathlib.Core.Path.{_≡_, refl}
 use mathlib.Core.Bool.{true, false, _&&_}
 use mathlib.Core.List.{List}
-use Prim.Native.Nat.{ℕ, _+_, _-_, _≤_, _<_}
+use Prim.Native.Nat.{ℕ, _+_, _-_, _≤_}
 use native.Mathlib.Omega.{arith}
-use native.Mathlib.Decide.{decLt}
-use borrow.Author.Tests.{lt-ltb, le-leb, lt-leb, eq-eqb, ne-eqb}
+use borrow.Author.Tests.{eq-eqb, ne-eqb}
 use lib.Dec.{eqb, ltb, leb}
 use lib.ListN.{length, take, drop}
 use Rattle.fields.specs.Utf8.{isText, after, next, first, rows, between}
@@ -21,23 +20,6 @@ use Rattle.events.specs.Words.{stringTag, stringPlace, stringSize}
 use Rattle.writer.specs.Events.{isAbsent, isStretch, isPrefix, isNamespace, isValue, locatedOf, optionalOf, nameOf, eventOf, optionalText, nameText, allText}
 use Rattle.writer.specs.Contracts.{Lies}
 use Rattle.writer.specs.RecordContracts.{isOne}
-
--- ---- a stretch, by its place p and its size n in m octets
-module _ (m p n : ℕ) where
-  pub stretch-empty : n ≡ 0 → false ≡ (ltb 0 n && leb (p + n) m)
-  stretch-empty z = rw z
-
-  pub stretch-longer : m < n → false ≡ (ltb 0 n && leb (p + n) m)
-  stretch-longer h = let k : 0 < n = omega arith in let l : m < p + n = omega arith in rw (lt-ltb _ _ k, lt-leb _ _ l)
-
-  pub stretch-fits : (n ≡ 0 → ⊥) → n ≤ m → leb p (m - n) ≡ (ltb 0 n && leb (p + n) m)
-  stretch-fits z h =
-      let k : 0 < n = omega arith in
-      rw (lt-ltb _ _ k)
-      elim (decLt (m - n) p) [
-        | yes a ↦ let l : m < p + n = omega arith in rw (lt-leb _ _ a, lt-leb _ _ l)
-        | no a ↦ let b : p ≤ m - n = omega arith in let l : p + n ≤ m = omega arith in rw (le-leb _ _ b, le-leb _ _ l)
-      ]
 
 -- ---- one test of a string, and those that are made of it
 module _ (text : List ℕ) (x : EventString) (a b t : ℕ) (e : t ≡ stringTag x) where

@@ -9,13 +9,12 @@ use borrow.Author.Tests.{ne-eqb, le-ltb}
 use lib.Dec.{eqb}
 use lib.ListN.{length, getD, drop, replicate}
 use Rattle.format.specs.Numbers.{pick}
-use Rattle.format.specs.Tables.{Vocabulary, ELEMENT-NAME, names, link}
+use Rattle.format.specs.Tables.{Vocabulary, ELEMENT-NAME, names}
 use Rattle.format.specs.Items as F
 use Rattle.tables.specs.declared.Counts.{Counts}
 use Rattle.tables.specs.Located.{Located}
 use Rattle.tables.specs.Kept.{nameTableOf, listed, unlisted}
 use Rattle.tables.proofs.Found.{clash}
-use Rattle.index.specs.Indexed.{slots}
 use Rattle.states.specs.declared.State.{State}
 use Rattle.states.specs.States.{modeOf, rootOf, coming}
 use Rattle.states.proofs.Modes.{mode-content, mode-listing, coming-low}
@@ -33,11 +32,11 @@ use Rattle.writer.specs.declared.Step.{Step}
 use Rattle.writer.specs.declared.Step.the-variants.{On, Stop}
 use Rattle.writer.specs.declared.run.Phase.{Phase}
 use Rattle.writer.specs.declared.run.Phase.the-variants.{Onward, Halted}
-use Rattle.writer.specs.Writing.{announced, Leaves, writeOf}
+use Rattle.writer.specs.Writing.{announced, Outcome, Leaves}
 use Rattle.writer.specs.StepContracts.{Ready, Steps, known, itemOf, Went}
 use Rattle.writer.specs.RunContracts.{Underway, Moving, Going, Bounded, Settles, goesOn, fromMode, bitOf}
 use Rattle.writer.specs.LaneContracts.{Taught, Remembered, Filed, Kept, Safe, OnWay, standing, Passes, Onward as Further}
-use Rattle.writer.specs.RideContracts.{Learns, arrivedAt, Rides, Through}
+use Rattle.writer.specs.RideContracts.{Learns, arrivedAt, Rides, Leading, Through}
 use Rattle.writer.proofs.RunLaws.{bit-started, underway-number}
 use Rattle.writer.proofs.PhaseLaws.{moving-on, moving-stop, moving-kept, going-bounded, going-settled}
 use Rattle.writer.proofs.LaneLaws.{remembered-none, remembered-kept, remembered-more, remembered-filed, extends-event, taught-new}
@@ -99,11 +98,11 @@ from st i = record { at = st .at; level = st .level; i = i; listing = false }
 
 module _ (w memory : List ℕ) (room i : ℕ) (st : State) (out : List ℕ) where
   pub rides-not : Rides w memory room i st out (from st i) out
-  rides-not = record { onward = record { on = omega arith; inside = λ h. h }; under = λ text c t ix r u. u }
+  rides-not = record { onward = record { on = omega arith; inside = λ h. h }; under = λ to text c t ix r u. u }
 
   module _ (content : st .mode ≡ 0) (root : st .root ≡ 0 → ⊥) where
-    on-way : {text c t ix : List ℕ} → Underway text room (recordsOf w) i st c out t ix → OnWay text room (recordsOf w) (tablesIn c t) (from st i) out
-    on-way {text} {c} {t} u =
+    on-way : {to : Outcome} {text c t ix : List ℕ} → Underway to text room (recordsOf w) i st c out t ix → OnWay to text room (recordsOf w) (tablesIn c t) (from st i) out
+    on-way {c = c} {t = t} u =
         let z : known st c t ≡ standing (tablesIn c t) (from st i) = rw (content, mode-content, root-so (st .root) root) in
         record { hs = u .hs; holds = u .holds; small = u .small; leads = rw z at (u .leads) }
 
@@ -111,8 +110,8 @@ module _ (w memory : List ℕ) (room i : ℕ) (st : State) (out : List ℕ) wher
     rides-on {l} {out′} safe on passes =
         record {
           onward = on;
-          under = λ text c t ix r u.
-              let o = passes text (tablesIn c t) (within-order text c t ix (u .ready .order)) r (on-way u) in
+          under = λ to text c t ix r u.
+              let o = passes to text (tablesIn c t) (within-order text c t ix (u .ready .order)) r (on-way u) in
               let m = mode-arrived (l .listing) (st .mode) content in
               let none = coming-arrived (l .listing) (st .mode) content in
               let deep = safe .level in
@@ -128,32 +127,50 @@ module _ (w memory : List ℕ) (room i : ℕ) (st : State) (out : List ℕ) wher
         }
 
 -- ---- the loop
-module _ (w text : List ℕ) (room table i : ℕ) where
+-- From o says that before its first record the run leads to o; there is something that it leads to, and it leads to all of that still
+module _ (From : Outcome → Type 0) (w text : List ℕ) (room table i : ℕ) where
   -- behind i of the records, with what is remembered
   pub record Stepping (st : State) (c out t ix memory : List ℕ) : Type 0 where
-    pub moving : Moving (recordsOf w) text room table i st c out t ix
+    pub to : Outcome
+    pub begun : From to
+    pub moving : (o : Outcome) → From o → Moving o (recordsOf w) text room table i st c out t ix
     pub remembered : Remembered (recordsOf w) text (tablesIn c t) memory
     pub inside : i ≤ length w / 13
 
   -- one record further, before anything is learned of it; there were so many names of elements before it
   pub record Stepped (before : ℕ) (st : State) (c out t ix memory : List ℕ) : Type 0 where
-    pub moving : Moving (recordsOf w) text room table (i + 1) st c out t ix
+    pub to : Outcome
+    pub begun : From to
+    pub moving : (o : Outcome) → From o → Moving o (recordsOf w) text room table (i + 1) st c out t ix
     pub remembered : Remembered (recordsOf w) text (tablesIn c t) memory
     pub teaches : before < getD c 8 0 → recordAt w (13 * i) .kind ≡ Start → Taught text (tablesIn c t) (recordAt w (13 * i)) (getD c 8 0)
 
-pub stepping-start : (w text : List ℕ) (room table n : ℕ) (st : State) (cs : Counts) (c out t : List ℕ) → c ≡ listed cs → Going (recordsOf w) text room table 0 (Onward st cs) out t (replicate slots 0)
-    → Stepping w text room table 0 st c out t (replicate slots 0) (replicate n 0)
-stepping-start w text room table n st cs c out t q g = rw q (record { moving = g; remembered = remembered-none (recordsOf w) text (tablesIn (listed cs) t) n; inside = omega arith })
+-- before the first record, with the counts in words
+module _ (w text : List ℕ) (room table : ℕ) (st : State) (c out t ix : List ℕ) where
+  abbrev pub Begins : Outcome → Type 0
+  Begins o = Moving o (recordsOf w) text room table 0 st c out t ix
 
-module _ {w text : List ℕ} {room table i : ℕ} {st : State} {c out t ix memory : List ℕ} (s : Stepping w text room table i st c out t ix memory) where
+module _ (w text : List ℕ) (room table : ℕ) (st : State) (cs : Counts) (c out t ix : List ℕ) (q : c ≡ listed cs) where
+  pub start-moving : (o : Outcome) → Going o (recordsOf w) text room table 0 (Onward st cs) out t ix → Begins w text room table st c out t ix o
+  start-moving o g = rw q g
+
+  pub stepping-start : (n : ℕ) → Leading (recordsOf w) text room table (Onward st cs) out t ix
+      → Stepping (Begins w text room table st c out t ix) w text room table 0 st c out t ix (replicate n 0)
+  stepping-start n l =
+      record { to = l .to; begun = start-moving (l .to) (l .going); moving = λ o m. m; remembered = remembered-none (recordsOf w) text (tablesIn c t) n; inside = omega arith }
+
+module _ {From : Outcome → Type 0} {w text : List ℕ} {room table i : ℕ} {st : State} {c out t ix memory : List ℕ} (s : Stepping From w text room table i st c out t ix memory) where
+  abbrev under : Underway (s .to) text room (recordsOf w) i st c out t ix
+  under = s .moving (s .to) (s .begun) .1
+
   pub stepping-ready : Ready text st c t ix
-  stepping-ready = s .moving .2 .ready
+  stepping-ready = under .ready
 
   pub stepping-ten : length c ≡ 10
   stepping-ten = stepping-ready .order .ten
 
   pub stepping-small : i ≤ 32768
-  stepping-small = underway-number (s .moving .2)
+  stepping-small = underway-number under
 
   module _ (there : i < length w / 13) (long : length out ≡ room) {n : ℕ} (look : n ≡ fromMode (modeOf (st .mode)) i (length w / 13)) {a : Bool}
       (told : a ≡ announced (drop n (recordsOf w))) {e : Event} (is : e ≡ recordAt w (13 * i)) {b : Bool} (bit : b ≡ bitOf (modeOf (st .mode)) a) (r : Step) (out′ c′ t′ ix′ : List ℕ)
@@ -167,25 +184,30 @@ module _ {w text : List ℕ} {room table i : ℕ} {st : State} {c out t ix memor
     told-is : a ≡ announced (drop (fromMode (modeOf (st .mode)) i (length (recordsOf w))) (recordsOf w))
     told-is = told ∙ rw (look, records-length w)
 
-    pub stepped : {next : State} → r ≡ On next → Stepped w text room table i (getD c 8 0) next c′ out′ t′ ix′ memory
+    pub stepped : {next : State} → r ≡ On next → Stepped From w text room table i (getD c 8 0) next c′ out′ t′ ix′ memory
     stepped q =
         let g = rw q at here in
         record {
-          moving = moving-on (recordsOf w) text room table i st c out t ix (s .moving) e next-is a told-is b bit r out′ c′ t′ ix′ here q;
+          to = s .to;
+          begun = s .begun;
+          moving = λ o m. moving-on o (recordsOf w) text room table i st c out t ix (s .moving o m) e next-is a told-is b bit r out′ c′ t′ ix′ here q;
           remembered = step-keeps g (recordsOf w) memory (s .remembered);
           teaches = λ l k. rw is at (step-teaches g stepping-ten l (rw is k));
         }
 
-    pub step-stopped : {k : ℕ} → r ≡ Stop k → Through (recordsOf w) text room table (Halted k i) out′ t′
-    step-stopped q = record { index = ix′; going = moving-stop (recordsOf w) text room table i st c out t ix (s .moving) e next-is a told-is b bit r out′ c′ t′ ix′ here q }
+    pub step-stopped : {k : ℕ} → r ≡ Stop k → (o : Outcome) → From o → Going o (recordsOf w) text room table (length (recordsOf w)) (Halted k i) out′ t′ ix′
+    step-stopped q o m = moving-stop o (recordsOf w) text room table i st c out t ix (s .moving o m) e next-is a told-is b bit r out′ c′ t′ ix′ here q
 
 -- the quick lane behind it
-module _ {w text : List ℕ} {room table i before : ℕ} {st : State} {c out t ix memory : List ℕ} (s : Stepped w text room table i before st c out t ix memory) where
+module _ {From : Outcome → Type 0} {w text : List ℕ} {room table i before : ℕ} {st : State} {c out t ix memory : List ℕ} (s : Stepped From w text room table i before st c out t ix memory) where
+  abbrev ready-then : Ready text st c t ix
+  ready-then = s .moving (s .to) (s .begun) .1 .ready
+
   pub stepped-few : getD c 8 0 ≤ 256
-  stepped-few = counted-at text c t ix 8 (s .moving .2 .ready .order)
+  stepped-few = counted-at text c t ix 8 (ready-then .order)
 
   pub stepped-safe : (st .at ≤ 32768) × (st .level ≤ 32)
-  stepped-safe = let l = s .moving .2 .ready .shallow in (s .moving .2 .ready .at, omega arith)
+  stepped-safe = let l = ready-then .shallow in (ready-then .at, omega arith)
 
   pub stepped-learned : (memory′ : List ℕ) → Learns w i before (getD c 8 0) memory memory′ → Remembered (recordsOf w) text (tablesIn c t) memory′
   stepped-learned memory′ l = l text (tablesIn c t) (s .teaches) (s .remembered)
@@ -194,40 +216,50 @@ module _ {w text : List ℕ} {room table i before : ℕ} {st : State} {c out t i
   stepped-filed memory′ r = remembered-filed (recordsOf w) text (tablesIn c t) memory′ (length w / 13) (records-length w) r
 
   pub stepping-on : (memory′ : List ℕ) → Remembered (recordsOf w) text (tablesIn c t) memory′ → i < length w / 13 → {room′ : ℕ} → room′ ≡ room → {l : Lane} {out′ : List ℕ}
-      → Rides w memory′ room′ (i + 1) st out l out′ → {st′ : State} → st′ ≡ arrivedAt st l → Stepping w text room table (l .i) st′ c out′ t ix memory′
+      → Rides w memory′ room′ (i + 1) st out l out′ → {st′ : State} → st′ ≡ arrivedAt st l → Stepping From w text room table (l .i) st′ c out′ t ix memory′
   stepping-on memory′ r h q d z =
-      let g = s .moving in
-      rw z (record { moving = (g .0, g .1, (rw q at d) .under text c t ix r (g .2)); remembered = r; inside = d .onward .inside (omega arith) })
+      rw z
+      (record {
+        to = s .to;
+        begun = s .begun;
+        moving = λ o m. let g = s .moving o m in (g .0, (rw q at d) .under o text c t ix r (g .1));
+        remembered = r;
+        inside = d .onward .inside (omega arith);
+      })
 
 -- ---- behind the last record
-pub stepped-through : {w text : List ℕ} {room table i : ℕ} {st : State} {c out t ix memory : List ℕ} → Stepping w text room table i st c out t ix memory → length w / 13 ≤ i → (cs : Counts) → cs ≡ unlisted c
-    → Through (recordsOf w) text room table (Onward st cs) out t
-stepped-through {w} {i = i} {ix = ix} s h cs q =
+pub stepped-through : {From : Outcome → Type 0} {w text : List ℕ} {room table i : ℕ} {st : State} {c out t ix memory : List ℕ} → Stepping From w text room table i st c out t ix memory → length w / 13 ≤ i
+    → (cs : Counts) → cs ≡ unlisted c → (o : Outcome) → From o → Going o (recordsOf w) text room table (length (recordsOf w)) (Onward st cs) out t ix
+stepped-through {w = w} {i = i} s h cs q o m =
     let b = s .inside in
     let n = records-length w in
     let z : i ≡ length (recordsOf w) = omega arith in
-    record { index = ix; going = rw z at (moving-kept cs q (s .moving)) }
+    rw z at (moving-kept cs q (s .moving o m))
 
 module _ (es : List Event) (text : List ℕ) (room table : ℕ) (out w ix : List ℕ) {p : Phase} where
-  pub going-onward : {st : State} {cs : Counts} → p ≡ Onward st cs → Going es text room table 0 p out w ix → Going es text room table 0 (Onward st cs) out w ix
-  going-onward q g = rw q at g
+  pub leading-onward : {st : State} {cs : Counts} → p ≡ Onward st cs → Leading es text room table p out w ix → Leading es text room table (Onward st cs) out w ix
+  leading-onward q g = rw q at g
 
-  pub through-halted : {k n : ℕ} → p ≡ Halted k n → Going es text room table 0 p out w ix → Through es text room table (Halted k n) out w
-  through-halted q g = record { index = ix; going = rw q at g }
+  pub through-onward : {st : State} {cs : Counts} → p ≡ Onward st cs → (p′ : Phase) (out′ w′ ix′ : List ℕ) → Through es text room table (Onward st cs) out w ix p′ out′ w′ ix′
+      → Through es text room table p out w ix p′ out′ w′ ix′
+  through-onward q p′ out′ w′ ix′ t = rw q t
+
+  pub through-halted : {k n : ℕ} → p ≡ Halted k n → Through es text room table p out w ix (Halted k n) out w ix
+  through-halted q = rw q (λ to g. g)
 
 over : (p : Phase) (n m : ℕ) → m ≤ n → goesOn p n m ≡ false
 over (Onward st cs) n m h = le-ltb n m h
 over (Halted k at) n m h = refl
 
-module _ (w : List ℕ) {text : List ℕ} {room table : ℕ} {p : Phase} {out t : List ℕ} (x : Through (recordsOf w) text room table p out t) where
-  going-all : Going (recordsOf w) text room table (length w / 13) p out t (x .index)
-  going-all = rw (records-length w) at (x .going)
+-- behind the last record
+module _ (to : Outcome) (w text : List ℕ) (room table : ℕ) (p : Phase) (out t ix : List ℕ) (g : Going to (recordsOf w) text room table (length (recordsOf w)) p out t ix) where
+  going-all : Going to (recordsOf w) text room table (length w / 13) p out t ix
+  going-all = rw (records-length w) at g
 
   pub through-bounded : Bounded (length w / 13) p
-  through-bounded = going-bounded (recordsOf w) text room table (length w / 13) p out t (x .index) going-all
+  through-bounded = going-bounded to (recordsOf w) text room table (length w / 13) p out t ix going-all
 
-  pub through-settled : length out ≡ room → length t ≡ table → {room′ table′ : ℕ} → room ≡ room′ → table ≡ table′ → (r : Answer) (out′ t′ : List ℕ)
-      → Settles (length out) (length t) (length w / 13) p out t r out′ t′ → Leaves r out′ t′ (writeOf link (recordsOf w) text room′ table′)
-  through-settled long long′ q q′ r out′ t′ h =
+  pub through-settled : length out ≡ room → length t ≡ table → (r : Answer) (out′ t′ : List ℕ) → Settles (length out) (length t) (length w / 13) p out t r out′ t′ → Leaves r out′ t′ to
+  through-settled long long′ r out′ t′ h =
       let n = records-length w in
-      rw (← q, ← q′) (going-settled (recordsOf w) text room table (length w / 13) p out t (x .index) going-all long long′ (over p _ _ (omega arith)) r out′ t′ h)
+      going-settled to (recordsOf w) text room table (length w / 13) p out t ix going-all long long′ (over p _ _ (omega arith)) r out′ t′ h

@@ -2,46 +2,47 @@
 -- Assumes nothing.
 use mathlib.Core.Path.{_≡_, refl, sym, ap, _∙_}
 use mathlib.Core.Bool.{Bool, true, false, true≢false, _&&_}
-use mathlib.Core.List.{List, [], _∷_, _++_, append-assoc}
+use mathlib.Core.List.{List, _∷_, _++_, append-assoc}
 use Prim.Native.Nat.{ℕ, zero, suc, _+_, _*_, _/_, _%_, _≤_, _<_, min}
 use native.Mathlib.Omega.{arith}
 use native.Mathlib.Numerals.{add-one}
 use borrow.Author.Tests.{le-leb, lt-leb}
-use lib.Dec.{eqb, lit<}
-use lib.ListN.{length, drop, set, replicate, drop-of-length-le, getD-replicate}
+use lib.Dec.{eqb}
+use lib.ListN.{length, drop, set, drop-of-length-le}
 use Rattle.format.specs.Numbers.{pick}
 use Rattle.format.specs.Tables.{Vocabulary, link}
 use Rattle.format.specs.Events as E
 use Rattle.format.specs.Events.{Item, _by_}
 use Rattle.format.specs.Items as F
-use Rattle.format.specs.Document.{aligned, header, beginning}
+use Rattle.format.specs.Document.{halves, aligned, beginning}
 use Rattle.tables.specs.declared.Counts.{Counts}
-use Rattle.tables.specs.Located.{Located, start}
-use Rattle.tables.specs.Counts.{countsOf, tableWords}
+use Rattle.tables.specs.Located.{Located}
+use Rattle.tables.specs.Counts.{tableWords}
 use Rattle.tables.specs.Rows.{vocabulary}
 use Rattle.tables.specs.Kept.{listed, Clean}
 use Rattle.tables.specs.Told.{toldAccepted}
-use Rattle.tables.proofs.Laws.{vocabulary-start, entries-are, counts-are}
+use Rattle.tables.proofs.Laws.{entries-are, counts-are}
 use Rattle.states.specs.declared.State.{State}
 use Rattle.states.specs.States.{modeOf, rootOf, fresh}
 use Rattle.states.proofs.Modes.{mode-content, coming-low}
 use Rattle.events.specs.declared.Kind.{Kind}
 use Rattle.events.specs.declared.Kind.the-variants.{Blank, Namespace, Start, Attribute, Chunk, Comment, Instruction, End}
 use Rattle.events.specs.declared.Event.{Event}
-use Rattle.index.specs.Indexed.{slots}
-use Rattle.write_names.proofs.Order.{order-start}
 use Rattle.tables.proofs.Found.{both-true}
+use Rattle.write_head.specs.Given.{givenOf}
+use Rattle.write_head.specs.Head.{tablesOf, headOctets}
+use Rattle.write_head.specs.Contracts.{Opened}
 use Rattle.writer.specs.declared.Answer.{Answer}
 use Rattle.writer.specs.declared.Answer.the-variants.{Accepted, Refused}
 use Rattle.writer.specs.declared.Step.{Step}
 use Rattle.writer.specs.declared.Step.the-variants.{On, Stop}
 use Rattle.writer.specs.Events.{eventOf, isContent, amongChildren, goesOn, wellMade}
 use Rattle.writer.specs.Items.{writeItem}
-use Rattle.writer.specs.Writing.{announced, isAttribute, Result, written, refusal, plus, fits, judge, settled, finish, run, writing, outcome, refusing}
-use Rattle.writer.specs.OutputContracts.{Holds, endOctet}
+use Rattle.writer.specs.Writing.{announced, isAttribute, Result, written, refusal, plus, fits, judge, settled, finish, run, Outcome, outcome, refusing}
+use Rattle.writer.specs.OutputContracts.{endOctet}
 use Rattle.writer.specs.StepContracts.{known, itemOf, halvesFor, verdict, Steps}
 use Rattle.writer.specs.RunContracts.{Foretold, behind, remains, Underway, Finishes}
-use Rattle.writer.proofs.OutputLaws.{held-length, held-whole, document-end-held}
+use Rattle.writer.proofs.OutputLaws.{head-held, joined-head, held-length, held-whole, document-end-held}
 use Rattle.writer.proofs.AheadLaws.{announced-on}
 
 -- ---- the attribute bit
@@ -106,50 +107,45 @@ module _ (text : List ℕ) (room at : ℕ) (v : F.State Located) (e : Event) (es
     run-stop zero h l = absurd (omega arith)
     run-stop (suc n) h l = run-on h
 
-behind-none : (x : Result) (room : ℕ) → behind [] x room ≡ outcome link x room
-behind-none (written is hs z) room = refl
-behind-none (refusal n p) room = refl
+behind-head : (before : List ℕ) (x : Result) (room : ℕ) → behind (halves before) x room ≡ outcome link before x room
+behind-head before (written is hs z) room = rw (joined-head before hs)
+behind-head before (refusal n p) room = refl
 
--- ---- where the body starts
-pub five : length (header link) ≡ 5
-unfolding header link
-five = refl
+-- ---- behind the head, before the events es
+module _ {g text : List ℕ} {room at : ℕ} {out c w ix : List ℕ} (o : Opened g text room at out c w ix) (es : List Event) where
+  abbrev before : List ℕ
+  before = headOctets link text (givenOf g)
 
--- ---- room that is cleared
-pub held-room : {n m : ℕ} {out : List ℕ} → n ≡ m → Holds n [] (2 * length (header link)) out → Holds m [] (2 * length (header link)) out
-held-room q h = rw q at h
-
--- ---- a run of the events es, with `room` octets of output
-module _ (text : List ℕ) (room : ℕ) (es : List Event) where
-  start-known : (w : List ℕ) → w ≡ replicate tableWords 0 → known (fresh (length (header link))) (listed (countsOf (start link))) w ≡ beginning (start link)
+  start-known : known (fresh at) c w ≡ beginning (tablesOf link (givenOf g))
   unfolding beginning modeOf rootOf
-  start-known w e = rw (e, vocabulary-start (replicate tableWords 0) (getD-replicate {A = ℕ} tableWords 1 0 0 (lit< tt)) (getD-replicate {A = ℕ} tableWords 769 0 0 (lit< tt)))
+  start-known = rw (o .tables)
 
-  pub underway-start : length text ≤ 16384 → {out w ix : List ℕ} → Holds room [] (2 * length (header link)) out → w ≡ replicate tableWords 0 → ix ≡ replicate slots 0 → Underway text room es 0 (fresh (length (header link))) (listed (countsOf (start link))) out w ix
-  unfolding writing
-  underway-start h {out} {w} {ix} o e z =
+  pub underway-start : Underway (outcome link before (run link text room (2 * length before) (beginning (tablesOf link (givenOf g))) 0 es) room) text room es 0 (fresh at) c out w ix
+  underway-start =
+      let near = o .near in
+      let none = coming-low 0 (omega arith) in
       record {
-        hs = [];
-        holds = o;
-        ready = record { order = rw e (order-start text ix h z); at = let b = five in omega arith; shallow = let c = coming-low 0 (omega arith) in omega arith };
+        hs = halves before;
+        holds = head-held before (o .behind) (o .written);
+        ready = record { order = o .order; at = omega arith; shallow = omega arith };
         bit-known = rw mode-content tt;
         small = omega arith;
-        leads = rw (start-known w e) (behind-none (run link text room (2 * length (header link)) (beginning (start link)) 0 es) room);
+        leads = rw (start-known, o .behind) (behind-head before (run link text room (2 * length before) (beginning (tablesOf link (givenOf g))) 0 es) room);
       }
 
-module _ {text : List ℕ} {room : ℕ} {es : List Event} {i : ℕ} {st : State} {c out w ix : List ℕ} (u : Underway text room es i st c out w ix) where
+module _ {to : Outcome} {text : List ℕ} {room : ℕ} {es : List Event} {i : ℕ} {st : State} {c out w ix : List ℕ} (u : Underway to text room es i st c out w ix) where
   pub underway-number : i ≤ 32768
   underway-number = let l = u .ready .at in let m = u .small in omega arith
 
   -- a step with the next event
   module _ {e : Event} (d : drop i es ≡ e ∷ drop (suc i) es) {a : Bool} (b : a ≡ announced (drop i es)) (r : Step) (out′ c′ w′ ix′ : List ℕ) (p : Steps text room a st c out w e r out′ c′ w′ ix′) where
-    leads-here : behind (u .hs) (run link text room (st .at) (known st c w) i (e ∷ drop (suc i) es)) room ≡ outcome link (writing link text room es) room
+    leads-here : behind (u .hs) (run link text room (st .at) (known st c w) i (e ∷ drop (suc i) es)) room ≡ to
     leads-here = rw d at (u .leads)
 
     stepped : Steps text room (announced (e ∷ drop (suc i) es)) st c out w e r out′ c′ w′ ix′
     stepped = rw (b ∙ ap announced d) at p
 
-    pub underway-on : {next : State} → r ≡ On next → Underway text room es (i + 1) next c′ out′ w′ ix′
+    pub underway-on : {next : State} → r ≡ On next → Underway to text room es (i + 1) next c′ out′ w′ ix′
     underway-on {next} q =
         let g = rw q at stepped in
         let l = u .small in
@@ -166,14 +162,14 @@ module _ {text : List ℕ} {room : ℕ} {es : List Event} {i : ℕ} {st : State}
           leads = rw (g .state, grown .place, add-one i) (sym (behind-on text room (st .at) (known st c w) e (drop (suc i) es) i (u .hs) (g .judged)) ∙ leads-here);
         }
 
-    pub run-refused : {n : ℕ} → r ≡ Stop n → refusing n i room tableWords ≡ outcome link (writing link text room es) room
+    pub run-refused : {n : ℕ} → r ≡ Stop n → refusing n i room tableWords ≡ to
     run-refused {n} q =
         let g = rw q at stepped in
         sym (ap (λ (x : Result). behind (u .hs) x room) (run-stop text room (st .at) (known st c w) e (drop (suc i) es) i n (g .0) (g .1))) ∙ leads-here
 
 -- the end behind the last event
-pub run-finished : {text : List ℕ} {room : ℕ} {es : List Event} {i : ℕ} {st : State} {cs : Counts} {out w ix : List ℕ} → Underway text room es i st (listed cs) out w ix → length es ≤ i
-    → (r : Answer) (out′ : List ℕ) → Finishes room st cs out i r out′ → remains room tableWords r out′ w ≡ outcome link (writing link text room es) room
+pub run-finished : {to : Outcome} {text : List ℕ} {room : ℕ} {es : List Event} {i : ℕ} {st : State} {cs : Counts} {out w ix : List ℕ} → Underway to text room es i st (listed cs) out w ix → length es ≤ i
+    → (r : Answer) (out′ : List ℕ) → Finishes room st cs out i r out′ → remains room tableWords r out′ w ≡ to
 unfolding run
 run-finished {text = text} {es = es} {w = w} {ix = ix} u l r out′ f = f text w ix (u .hs) (u .ready) (u .holds) ∙ (rw (drop-of-length-le es l) at (u .leads))
 

@@ -10,6 +10,7 @@ use Rattle.format.specs.Events as E
 use Rattle.format.specs.Items.{Mode, content, declaring, listing, State, mayStart}
 use Rattle.tables.specs.Located.{Located, octetsOf}
 pub use Rattle.events.specs.Records.{locatedOf, optionalOf}
+pub use Rattle.events.specs.WellMade.{isStretch}
 use Rattle.events.specs.declared.EventString.{EventString}
 use Rattle.events.specs.declared.EventString.the-variants.{Absent, Empty, Stretch, XmlPrefix, XmlNamespace}
 use Rattle.events.specs.declared.Kind.{Kind}
@@ -22,14 +23,6 @@ isAbsent Empty = false
 isAbsent (Stretch p n) = false
 isAbsent XmlPrefix = false
 isAbsent XmlNamespace = false
-
--- A stretch is not empty and lies in the text area.
-abbrev pub isStretch : Octets → EventString → Bool
-isStretch text Absent = false
-isStretch text Empty = false
-isStretch text (Stretch p n) = ltb 0 n && leb (p + n) (length text)
-isStretch text XmlPrefix = false
-isStretch text XmlNamespace = false
 
 abbrev pub isPrefix : Octets → EventString → Bool
 isPrefix text Absent = true

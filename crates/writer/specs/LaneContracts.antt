@@ -22,7 +22,7 @@ use Rattle.events.specs.FromWords.{recordAt, recordsOf, beginsWith}
 use Rattle.write_names.specs.Choices.{within}
 use Rattle.writer.specs.declared.lane.Lane.{Lane}
 use Rattle.writer.specs.Events.{wellMade, nameOf, nameText}
-use Rattle.writer.specs.Writing.{run, writing, outcome}
+use Rattle.writer.specs.Writing.{run, Outcome}
 use Rattle.writer.specs.OutputContracts.{Holds, endOctet}
 use Rattle.writer.specs.RunContracts.{behind}
 
@@ -87,17 +87,17 @@ pub record Safe (w memory : Words) (l : Lane) : Type 0 where
   pub level : l .level ≤ 32
   pub filed : Filed memory (length w / 13)
 
--- The output holds what was written, and the events from the lane's next record on lead to what the definition leaves.
-pub record OnWay (text : Octets) (room : ℕ) (es : List Event) (v : Vocabulary Located) (l : Lane) (out : Octets) : Type 0 where
+-- The output holds what was written, and the events from the lane's next record on lead to what the call is to leave, o.
+pub record OnWay (o : Outcome) (text : Octets) (room : ℕ) (es : List Event) (v : Vocabulary Located) (l : Lane) (out : Octets) : Type 0 where
   pub hs : Halves
   pub holds : Holds room hs (l .at) out
   pub small : l .i ≤ l .at
-  pub leads : behind hs (run link text room (l .at) (standing v l) (l .i) (drop (l .i) es)) room ≡ outcome link (writing link text room es) room
+  pub leads : behind hs (run link text room (l .at) (standing v l) (l .i) (drop (l .i) es)) room ≡ o
 
 -- Records were taken: where the lane was on its way it is so still, further on or not. The tables are as they were.
 abbrev pub Passes : (w memory : Words) (room : ℕ) → Lane → Octets → Lane → Octets → Type 0
 Passes w memory room l out l′ out′ =
-    (text : Octets) (v : Vocabulary Located) → within link v ≡ true → Remembered (recordsOf w) text v memory → OnWay text room (recordsOf w) v l out → OnWay text room (recordsOf w) v l′ out′
+    (o : Outcome) (text : Octets) (v : Vocabulary Located) → within link v ≡ true → Remembered (recordsOf w) text v memory → OnWay o text room (recordsOf w) v l out → OnWay o text room (recordsOf w) v l′ out′
 
 -- From record i to record j, of n.
 pub record Onward (i j n : ℕ) : Type 0 where

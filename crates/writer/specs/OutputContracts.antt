@@ -1,5 +1,5 @@
 -- Contracts of the code, not definitions to be believed. What the lent output holds while a document is written: the code clears it first and leaves out what it has no room for.
-use Prim.Native.Nat.{ℕ, _+_, _*_, _%_}
+use Prim.Native.Nat.{ℕ, _+_, _%_}
 use mathlib.Core.Path.{_≡_}
 use mathlib.Core.List.{[], _∷_, _++_}
 use lib.ListN.{length, replicate}
@@ -7,8 +7,6 @@ use lib.Dec.{eqb}
 use lib.Seq.{sets}
 use Rattle.format.specs.Octets.{Octets, Halves}
 use Rattle.format.specs.Numbers.{pick}
-use Rattle.format.specs.Tables.{link}
-use Rattle.format.specs.Document.{header}
 use Rattle.writer.specs.Writing.{joined}
 
 -- The last of these halves is an end.
@@ -16,11 +14,11 @@ pub record Ended (hs : Halves) : Type 0 where
   pub before : Octets
   pub is : hs ≡ before ++ (15 ∷ [])
 
--- The output, of `room` octets, holds the header and these halves, as far as it reaches, and 0 behind them; `at` is the half behind them. Items are whole
--- octets, so only an end leaves the last octet half filled: the next end has to keep that half.
+-- The output, of `room` octets, holds these halves, which are the document's so far, as far as it reaches, and 0 behind them; `at` is the half behind them. What
+-- stands before the body and items are whole octets, so only an end leaves the last octet half filled: the next end has to keep that half.
 pub record Holds (room : ℕ) (hs : Halves) (at : ℕ) (out : Octets) : Type 0 where
-  pub behind : at ≡ 2 * length (header link) + length hs
-  pub is : out ≡ sets (replicate room 0) 0 (header link ++ joined hs)
+  pub behind : at ≡ length hs
+  pub is : out ≡ sets (replicate room 0) 0 (joined hs)
   pub ends : at % 2 ≡ 1 → Ended hs
 
 -- The octet of an end at the half `at`, when what stands before it in the octet is an end too.

@@ -14,6 +14,7 @@ use Rattle.events.specs.FromWords.{recordAt, recordsOf}
 use Rattle.write_names.specs.Contracts.{tablesIn}
 use Rattle.writer.specs.declared.lane.Lane.{Lane}
 use Rattle.writer.specs.declared.run.Phase.{Phase}
+use Rattle.writer.specs.Writing.{Outcome}
 use Rattle.writer.specs.RunContracts.{Underway, Going}
 use Rattle.writer.specs.LaneContracts.{Taught, Remembered, Onward}
 
@@ -29,10 +30,15 @@ arrivedAt st l = record { at = l .at; level = l .level; root = st .root; mode = 
 -- From record i on the lane took those before its next: a run that was underway is so still.
 pub record Rides (w memory : Words) (room i : ℕ) (st : State) (out : Octets) (l : Lane) (out′ : Octets) : Type 0 where
   pub onward : Onward i (l .i) (length w / 13)
-  pub under : (text : Octets) (c t : Words) (index : Octets) → Remembered (recordsOf w) text (tablesIn c t) memory → Underway text room (recordsOf w) i st c out t index
-      → Underway text room (recordsOf w) (l .i) (arrivedAt st l) c out′ t index
+  pub under : (o : Outcome) (text : Octets) (c t : Words) (index : Octets) → Remembered (recordsOf w) text (tablesIn c t) memory → Underway o text room (recordsOf w) i st c out t index
+      → Underway o text room (recordsOf w) (l .i) (arrivedAt st l) c out′ t index
 
--- Behind all the events es, or the first refusal.
-pub record Through (es : List Event) (text : Octets) (room table : ℕ) (p : Phase) (out : Octets) (w : Words) : Type 0 where
-  pub index : Octets
-  pub going : Going es text room table (length es) p out w index
+-- Before the events es, a run leads to something.
+pub record Leading (es : List Event) (text : Octets) (room table : ℕ) (p : Phase) (out : Octets) (w : Words) (index : Octets) : Type 0 where
+  pub to : Outcome
+  pub going : Going to es text room table 0 p out w index
+
+-- The events es were taken, all or up to the first refusal, and what it led to it leads to still: p, out, w and the index became p′, out′, w′ and index′.
+abbrev pub Through : List Event → Octets → (room table : ℕ) → Phase → (out : Octets) (w : Words) (index : Octets) → Phase → (out′ : Octets) (w′ : Words) (index′ : Octets) → Type 0
+Through es text room table p out w index p′ out′ w′ index′ =
+    (o : Outcome) → Going o es text room table 0 p out w index → Going o es text room table (length es) p′ out′ w′ index′

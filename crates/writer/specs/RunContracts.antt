@@ -9,7 +9,6 @@ use Rattle.format.specs.Octets.{Octets, Halves, Words}
 use Rattle.format.specs.Numbers.{pick}
 use Rattle.format.specs.Tables.{link}
 use Rattle.format.specs.Items.{Mode, content, declaring, listing}
-use Rattle.format.specs.Document.{header}
 use Rattle.tables.specs.declared.Counts.{Counts}
 use Rattle.tables.specs.Counts.{tableWords}
 use Rattle.tables.specs.Kept.{listed}
@@ -21,7 +20,7 @@ use Rattle.writer.specs.declared.Answer.the-variants.{Accepted, Refused}
 use Rattle.writer.specs.declared.run.Phase.{Phase}
 use Rattle.writer.specs.declared.run.Phase.the-variants.{Onward, Halted}
 use Rattle.writer.specs.Events.{isDeclaring}
-use Rattle.writer.specs.Writing.{announced, Result, written, refusal, finish, run, joined, told, Outcome, refusing, accepting, outcome, writing, Leaves, writeOf}
+use Rattle.writer.specs.Writing.{announced, Result, written, refusal, finish, run, joined, told, Outcome, refusing, accepting, Leaves, writeOf}
 use Rattle.writer.specs.OutputContracts.{Holds}
 use Rattle.writer.specs.StepContracts.{Ready, known}
 
@@ -31,9 +30,9 @@ Foretold content b = Unit {0}
 Foretold (declaring a) b = a ≡ b
 Foretold (listing any) b = Unit {0}
 
--- What a call leaves whose run wrote the halves hs and then comes out so.
+-- What a call leaves whose run has the halves hs behind it and then comes out so.
 abbrev pub behind : Halves → Result → (room : ℕ) → Outcome
-behind hs (written is ks z) room = accepting (header link ++ joined (hs ++ ks)) (z .tables) room
+behind hs (written is ks z) room = accepting (joined (hs ++ ks)) (z .tables) room
 behind hs (refusal n p) room = refusing n p room tableWords
 
 -- What a run's answer leaves in `room` octets and `table` words: on a refusal, nothing.
@@ -41,14 +40,14 @@ abbrev pub remains : (room table : ℕ) → Answer → (out : Octets) (tables : 
 remains room table (Accepted n c) out tables = record { answer = Accepted n c; told = told (Accepted n c); out = out; tables = tables }
 remains room table (Refused n p) out tables = refusing n p room table
 
--- Behind i of the events es; out, c and w are the output and the words of counts and tables, beside the index. Each event took a half.
-pub record Underway (text : Octets) (room : ℕ) (es : List Event) (i : ℕ) (st : State) (c : Words) (out : Octets) (w : Words) (index : Octets) : Type 0 where
+-- Behind i of the events es; out, c and w are the output and the words of counts and tables, beside the index. Each event took a half. The others lead to what the call is to leave, o.
+pub record Underway (o : Outcome) (text : Octets) (room : ℕ) (es : List Event) (i : ℕ) (st : State) (c : Words) (out : Octets) (w : Words) (index : Octets) : Type 0 where
   pub hs : Halves
   pub holds : Holds room hs (st .at) out
   pub ready : Ready text st c w index
   pub bit-known : Foretold (modeOf (st .mode)) (announced (drop i es))
   pub small : i ≤ st .at
-  pub leads : behind hs (run link text room (st .at) (known st c w) i (drop i es)) room ≡ outcome link (writing link text room es) room
+  pub leads : behind hs (run link text room (st .at) (known st c w) i (drop i es)) room ≡ o
 
 -- The document's end behind i events came out as the definition says; out and out′ are the output before and then.
 abbrev pub Finishes : (room : ℕ) → State → Counts → Octets → ℕ → Answer → Octets → Type 0
@@ -75,12 +74,16 @@ bitOf (declaring b) a = b
 bitOf (listing any) a = a
 
 -- Behind i of the events es, with `room` octets of output and `table` table words lent, which are out and w, and the index. The counts are in the words c, or in the phase.
-abbrev pub Moving : List Event → Octets → (room table i : ℕ) → State → (c : Words) (out : Octets) (w : Words) (index : Octets) → Type 0
-Moving es text room table i st c out w index = (length text ≤ link .octets) × (table ≡ tableWords) × Underway text room es i st c out w index
+abbrev pub Moving : Outcome → List Event → Octets → (room table i : ℕ) → State → (c : Words) (out : Octets) (w : Words) (index : Octets) → Type 0
+Moving o es text room table i st c out w index = (table ≡ tableWords) × Underway o text room es i st c out w index
 
-abbrev pub Going : List Event → Octets → (room table i : ℕ) → Phase → (out : Octets) (w : Words) (index : Octets) → Type 0
-Going es text room table i (Onward st cs) out w index = Moving es text room table i st (listed cs) out w index
-Going es text room table i (Halted k p) out w index = refusing k p room table ≡ writeOf link es text room table
+abbrev pub Going : Outcome → List Event → Octets → (room table i : ℕ) → Phase → (out : Octets) (w : Words) (index : Octets) → Type 0
+Going o es text room table i (Onward st cs) out w index = Moving o es text room table i st (listed cs) out w index
+Going o es text room table i (Halted k p) out w index = refusing k p room table ≡ o
+
+-- Before the events, whichever they are, with the words `given` for the head: the run leads to what the definition leaves.
+abbrev pub Prepares : (given : Words) → Octets → (room table : ℕ) → Phase → (out : Octets) (w : Words) (index : Octets) → Type 0
+Prepares given text room table p out w index = (es : List Event) → Going (writeOf link given es text room table) es text room table 0 p out w index
 
 -- What the step with event i asks, and the end behind i events.
 abbrev pub Steady : Octets → ℕ → Phase → Words → (index : Octets) → Type 0
@@ -94,13 +97,13 @@ Bounded i (Halted k p) = Unit {0}
 -- The event e, number i, was taken: p, out, w and the index became p′, out′, w′ and index′.
 abbrev pub Turns : Octets → (room table i : ℕ) → Phase → (out : Octets) (w : Words) (index : Octets) → Event → Bool → Phase → (out′ : Octets) (w′ : Words) (index′ : Octets) → Type 0
 Turns text room table i p out w index e a p′ out′ w′ index′ =
-    (es : List Event) → Going es text room table i p out w index → drop i es ≡ e ∷ drop (suc i) es → a ≡ announced (drop (lookFrom p i (length es)) es) → Going es text room table (i + 1) p′ out′ w′ index′
+    (o : Outcome) (es : List Event) → Going o es text room table i p out w index → drop i es ≡ e ∷ drop (suc i) es → a ≡ announced (drop (lookFrom p i (length es)) es) → Going o es text room table (i + 1) p′ out′ w′ index′
 
 -- What the records came to, once no further one is to be written; the lent room behind it is blanked after that.
 abbrev pub Ends : (room i : ℕ) → Phase → Octets → Answer → Octets → Type 0
 Ends room i p out r out′ =
-    (es : List Event) (text : Octets) (w : Words) (index : Octets) → Going es text room (length w) i p out w index → goesOn p i (length es) ≡ false → remains room (length w) r out′ w ≡ writeOf link es text room (length w)
+    (o : Outcome) (es : List Event) (text : Octets) (w : Words) (index : Octets) → Going o es text room (length w) i p out w index → goesOn p i (length es) ≡ false → remains room (length w) r out′ w ≡ o
 
 abbrev pub Settles : (room table i : ℕ) → Phase → (out : Octets) (w : Words) → Answer → (out′ : Octets) (w′ : Words) → Type 0
 Settles room table i p out w r out′ w′ =
-    (es : List Event) (text index : Octets) → Going es text room table i p out w index → goesOn p i (length es) ≡ false → Leaves r out′ w′ (writeOf link es text room table)
+    (o : Outcome) (es : List Event) (text index : Octets) → Going o es text room table i p out w index → goesOn p i (length es) ≡ false → Leaves r out′ w′ o

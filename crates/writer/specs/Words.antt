@@ -34,8 +34,8 @@ nothing k r t c = leaving k (replicate r 0) (replicate t 0) (replicate c 0)
 unfoldable pub inWords : Outcome → WordsLeft
 inWords o = leaving (answerWord (o .answer)) (o .out) (o .tables) (countWords (o .answer))
 
--- From the records of these words over this text area, with r octets of output and t and c words for tables and counts lent: SIZE (1), then the room of the
+-- From the words given for the head and the records of these words, over this text area, with r octets of output and t and c words for tables and counts lent: SIZE (1), then the room of the
 -- counts, which are the tables' (14), both at place 0; then what writing with r octets and t table words leaves.
-unfoldable pub writeWords : Version → Words → Octets → (r t c : ℕ) → WordsLeft
-writeWords ver records text r t c =
-    pick (leb (length text) (ver .octets)) (pick (eqb c 10) (inWords (writeOf ver (recordsOf records) text r t)) (nothing ROOM r t c)) (nothing SIZE r t c)
+unfoldable pub writeWords : Version → (given records : Words) → Octets → (r t c : ℕ) → WordsLeft
+writeWords ver given records text r t c =
+    pick (leb (length text) (ver .octets)) (pick (eqb c 10) (inWords (writeOf ver given (recordsOf records) text r t)) (nothing ROOM r t c)) (nothing SIZE r t c)

@@ -11,18 +11,20 @@ use Rattle.format.specs.Events as E
 use Rattle.format.specs.Events.{Item, _by_}
 use Rattle.format.specs.Tables.{Vocabulary, Version}
 use Rattle.format.specs.Items.{Mode, content, State, moved}
-use Rattle.format.specs.Document.{halves, pad, aligned, beginning, header}
+use Rattle.format.specs.Document.{halves, pad, aligned, beginning}
 use Rattle.format.specs.Refusals.{SIZE, TEXT, FULL, DEPTH, ROOM, EVENT}
 use Rattle.tables.specs.Counts.{countsOf, tableWords, entryWords, wordsOf}
 use Rattle.tables.specs.Kept.{listed}
 use Rattle.tables.specs.Told.{Told, toldAccepted, toldRefused, entriesOf}
 use Rattle.events.specs.declared.Kind.the-variants.{Blank, Namespace, Start, Attribute, Chunk, Comment, Instruction, End}
 use Rattle.events.specs.declared.Event.{Event}
-use Rattle.tables.specs.Located.{Located, start}
+use Rattle.tables.specs.Located.{Located}
 use Rattle.writer.specs.declared.Answer as A
 use Rattle.writer.specs.declared.Answer.the-variants.{Accepted, Refused}
 use Rattle.writer.specs.Events.{wellMade, eventOf, isContent, isDeclaring, isListing, goesOn, allText}
 use Rattle.write_names.specs.Choices.{within}
+use Rattle.write_head.specs.Given.{Given, isGiven, givenOf}
+use Rattle.write_head.specs.Head.{tablesOf, headOctets, faultOfHead}
 use Rattle.writer.specs.Items.{WroteItem, writeItem}
 
 -- The next event is an attribute; the element's Start, behind its declarations, is followed by one.
@@ -163,22 +165,30 @@ accepting s v room =
     }
 
 module _ (ver : Version) where
-  abbrev pub outcome : Result → ℕ → Outcome
-  outcome (written is hs z) room = accepting (header ver ++ joined hs) (z .tables) room
-  outcome (refusal n p) room = refusing n p room tableWords
+  -- The document is the octets before its body, and then those of the halves.
+  abbrev pub outcome : (before : Octets) → Result → ℕ → Outcome
+  outcome before (written is hs z) room = accepting (before ++ joined hs) (z .tables) room
+  outcome before (refusal n p) room = refusing n p room tableWords
 
-  -- From these events over this text area, with so much output lent: the header is event 0's.
-  unfoldable pub writing : Octets → ℕ → List Event → Result
-  writing text room es = run ver text room (2 * length (header ver)) (beginning (start ver)) 0 es
+  -- From the tables g that are given for the head, and these events, over this text area, with so much output lent: what is wrong with the head is refused at place 0; then
+  -- the events, behind it and from its tables. Without a head, the header is event 0's.
+  unfoldable pub writing : Given → Octets → ℕ → List Event → Result
+  writing g text room es =
+      elim (faultOfHead ver text g room) [
+        | zero ↦ run ver text room (2 * length (headOctets ver text g)) (beginning (tablesOf ver g)) 0 es
+        | suc n ↦ refusal (suc n) 0
+      ]
 
-  -- And what is known after each of them.
-  unfoldable pub knownWriting : Octets → ℕ → List Event → List (State Located)
-  knownWriting text room es = trace ver text room (2 * length (header ver)) (beginning (start ver)) es
+  -- And what is known after each of them, if the head is right.
+  unfoldable pub knownWriting : Given → Octets → ℕ → List Event → List (State Located)
+  knownWriting g text room es = trace ver text room (2 * length (headOctets ver text g)) (beginning (tablesOf ver g)) es
 
-  -- Writing, with `room` octets of output and `table` table words lent: SIZE (1), since a text area is no longer than a document; then the table room (14), both at
-  -- place 0; then the events.
-  unfoldable pub writeOf : List Event → Octets → (room table : ℕ) → Outcome
-  writeOf es text room table =
+  -- Writing, with the words `given` for the head, `room` octets of output and `table` table words lent: SIZE (1), since a text area is no longer than a document; then the table
+  -- room (14); then given words of another number than their counts say (16), all at place 0; then the head and the events.
+  unfoldable pub writeOf : (given : Words) → List Event → Octets → (room table : ℕ) → Outcome
+  writeOf given es text room table =
       pick (leb (length text) (ver .octets))
-      (pick (eqb table tableWords) (outcome (writing text room es) room) (refusing ROOM 0 room table))
+      (pick (eqb table tableWords)
+      (pick (isGiven given) (outcome (headOctets ver text (givenOf given)) (writing (givenOf given) text room es) room) (refusing EVENT 0 room table))
+      (refusing ROOM 0 room table))
       (refusing SIZE 0 room table)

@@ -1,5 +1,5 @@
-// Writing a document: events and a text area in, octets and tables out, or a refusal and the event's number.
-// May depend on format, fields, tables, index, states, walk, events and write_names.
+// Writing a document: tables for its head, events and a text area in, octets and tables out, or a refusal and the event's number.
+// May depend on format, fields, tables, index, states, walk, events, write_names and write_head.
 mod ahead;
 mod items;
 mod lane;

@@ -1,13 +1,9 @@
-// The lent output: cleared, then the header, then ends and items. What it has no room for is left out, and found out by the place behind it.
+// The lent output: cleared, then what stands before the body, then ends and items. What it has no room for is left out, and found out by the place behind it.
 ghost use mathlib.Core.Path.{_≡_};
-ghost use mathlib.Core.List.{[]};
-ghost use Prim.Native.Nat.{_*_, _/_};
+ghost use Prim.Native.Nat.{_/_};
 ghost use lib.ListN.{length, replicate, set};
-ghost use Rattle.format.specs.Tables.{link};
-ghost use Rattle.format.specs.Document.{header};
-ghost use Rattle.writer.specs.OutputContracts.{Holds, endOctet};
+ghost use Rattle.writer.specs.OutputContracts.{endOctet};
 use fields::put::put;
-use fields::put::put_part;
 
 // Every octet is 0.
 pub fn clear(out: &mut [u8])
@@ -18,15 +14,6 @@ pub fn clear(out: &mut [u8])
         out[i] = 0;
         i += 1;
     }
-}
-
-// The header, on a cleared output.
-pub fn put_header(out: &mut [u8])
-    requires { ⌜ now out ≡ replicate (length (now out)) 0 ⌝ }
-    ensures { λ _. ⌜ Holds (length (now (out .entry))) [] (2 * length (header link)) (now (out .exit)) ⌝ }
-{
-    let header = fields::HEADER;
-    put_part(out, 0, &header, 0, fields::BODY);
 }
 
 // An end at the half `at`. In the first half of an octet it leaves the second 0; before the second stands another end.

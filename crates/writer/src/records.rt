@@ -17,6 +17,7 @@ ghost use Rattle.writer.specs.Contracts.{Lies, Placed, faultOf};
 use events::Event;
 use events::EventString;
 use events::Kind;
+use events::lies_in;
 use events::tags;
 use fields::is_text;
 use format::refusals::DEPTH;
@@ -28,20 +29,6 @@ fn is_absent(x: EventString) -> bool
     ensures { λ r. ⌜ r ≡ isAbsent x ⌝ }
 {
     x.tag() == tags::ABSENT
-}
-
-// A stretch is not empty and lies in the text area. Place and size are the caller's and may be any numbers, so they are not added.
-fn lies_in(text: &[u8], place: u32, size: u32) -> bool
-    ensures { λ r. ⌜ r ≡ (ltb 0 size && leb (place + size) (length (now (text .entry)))) ⌝ }
-{
-    let n = size as usize;
-    if n == 0 {
-        return false;
-    }
-    if text.len() < n {
-        return false;
-    }
-    place as usize <= text.len() - n
 }
 
 // A string in the text area, or one with either of two tags.

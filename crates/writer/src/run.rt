@@ -1,22 +1,19 @@
-// A run: the header, then the events one by one, then the document's end. What is decided is decided by value, in the functions over a `Phase`; `write` takes the
+// A run: the head, then the events one by one, then the document's end. What is decided is decided by value, in the functions over a `Phase`; `write` takes the
 // records out of a row, and `steps` out of words. The writer for C is such a run.
 ghost use mathlib.Core.Path.{_≡_};
 ghost use mathlib.Core.Bool.{_&&_};
-ghost use mathlib.Core.List.{List};
 ghost use Prim.Native.Nat.{_≤_};
 ghost use lib.Dec.{eqb};
 ghost use lib.ListN.{length, replicate};
-ghost use Rattle.format.specs.Octets.{Octets};
 ghost use Rattle.format.specs.Tables.{link};
 ghost use Rattle.index.specs.Indexed.{slots};
 ghost use Rattle.states.specs.States.{modeOf, rootOf};
-ghost use Rattle.events.specs.declared.Event.{Event};
 ghost use Rattle.events.specs.FromWords.{recordsOf};
 ghost use Rattle.writer.specs.Events.{isContent};
 ghost use Rattle.writer.specs.Writing.{Leaves, writeOf};
 ghost use Rattle.writer.specs.Words.{answerWord, leaving, writeWords};
-ghost use Rattle.writer.specs.RunContracts.{Finishes, goesOn, fromMode, lookFrom, bitOf, Going, Steady, Bounded, Turns, Ends, Settles};
-ghost use Rattle.writer.specs.RideContracts.{Through};
+ghost use Rattle.writer.specs.RunContracts.{Finishes, goesOn, fromMode, lookFrom, bitOf, Prepares, Steady, Bounded, Turns, Ends, Settles};
+ghost use Rattle.writer.specs.RideContracts.{Leading, Through};
 use crate::Answer;
 use crate::Step;
 use crate::ahead;
@@ -30,6 +27,7 @@ use format::refusals::ROOM;
 use format::refusals::SIZE;
 use states::State;
 use tables::Counts;
+use write_head::Begun;
 
 // Between two records: where the writer stands and the tables' counts there, or the refusal and the event's number.
 pub enum Phase {
@@ -63,9 +61,16 @@ fn finish(st: State, counts: Counts, out: &mut [u8], i: usize) -> Answer
     Answer::Accepted(octets as u32, counts)
 }
 
-// SIZE, then the table room, then the header, into room that is cleared.
-pub fn prepared(text: &[u8], out: &mut [u8], t: &mut [u32]) -> Phase
-    ensures { λ r. ⌜ ((es : List Event) (index : Octets) → index ≡ replicate slots 0 → Going es (now (text .entry)) (length (now (out .entry))) (length (now (t .entry))) 0 r (now (out .exit)) (now (t .exit)) index) ⌝ }
+// SIZE, then the table room, then the head, into room that is cleared. The index is empty at first.
+pub fn prepared(
+    given: &[u32],
+    text: &[u8],
+    out: &mut [u8],
+    t: &mut [u32],
+    index: &mut [u8],
+) -> Phase
+    requires { ⌜ now index ≡ replicate slots 0 ⌝ }
+    ensures { λ r. ⌜ Prepares (now (given .entry)) (now (text .entry)) (length (now (out .entry))) (length (now (t .entry))) r (now (out .exit)) (now (t .exit)) (now (index .exit)) ⌝ }
 {
     if fields::OCTETS < text.len() {
         return Phase::Halted(SIZE, 0);
@@ -75,10 +80,11 @@ pub fn prepared(text: &[u8], out: &mut [u8], t: &mut [u32]) -> Phase
     }
     output::clear(out);
     tables::clear(t);
-    output::put_header(out);
-    let state = State::begin(fields::BODY);
-    let counts = Counts::start();
-    Phase::Onward(state, counts)
+    let mut counts = [0u32; Counts::TABLES];
+    match write_head::begin(given, text, out, t, &mut counts, index) {
+        Begun::Body(at) => Phase::Onward(State::begin(at), tables::counts_in(&counts)),
+        Begun::Refused(number) => Phase::Halted(number, 0),
+    }
 }
 
 // Among declarations no record is looked at a second time: their bit is known.
@@ -149,12 +155,19 @@ impl Phase {
     }
 
     // All the records of words.
-    fn through(self, records: &[u32], text: &[u8], out: &mut [u8], t: &mut [u32]) -> Phase
-        requires { ⌜ Going (recordsOf (now records)) (now text) (length (now out)) (length (now t)) 0 self (now out) (now t) (replicate slots 0) ⌝ }
-        ensures { λ r. ⌜ Through (recordsOf (now (records .entry))) (now (text .entry)) (length (now (out .entry))) (length (now (t .entry))) r (now (out .exit)) (now (t .exit)) ⌝ }
+    fn through(
+        self,
+        records: &[u32],
+        text: &[u8],
+        out: &mut [u8],
+        t: &mut [u32],
+        index: &mut [u8],
+    ) -> Phase
+        requires { ⌜ Leading (recordsOf (now records)) (now text) (length (now out)) (length (now t)) self (now out) (now t) (now index) ⌝ }
+        ensures { λ r. ⌜ Through (recordsOf (now (records .entry))) (now (text .entry)) (length (now (out .entry))) (length (now (t .entry))) self (now (out .entry)) (now (t .entry)) (now (index .entry)) r (now (out .exit)) (now (t .exit)) (now (index .exit)) ⌝ }
     {
         match self {
-            Phase::Onward(st, counts) => steps(records, text, out, t, st, counts),
+            Phase::Onward(st, counts) => steps(records, text, out, t, index, st, counts),
             Phase::Halted(number, event) => Phase::Halted(number, event),
         }
     }
@@ -186,11 +199,12 @@ impl Phase {
 }
 
 // The records of words.
-fn written(records: &[u32], text: &[u8], out: &mut [u8], t: &mut [u32]) -> Answer
-    ensures { λ r. ⌜ Leaves r (now (out .exit)) (now (t .exit)) (writeOf link (recordsOf (now (records .entry))) (now (text .entry)) (length (now (out .entry))) (length (now (t .entry)))) ⌝ }
+fn written(given: &[u32], records: &[u32], text: &[u8], out: &mut [u8], t: &mut [u32]) -> Answer
+    ensures { λ r. ⌜ Leaves r (now (out .exit)) (now (t .exit)) (writeOf link (now (given .entry)) (recordsOf (now (records .entry))) (now (text .entry)) (length (now (out .entry))) (length (now (t .entry)))) ⌝ }
 {
-    let p = prepared(text, out, t);
-    let q = p.through(records, text, out, t);
+    let mut index = [0u8; index::SLOTS];
+    let p = prepared(given, text, out, t, &mut index);
+    let q = p.through(records, text, out, t, &mut index);
     q.settle(out, t, records.len() / RECORD)
 }
 
@@ -203,17 +217,19 @@ fn number(a: Answer) -> u64
     }
 }
 
-// Records in words, and a text area, into octets, the tables and the ten counts. The answer has the octet count above its low 32 bits, and in them 0 or the
-// refusal's number, which leaves every octet and word 0.
-// Wrong would be: on a refusal, octets that are left of events before the fault; on acceptance, an octet behind the document that stood there before the call.
+// Tables for the head in words, records in words, and a text area, into octets, the tables and the ten counts. The answer has the octet count above its low 32
+// bits, and in them 0 or the refusal's number, which leaves every octet and word 0.
+// Wrong would be: on a refusal, octets that are left of the head or of events before the fault; on acceptance, an octet behind the document that stood there before
+// the call.
 pub fn write_words(
+    given: &[u32],
     records: &[u32],
     text: &[u8],
     out: &mut [u8],
     tables: &mut [u32],
     counts: &mut [u32],
 ) -> u64
-    ensures { λ r. ⌜ leaving r (now (out .exit)) (now (tables .exit)) (now (counts .exit)) ≡ writeWords link (now (records .entry)) (now (text .entry)) (length (now (out .entry))) (length (now (tables .entry))) (length (now (counts .entry))) ⌝ }
+    ensures { λ r. ⌜ leaving r (now (out .exit)) (now (tables .exit)) (now (counts .exit)) ≡ writeWords link (now (given .entry)) (now (records .entry)) (now (text .entry)) (length (now (out .entry))) (length (now (tables .entry))) (length (now (counts .entry))) ⌝ }
 {
     tables::clear(counts);
     if counts.len() != Counts::TABLES {
@@ -224,7 +240,7 @@ pub fn write_words(
         }
         return ROOM as u64;
     }
-    let a = written(records, text, out, tables);
+    let a = written(given, records, text, out, tables);
     let Answer::Accepted(_, c) = a else {
         return number(a);
     };

@@ -1,14 +1,12 @@
 // The records of words one by one: a step, then the quick lane as far as it goes.
 ghost use mathlib.Core.Path.{_≡_};
 ghost use Prim.Native.Nat.{_/_, _<_, _≤_};
-ghost use lib.ListN.{length, replicate};
+ghost use lib.ListN.{length};
 ghost use Rattle.format.specs.Numbers.{pick};
-ghost use Rattle.index.specs.Indexed.{slots};
 ghost use Rattle.events.specs.FromWords.{recordsOf};
 ghost use Rattle.writer.specs.declared.run.Phase.the-variants.{Onward};
 ghost use Rattle.writer.specs.LaneContracts.{Filed};
-ghost use Rattle.writer.specs.RunContracts.{Going};
-ghost use Rattle.writer.specs.RideContracts.{arrivedAt, Learns, Rides, Through};
+ghost use Rattle.writer.specs.RideContracts.{arrivedAt, Learns, Rides, Leading, Through};
 use crate::Step;
 use crate::ahead;
 use crate::items::step;
@@ -87,13 +85,13 @@ pub fn steps(
     text: &[u8],
     out: &mut [u8],
     t: &mut [u32],
+    index: &mut [u8],
     first: State,
     start: Counts,
 ) -> Phase
-    requires { ⌜ Going (recordsOf (now records)) (now text) (length (now out)) (length (now t)) 0 (Onward first start) (now out) (now t) (replicate slots 0) ⌝ }
-    ensures { λ r. ⌜ Through (recordsOf (now (records .entry))) (now (text .entry)) (length (now (out .entry))) (length (now (t .entry))) r (now (out .exit)) (now (t .exit)) ⌝ }
+    requires { ⌜ Leading (recordsOf (now records)) (now text) (length (now out)) (length (now t)) (Onward first start) (now out) (now t) (now index) ⌝ }
+    ensures { λ r. ⌜ Through (recordsOf (now (records .entry))) (now (text .entry)) (length (now (out .entry))) (length (now (t .entry))) (Onward first start) (now (out .entry)) (now (t .entry)) (now (index .entry)) r (now (out .exit)) (now (t .exit)) (now (index .exit)) ⌝ }
 {
-    let mut index = [0u8; index::SLOTS];
     let mut memory = [0u32; SLOTS];
     let mut counts = [0u32; Counts::TABLES];
     tables::put_counts(&mut counts, start);
@@ -104,7 +102,7 @@ pub fn steps(
         let e = events::from_words(records, i);
         let before = counts[ELEMENT_NAME];
         let b = bit(st.mode, a);
-        match step(st, text, t, &mut counts, &mut index, out, e, b) {
+        match step(st, text, t, &mut counts, index, out, e, b) {
             Step::On(next) => {
                 learn(&mut memory, records, i, before, counts[ELEMENT_NAME]);
                 let l = ride(next, records, &memory, out, i + 1);

@@ -11,6 +11,7 @@ use events::Event;
 
 // The records of a row, one by one. The index is empty at first.
 fn written(
+    given: &[u32],
     events: &[Event],
     text: &[u8],
     out: &mut [u8],
@@ -18,9 +19,9 @@ fn written(
     index: &mut [u8],
 ) -> Answer
     requires { ⌜ now index ≡ replicate slots 0 ⌝ }
-    ensures { λ r. ⌜ Leaves r (now (out .exit)) (now (tables .exit)) (writeOf link (now (events .entry)) (now (text .entry)) (length (now (out .entry))) (length (now (tables .entry)))) ⌝ }
+    ensures { λ r. ⌜ Leaves r (now (out .exit)) (now (tables .exit)) (writeOf link (now (given .entry)) (now (events .entry)) (now (text .entry)) (length (now (out .entry))) (length (now (tables .entry)))) ⌝ }
 {
-    let mut p = run::prepared(text, out, tables);
+    let mut p = run::prepared(given, text, out, tables, index);
     let mut i = 0;
     while p.goes_on(i, events.len()) {
         let a = ahead::announced(events, p.look_from(i, events.len()));
@@ -30,11 +31,17 @@ fn written(
     p.settle(out, tables, i)
 }
 
-// Any row of records, any text area, any room. Nothing of what was in the room before is left in it.
+// Any words for the head, any row of records, any text area, any room. Nothing of what was in the room before is left in it.
 // Wrong would be: on a refusal, octets that are left of events before the fault; on acceptance, tables that go on from those of an earlier document.
-pub fn write(events: &[Event], text: &[u8], out: &mut [u8], tables: &mut [u32]) -> Answer
-    ensures { λ r. ⌜ Leaves r (now (out .exit)) (now (tables .exit)) (writeOf link (now (events .entry)) (now (text .entry)) (length (now (out .entry))) (length (now (tables .entry)))) ⌝ }
+pub fn write(
+    given: &[u32],
+    events: &[Event],
+    text: &[u8],
+    out: &mut [u8],
+    tables: &mut [u32],
+) -> Answer
+    ensures { λ r. ⌜ Leaves r (now (out .exit)) (now (tables .exit)) (writeOf link (now (given .entry)) (now (events .entry)) (now (text .entry)) (length (now (out .entry))) (length (now (tables .entry)))) ⌝ }
 {
     let mut index = [0u8; index::SLOTS];
-    written(events, text, out, tables, &mut index)
+    written(given, events, text, out, tables, &mut index)
 }

@@ -1,6 +1,7 @@
 // What is printed: the document, the writer's refusal, or what is wrong with a line.
 use crate::event_lines::Fault;
 use crate::event_lines::Line;
+use crate::head_lines;
 use crate::sums::least;
 use libc::STDOUT_FILENO;
 use tables::Counts;
@@ -14,7 +15,7 @@ fn put_text(text: &[u8]) {
 
 fn put_why(fault: Fault) {
     match fault {
-        Fault::Letter => put_text(b"a line starts with N, S, A, T, C, P, E or end"),
+        Fault::Letter => put_text(b"a line starts with H, N, S, A, T, C, P, E or end"),
         Fault::Space => put_text(b"one space stands before a string"),
         Fault::String => put_text(b"a string starts with - or ="),
         Fault::Digit => put_text(b"a string's octets are pairs of hex digits"),
@@ -23,6 +24,11 @@ fn put_why(fault: Fault) {
         Fault::Last => put_text(b"the last line is end and the number of event lines"),
         Fault::After => put_text(b"no line follows end"),
         Fault::Cut => put_text(b"its line end is missing"),
+        Fault::Table => put_text(b"a head line names its table by p, n, l, o, u, v, c, s, E or A"),
+        Fault::Order => put_text(b"the tables of head lines come in the order p n l o u v c s E A"),
+        Fault::Number => put_text(b"a listed name is three numbers"),
+        Fault::Many => put_text(b"there are at most 32768 head lines"),
+        Fault::Late => put_text(b"head lines come before event lines"),
     }
 }
 
@@ -49,14 +55,25 @@ fn put_answer(out: &[u8], answer: u64) {
     put_text(&out[0..n]);
 }
 
-pub fn put_document(line: Line, text: &[u8], records: &[u32]) {
+// The words that are given for the head, none without head lines.
+fn given_words(line: Line) -> usize {
+    if line.entries == 0 {
+        return 0;
+    }
+    head_lines::word_of(line.entries)
+}
+
+pub fn put_document(line: Line, text: &[u8], words: &[u32]) {
     let mut out = [0u8; fields::OCTETS];
     let mut tables = [0u32; Counts::WORDS];
     let mut counts = [0u32; Counts::TABLES];
-    let r = least(line.from, records.len());
+    let g = least(given_words(line), words.len());
+    let r = least(line.from, words.len());
+    let first = least(head_lines::WORDS, r);
     let t = least(least(line.fill, LENT), text.len());
     let answer = lomphachit::lomphachit_write(
-        &records[0..r],
+        &words[0..g],
+        &words[first..r],
         &text[0..t],
         &mut out,
         &mut tables,

@@ -1,7 +1,8 @@
-// One octet of an event line after the other: each goes to a record's words or to the text area.
+// One octet of a line after the other: each goes to the words of a record, or of what is given for the head, or to the text area.
 use crate::area::first_same;
 use crate::area::put_octet;
 use crate::area::spells;
+use crate::head_lines;
 use crate::sums::low;
 use crate::sums::next;
 use crate::sums::plus;
@@ -21,6 +22,12 @@ pub enum Fault {
     Last,
     After,
     Cut,
+    // Of head lines: no table's letter, tables out of their order, no number, too many lines, a line behind an event line.
+    Table,
+    Order,
+    Number,
+    Many,
+    Late,
 }
 
 // What the next octet belongs to.
@@ -32,6 +39,11 @@ pub enum Phase {
     Pair,
     // The second digit of a pair, with the value of the first.
     Half(u8),
+    // A head line: the space behind its H, its table's letter, a number's first digit, and its next with the value so far.
+    Head,
+    Table,
+    Number,
+    Digits(u64),
     // The last line, with how many octets are there behind its e.
     Last(usize),
     Over,
@@ -47,8 +59,13 @@ pub struct Line {
     // Where this line's record starts, and where the words of its next string do.
     pub from: usize,
     pub word: usize,
-    // Strings that the line still has to have.
+    // Strings or numbers that the line still has to have, and whether it has numbers.
     pub left: u32,
+    pub numbers: bool,
+    // The line at hand is a head line; the table of the last one, and how many there were.
+    pub heading: bool,
+    pub table: usize,
+    pub entries: usize,
     // Octets in the text area, and where those of the string at hand start.
     pub fill: usize,
     pub place: usize,
@@ -105,16 +122,16 @@ fn digit(b: u8) -> u8 {
 }
 
 // Events behind the room for records are counted and not kept: the writer refuses the list before it comes to them.
-fn put(records: &mut [u32], at: usize, x: u32) {
-    if at < records.len() {
-        records[at] = x;
+pub fn put(words: &mut [u32], at: usize, x: u32) {
+    if at < words.len() {
+        words[at] = x;
     }
 }
 
-fn put_string(records: &mut [u32], at: usize, tag: u32, place: u32, size: u32) {
-    put(records, at, tag);
-    put(records, plus(at, 1), place);
-    put(records, plus(at, 2), size);
+fn put_string(words: &mut [u32], at: usize, tag: u32, place: u32, size: u32) {
+    put(words, at, tag);
+    put(words, plus(at, 1), place);
+    put(words, plus(at, 2), size);
 }
 
 // An octet of a line's part, or the line end behind it.
@@ -140,9 +157,13 @@ impl Line {
         Line {
             number: 1,
             events: 0,
-            from: 0,
+            from: head_lines::WORDS,
             word: 0,
             left: 0,
+            numbers: false,
+            heading: false,
+            table: 0,
+            entries: 0,
             fill: 0,
             place: 0,
             hash: 0,
@@ -153,30 +174,33 @@ impl Line {
         State { line: self, phase }
     }
 
-    fn wrong(self, fault: Fault) -> State {
+    pub fn wrong(self, fault: Fault) -> State {
         self.at(Phase::Wrong(fault))
     }
 
-    fn start(mut self, b: u8, records: &mut [u32]) -> State {
+    fn start(mut self, b: u8, words: &mut [u32]) -> State {
         if b == b'e' {
             return self.at(Phase::Last(0));
+        }
+        if b == b'H' {
+            return head_lines::begin(self);
         }
         let kind = kind_of(b);
         if kind == kinds::BLANK {
             return self.wrong(Fault::Letter);
         }
         let from = self.from;
-        put(records, from, kind);
+        put(words, from, kind);
         self.word = plus(from, word_of(kind));
         self.left = many_of(kind);
         self.at(Phase::Gap)
     }
 
-    // The space before a string, or the line end behind the last.
-    fn gap(mut self, b: u8) -> State {
+    // The space before a string or a number, or the line end behind the last.
+    pub fn gap(mut self, b: u8, words: &mut [u32]) -> State {
         let left = self.left;
         if left == 0 {
-            return self.end(b);
+            return self.end(b, words);
         }
         if b == b'\n' {
             return self.wrong(Fault::Fewer);
@@ -185,14 +209,20 @@ impl Line {
             return self.wrong(Fault::Space);
         }
         self.left = left - 1;
+        if self.numbers {
+            return self.at(Phase::Number);
+        }
         self.at(Phase::String)
     }
 
-    fn end(mut self, b: u8) -> State {
+    fn end(mut self, b: u8, words: &mut [u32]) -> State {
         if b != b'\n' {
             return self.wrong(Fault::More);
         }
         self.number = next(self.number);
+        if self.heading {
+            return head_lines::end(self, words).at(Phase::Start);
+        }
         self.events = next(self.events);
         self.from = plus(self.from, RECORD);
         self.at(Phase::Start)
@@ -211,13 +241,13 @@ impl Line {
         self.at(Phase::Pair)
     }
 
-    fn pair(self, b: u8, text: &[u8], known: &mut [u64], records: &mut [u32]) -> State {
+    fn pair(self, b: u8, text: &[u8], known: &mut [u64], words: &mut [u32]) -> State {
         let d = digit(b);
         if d < 16 {
             return self.at(Phase::Half(d));
         }
         if b == b' ' || b == b'\n' {
-            return self.kept(text, known, records).gap(b);
+            return self.kept(text, known, words).gap(b, words);
         }
         self.wrong(Fault::Digit)
     }
@@ -252,17 +282,17 @@ impl Line {
     }
 
     // The string that has ended, into its three words.
-    fn kept(mut self, text: &[u8], known: &mut [u64], records: &mut [u32]) -> Line {
+    fn kept(mut self, text: &[u8], known: &mut [u64], words: &mut [u32]) -> Line {
         let mark = self.mark(text);
         let word = self.word;
         self.word = plus(word, 3);
         let place = self.place;
         if self.fill <= place {
-            put(records, word, tags::EMPTY);
+            put(words, word, tags::EMPTY);
             return self;
         }
         if mark != tags::ABSENT {
-            put(records, word, mark);
+            put(words, word, mark);
             self.fill = place;
             return self;
         }
@@ -272,7 +302,7 @@ impl Line {
             self.fill = place;
         }
         put_string(
-            records,
+            words,
             word,
             tags::STRETCH,
             (one % 0x1_0000_0000) as u32,
@@ -293,15 +323,19 @@ impl Line {
     }
 }
 
-pub fn step(st: State, b: u8, text: &mut [u8], known: &mut [u64], records: &mut [u32]) -> State {
+pub fn step(st: State, b: u8, text: &mut [u8], known: &mut [u64], words: &mut [u32]) -> State {
     let line = st.line;
     let phase = st.phase;
     match phase {
-        Phase::Start => line.start(b, records),
-        Phase::Gap => line.gap(b),
+        Phase::Start => line.start(b, words),
+        Phase::Gap => line.gap(b, words),
         Phase::String => line.string(b),
-        Phase::Pair => line.pair(b, text, known, records),
+        Phase::Pair => line.pair(b, text, known, words),
         Phase::Half(high) => line.half(high, b, text),
+        Phase::Head => head_lines::space(line, b),
+        Phase::Table => head_lines::letter(line, b),
+        Phase::Number => head_lines::number(line, b),
+        Phase::Digits(n) => head_lines::digits(line, n, b, words),
         Phase::Last(i) => line.last(i, b),
         Phase::Over => line.wrong(Fault::After),
         Phase::Wrong(_) => st,

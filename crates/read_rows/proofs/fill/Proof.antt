@@ -35,7 +35,7 @@ use sound.WpLaws.{fmOf}
 use denote.RattleType.{owns}
 use denote.Laws.{Is, shows}
 use denote.Memory.{mem, pointee}
-use denote.Plain.{uint-vals, uint-tells, uint-makes, nothing-lawful}
+use denote.Plain.{uint-makes, nothing-lawful}
 use denote.Builtin.{u8, u32, usize, unit}
 use denote.Ref.{RefT, MutRef}
 use denote.Slice.{sliceTy, sliceVal, MutSlice, ShrSlice, Room, slice-vals, mut-slice-tells, shr-slice-tells, shr-slice-copy}
@@ -80,11 +80,13 @@ use Rattle.read_rows.specs.declared.Place.{Place}
 use Rattle.read_rows.specs.declared.Next.{Next}
 use Rattle.read_rows.specs.declared.Next.the-variants.{Found, Passed, Finished, Refused}
 use Rattle.read_items.specs.Contracts.{Good}
-use Rattle.reader.specs.Reading as Reading
-use Rattle.reader.specs.Reading.{Outcome, outcome, origin, fuelOf}
-use Rattle.read_rows.specs.Contracts.{first, lentTo, Reaches, finished, Small, settled}
+use Rattle.reader.specs.declared.run.Front.{Front}
+use Rattle.reader.specs.Reading.{Outcome, outcome}
+use Rattle.read_rows.specs.Contracts.{first, lentTo, Reaches, finished, Small, settled, readFrom}
 use Rattle.read_rows.proofs.Laws.{Over, Filling, filling-start, filling-found, filling-passed, filled, small}
-use Rattle.read_rows.proofs.Values.{docTy, elemTy, numTy, octTy, valC, IsC, typedC, valP, IsP, typedP, valN, IsN, typedN, valR, IsR}
+use Rattle.read_rows.proofs.Values.{docTy, elemTy, numTy, octTy, valC, IsC, typedC, valP, IsP, typedP, valN, IsN, typedN, valR, IsR, valF, IsF, typedF}
+use Rattle.reader.proofs.run.Front as F
+use Rattle.reader.proofs.run.Front.Laws as F′
 use Rattle.reader.proofs.Answer as R
 use Rattle.reader.proofs.Answer.Laws as R′
 use Rattle.read_rows.proofs.Place as P
@@ -118,7 +120,7 @@ fits-under i n l r = omega arith
 
 -- ---- the function
 abbrev stayed : Stays (fill′.ended .signature .params) (fill′.ended .kept)
-stayed = (stay-dropped (shrSliceOf (0 ∷ []) tt (plain (λ _. u8))) yes, (stay-slice (1 ∷ []) tt (plain (λ _. E.the-row)), (stay-slice (2 ∷ []) tt (plain (λ _. u32)), (stay-slice (3 ∷ []) tt (plain (λ _. u8)), (stay-dropped (plain (λ _. usize)) yes, tt)))))
+stayed = (stay-dropped (shrSliceOf (0 ∷ []) tt (plain (λ _. u8))) yes, (stay-slice (1 ∷ []) tt (plain (λ _. E.the-row)), (stay-slice (2 ∷ []) tt (plain (λ _. u32)), (stay-slice (3 ∷ []) tt (plain (λ _. u8)), (stay-dropped (plain (λ _. F.the-row)) yes, tt)))))
 
 abbrev word : Ty
 word = tyInt w64
@@ -149,15 +151,15 @@ module _ {M : Type 1} (𝓤 : URA M) (H : Heap 𝓤) (A : Atoms 𝓤) (at-mem : 
   start-of : (r : Counts) → ent 𝓤 (ensured 𝓤 H A start′.ended (start′.clauses 𝓤 H A at-mem run) tt tt tt r) (fact 𝓤 (r ≡ countsOf (start link)))
   start-of r = exE 𝓤 _ (λ ws. snd∗ 𝓤 (sem 𝓤 H A (lasts start′.ended tt tt ws)) (fact 𝓤 (r ≡ countsOf (start link))))
 
-  begin-of : (k n : ℕ) (p : Place) → ent 𝓤 (ensured 𝓤 H A begin′.ended (begin′.clauses 𝓤 H A at-mem run) tt (k, (n, tt)) tt p) (fact 𝓤 (p ≡ first k n))
+  begin-of : (k : Front) (n : ℕ) (p : Place) → ent 𝓤 (ensured 𝓤 H A begin′.ended (begin′.clauses 𝓤 H A at-mem run) tt (k, (n, tt)) tt p) (fact 𝓤 (p ≡ first k n))
   begin-of k n p = exE 𝓤 _ (λ ws. snd∗ 𝓤 (sem 𝓤 H A (lasts begin′.ended tt (k, (n, tt)) ws)) (fact 𝓤 (p ≡ first k n)))
 
   finish-of : (r : Next) (n : ℕ) (c : Counts) (w : Answer) → ent 𝓤 (ensured 𝓤 H A finish′.ended (finish′.clauses 𝓤 H A at-mem run) tt (r, (n, (c, tt))) tt w) (fact 𝓤 (w ≡ finished r n c))
   finish-of r n c w = exE 𝓤 _ (λ ws. snd∗ 𝓤 (sem 𝓤 H A (lasts finish′.ended tt (r, (n, (c, tt))) ws)) (fact 𝓤 (w ≡ finished r n c)))
 
-module _ {M : Type 1} (𝓤 : URA M) (H : Heap 𝓤) (A : Atoms 𝓤) (W : Given 𝓤 H A) (at-mem : Memory → SProp 𝓤) (run : Routine → Fun 𝓤) (κ₀ κ₁ κ₂ κ₃ : Lft) (q₀ q₁ q₂ q₃ : Share) (b₀ o₀ : ℕ) (γ₀ : GName) (ss : List ℕ) (b o : ℕ) (γ : GName) (ys : List Event) (b₂ o₂ : ℕ) (γ₂ : GName) (ts : List ℕ) (b₃ o₃ : ℕ) (γ₃ : GName) (xs : List ℕ) (body : ℕ)
-    (room-s : Room u8 (length ss)) (room-e : Room E.the-row (length ys)) (room-t : Room u32 (length ts)) (room-x : Room u8 (length xs)) (body-fits : body < 2 ^ 64)
-    (ready : (body ≤ length ss) × (length ss ≤ 16384) × (ys ≡ replicate (length ys) blank) × (ts ≡ replicate tableWords 0) × (xs ≡ replicate slots 0)) where
+module _ {M : Type 1} (𝓤 : URA M) (H : Heap 𝓤) (A : Atoms 𝓤) (W : Given 𝓤 H A) (at-mem : Memory → SProp 𝓤) (run : Routine → Fun 𝓤) (κ₀ κ₁ κ₂ κ₃ : Lft) (q₀ q₁ q₂ q₃ : Share) (b₀ o₀ : ℕ) (γ₀ : GName) (ss : List ℕ) (b o : ℕ) (γ : GName) (ys : List Event) (b₂ o₂ : ℕ) (γ₂ : GName) (ts : List ℕ) (b₃ o₃ : ℕ) (γ₃ : GName) (xs : List ℕ) (front : Front)
+    (room-s : Room u8 (length ss)) (room-e : Room E.the-row (length ys)) (room-t : Room u32 (length ts)) (room-x : Room u8 (length xs)) (isf : IsF front)
+    (ready : (front .at ≤ length ss) × (length ss ≤ 16384) × (ys ≡ replicate (length ys) blank) × (ts ≡ replicate tableWords 0) × (xs ≡ replicate slots 0)) where
   abbrev doc : RefT (List ℕ)
   doc = record { ptr = (b₀, o₀); name = γ₀; now = ss }
 
@@ -172,10 +174,10 @@ module _ {M : Type 1} (𝓤 : URA M) (H : Heap 𝓤) (A : Atoms 𝓤) (W : Given
   idx δ l = record { ptr = (b₃, o₃); name = δ; now = l }
 
   abbrev Arg : Type 0
-  Arg = RefT (List ℕ) × (RefT (List Event) × (RefT (List ℕ) × (RefT (List ℕ) × (ℕ × Unit {0}))))
+  Arg = RefT (List ℕ) × (RefT (List Event) × (RefT (List ℕ) × (RefT (List ℕ) × (Front × Unit {0}))))
 
   abbrev a : Arg
-  a = (doc, (row γ ys, (tab γ₂ ts, (idx γ₃ xs, (body, tt)))))
+  a = (doc, (row γ ys, (tab γ₂ ts, (idx γ₃ xs, (front, tt)))))
 
   -- the machine values of the slices
   abbrev s₁ : Val
@@ -191,7 +193,7 @@ module _ {M : Type 1} (𝓤 : URA M) (H : Heap 𝓤) (A : Atoms 𝓤) (W : Given
   s₄ = sliceVal (b₃, o₃) (length xs)
 
   abbrev at : List Val × (List Val × (List Val × (List Val × (List Val × Unit {0}))))
-  at = (s₁ ∷ [], (s₂ ∷ [], (s₃ ∷ [], (s₄ ∷ [], (vint w64 body ∷ [], tt)))))
+  at = (s₁ ∷ [], (s₂ ∷ [], (s₃ ∷ [], (s₄ ∷ [], (valF front ∷ [], tt)))))
 
   abbrev Post : Val → SProp 𝓤
   Post = walkOf 𝓤 H A fill′.ended stayed (fill′.clauses 𝓤 H A at-mem run) .post (((κ₀, (κ₁, (κ₂, (κ₃, tt)))), (q₀, (q₁, (q₂, (q₃, tt)))), tt, a, at), tt)
@@ -231,7 +233,7 @@ module _ {M : Type 1} (𝓤 : URA M) (H : Heap 𝓤) (A : Atoms 𝓤) (W : Given
   idx-of js = sep 𝓤 (sem 𝓤 H A (own-idx js)) (A .lft κ₃ q₃)
 
   abbrev target : Outcome
-  target = outcome (Reading.run link ss (fuelOf ss) (length ys) (origin body (start link))) (length ys)
+  target = outcome (readFrom ss (length ys) front) (length ys)
 
   abbrev Left : List Event → List ℕ → List ℕ → List (Item 𝓤)
   Left zs us js = Doc ∷ Row zs ∷ Tab us ∷ Idx js ∷ []
@@ -252,10 +254,10 @@ module _ {M : Type 1} (𝓤 : URA M) (H : Heap 𝓤) (A : Atoms 𝓤) (W : Given
   goes-start = qed W [] ∵ nothing ! $ nothing ! $ nothing ! $ join ! $ frame ! $ done !
 
   abbrev to-begin : Begin 𝓤 H A at-mem run .Ghost
-  to-begin = ((tt, tt, tt, (body, (length ss, tt)), (vint w64 body ∷ [], (vint w64 (length ss) ∷ [], tt))), tt)
+  to-begin = ((tt, tt, tt, (front, (length ss, tt)), (valF front ∷ [], (vint w64 (length ss) ∷ [], tt))), tt)
 
   goes-begin : ent 𝓤 (emp 𝓤) (Begin 𝓤 H A at-mem run .pre to-begin)
-  goes-begin = qed W [] ∵ says ! (ready .0, ready .1) $ nothing ! $ owned ! usize (Is usize) (uint-makes 𝓤 H A W w64) (length ss) _ (refl, room-s .0) $ fjoin ! $ owned ! usize (Is usize) (uint-makes 𝓤 H A W w64) body _ (refl, body-fits) $ fjoin ! $ nothing ! $ join ! $ done !
+  goes-begin = qed W [] ∵ says ! (ready .0, ready .1) $ nothing ! $ owned ! usize (Is usize) (uint-makes 𝓤 H A W w64) (length ss) _ (refl, room-s .0) $ fjoin ! $ owned ! F.the-row (Is F.the-row) (LL.makes F.the-type F′.the-plain 𝓤 H A) front _ isf $ fjoin ! $ nothing ! $ join ! $ done !
 
   abbrev to-finish : Next → ℕ → Counts → Finish 𝓤 H A at-mem run .Ghost
   to-finish r n c = ((tt, tt, tt, (r, (n, (c, tt))), (valN r ∷ [], (vint w64 n ∷ [], (valC c ∷ [], tt)))), tt)
@@ -427,7 +429,7 @@ module _ {M : Type 1} (𝓤 : URA M) (H : Heap 𝓤) (A : Atoms 𝓤) (W : Given
     long : length zs ≡ length ys
     long-t : length us ≡ length ts
     long-x : length js ≡ length xs
-    filling : Filling ss (length ys) body p c us js zs n
+    filling : Filling ss (length ys) front p c us js zs n
 
   -- a turn has fewer steps left
   abbrev Nearer : State → State → Type 0
@@ -438,13 +440,13 @@ module _ {M : Type 1} (𝓤 : URA M) (H : Heap 𝓤) (A : Atoms 𝓤) (W : Given
 
   module _ (𝓣 : Tables 𝓤 H) (known-step : Triple 𝓤 (𝓣 .C #read-rows·step) (Step 𝓤 H A at-mem run)) (known-store : Triple 𝓤 (𝓣 .C #events·store) (Store 𝓤 H A at-mem run)) (known-finish : Triple 𝓤 (𝓣 .C #read-rows·finish) (Finish 𝓤 H A at-mem run)) (l₀ l₁ l₂ l₃ l₄ l₅ l₆ l₇ l₈ l₉ l₁₀ l₁₁ l₁₂ l₁₃ l₁₄ l₁₅ l₁₆ l₁₇ l₁₈ l₁₉ l₂₀ l₂₁ l₂₂ l₂₃ l₂₄ : ℕ) where
     abbrev En : Env 𝓤 H
-    En = (R′.mir, l₀) ∷ (docTy (named 0), l₁) ∷ (sliceTy (elemTy (named 1)), l₂) ∷ (sliceTy (numTy (named 2)), l₃) ∷ (sliceTy (octTy (named 3)), l₄) ∷ (word, l₅) ∷ (T′.mir, l₆) ∷ (P′.mir, l₇) ∷ (word, l₈) ∷ (N′.mir, l₉) ∷ (E′.mir, l₁₀) ∷ (P′.mir, l₁₁) ∷ (P′.mir, l₁₂) ∷ (T′.mir, l₁₃) ∷ (word, l₁₄)
+    En = (R′.mir, l₀) ∷ (docTy (named 0), l₁) ∷ (sliceTy (elemTy (named 1)), l₂) ∷ (sliceTy (numTy (named 2)), l₃) ∷ (sliceTy (octTy (named 3)), l₄) ∷ (F′.mir, l₅) ∷ (T′.mir, l₆) ∷ (P′.mir, l₇) ∷ (word, l₈) ∷ (N′.mir, l₉) ∷ (E′.mir, l₁₀) ∷ (P′.mir, l₁₁) ∷ (P′.mir, l₁₂) ∷ (T′.mir, l₁₃) ∷ (word, l₁₄)
         ∷ (numTy erased, l₁₅) ∷ (sliceTy (numTy erased), l₁₆) ∷ (octTy erased, l₁₇) ∷ (sliceTy (octTy erased), l₁₈) ∷ (countTy, l₁₉) ∷ (word, l₂₀) ∷ (tyBool, l₂₁) ∷ (tyUnit, l₂₂) ∷ (elemTy erased, l₂₃) ∷ (sliceTy (elemTy erased), l₂₄) ∷ []
 
     -- the context in a turn, over the references of the call. Positions: the document 0, the row 1, the tables 2, the index 3, _6 4, _24 5, _23 7, _22 9, _21 11, _20 13, _19 15, _18 17, _17 19, _16 21, _15 23, _14 25, _13 27, _12 29, _11 31, _10 33, _9 35, _8 37, _7 39, _5 42, _4 44, _3 46, _2 48, _1 50, _0 52
     abbrev Cx : List Event → List ℕ → List ℕ → Counts → Place → ℕ → Val → List (Item 𝓤) → List (Item 𝓤)
     Cx zs us js c p n v₉ refs = (Doc ∷ Row zs ∷ Tab us ∷ Idx js ∷ ‵ (cell l₆ c) ∷ []) ++ free (sliceTy (elemTy erased)) l₂₄ ++ free (elemTy erased) l₂₃ ++ free tyUnit l₂₂ ++ free tyBool l₂₁ ++ free word l₂₀ ++ refs ++ free word l₁₄ ++ free T′.mir l₁₃ ++ free P′.mir l₁₂ ++ free P′.mir l₁₁ ++ free E′.mir l₁₀
-        ++ full N′.mir l₉ v₉ ++ full word l₈ (vint w64 n) ++ full P′.mir l₇ (valP p) ++ (‵ (fdies T′.mir l₆) ∷ []) ++ full word l₅ (vint w64 body) ++ full (sliceTy (octTy (named 3))) l₄ s₄ ++ full (sliceTy (numTy (named 2))) l₃ s₃ ++ full (sliceTy (elemTy (named 1))) l₂ s₂ ++ full (docTy (named 0)) l₁ s₁ ++ free R′.mir l₀
+        ++ full N′.mir l₉ v₉ ++ full word l₈ (vint w64 n) ++ full P′.mir l₇ (valP p) ++ (‵ (fdies T′.mir l₆) ∷ []) ++ full F′.mir l₅ (valF front) ++ full (sliceTy (octTy (named 3))) l₄ s₄ ++ full (sliceTy (numTy (named 2))) l₃ s₃ ++ full (sliceTy (elemTy (named 1))) l₂ s₂ ++ full (docTy (named 0)) l₁ s₁ ++ free R′.mir l₀
 
     -- without the references, and with them
     abbrev Cx₀ : List Event → List ℕ → List ℕ → Counts → Place → ℕ → Val → List (Item 𝓤)
@@ -475,7 +477,7 @@ module _ {M : Type 1} (𝓤 : URA M) (H : Heap 𝓤) (A : Atoms 𝓤) (W : Given
     leaves : (t : State) (r : Next) (k : Behind t r) → Over (length ys) (t .n) r → Sq W (Cx₀ (t .zs) (k .ws) (k .hs) (k .d) (t .p) (t .n) (valN r)) (runs (𝓣 .C) (𝓣 .Λ) En mir.t-8 (atRet En Post))
     leaves t r k over =
         assigns ! (of-opd ! (load ! (from ! (stop !)) (look ! 4 refl))) (from ! (stop !)) (init ! 27 refl (typedC W (k .d) (k .isd))) $
-        use0 W (raw (Finish 𝓤 H A at-mem run .pre (to-finish r (t .n) (k .d)))) (goes-finish r (t .n) (k .d) (k .isr) (fits-under (t .n) (length ys) (t .filling .few) (room-e .0)) (k .isd) (small ss (length ys) body (t .p) (t .c) (t .us) (t .js) (t .zs) (t .n) (t .filling) (k .d) (k .ws) (k .hs) r (k .it))) $
+        use0 W (raw (Finish 𝓤 H A at-mem run .pre (to-finish r (t .n) (k .d)))) (goes-finish r (t .n) (k .d) (k .isr) (fits-under (t .n) (length ys) (t .filling .few) (room-e .0)) (k .isd) (small ss (length ys) front (t .p) (t .c) (t .us) (t .js) (t .zs) (t .n) (t .filling) (k .d) (k .ws) (k .hs) r (k .it))) $
         calls-at ! (fmOf 𝓤 H (W .laws) 𝓣) (Finish 𝓤 H A at-mem run) known-finish (to-finish r (t .n) (k .d)) (and-then ! (load ! (from ! (stop !)) (look ! 36 refl)) (and-then ! (load ! (from ! (stop !)) (look ! 38 refl)) (and-then ! (load ! (from ! (stop !)) (look ! 28 refl)) (no-more !)))) (λ v.
         use1 W (later (some (λ (w : Answer). (‵ ftrue ⊛ ‵ (R.the-row .own w (v ∷ []))) ⊛ raw (ensured 𝓤 H A finish′.ended (finish′.clauses 𝓤 H A at-mem run) tt (r, (t .n, (k .d, tt))) tt w)))) (id⊢ 𝓤 _) $ await ! tt $ pick ! (λ w.
         split ! $ move ! (1 ∷ []) $ use1 W (raw (fact 𝓤 (w ≡ finished r (t .n) (k .d)))) (finish-of 𝓤 H A at-mem run r (t .n) (k .d) w) $ heard ! (w ≡ finished r (t .n) (k .d)) (λ ew. split ! $ drop ! $
@@ -484,7 +486,7 @@ module _ {M : Type 1} (𝓤 : URA M) (H : Heap 𝓤) (A : Atoms 𝓤) (W : Given
         returns ! (look ! 52 refl) $ move ! (52 ∷ 53 ∷ 50 ∷ 51 ∷ 48 ∷ 49 ∷ 46 ∷ 47 ∷ 44 ∷ 45 ∷ 42 ∷ 43 ∷ 4 ∷ 41 ∷ 39 ∷ 40 ∷ 37 ∷ 38 ∷ 35 ∷ 36 ∷ 33 ∷ 34 ∷ 31 ∷ 32 ∷ 29 ∷ 30 ∷ 27 ∷ 28 ∷ 25 ∷ 26 ∷ 23 ∷ 24 ∷ 21 ∷ 22 ∷ 19 ∷ 20 ∷ 17 ∷ 18 ∷ 15 ∷ 16 ∷ 13 ∷ 14 ∷ 11 ∷ 12 ∷ 9 ∷ 10 ∷ 7 ∷ 8 ∷ 5 ∷ 6 ∷ []) $
         forget ! 0 refl $ free1 ! $ forget ! 0 refl $ free1 ! $ forget ! 0 refl $ free1 ! $ forget ! 0 refl $ free1 ! $ forget ! 0 refl $ free1 ! $ forget ! 0 refl $ free1 ! $ forget ! 0 refl $ free1 ! $ forget ! 0 refl $ free1 ! $ forget ! 0 refl $ free1 ! $ forget ! 0 refl $ free1 ! $
         free1 ! $ free1 ! $ free1 ! $ forget ! 0 refl $ free1 ! $ free1 ! $ free1 ! $ free1 ! $ free1 ! $ free1 ! $ free1 ! $ free1 ! $ free1 ! $ free1 ! $ free1 ! $ free1 ! $ free0 ! $
-        by ! (exits (t .zs) (k .ws) (k .hs) w (t .long) (k .long-ws) (k .long-hs) (subst (Is R.the-row w) (LE.tells R.the-type R′.the-laws w _ isw) isw) (ap (λ (j : Answer). settled (length ys) tableWords j (t .zs) (k .ws)) ew ∙ filled ss (length ys) body (t .p) (t .c) (t .us) (t .js) (t .zs) (t .n) (t .filling) (k .d) (k .ws) (k .hs) r (k .it) over))))))
+        by ! (exits (t .zs) (k .ws) (k .hs) w (t .long) (k .long-ws) (k .long-hs) (subst (Is R.the-row w) (LE.tells R.the-type R′.the-laws w _ isw) isw) (ap (λ (j : Answer). settled (length ys) tableWords j (t .zs) (k .ws)) ew ∙ filled ss (length ys) front (t .p) (t .c) (t .us) (t .js) (t .zs) (t .n) (t .filling) (k .d) (k .ws) (k .hs) r (k .it) over))))))
 
     matched : (t : State) (r : Next) (k : Behind t r) → Sq W (Cx₁ (t .zs) (k .ws) (k .hs) (k .d) (t .p) (t .n) (valN r)) (runs (𝓣 .C) (𝓣 .Λ) En matching (anyQ (Turned t)))
     unfolding afterTurn
@@ -517,7 +519,7 @@ module _ {M : Type 1} (𝓤 : URA M) (H : Heap 𝓤) (A : Atoms 𝓤) (W : Given
           long = t .long;
           long-t = k .long-ws;
           long-x = k .long-hs;
-          filling = filling-passed ss (length ys) body (t .p) (t .c) (t .us) (t .js) (t .zs) (t .n) (t .filling) (k .d) (k .ws) (k .hs) p′ (k .it);
+          filling = filling-passed ss (length ys) front (t .p) (t .c) (t .us) (t .js) (t .zs) (t .n) (t .filling) (k .d) (k .ws) (k .hs) p′ (k .it);
         }
     matched t (Found place e p′) k =
         switches-on ! (load ! (from ! (vrt ! refl (fld ! refl (stop !)))) (look-tag ! 35 (whole !))) $ exec ! (𝓣 .C) (𝓣 .Λ) En (armOf 0 (armsOf matching)) (anyQ (Turned t)) $
@@ -565,7 +567,7 @@ module _ {M : Type 1} (𝓤 : URA M) (H : Heap 𝓤) (A : Atoms 𝓤) (W : Given
           long = long;
           long-t = k .long-ws;
           long-x = k .long-hs;
-          filling = filling-found ss (length ys) body (t .p) (t .c) (t .us) (t .js) (t .zs) (t .n) (t .filling) (k .d) (k .ws) (k .hs) place e p′ (k .it) (below less);
+          filling = filling-found ss (length ys) front (t .p) (t .c) (t .us) (t .js) (t .zs) (t .n) (t .filling) (k .d) (k .ws) (k .hs) place e p′ (k .it) (below less);
         }
 
     turns : (t : State) → Sq W (At t) (runs (𝓣 .C) (𝓣 .Λ) En mir.turn-1 (anyQ (Turned t)))
@@ -586,13 +588,13 @@ module _ {M : Type 1} (𝓤 : URA M) (H : Heap 𝓤) (A : Atoms 𝓤) (W : Given
         matched t (k .0) (record { d = k .1 .0; ws = k .1 .1 .0; hs = k .1 .1 .1; isd = it .1; long-ws = it .2; long-hs = it .3; isr = subst (Is N.the-row (k .0)) (LE.tells N.the-type N′.the-laws (k .0) _ (it .0)) (it .0); it = it .4 })))))
 
     -- the loop, and what follows it
-    looped : IsP (first body (length ss)) → IsC (countsOf (start link)) → Sq W (Cx₀ ys ts xs (countsOf (start link)) (first body (length ss)) 0 (valN Finished)) (runs (𝓣 .C) (𝓣 .Λ) En mir.t-7 (atRet En Post))
+    looped : IsP (first front (length ss)) → IsC (countsOf (start link)) → Sq W (Cx₀ ys ts xs (countsOf (start link)) (first front (length ss)) 0 (valN Finished)) (runs (𝓣 .C) (𝓣 .Λ) En mir.t-7 (atRet En Post))
     looped isp isc = head ! $ blocks ! $ loops ! 𝓣 Nearer Nearer-wf At turns begins
       where
         begins : State
         begins = record {
           n = 0;
-          p = first body (length ss);
+          p = first front (length ss);
           c = countsOf (start link);
           zs = ys;
           us = ts;
@@ -603,15 +605,15 @@ module _ {M : Type 1} (𝓤 : URA M) (H : Heap 𝓤) (A : Atoms 𝓤) (W : Given
           long = refl;
           long-t = refl;
           long-x = refl;
-          filling = filling-start ss (length ys) body (ready .0) (ready .1) ts (ready .3) xs (ready .4) ys (ready .2);
+          filling = filling-start ss (length ys) front (ready .0) (ready .1) ts (ready .3) xs (ready .4) ys (ready .2);
         }
 
   module _ (𝓣 : Tables 𝓤 H) (known-start : Triple 𝓤 (𝓣 .C #tables·Counts·start) (Start 𝓤 H A at-mem run)) (known-begin : Triple 𝓤 (𝓣 .C #read-rows·begin) (Begin 𝓤 H A at-mem run)) (known-step : Triple 𝓤 (𝓣 .C #read-rows·step) (Step 𝓤 H A at-mem run)) (known-store : Triple 𝓤 (𝓣 .C #events·store) (Store 𝓤 H A at-mem run)) (known-finish : Triple 𝓤 (𝓣 .C #read-rows·finish) (Finish 𝓤 H A at-mem run)) where
-    walk : ent 𝓤 (onEntry 𝓤 H A fill′.signature (κ₀, (κ₁, (κ₂, (κ₃, tt)))) (q₀, (q₁, (q₂, (q₃, tt)))) a at) (WpFn 𝓤 H (𝓣 .C) (𝓣 .Λ) code.function (s₁ ∷ s₂ ∷ s₃ ∷ s₄ ∷ vint w64 body ∷ []) Post)
+    walk : ent 𝓤 (onEntry 𝓤 H A fill′.signature (κ₀, (κ₁, (κ₂, (κ₃, tt)))) (q₀, (q₁, (q₂, (q₃, tt)))) a at) (WpFn 𝓤 H (𝓣 .C) (𝓣 .Λ) code.function (s₁ ∷ s₂ ∷ s₃ ∷ s₄ ∷ valF front ∷ []) Post)
     walk =
-        qed W ((‵ (flft κ₀ q₀) ⊛ ‵ (flft κ₁ q₁) ⊛ ‵ (flft κ₂ q₂) ⊛ ‵ (flft κ₃ q₃) ⊛ ‵ ftrue) ∷ ‵ (owns (ShrSlice (named 0) κ₀ u8 ∷ MutSlice (named 1) κ₁ E.the-row ∷ MutSlice (named 2) κ₂ u32 ∷ MutSlice (named 3) κ₃ u8 ∷ usize ∷ []) a at) ∷ []) ∵ enter ! (𝓣 .C) (𝓣 .Λ) code.function (s₁ ∷ s₂ ∷ s₃ ∷ s₄ ∷ vint w64 body ∷ []) _ $
+        qed W ((‵ (flft κ₀ q₀) ⊛ ‵ (flft κ₁ q₁) ⊛ ‵ (flft κ₂ q₂) ⊛ ‵ (flft κ₃ q₃) ⊛ ‵ ftrue) ∷ ‵ (owns (ShrSlice (named 0) κ₀ u8 ∷ MutSlice (named 1) κ₁ E.the-row ∷ MutSlice (named 2) κ₂ u32 ∷ MutSlice (named 3) κ₃ u8 ∷ F.the-row ∷ []) a at) ∷ []) ∵ enter ! (𝓣 .C) (𝓣 .Λ) code.function (s₁ ∷ s₂ ∷ s₃ ∷ s₄ ∷ valF front ∷ []) _ $
         alloc1 ! (λ l₀. alloc1 ! (λ l₁. alloc1 ! (λ l₂. alloc1 ! (λ l₃. alloc1 ! (λ l₄. alloc1 ! (λ l₅. alloc1 ! (λ l₆. alloc1 ! (λ l₇. alloc1 ! (λ l₈. alloc1 ! (λ l₉. alloc1 ! (λ l₁₀. alloc1 ! (λ l₁₁. alloc1 ! (λ l₁₂. alloc1 ! (λ l₁₃. alloc1 ! (λ l₁₄. alloc1 ! (λ l₁₅. alloc1 ! (λ l₁₆. alloc1 ! (λ l₁₇. alloc1 ! (λ l₁₈. alloc1 ! (λ l₁₉. alloc1 ! (λ l₂₀. alloc1 ! (λ l₂₁. alloc1 ! (λ l₂₂. alloc1 ! (λ l₂₃. alloc1 ! (λ l₂₄. alloc0 ! $ params1 ! $
-        pass1 ! (init ! 46 refl (tt, (tt, (record { fits = room-s .0 }, tt)))) $ pass1 ! (init ! 44 refl (tt, (tt, (record { fits = room-e .0 }, tt)))) $ pass1 ! (init ! 42 refl (tt, (tt, (record { fits = room-t .0 }, tt)))) $ pass1 ! (init ! 40 refl (tt, (tt, (record { fits = room-x .0 }, tt)))) $ pass1 ! (init ! 38 refl (tt, record { fits = body-fits })) $ pass0 ! $
+        pass1 ! (init ! 46 refl (tt, (tt, (record { fits = room-s .0 }, tt)))) $ pass1 ! (init ! 44 refl (tt, (tt, (record { fits = room-e .0 }, tt)))) $ pass1 ! (init ! 42 refl (tt, (tt, (record { fits = room-t .0 }, tt)))) $ pass1 ! (init ! 40 refl (tt, (tt, (record { fits = room-x .0 }, tt)))) $ pass1 ! (init ! 38 refl (typedF W front isf)) $ pass0 ! $
         -- [_24; …; _23; …; … _0; …; the tokens; what the arguments own]
         use0 W (raw (Start 𝓤 H A at-mem run .pre to-start)) goes-start $
         calls-at ! (fmOf 𝓤 H (W .laws) 𝓣) (Start 𝓤 H A at-mem run) known-start to-start (no-more !) (λ v.
@@ -624,8 +626,8 @@ module _ {M : Type 1} (𝓤 : URA M) (H : Heap 𝓤) (A : Atoms 𝓤) (W : Given
         assigns ! (of-opd ! (load ! (from ! (fld ! refl (stop !))) (look-in ! 46 (sub ! 1 refl (whole !))))) (from ! (stop !)) (init ! 20 refl (tt, record { fits = room-s .0 })) $
         use0 W (raw (Begin 𝓤 H A at-mem run .pre to-begin)) goes-begin $
         calls-at ! (fmOf 𝓤 H (W .laws) 𝓣) (Begin 𝓤 H A at-mem run) known-begin to-begin (and-then ! (load ! (from ! (stop !)) (look ! 39 refl)) (and-then ! (load ! (from ! (stop !)) (look ! 21 refl)) (no-more !))) (λ v′.
-        use1 W (later (some (λ (p : Place). (‵ ftrue ⊛ ‵ (P.the-row .own p (v′ ∷ []))) ⊛ raw (ensured 𝓤 H A begin′.ended (begin′.clauses 𝓤 H A at-mem run) tt (body, (length ss, tt)) tt p)))) (id⊢ 𝓤 _) $ await ! tt $ pick ! (λ p.
-        split ! $ move ! (1 ∷ []) $ use1 W (raw (fact 𝓤 (p ≡ first body (length ss)))) (begin-of 𝓤 H A at-mem run body (length ss) p) $ heard ! (p ≡ first body (length ss)) (λ e′. split ! $ drop ! $
+        use1 W (later (some (λ (p : Place). (‵ ftrue ⊛ ‵ (P.the-row .own p (v′ ∷ []))) ⊛ raw (ensured 𝓤 H A begin′.ended (begin′.clauses 𝓤 H A at-mem run) tt (front, (length ss, tt)) tt p)))) (id⊢ 𝓤 _) $ await ! tt $ pick ! (λ p.
+        split ! $ move ! (1 ∷ []) $ use1 W (raw (fact 𝓤 (p ≡ first front (length ss)))) (begin-of 𝓤 H A at-mem run front (length ss) p) $ heard ! (p ≡ first front (length ss)) (λ e′. split ! $ drop ! $
         facts ! P.the-row (Is P.the-row) (shows 𝓤 H A P.the-row) p (v′ ∷ []) (λ is′.
         land ! (from ! (stop !)) (init ! 34 refl (LL.lawful P.the-type P′.the-laws 𝓤 H A W .typed p _ is′ .0)) $
         rewrite ! 34 (λ (u : Val). ‵ (fat fullShare P′.mir l₇ 0 u)) (ap only (LL.tells P.the-type P′.the-laws p _ is′) ∙ ap valP e′) refl $ forget ! 20 refl $
@@ -641,7 +643,7 @@ module _ {M : Type 1} (𝓤 : URA M) (H : Heap 𝓤) (A : Atoms 𝓤) (W : Given
         counts-are : (c : Counts) (v : Val) → c ≡ countsOf (start link) → Is T.the-row c (v ∷ []) → IsC (countsOf (start link))
         counts-are c v e is = subst IsC e (subst (Is T.the-row c) (LL.tells T.the-type T′.the-laws c _ is) is)
 
-        place-is : (p : Place) (v : Val) → p ≡ first body (length ss) → Is P.the-row p (v ∷ []) → IsP (first body (length ss))
+        place-is : (p : Place) (v : Val) → p ≡ first front (length ss) → Is P.the-row p (v ∷ []) → IsP (first front (length ss))
         place-is p v e is = subst IsP e (subst (Is P.the-row p) (LL.tells P.the-type P′.the-laws p _ is) is)
 
 pub fill-spec : {M : Type 1} → stated.statement M
@@ -649,12 +651,12 @@ unfolding code.routine tablesOf
 fill-spec 𝓤 H 𝓜 𝓖 𝓡 =
     let W : Given 𝓤 H (𝓖 .A) = givenOf 𝓤 H 𝓜 𝓖 in
     by-walk 𝓤 H 𝓜 𝓖 𝓡 code.env #read-rows·fill code.function (code.unfolded 𝓤 H 𝓜 𝓡) fill′.ended stayed
-    (goes-dropped 𝓤 H (𝓖 .A) W 4 (shrSliceOf (0 ∷ []) tt (plain (λ _. u8))) yes (λ κs x f. refl), (goes-slice 𝓤 H (𝓖 .A) W 4 1 tt (plain (λ _. E.the-row)), (goes-slice 𝓤 H (𝓖 .A) W 4 2 tt (plain (λ _. u32)), (goes-slice 𝓤 H (𝓖 .A) W 4 3 tt (plain (λ _. u8)), (goes-dropped 𝓤 H (𝓖 .A) W 4 (plain (λ _. usize)) yes (λ κs x f. refl), tt)))))
-    (fill′.clauses 𝓤 H (𝓖 .A) (𝓜 .mem) (𝓡 .run)) (λ κs. (slice-vals, (slice-vals, (slice-vals, (slice-vals, (uint-vals w64, tt)))))) (λ κs. (shr-slice-tells (named 0) (κs .0) u8, (mut-slice-tells (named 1) (κs .1 .0) E.the-row, (mut-slice-tells (named 2) (κs .1 .1 .0) u32, (mut-slice-tells (named 3) (κs .1 .1 .1 .0) u8, (uint-tells w64, tt))))))
-    (λ κs qs bounds a g are. needs 𝓤 ((a .1 .1 .1 .1 .0 ≤ length (a .0 .now)) × (length (a .0 .now) ≤ 16384) × (a .1 .0 .now ≡ replicate (length (a .1 .0 .now)) blank) × (a .1 .1 .0 .now ≡ replicate tableWords 0) × (a .1 .1 .1 .0 .now ≡ replicate slots 0)) _ (λ ready.
+    (goes-dropped 𝓤 H (𝓖 .A) W 4 (shrSliceOf (0 ∷ []) tt (plain (λ _. u8))) yes (λ κs x f. refl), (goes-slice 𝓤 H (𝓖 .A) W 4 1 tt (plain (λ _. E.the-row)), (goes-slice 𝓤 H (𝓖 .A) W 4 2 tt (plain (λ _. u32)), (goes-slice 𝓤 H (𝓖 .A) W 4 3 tt (plain (λ _. u8)), (goes-dropped 𝓤 H (𝓖 .A) W 4 (plain (λ _. F.the-row)) yes (λ κs x f. refl), tt)))))
+    (fill′.clauses 𝓤 H (𝓖 .A) (𝓜 .mem) (𝓡 .run)) (λ κs. (slice-vals, (slice-vals, (slice-vals, (slice-vals, (LL.vals F.the-type F′.the-laws, tt)))))) (λ κs. (shr-slice-tells (named 0) (κs .0) u8, (mut-slice-tells (named 1) (κs .1 .0) E.the-row, (mut-slice-tells (named 2) (κs .1 .1 .0) u32, (mut-slice-tells (named 3) (κs .1 .1 .1 .0) u8, (LL.tells F.the-type F′.the-laws, tt))))))
+    (λ κs qs bounds a g are. needs 𝓤 ((a .1 .1 .1 .1 .0 .at ≤ length (a .0 .now)) × (length (a .0 .now) ≤ 16384) × (a .1 .0 .now ≡ replicate (length (a .1 .0 .now)) blank) × (a .1 .1 .0 .now ≡ replicate tableWords 0) × (a .1 .1 .1 .0 .now ≡ replicate slots 0)) _ (λ ready.
     walk 𝓤 H (𝓖 .A) W (𝓜 .mem) (𝓡 .run) (κs .0) (κs .1 .0) (κs .1 .1 .0) (κs .1 .1 .1 .0) (qs .0) (qs .1 .0) (qs .1 .1 .0) (qs .1 .1 .1 .0) (a .0 .ptr .0) (a .0 .ptr .1) (a .0 .name) (a .0 .now) (a .1 .0 .ptr .0) (a .1 .0 .ptr .1) (a .1 .0 .name) (a .1 .0 .now)
     (a .1 .1 .0 .ptr .0) (a .1 .1 .0 .ptr .1) (a .1 .1 .0 .name) (a .1 .1 .0 .now) (a .1 .1 .1 .0 .ptr .0) (a .1 .1 .1 .0 .ptr .1) (a .1 .1 .1 .0 .name) (a .1 .1 .1 .0 .now) (a .1 .1 .1 .1 .0)
-    (are .0 .0 .1) (are .1 .0 .0 .1) (are .1 .1 .0 .0 .1) (are .1 .1 .1 .0 .0 .1) (are .1 .1 .1 .1 .0 .1) ready (tablesOf 𝓤 H 𝓜 (tables 𝓤 H 𝓜 𝓡 code.env))
+    (are .0 .0 .1) (are .1 .0 .0 .1) (are .1 .1 .0 .0 .1) (are .1 .1 .1 .0 .0 .1) (are .1 .1 .1 .1 .0) ready (tablesOf 𝓤 H 𝓜 (tables 𝓤 H 𝓜 𝓡 code.env))
     (cited 𝓤 H (Start 𝓤 H (𝓖 .A) (𝓜 .mem) (𝓡 .run)) 𝓜 𝓡 code.env #tables·Counts·start start-def.routine code.calls-tables·Counts·start (start-thm.met 𝓤 H 𝓜 𝓖 𝓡))
     (cited 𝓤 H (Begin 𝓤 H (𝓖 .A) (𝓜 .mem) (𝓡 .run)) 𝓜 𝓡 code.env #read-rows·begin begin-def.routine code.calls-read-rows·begin (begin-thm.met 𝓤 H 𝓜 𝓖 𝓡))
     (cited 𝓤 H (Step 𝓤 H (𝓖 .A) (𝓜 .mem) (𝓡 .run)) 𝓜 𝓡 code.env #read-rows·step step-def.routine code.calls-read-rows·step (step-thm.met 𝓤 H 𝓜 𝓖 𝓡))

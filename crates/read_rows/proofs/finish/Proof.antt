@@ -13,7 +13,7 @@ refused-requires-2 : tie.Need-refused-requires-2
 refused-requires-2 c κs = let l : c .before .before .a2 .given .0 .0 .state .at ≤ 32768 = rw (c .before .before .a2 .given .1) at (c .before .before .before .before .pre) in omega arith
 
 cast-t10 : tie.Need-cast-t10
-cast-t10 c = let l : c .before .before .args .n ≤ 32769 = rw (c .enum-told .given .1) at (c .before .before .pre) in record { fits = omega arith }
+cast-t10 c = let l : c .before .before .args .n ≤ 32770 = rw (c .enum-told .given .1) at (c .before .before .pre) in record { fits = omega arith }
 
 refused-requires-3 : tie.Need-refused-requires-3
 refused-requires-3 c κs = rw (c .before .a3 .given .1) at (c .before .before .before .pre)

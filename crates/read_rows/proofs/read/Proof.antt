@@ -32,6 +32,7 @@ use denote.Ref.{RefT}
 use denote.Slice.{sliceTy, sliceVal, MutSlice, ShrSlice, Room, slice-vals, mut-slice-tells, shr-slice-tells, shr-slice-copy}
 use denote.Signature.{plain, shrSliceOf}
 use denote.Steps.{only, owned, facts, heard, nothing}
+use denote.Struct.Laws as LL
 use denote.Enum.Laws as LE
 use denote.Triple.Entry.{onEntry}
 use denote.Triple.Spec.{tripleOf}
@@ -45,21 +46,21 @@ use Rattle.walk.proofs.Again.{Lends, Keeps, lends-call, back-call}
 use Rattle.walk.proofs.Close.{by-walk}
 use Rattle.walk.proofs.Walk.{heading, skipping, armOf, armsOf, full, free}
 use Rattle.format.specs.Tables.{link}
-use Rattle.tables.specs.Located.{start}
 use Rattle.tables.specs.Counts.{tableWords}
 use Rattle.events.specs.declared.Event.{Event}
 use Rattle.events.specs.Records.{blank}
 use Rattle.events.proofs.Event as E
 use Rattle.reader.specs.declared.Answer.{Answer}
 use Rattle.reader.specs.declared.Answer.the-variants.{Accepted, Refused}
+use Rattle.reader.specs.declared.run.Front.{Front}
 use Rattle.reader.specs.declared.run.Opening.{Opening}
 use Rattle.reader.specs.declared.run.Opening.the-variants.{Onward, Halt}
-use Rattle.reader.specs.Reading as Reading
-use Rattle.reader.specs.Reading.{told, Outcome, outcome, origin, fuelOf, onward, halt, readOf}
-use Rattle.reader.specs.RunContracts.{openingOf}
-use Rattle.read_rows.specs.Contracts.{settled, admission}
-use Rattle.read_rows.proofs.Laws.{admits, reads}
-use Rattle.read_rows.proofs.Values.{docTy, elemTy, numTy, valR, IsR, typedR, valO, IsO}
+use Rattle.reader.specs.Reading.{told, Outcome, outcome, readOf}
+use Rattle.read_rows.specs.Contracts.{settled, readFrom, Admitted as Admits}
+use Rattle.read_rows.proofs.Laws.{reads-halt, reads-front}
+use Rattle.read_rows.proofs.Values.{docTy, elemTy, numTy, valR, IsR, typedR, valF, IsF, typedF, valO, IsO}
+use Rattle.reader.proofs.run.Front as F
+use Rattle.reader.proofs.run.Front.Laws as F′
 use Rattle.reader.proofs.Answer as R
 use Rattle.reader.proofs.Answer.Laws as R′
 use Rattle.reader.proofs.run.Opening as O
@@ -278,8 +279,8 @@ module _ {M : Type 1} (𝓤 : URA M) (H : Heap 𝓤) (A : Atoms 𝓤) (W : Given
   goes-admitted =
       qed W (‵ (flft κ₀ q₀) ∷ ‵ own-doc ∷ []) ∵ nothing ! $ owned ! usize (Is usize) (uint-makes 𝓤 H A W w64) (length ts) _ (refl, room-t .0) $ fjoin ! $ move ! (2 ∷ 0 ∷ []) $ fjoin ! $ nothing ! $ move ! (2 ∷ 0 ∷ []) $ join ! $ join ! $ frame ! $ done !
 
-  admitted-of : (r : Opening) → ent 𝓤 (ensured 𝓤 H A admitted′.ended (admitted′.clauses 𝓤 H A at-mem run) (κ₀, tt) adm-args tt r) (fact 𝓤 (openingOf r ≡ admission ss (length ts)))
-  admitted-of r = exE 𝓤 _ (λ ws. snd∗ 𝓤 (sem 𝓤 H A (lasts admitted′.ended (κ₀, tt) adm-args ws)) (fact 𝓤 (openingOf r ≡ admission ss (length ts))))
+  admitted-of : (r : Opening) → ent 𝓤 (ensured 𝓤 H A admitted′.ended (admitted′.clauses 𝓤 H A at-mem run) (κ₀, tt) adm-args tt r) (fact 𝓤 (Admits ss (length ts) r))
+  admitted-of r = exE 𝓤 _ (λ ws. snd∗ 𝓤 (sem 𝓤 H A (lasts admitted′.ended (κ₀, tt) adm-args ws)) (fact 𝓤 (Admits ss (length ts) r)))
 
   -- ---- refused
   abbrev to-refused : ℕ → ℕ → Refuse 𝓤 H A at-mem run .Ghost
@@ -290,12 +291,12 @@ module _ {M : Type 1} (𝓤 : URA M) (H : Heap 𝓤) (A : Atoms 𝓤) (W : Given
       qed W [] ∵ says ! l $ nothing ! $ owned ! usize (Is usize) (uint-makes 𝓤 H A W w64) p _ isp $ fjoin ! $ owned ! u32 (Is u32) (uint-makes 𝓤 H A W w32) k _ isk $ fjoin ! $ nothing ! $ join ! $ done !
 
   -- ---- read_body, of the blank row and the tables that are 0
-  module _ (body : ℕ) (isb : Is usize body (vint w64 body ∷ [])) (ready : (length ts ≡ tableWords) × (body ≤ length ss) × (length ss ≤ 16384)) (comes : outcome (Reading.run link ss (fuelOf ss) (length ys) (origin body (start link))) (length ys) ≡ target) where
-    abbrev body-args : Loans → RefT (List ℕ) × (RefT (List Event) × (RefT (List ℕ) × (ℕ × Unit {0})))
-    body-args g = (doc, (x (g .0 .1) blanks, (tab (g .1 .1) zeros, (body, tt))))
+  module _ (front : Front) (isf : IsF front) (ready : (length ts ≡ tableWords) × (front .at ≤ length ss) × (length ss ≤ 16384)) (comes : outcome (readFrom ss (length ys) front) (length ys) ≡ target) where
+    abbrev body-args : Loans → RefT (List ℕ) × (RefT (List Event) × (RefT (List ℕ) × (Front × Unit {0})))
+    body-args g = (doc, (x (g .0 .1) blanks, (tab (g .1 .1) zeros, (front, tt))))
 
     abbrev to-body : Loans → ReadBody 𝓤 H A at-mem run .Ghost
-    to-body g = (((κ₀, (g .0 .0 ∷ [], (g .1 .0 ∷ [], tt))), (q₀, (fullShare, (fullShare, tt))), tt, body-args g, (s₁ ∷ [], (s₂ ∷ [], (s₃ ∷ [], (vint w64 body ∷ [], tt))))), tt)
+    to-body g = (((κ₀, (g .0 .0 ∷ [], (g .1 .0 ∷ [], tt))), (q₀, (fullShare, (fullShare, tt))), tt, body-args g, (s₁ ∷ [], (s₂ ∷ [], (s₃ ∷ [], (valF front ∷ [], tt))))), tt)
 
     abbrev lent-row : ℕ × GName → Fml
     lent-row = Lends E.the-row κ₁ q₁ γ b o (named 1) (named 1) (length ys) blanks
@@ -321,7 +322,7 @@ module _ {M : Type 1} (𝓤 : URA M) (H : Heap 𝓤) (A : Atoms 𝓤) (W : Given
         qed W ((‵ (flft κ₀ q₀) ⊛ ‵ (flft (g .0 .0 ∷ []) fullShare) ⊛ ‵ (flft (g .1 .0 ∷ []) fullShare)) ∷ ‵ own-doc ∷ (‵ (lent-row (g .0)) ⊛ ‵ (lent-tab (g .1))) ∷ []) ∵
         says ! (ready .1, ready .2, ap (λ (k : ℕ). replicate k blank) (sym long-blanks), ap (λ (k : ℕ). replicate k 0) (ready .0)) $ split ! $ move ! (1 ∷ []) $ split ! $ move ! (4 ∷ []) $ split ! $
         -- [the row; the tables; the row's token; the tables'; the document's; the document]
-        nothing ! $ owned ! usize (Is usize) (uint-makes 𝓤 H A W w64) body _ isb $ fjoin ! $ move ! (2 ∷ 0 ∷ []) $ fjoin ! $ move ! (1 ∷ 0 ∷ []) $ fjoin ! $ move ! (4 ∷ 0 ∷ []) $ fjoin ! $
+        nothing ! $ owned ! F.the-row (Is F.the-row) (LL.makes F.the-type F′.the-plain 𝓤 H A) front _ isf $ fjoin ! $ move ! (2 ∷ 0 ∷ []) $ fjoin ! $ move ! (1 ∷ 0 ∷ []) $ fjoin ! $ move ! (4 ∷ 0 ∷ []) $ fjoin ! $
         nothing ! $ move ! (3 ∷ 0 ∷ []) $ join ! $ move ! (2 ∷ 0 ∷ []) $ join ! $ move ! (2 ∷ 0 ∷ []) $ join ! $ join ! $ done !
 
     body-lends : ent 𝓤 (sep 𝓤 doc-of (sep 𝓤 (row-of blanks) (tab-of zeros))) (H .⇛ (ex 𝓤 (λ (g : Loans). sep 𝓤 (ReadBody 𝓤 H A at-mem run .pre (to-body g)) (held-of g))))
@@ -350,12 +351,12 @@ module _ {M : Type 1} (𝓤 : URA M) (H : Heap 𝓤) (A : Atoms 𝓤) (W : Given
     Lasts = Unit {0} × (List Event × (List ℕ × (Unit {0} × Unit {0})))
 
     abbrev Filled : Answer → Lasts → Type 0
-    Filled w ws = settled (length blanks) tableWords w (ws .1 .0) (ws .1 .1 .0) ≡ outcome (Reading.run link ss (fuelOf ss) (length blanks) (origin body (start link))) (length blanks)
+    Filled w ws = settled (length blanks) tableWords w (ws .1 .0) (ws .1 .1 .0) ≡ outcome (readFrom ss (length blanks) front) (length blanks)
 
     settles-so : (w : Answer) (ws : Lasts) → Filled w ws → Settled (ws .1 .0) (ws .1 .1 .0) w
     settles-so w ws e =
         ap (λ (m : ℕ). settled (length ys) m w (ws .1 .0) (ws .1 .1 .0)) (ready .0)
-        ∙ subst (λ (n : ℕ). settled n tableWords w (ws .1 .0) (ws .1 .1 .0) ≡ outcome (Reading.run link ss (fuelOf ss) n (origin body (start link))) n) long-blanks e
+        ∙ subst (λ (n : ℕ). settled n tableWords w (ws .1 .0) (ws .1 .1 .0) ≡ outcome (readFrom ss n front) n) long-blanks e
         ∙ comes
 
     body-back : (g : Loans) (v : Val) → ent 𝓤 (sep 𝓤 (ReadBody 𝓤 H A at-mem run .post (to-body g) v) (held-of g)) (H .⇛ (ex 𝓤 (came-of v)))
@@ -376,13 +377,13 @@ module _ {M : Type 1} (𝓤 : URA M) (H : Heap 𝓤) (A : Atoms 𝓤) (W : Given
       (known-refused : Triple 𝓤 (C #read-rows·refused) (Refuse 𝓤 H A at-mem run)) (known-body : Triple 𝓤 (C #read-rows·read-body) (ReadBody 𝓤 H A at-mem run)) where
     module _ (l₀ l₁ l₂ l₃ l₄ l₅ lᵦ l₆ l₇ l₈ l₉ l₁₀ l₁₁ l₁₂ l₁₃ l₁₄ l₁₅ l₁₆ l₁₇ l₁₈ l₁₉ l₂₀ l₂₁ l₂₂ l₂₃ : ℕ) where
       abbrev En : Env 𝓤 H
-      En = (R′.mir, l₀) ∷ (docTy (named 0), l₁) ∷ (sliceTy (elemTy (named 1)), l₂) ∷ (sliceTy (numTy (named 2)), l₃) ∷ (tyInt w32, l₄) ∷ (tyInt w64, l₅) ∷ (tyInt w64, lᵦ) ∷ (R′.mir, l₆) ∷ (tyUnit, l₇) ∷ (elemTy erased, l₈) ∷ (sliceTy (elemTy erased), l₉) ∷ (numTy erased, l₁₀) ∷ (sliceTy (numTy erased), l₁₁)
+      En = (R′.mir, l₀) ∷ (docTy (named 0), l₁) ∷ (sliceTy (elemTy (named 1)), l₂) ∷ (sliceTy (numTy (named 2)), l₃) ∷ (tyInt w32, l₄) ∷ (tyInt w64, l₅) ∷ (F′.mir, lᵦ) ∷ (R′.mir, l₆) ∷ (tyUnit, l₇) ∷ (elemTy erased, l₈) ∷ (sliceTy (elemTy erased), l₉) ∷ (numTy erased, l₁₀) ∷ (sliceTy (numTy erased), l₁₁)
           ∷ (O′.mir, l₁₂) ∷ (tyInt w64, l₁₃) ∷ (R′.mir, l₁₄) ∷ (elemTy erased, l₁₅) ∷ (sliceTy (elemTy erased), l₁₆) ∷ (numTy erased, l₁₇) ∷ (sliceTy (numTy erased), l₁₈) ∷ (tyUnit, l₁₉) ∷ (elemTy erased, l₂₀) ∷ (sliceTy (elemTy erased), l₂₁) ∷ (numTy erased, l₂₂) ∷ (sliceTy (numTy erased), l₂₃) ∷ []
 
-      -- the context from the outer match on, over what is had of the document, _14 and _6. Positions: the document 0, the row 1, the tables 2, _23 3, _22 5, _21 7, _20 9, _19 11, _18 13, _17 15, _16 17, _15 19, _14 21, _13 23, _12 25, _11 27, _10 29, _9 31, _8 33, _7 35, _6 37, the body 39, _5 41, _4 43, _3 45, _2 47, _1 49, _0 51
+      -- the context from the outer match on, over what is had of the document, _14 and _6. Positions: the document 0, the row 1, the tables 2, _23 3, _22 5, _21 7, _20 9, _19 11, _18 13, _17 15, _16 17, _15 19, _14 21, _13 23, _12 25, _11 27, _10 29, _9 31, _8 33, _7 35, _6 37, the front 39, _5 41, _4 43, _3 45, _2 47, _1 49, _0 51
       abbrev Cx : Item 𝓤 → List Event → List ℕ → Val → List (Item 𝓤) → List (Item 𝓤) → List (Item 𝓤)
       Cx d zs us v₁₂ i₁₄ i₆ = (d ∷ Row zs ∷ Tab us ∷ []) ++ free (sliceTy (numTy erased)) l₂₃ ++ free (numTy erased) l₂₂ ++ free (sliceTy (elemTy erased)) l₂₁ ++ free (elemTy erased) l₂₀ ++ free tyUnit l₁₉ ++ free (sliceTy (numTy erased)) l₁₈ ++ free (numTy erased) l₁₇ ++ free (sliceTy (elemTy erased)) l₁₆ ++ free (elemTy erased) l₁₅
-          ++ i₁₄ ++ free (tyInt w64) l₁₃ ++ full O′.mir l₁₂ v₁₂ ++ free (sliceTy (numTy erased)) l₁₁ ++ free (numTy erased) l₁₀ ++ free (sliceTy (elemTy erased)) l₉ ++ free (elemTy erased) l₈ ++ free tyUnit l₇ ++ i₆ ++ free (tyInt w64) lᵦ ++ free (tyInt w64) l₅ ++ free (tyInt w32) l₄
+          ++ i₁₄ ++ free (tyInt w64) l₁₃ ++ full O′.mir l₁₂ v₁₂ ++ free (sliceTy (numTy erased)) l₁₁ ++ free (numTy erased) l₁₀ ++ free (sliceTy (elemTy erased)) l₉ ++ free (elemTy erased) l₈ ++ free tyUnit l₇ ++ i₆ ++ free F′.mir lᵦ ++ free (tyInt w64) l₅ ++ free (tyInt w32) l₄
           ++ full (sliceTy (numTy (named 2))) l₃ s₃ ++ full (sliceTy (elemTy (named 1))) l₂ s₂ ++ full (docTy (named 0)) l₁ s₁ ++ free R′.mir l₀
 
       -- what is to hold where an arm of the outer match ends, and one of the inner
@@ -423,48 +424,48 @@ module _ {M : Type 1} (𝓤 : URA M) (H : Heap 𝓤) (A : Atoms 𝓤) (W : Given
           land-last ! (from ! (stop !)) (init ! 11 refl (nothing-lawful 𝓤 H A W .typed tt _ isu .0)) $ exec ! C Λ En (skipping 1 inner) (anyQ Ends) $
           forget ! 3 refl $ forget ! 5 refl $ forget ! 7 refl $ forget ! 9 refl $ forget ! 11 refl $ hands-on blanks zeros v₁₂ (Refused k p) long-blanks long-zeros is e)))
 
-      matched : (r : Opening) → IsO r → openingOf r ≡ admission ss (length ts) → Sq W (Cx Doc blanks zeros (valO r) (free R′.mir l₁₄) (free R′.mir l₆)) (runs C Λ En mir.t-8 (atRet En Post))
+      matched : (r : Opening) → IsO r → Admits ss (length ts) r → Sq W (Cx Doc blanks zeros (valO r) (free R′.mir l₁₄) (free R′.mir l₆)) (runs C Λ En mir.t-8 (atRet En Post))
       matched (Halt k p) is e =
           head ! $ switches-on ! (load ! (from ! (vrt ! refl (fld ! refl (stop !)))) (look-tag ! 25 (whole !))) $ exec ! C Λ En (outer 0) (anyQ Ends) $
           assigns ! (of-opd ! (load ! (from ! (vrt ! refl (fld ! refl (stop !)))) (look-in ! 25 (in-variant ! 1 0 refl refl (whole !))))) (from ! (stop !)) (init ! 43 refl (tt, record { fits = isk .1 })) $
           assigns ! (of-opd ! (load ! (from ! (vrt ! refl (fld ! refl (stop !)))) (look-in ! 25 (in-variant ! 1 1 refl refl (whole !))))) (from ! (stop !)) (init ! 41 refl (tt, record { fits = isp .1 })) $
-          use0 W (raw (Refuse 𝓤 H A at-mem run .pre (to-refused k p))) (goes-refused k p isk isp (admits ss (length ts) (halt k p) e)) $
+          use0 W (raw (Refuse 𝓤 H A at-mem run .pre (to-refused k p))) (goes-refused k p isk isp (e .within)) $
           calls-at-last ! fm (Refuse 𝓤 H A at-mem run) known-refused (to-refused k p) (and-then ! (load ! (from ! (stop !)) (look ! 44 refl)) (and-then ! (load ! (from ! (stop !)) (look ! 42 refl)) (no-more !))) (λ v.
           use1 W (later (some (λ (w : Answer). (‵ ftrue ⊛ ‵ (R.the-row .own w (v ∷ []))) ⊛ raw (ensured 𝓤 H A refused′.ended (refused′.clauses 𝓤 H A at-mem run) tt (k, (p, tt)) tt w)))) (id⊢ 𝓤 _) $ await ! tt $ pick ! (λ w.
           split ! $ move ! (1 ∷ []) $ use1 W (raw (fact 𝓤 (w ≡ Refused k p))) (refused-of 𝓤 H A at-mem run k p w) $ heard ! (w ≡ Refused k p) (λ ew. split ! $ drop ! $
           facts ! R.the-row (Is R.the-row) (shows 𝓤 H A R.the-row) w (v ∷ []) (λ isw.
           land-last ! (from ! (stop !)) (init ! 21 refl (LE.lawful R.the-type R′.the-laws 𝓤 H A W tt .typed w _ isw .0)) $ rewrite ! 21 (λ (u : Val). ‵ (fat fullShare R′.mir l₁₄ 0 u)) (ap only (LE.tells R.the-type R′.the-laws w _ isw)) refl $
           exec ! C Λ En mir.t-9 (atRet En Post) $ forget ! 41 refl $ forget ! 43 refl $ split ! $ drop ! $
-          leaves blanks zeros (valO (Halt k p)) w long-blanks long-zeros (subst (Is R.the-row w) (LE.tells R.the-type R′.the-laws w _ isw) isw) (ap (λ (u : Answer). record { answer = u; told = told u; row = blanks; tables = zeros }) ew ∙ reads ss (length ys) (length ts) (halt k p) e)))))
+          leaves blanks zeros (valO (Halt k p)) w long-blanks long-zeros (subst (Is R.the-row w) (LE.tells R.the-type R′.the-laws w _ isw) isw) (ap (λ (u : Answer). record { answer = u; told = told u; row = blanks; tables = zeros }) ew ∙ reads-halt ss (length ys) (length ts) k p e)))))
         where
           isk : Is u32 k (vint w32 k ∷ [])
           isk = LE.owed O.the-type O′.the-laws (Halt k p) _ is .0
 
           isp : Is usize p (vint w64 p ∷ [])
           isp = LE.owed O.the-type O′.the-laws (Halt k p) _ is .1 .0
-      matched (Onward body) is e =
+      matched (Onward front) is e =
           head ! $ switches-on ! (load ! (from ! (vrt ! refl (fld ! refl (stop !)))) (look-tag ! 25 (whole !))) $ exec ! C Λ En (outer 1) (anyQ Ends) $
-          assigns ! (of-opd ! (load ! (from ! (vrt ! refl (fld ! refl (stop !)))) (look-in ! 25 (in-variant ! 0 0 refl refl (whole !))))) (from ! (stop !)) (init ! 39 refl (tt, record { fits = isb .1 })) $
+          assigns ! (of-opd ! (load ! (from ! (vrt ! refl (fld ! refl (stop !)))) (look-in ! 25 (in-variant ! 0 0 refl refl (whole !))))) (from ! (stop !)) (init ! 39 refl (typedF W front isf)) $
           assigns ! (addr ! (from ! (fld ! refl (hop ! (look-in ! 47 (sub ! 0 refl (whole !))) (stop !))))) (from ! (stop !)) (init ! 19 refl (tt, tt)) $
           assigns ! (agg ! (and-then ! (load ! (from ! (stop !)) (look ! 19 refl)) (and-then ! (load ! (from ! (fld ! refl (stop !))) (look-in ! 47 (sub ! 1 refl (whole !)))) (no-more !)))) (from ! (stop !)) (init ! 17 refl (tt, (tt, (record { fits = room-e .0 }, tt)))) $
           assigns ! (addr ! (from ! (fld ! refl (hop ! (look-in ! 45 (sub ! 0 refl (whole !))) (stop !))))) (from ! (stop !)) (init ! 15 refl (tt, tt)) $
           assigns ! (agg ! (and-then ! (load ! (from ! (stop !)) (look ! 15 refl)) (and-then ! (load ! (from ! (fld ! refl (stop !))) (look-in ! 45 (sub ! 1 refl (whole !)))) (no-more !)))) (from ! (stop !)) (init ! 13 refl (tt, (tt, (record { fits = room-t .0 }, tt)))) $
-          use3 W (later (some (λ (g : Loans). raw (ReadBody 𝓤 H A at-mem run .pre (to-body body isb ready comes g)) ⊛ Held body isb ready comes g))) (body-lends body isb ready comes) $ await ! tt $ pick ! (λ g. split ! $
+          use3 W (later (some (λ (g : Loans). raw (ReadBody 𝓤 H A at-mem run .pre (to-body front isf ready comes g)) ⊛ Held front isf ready comes g))) (body-lends front isf ready comes) $ await ! tt $ pick ! (λ g. split ! $
           -- [the `pre`; what is kept; _23 2; …; _18 12; …; _16 16; …; _1 48; …]
-          calls-at ! fm (ReadBody 𝓤 H A at-mem run) known-body (to-body body isb ready comes g) (and-then ! (load ! (from ! (stop !)) (look ! 48 refl)) (and-then ! (load ! (from ! (stop !)) (look ! 16 refl)) (and-then ! (load ! (from ! (stop !)) (look ! 12 refl)) (and-then ! (load ! (from ! (stop !)) (look ! 38 refl)) (no-more !))))) (λ v.
-          use2 W (later (some (λ (k : Came body isb ready comes). given (Learns body isb ready comes v k) (‵ (flft κ₀ q₀) ⊛ (Row (k .1 .0) ⊛ Tab (k .1 .1)))))) (body-back body isb ready comes g v) $ await ! tt $ pick ! (λ k. learn ! (λ it. split ! $ move ! (1 ∷ []) $ split ! $ move ! (2 ∷ 0 ∷ 1 ∷ []) $
+          calls-at ! fm (ReadBody 𝓤 H A at-mem run) known-body (to-body front isf ready comes g) (and-then ! (load ! (from ! (stop !)) (look ! 48 refl)) (and-then ! (load ! (from ! (stop !)) (look ! 16 refl)) (and-then ! (load ! (from ! (stop !)) (look ! 12 refl)) (and-then ! (load ! (from ! (stop !)) (look ! 38 refl)) (no-more !))))) (λ v.
+          use2 W (later (some (λ (k : Came front isf ready comes). given (Learns front isf ready comes v k) (‵ (flft κ₀ q₀) ⊛ (Row (k .1 .0) ⊛ Tab (k .1 .1)))))) (body-back front isf ready comes g v) $ await ! tt $ pick ! (λ k. learn ! (λ it. split ! $ move ! (1 ∷ []) $ split ! $ move ! (2 ∷ 0 ∷ 1 ∷ []) $
           land ! (from ! (stop !)) (init ! 37 refl (LE.lawful R.the-type R′.the-laws 𝓤 H A W tt .typed (k .0) _ (it .0) .0)) $ rewrite ! 37 (λ (u : Val). ‵ (fat fullShare R′.mir l₆ 0 u)) (ap only (LE.tells R.the-type R′.the-laws (k .0) _ (it .0))) refl $
           forget ! 13 refl $ forget ! 15 refl $ forget ! 17 refl $ forget ! 19 refl $ forget ! 39 refl $
-          settles (k .1 .0) (k .1 .1) (valO (Onward body)) (it .1) (it .2) (k .0) (subst (Is R.the-row (k .0)) (LE.tells R.the-type R′.the-laws (k .0) _ (it .0)) (it .0)) (it .3)))))
+          settles (k .1 .0) (k .1 .1) (valO (Onward front)) (it .1) (it .2) (k .0) (subst (Is R.the-row (k .0)) (LE.tells R.the-type R′.the-laws (k .0) _ (it .0)) (it .0)) (it .3)))))
         where
-          isb : Is usize body (vint w64 body ∷ [])
-          isb = LE.owed O.the-type O′.the-laws (Onward body) _ is .0
+          isf : IsF front
+          isf = LE.owed O.the-type O′.the-laws (Onward front) _ is .0
 
-          ready : (length ts ≡ tableWords) × (body ≤ length ss) × (length ss ≤ 16384)
-          ready = admits ss (length ts) (onward body (start link)) e
+          ready : (length ts ≡ tableWords) × (front .at ≤ length ss) × (length ss ≤ 16384)
+          ready = e .within
 
-          comes : outcome (Reading.run link ss (fuelOf ss) (length ys) (origin body (start link))) (length ys) ≡ target
-          comes = reads ss (length ys) (length ts) (onward body (start link)) e
+          comes : outcome (readFrom ss (length ys) front) (length ys) ≡ target
+          comes = reads-front ss (length ys) (length ts) front e
 
     walk : ent 𝓤 (onEntry 𝓤 H A read′.signature (κ₀, (κ₁, (κ₂, tt))) (q₀, (q₁, (q₂, tt))) a at) (WpFn 𝓤 H C Λ code.function (s₁ ∷ s₂ ∷ s₃ ∷ []) Post)
     walk =
@@ -488,7 +489,7 @@ module _ {M : Type 1} (𝓤 : URA M) (H : Heap 𝓤) (A : Atoms 𝓤) (W : Given
         -- [the `pre`; the document; the row; the tables; _23 4; …]
         calls-at ! fm (Admitted 𝓤 H A at-mem run) known-admitted to-admitted (and-then ! (load ! (from ! (stop !)) (look ! 50 refl)) (and-then ! (load ! (from ! (stop !)) (look ! 24 refl)) (no-more !))) (λ v′.
         use1 W (later (some (λ (r : Opening). ((‵ (flft κ₀ q₀) ⊛ ‵ ftrue) ⊛ ‵ (O.the-row .own r (v′ ∷ []))) ⊛ raw (ensured 𝓤 H A admitted′.ended (admitted′.clauses 𝓤 H A at-mem run) (κ₀, tt) adm-args tt r)))) (id⊢ 𝓤 _) $ await ! tt $ pick ! (λ r.
-        split ! $ move ! (1 ∷ []) $ use1 W (raw (fact 𝓤 (openingOf r ≡ admission ss (length ts)))) (admitted-of r) $ heard ! (openingOf r ≡ admission ss (length ts)) (λ e. split ! $ move ! (1 ∷ []) $
+        split ! $ move ! (1 ∷ []) $ use1 W (raw (fact 𝓤 (Admits ss (length ts) r))) (admitted-of r) $ heard ! (Admits ss (length ts) r) (λ e. split ! $ move ! (1 ∷ []) $
         facts ! O.the-row (Is O.the-row) (shows 𝓤 H A O.the-row) r (v′ ∷ []) (λ is. split ! $ move ! (1 ∷ []) $ drop ! $ move ! (1 ∷ 0 ∷ []) $ join ! $
         land ! (from ! (stop !)) (init ! 25 refl (LE.lawful O.the-type O′.the-laws 𝓤 H A W tt .typed r _ is .0)) $ rewrite ! 25 (λ (u : Val). ‵ (fat fullShare O′.mir l₁₂ 0 u)) (ap only (LE.tells O.the-type O′.the-laws r _ is)) refl $
         forget ! 23 refl $ forget ! 27 refl $ forget ! 29 refl $ forget ! 31 refl $ forget ! 33 refl $ forget ! 35 refl $

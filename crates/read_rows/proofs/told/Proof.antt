@@ -1,10 +1,7 @@
 -- `read::told` meets its contract: by cases on the step's answer.
 -- Assumes nothing.
 use Prim.Native.Nat.{_<_}
-use mathlib.Core.Path.{ap}
 use native.Mathlib.Omega.{arith}
-use Rattle.events.specs.declared.Event.{Event}
-use Rattle.read_rows.specs.declared.Next.the-variants.{Found}
 use borrow.Author.Needs.{needs}
 use Rattle.read_rows.proofs.told.Statement.{statement}
 use Rattle.read_rows.proofs.told.Tie as tie
@@ -13,12 +10,10 @@ cast-t13 : tie.Need-cast-t13
 cast-t13 c = let l : c .before .r3 .given .0 .1 .0 < 0x1_0000_0000 = rw (c .before .r3 .given .1) at (c .before .before .before .before .pre .1) in record { fits = omega arith }
 
 returns : tie.Need-returns
-returns c =
-    let r = c .before .before .r .given in
-    rw (r .1) (ap (λ (e : Event). Found (r .0 .1 .0) e (record { state = r .0 .0; left = c .before .before .before .before .before .args .left })) (c .from-words .ensures))
+returns c = rw (c .before .before .before .r .given .1, c .at-item .ensures, c .before .from-words .ensures)
 
 returns-2 : tie.Need-returns-2
-returns-2 c = rw (c .before .r2 .given .1)
+returns-2 c = rw (c .before .before .r2 .given .1, c .at-item2 .ensures)
 
 returns-3 : tie.Need-returns-3
 returns-3 c = rw (c .enum-told .given .1)
@@ -32,7 +27,9 @@ told-spec =
     (tie.spec
     (λ c. search needs)
     (λ c κs. omega arith)
+    (λ c κs. search needs)
     (λ c. search needs)
+    (λ c κs. search needs)
     (λ c. search needs)
     (λ c. search needs)
     cast-t13

@@ -2,8 +2,8 @@
 -- Assumes nothing.
 use borrow.Author.Needs.{needs}
 use native.Mathlib.Omega.{arith}
-use Rattle.read_names.proofs.NameLaws.{layout-table, parts-lone, parts-prefix, parts-namespace, parts-local, parts-read, handed, positive, strings-ranged, local-new, new-says}
-use Rattle.read_names.proofs.Grown.{searched-name, grown-on, left-on}
+use Rattle.read_names.proofs.NameLaws.{addable, layout-table, parts-lone, parts-prefix, parts-namespace, parts-local, parts-read, handed, positive, strings-ranged, local-new, new-says}
+use Rattle.read_names.proofs.Grown.{grown-on, left-on}
 use Rattle.tables.specs.Kept.{nameTableOf}
 use Rattle.read_names.proofs.names.in_parts.Statement.{statement}
 use Rattle.read_names.proofs.names.in_parts.Tie as tie
@@ -86,16 +86,8 @@ triple-requires c κs =
     let at-start = at-optional .before .before .before .before .before .before .before .before .before .before in
     let first = rw (at-first .first .given .1) at (at-optional .optional .ensures) in
     let second = rw (at-second .second .given .1) at (at-optional2 .optional2 .ensures) in
-    let third = rw (c .before .before .before .before .third .given .1) at (at-id .id .ensures) in
-    let tidy = third .1 .0 .tidy in (
-      tidy .room,
-      tidy .ten,
-      tidy .indexed .size,
-      at-start .pre .2,
-      at-start .pre .3,
-      tidy .counted,
-      tidy .indexed .ofNames _ (at-start .pre .2) (at-start .pre .3) (searched-name _ (at-start .pre .2)),
-      strings-ranged _ _ _ _ _ _ _ _ _ (first .1 .1) (second .1 .1) (third .1 .1) (second .1 .0 .grown) (third .1 .0 .grown) (third .2),
+    let third = rw (c .before .before .before .before .third .given .1) at (at-id .id .ensures) in (
+      addable _ _ _ _ (third .1 .0 .tidy) _ (at-start .pre .2) (at-start .pre .3) _ (strings-ranged _ _ _ _ _ _ _ _ _ (first .1 .1) (second .1 .1) (third .1 .1) (second .1 .0 .grown) (third .1 .0 .grown) (third .2)),
       λ h. local-new _ _ _ _ (at-id .id .last .1 .1 .0) (at-id .id .last .1 .0) _ _ _ (second .1 .0 .tidy) (third .0) (nameTableOf (at-start .args .table)) (at-first .first .given .0 .0) (at-second .second .given .0 .0) h,
     )
 

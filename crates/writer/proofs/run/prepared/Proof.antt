@@ -4,29 +4,39 @@ use borrow.Author.Needs.{needs}
 use native.Mathlib.Omega.{arith}
 use lib.ListN.{length}
 use Rattle.tables.proofs.Zeros.{zeroed}
-use Rattle.writer.proofs.RunLaws.{held-room}
-use Rattle.writer.proofs.PhaseLaws.{going-size, going-room, going-start}
+use Rattle.writer.proofs.PhaseLaws.{going-size, going-room, going-refused, going-start}
 use Rattle.writer.proofs.run.prepared.Statement.{statement}
 use Rattle.writer.proofs.run.prepared.Tie as tie
 
 returns : tie.Need-returns
-returns c = λ es ix z. going-size es _ _ _ (omega arith)
+returns c = λ es. going-size _ es _ _ _ (omega arith)
 
 returns-2 : tie.Need-returns-2
-returns-2 c = λ es ix z. going-room es _ _ _ (omega arith) (omega arith)
+returns-2 c = λ es. going-room _ es _ _ _ (omega arith) (omega arith)
 
-put-header-requires : tie.Need-put-header-requires
-put-header-requires c κs =
-    let a = c .before .before .before .before .before .before .before .before .before .before .before .before .before .before .args in
-    let clear = c .before .before .before .before .before .before .before .clear in
-    zeroed _ (length (a .out .now)) (length (clear .last .0)) (clear .ensures) (omega arith)
+begin-requires : tie.Need-begin-requires
+begin-requires c κs =
+    let at-start = c .before .before .before .before .before .before .before .before .before .before .before .before .before .before .before .before .before .before .before in
+    let clear = c .before .before .before .before .before .before .before .before .before .before .clear in
+    (omega arith, zeroed _ (length (at-start .args .out .now)) (length (clear .last .0)) (clear .ensures) (omega arith), zeroed _ (length (at-start .args .t .now)) 7680 (c .before .before .before .before .before .before .clear2 .ensures) (omega arith), omega arith, at-start .pre)
+
+begin-requires-2 : tie.Need-begin-requires-2
+begin-requires-2 c κs =
+    let opened = rw (c .before .at .given .1) at (c .before .before .before .before .before .before .before .before .before .before .begin .ensures) in
+    omega (arith, opened .near)
+
+same-length : tie.Need-same-length
+same-length c = omega (arith, c .before .before .before .before .before .before .before .before .before .before .before .before .before .begin .kept, c .before .before .before .before .before .before .before .before .before .before .before .before .before .before .before .before .before .before .before .before .before .before .before .before .clear .kept)
 
 returns-3 : tie.Need-returns-3
 returns-3 c =
-    let a = c .before .before .before .before .before .before .before .before .before .before .before .before .before .before .before .before .before .before .before .args in
-    let put-header = c .before .before .before .before .put-header in
-    let clear2 = c .before .before .before .before .before .before .before .before .clear2 in
-    λ es ix z. going-start es _ _ _ (omega arith) (omega arith) (c .before .begin .ensures) (c .start .ensures) (held-room (omega arith) (put-header .ensures)) (zeroed _ (length (a .t .now)) 7680 (clear2 .ensures) (omega arith)) z
+    let opened = rw (c .before .before .before .before .at .given .1) at (c .before .before .before .before .before .before .before .before .before .before .before .before .before .begin .ensures) in
+    λ es. going-start _ es _ _ _ (omega arith) (omega arith) (omega (arith, c .before .before .before .before .before .before .before .before .before .before .before .before .before .before .before .before .before .before .before .before .before .before .before .before .clear .kept)) opened (c .before .before .begin2 .ensures) (c .counts-in .ensures)
+
+returns-4 : tie.Need-returns-4
+returns-4 c =
+    let refused = rw (c .before .number .given .1) at (c .before .before .before .before .before .before .before .before .before .before .begin .ensures) in
+    λ es. going-refused _ es _ _ _ (omega arith) (omega arith) (omega (arith, c .before .before .before .before .before .before .before .before .before .before .before .before .before .before .before .before .before .before .before .before .before .clear .kept)) (refused .0) (refused .1)
 
 pub prepared-spec : {M : Type 1} → statement M
 prepared-spec =
@@ -36,9 +46,18 @@ prepared-spec =
     returns-2
     (λ c κs. search needs)
     (λ c κs. search needs)
-    put-header-requires
-    (λ c κs. search needs)
+    (λ c. search needs)
+    begin-requires
+    (λ c. search needs)
+    begin-requires-2
+    (λ c. search needs)
     (λ c κs. search needs)
     (λ c. search needs)
+    same-length
     (λ c. search needs)
-    returns-3)
+    (λ c. search needs)
+    returns-3
+    (λ c. search needs)
+    (λ c. search needs)
+    (λ c. search needs)
+    returns-4)

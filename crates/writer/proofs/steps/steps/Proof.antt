@@ -5,22 +5,21 @@ use native.Mathlib.Omega.{arith}
 use mathlib.Core.Path.{_≡_, refl}
 use lib.ListN.{length}
 use Prim.Native.Nat.{_-_, _/_}
-use Rattle.index.specs.Indexed.{slots}
-use Rattle.writer.proofs.RideLaws.{Stepping, stepping-start, stepping-ready, stepping-small, stepped, step-stopped, stepped-few, stepped-safe, stepped-learned, stepped-filed, stepping-on, stepped-through}
+use Rattle.writer.proofs.RideLaws.{Stepping, Begins, start-moving, stepping-start, stepping-ready, stepping-small, stepped, step-stopped, stepped-few, stepped-safe, stepped-learned, stepped-filed, stepping-on, stepped-through}
 use Rattle.writer.proofs.steps.steps.Statement.{statement}
 use Rattle.writer.proofs.steps.steps.Tie as tie
 
 abbrev Inv-loop : tie.InvT-loop
 Inv-loop records text out₀ t₀ index₀ memory₀ counts₀ st₀ i₀ out t index memory counts st i =
-    (length out ≡ length out₀) × (length t ≡ length t₀) × (length index ≡ slots) × (length counts ≡ 10) × Stepping records text (length out₀) (length t₀) i st counts out t index memory
+    (length out ≡ length out₀) × (length t ≡ length t₀) × (length index ≡ length index₀) × (length counts ≡ 10) × Stepping (Begins records text (length out₀) (length t₀) st₀ counts₀ out₀ t₀ index₀) records text (length out₀) (length t₀) i st counts out t index memory
 
 abbrev μ-loop : tie.MeasureT-loop
 μ-loop records text out₀ t₀ index₀ memory₀ counts₀ st₀ i₀ out t index memory counts st i = length records / 13 - i
 
 loop-holds : tie.Need-loop-holds Inv-loop μ-loop
 loop-holds c =
-    let at-start = c .before .before .before .before .before .before .before in
-    (refl, refl, refl, omega arith, stepping-start (at-start .args .records .now) (at-start .args .text .now) (length (at-start .args .out .now)) (length (at-start .args .t .now)) 128 (at-start .args .first) (at-start .args .start) _ (at-start .args .out .now) (at-start .args .t .now) (c .before .put-counts .ensures) (at-start .pre))
+    let a = c .before .before .before .before .before .before .before .before .args in
+    (refl, refl, refl, omega arith, stepping-start (a .records .now) (a .text .now) (length (a .out .now)) (length (a .t .now)) (a .first) (a .start) _ (a .out .now) (a .t .now) (a .index .now) (c .before .put-counts .ensures) 128 (c .before .before .before .before .before .before .before .before .pre))
 
 step-requires : tie.Need-step-requires Inv-loop μ-loop
 step-requires c κs =
@@ -29,7 +28,7 @@ step-requires c κs =
 
 learn-requires : tie.Need-learn-requires Inv-loop μ-loop
 learn-requires c κs =
-    let at-step = c .before .before .before .before .before .before .before .before .before .before in
+    let at-step = c .before .before .before .before .before .before .before .before .before .before .before in
     let at-bit = at-step .before .before .before .before .before in
     let at-from-words = at-bit .before in
     let at-announced-words = at-from-words .before in
@@ -41,12 +40,12 @@ learn-requires c κs =
 
 add-ride : tie.Need-add-ride Inv-loop μ-loop
 add-ride c =
-    let at-loop = c .before .before .before .before .before .before .before .before .before .before .before .before .before .before .before .before .before .before .before .before .before .before .before in
+    let at-loop = c .before .before .before .before .before .before .before .before .before .before .before .before .before .before .before .before .before .before .before .before .before .before .before .before in
     omega (arith, stepping-small (at-loop .loop .inv .4))
 
 ride-requires : tie.Need-ride-requires Inv-loop μ-loop
 ride-requires c κs =
-    let at-step = c .before .before .before .before .before .before .before .before .before .before .before .before .before in
+    let at-step = c .before .before .before .before .before .before .before .before .before .before .before .before .before .before in
     let at-bit = at-step .before .before .before .before .before in
     let at-from-words = at-bit .before in
     let at-announced-words = at-from-words .before in
@@ -60,7 +59,7 @@ ride-requires c κs =
 
 loop-less : tie.Need-loop-less Inv-loop μ-loop
 loop-less c =
-    let at-loop-test = c .before .before .before .before .before .before .before .before .before .before .before .before .before .before .before .before .before .before .before .before .before .before .before .before .before .before in
+    let at-loop-test = c .before .before .before .before .before .before .before .before .before .before .before .before .before .before .before .before .before .before .before .before .before .before .before .before .before .before .before in
     let on = c .before .before .before .ride .ensures .onward .on in
     omega (arith, at-loop-test .loop-test .taken)
 
@@ -68,7 +67,7 @@ loop-again : tie.Need-loop-again Inv-loop μ-loop
 loop-again c =
     let at-learn = c .before .before .before .before .before .before in
     let at-next = at-learn .before .before .before in
-    let at-step = at-next .before .before .before .before .before .before .before .before in
+    let at-step = at-next .before .before .before .before .before .before .before .before .before in
     let at-bit = at-step .before .before .before .before .before in
     let at-from-words = at-bit .before in
     let at-announced-words = at-from-words .before in
@@ -83,40 +82,52 @@ loop-again c =
 
 cast-t48 : tie.Need-cast-t48 Inv-loop μ-loop
 cast-t48 c =
-    let at-loop = c .before .before .before .before .before .before .before .before .before .before .before .before .before .before .before .before .before .before .before in
+    let at-loop = c .before .before .before .before .before .before .before .before .before .before .before .before .before .before .before .before .before .before .before .before in
     omega (arith, stepping-small (at-loop .loop .inv .4))
 
 same-length : tie.Need-same-length Inv-loop μ-loop
 same-length c =
-    let at-step = c .before .before .before .before .before .before .before .before .before in
+    let at-step = c .before .before .before .before .before .before .before .before .before .before in
     let at-loop = at-step .before .before .before .before .before .before .before .before .before .before in
     omega (arith, at-loop .loop .inv .0, at-step .step .kept)
 
 same-length-2 : tie.Need-same-length-2 Inv-loop μ-loop
 same-length-2 c =
-    let at-step = c .before .before .before .before .before .before .before .before .before in
+    let at-step = c .before .before .before .before .before .before .before .before .before .before in
     let at-loop = at-step .before .before .before .before .before .before .before .before .before .before in
     omega (arith, at-loop .loop .inv .1, at-step .step .kept)
 
+same-length-3 : tie.Need-same-length-3 Inv-loop μ-loop
+same-length-3 c =
+    let at-step = c .before .before .before .before .before .before .before .before .before .before in
+    let at-loop = at-step .before .before .before .before .before .before .before .before .before .before in
+    omega (arith, at-loop .loop .inv .2, at-step .step .kept)
+
 returns : tie.Need-returns Inv-loop μ-loop
 returns c =
-    let at-step = c .before .before .before .before .before .before .before .before .before in
+    let at-step = c .before .before .before .before .before .before .before .before .before .before in
     let at-bit = at-step .before .before .before .before .before in
     let at-from-words = at-bit .before in
     let at-announced-words = at-from-words .before in
     let at-look-from = at-announced-words .before in
     let at-loop-test = at-look-from .before in
     let at-loop = at-loop-test .before in
-    step-stopped (at-loop .loop .inv .4) (at-loop-test .loop-test .taken) (at-loop .loop .inv .0) (at-look-from .look-from .ensures) (at-announced-words .announced-words .ensures) (at-from-words .from-words .ensures) (at-bit .bit .ensures) (at-step .step .result) (at-step .step .last .1 .1 .1 .1 .1 .0) (at-step .step .last .1 .1 .1 .0) (at-step .step .last .1 .1 .0) (at-step .step .last .1 .1 .1 .1 .0) (at-step .step .ensures) (c .before .number .given .1)
-
-same-length-3 : tie.Need-same-length-3 Inv-loop μ-loop
-same-length-3 c = omega (arith, c .before .before .before .loop .inv .0)
+    let a = c .before .before .before .before .before .before .before .before .before .before .before .before .before .before .before .before .before .before .before .before .before .before .before .before .before .before .before .before .before .args in
+    λ o g. step-stopped (at-loop .loop .inv .4) (at-loop-test .loop-test .taken) (at-loop .loop .inv .0) (at-look-from .look-from .ensures) (at-announced-words .announced-words .ensures) (at-from-words .from-words .ensures) (at-bit .bit .ensures) (at-step .step .result) (at-step .step .last .1 .1 .1 .1 .1 .0) (at-step .step .last .1 .1 .1 .0) (at-step .step .last .1 .1 .0) (at-step .step .last .1 .1 .1 .1 .0) (at-step .step .ensures) (c .before .number .given .1) o (start-moving (a .records .now) (a .text .now) (length (a .out .now)) (length (a .t .now)) (a .first) (a .start) _ (a .out .now) (a .t .now) (a .index .now) (c .before .before .before .before .before .before .before .before .before .before .before .before .before .before .before .before .before .before .before .before .before .before .put-counts .ensures) o g)
 
 same-length-4 : tie.Need-same-length-4 Inv-loop μ-loop
-same-length-4 c = omega (arith, c .before .before .before .loop .inv .1)
+same-length-4 c = omega (arith, c .before .before .before .loop .inv .0)
+
+same-length-5 : tie.Need-same-length-5 Inv-loop μ-loop
+same-length-5 c = omega (arith, c .before .before .before .loop .inv .1)
+
+same-length-6 : tie.Need-same-length-6 Inv-loop μ-loop
+same-length-6 c = omega (arith, c .before .before .before .loop .inv .2)
 
 returns-2 : tie.Need-returns-2 Inv-loop μ-loop
-returns-2 c = stepped-through (c .before .before .before .loop .inv .4) (omega (arith, c .before .before .loop-test .left)) _ (c .counts-in .ensures)
+returns-2 c =
+    let a = c .before .before .before .before .before .before .before .before .before .before .before .before .args in
+    λ o g. stepped-through (c .before .before .before .loop .inv .4) (omega (arith, c .before .before .loop-test .left)) _ (c .counts-in .ensures) o (start-moving (a .records .now) (a .text .now) (length (a .out .now)) (length (a .t .now)) (a .first) (a .start) _ (a .out .now) (a .t .now) (a .index .now) (c .before .before .before .before .before .put-counts .ensures) o g)
 
 pub steps-spec : {M : Type 1} → statement M
 steps-spec =
@@ -133,7 +144,6 @@ steps-spec =
     (λ c. search needs)
     (λ c κs. search needs)
     (λ c. search needs)
-    (λ c. search needs)
     step-requires
     (λ c. search needs)
     (λ c. search needs)
@@ -147,9 +157,11 @@ steps-spec =
     cast-t48
     same-length
     same-length-2
+    same-length-3
     returns
     (λ c. search needs)
     (λ c κs. search needs)
-    same-length-3
     same-length-4
+    same-length-5
+    same-length-6
     returns-2)

@@ -20,7 +20,7 @@ next-requires : tie.Need-next-requires Inv-loop μ-loop
 next-requires c κs = c .before .before .pre
 
 loop-holds : tie.Need-loop-holds Inv-loop μ-loop
-loop-holds c = (refl, c .before .before .before .pre, c .next .ensures, λ text v t r o. o, record { on = omega arith; inside = λ h. h })
+loop-holds c = (refl, c .before .before .before .pre, c .next .ensures, λ to text v t r o. o, record { on = omega arith; inside = λ h. h })
 
 pass-requires : tie.Need-pass-requires Inv-loop μ-loop
 pass-requires c κs = ahead-passable (c .before .before .loop .inv .1) (c .before .before .loop .inv .2 (c .before .loop-test .taken)) (c .before .loop-test .taken)

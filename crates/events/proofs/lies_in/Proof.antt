@@ -1,9 +1,9 @@
 -- `lies_in` meets its contract: each way out is a case of the definition.
 -- Assumes nothing.
 use borrow.Author.Needs.{needs}
-use Rattle.writer.proofs.RecordLaws.{stretch-empty, stretch-longer, stretch-fits}
-use Rattle.writer.proofs.records.lies_in.Statement.{statement}
-use Rattle.writer.proofs.records.lies_in.Tie as tie
+use Rattle.events.proofs.Stretches.{stretch-empty, stretch-longer, stretch-fits}
+use Rattle.events.proofs.lies_in.Statement.{statement}
+use Rattle.events.proofs.lies_in.Tie as tie
 
 returns : tie.Need-returns
 returns c = stretch-empty _ _ _ (c .if1 .taken)

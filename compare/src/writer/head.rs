@@ -1,0 +1,118 @@
+//! The given tables: one judgement over all of them, all at place 0, and their octets.
+use super::Writer;
+use crate::forms::{C21, C22, C23, C25};
+use crate::words::*;
+
+type Listed = [Vec<[u32; 3]>; 10];
+
+/// The entries of each table; None where there are not ten counts and so many entries. No words at all are ten empty tables.
+fn listed(words: &[u32]) -> Option<Listed> {
+    let mut tables = Listed::default();
+    if words.is_empty() {
+        return Some(tables);
+    }
+    let counts = words.get(..10)?;
+    let entries: u64 = counts.iter().map(|c| u64::from(*c)).sum();
+    if words.len() as u64 != 10 + 3 * entries {
+        return None;
+    }
+    let mut rest = words[10..].chunks_exact(3);
+    for (table, count) in tables.iter_mut().zip(counts) {
+        table.extend(rest.by_ref().take(*count as usize).map(|e| [e[0], e[1], e[2]]));
+    }
+    Some(tables)
+}
+
+/// The tables with what is listed, however much that is, and whether something is there twice that may not be.
+fn filled(given: &Listed, text: &[u8]) -> (Tables, bool) {
+    let (mut tables, mut repeats) = (Tables::start(), false);
+    for (t, entries) in given[..8].iter().enumerate() {
+        for string in entries.iter().filter_map(|e| Text::from_words(e)) {
+            let octets = string.octets(text).unwrap_or(&[]);
+            repeats |= Tables::identifies(t) && tables.strings[t].number_of(octets).is_some();
+            tables.strings[t].add(string, octets);
+        }
+    }
+    for (t, entries) in given[8..].iter().enumerate() {
+        for triple in entries.iter().map(|e| e.map(|n| n as usize)) {
+            repeats |= tables.names[t].number_of(triple).is_some();
+            tables.names[t].add(triple);
+        }
+    }
+    (tables, repeats)
+}
+
+impl<'a> Writer<'a> {
+    /// Judges the given tables and writes header and head. Without any entry there is no head, and the header comes with the first event.
+    pub(super) fn head(&mut self, words: &[u32], room: usize) -> Result<(), Refusal> {
+        let refused = |number, field| Refusal { number, place: 0, field };
+        let given = listed(words).ok_or(refused(16, "given words"))?;
+        let strings = || given[..8].iter().flatten().map(|e| Text::from_words(e));
+        if !strings().all(|s| s.map_or(false, |s| self.stretch(s))) {
+            return Err(refused(16, "given string"));
+        }
+        let (tables, repeats) = filled(&given, self.text);
+        let most = [0, 1, 2].map(|t| tables.strings[t].rows.len());
+        if !given[8..].iter().flatten().all(|triple| names_entries(triple, most)) {
+            return Err(refused(16, "given triple"));
+        }
+        if !strings().flatten().all(|s| s.octets(self.text).map_or(false, |o| std::str::from_utf8(o).is_ok())) {
+            return Err(refused(9, "given string"));
+        }
+        if repeats {
+            return Err(refused(11, "given tables"));
+        }
+        if tables.counts().iter().any(|c| *c as usize > ROWS) {
+            return Err(refused(12, "given tables"));
+        }
+        self.tables = tables;
+        self.put_head(&given);
+        self.right = self.bits.octets.len();
+        self.fits(room).map_err(|number| refused(number, "head"))
+    }
+
+    fn put_head(&mut self, given: &Listed) {
+        if given.iter().all(|entries| entries.is_empty()) {
+            return;
+        }
+        self.bits.text(&[0xE0, 0, 0, 1, 0x20]);
+        self.bits.code("000000");
+        given.iter().for_each(|entries| self.bits.put(u64::from(!entries.is_empty()), 1));
+        for (t, entries) in given.iter().enumerate().filter(|(_, entries)| !entries.is_empty()) {
+            self.bits.number(entries.len() as u64, C21);
+            entries.iter().for_each(|e| self.put_entry(t, e));
+        }
+    }
+
+    fn put_entry(&mut self, table: usize, entry: &[u32; 3]) {
+        let (place, length) = (entry[1] as usize, entry[2] as usize);
+        match table {
+            0..=4 => {
+                self.bits.code("0");
+                self.bits.number(length as u64, C22);
+            }
+            5..=7 => {
+                self.bits.code("0000");
+                self.bits.number(length as u64, C23);
+            }
+            _ => return self.put_surrogate(entry),
+        }
+        self.bits.text(&self.text[place..place + length]);
+    }
+
+    fn put_surrogate(&mut self, triple: &[u32; 3]) {
+        self.bits.code("000000");
+        self.bits.put(u64::from(triple[0] > 0), 1);
+        self.bits.put(u64::from(triple[1] > 0), 1);
+        for number in triple.iter().filter(|n| **n > 0) {
+            self.bits.code("0");
+            self.bits.number(u64::from(*number), C25);
+        }
+    }
+}
+
+/// Whether a triple has a local name, no prefix without a namespace, and no number beyond these entries.
+fn names_entries(triple: &[u32; 3], most: [usize; 3]) -> bool {
+    let within = triple.iter().zip(most).all(|(number, most)| *number as usize <= most);
+    within && triple[2] > 0 && (triple[0] == 0 || triple[1] > 0)
+}

@@ -1,0 +1,147 @@
+// The head into the output. Its octets are counted on where the output has no room for them.
+ghost use mathlib.Core.Path.{_≡_};
+ghost use Prim.Native.Nat.{_+_, _-_, _*_, _^_, _≤_, _<_};
+ghost use lib.ListN.{length, getD};
+ghost use lib.Dec.{ltb};
+ghost use Rattle.format.specs.Numbers.{top, pick, lengths};
+ghost use Rattle.format.specs.Strings.{withLength};
+ghost use Rattle.format.specs.Head.{some?};
+ghost use Rattle.tables.specs.Located.{stretch, octetsOf};
+ghost use Rattle.fields.specs.PutContracts.{Puts};
+ghost use Rattle.write_head.specs.Head.{partOctets, nameOctets};
+ghost use Rattle.write_head.specs.RowContracts.{Laid, Right, Few, Fits, joinBelow, rowMost, tableMost, rowOctets, rowsOctets, tableOctetsOf, headOf};
+use crate::given::ROW;
+use crate::given::presence;
+use crate::given::rows_of;
+use crate::given::wide;
+use fields::put::put;
+use fields::put::put_count;
+use fields::put::put_length;
+use fields::put::put_number_at_bit_2;
+use fields::put::put_part;
+use format::table::ATTRIBUTE_VALUE;
+use format::table::ELEMENT_NAME;
+use tables::Counts;
+
+// The bit where the length of a string starts: C.22 in the tables of identifying strings, C.23 in the others.
+fn length_bit(table: usize) -> u32
+    ensures { λ r. ⌜ (r ≡ pick (ltb table 5) 2 5) × (2 ≤ r) × (r ≤ 5) × (2 ^ (9 - r) ≤ 128) ⌝ }
+{
+    if table < ATTRIBUTE_VALUE {
+        return 2;
+    }
+    5
+}
+
+// A string: its length, and its octets.
+fn put_string(out: &mut [u8], at: usize, table: usize, text: &[u8], place: u32, size: u32) -> usize
+    requires { ⌜ (at < 2 ^ 31) × (0 < size) × (place + size ≤ length (now text)) × (length (now text) ≤ 16384) ⌝ }
+    ensures { λ r. ⌜ Puts (now (out .entry)) at r (now (out .exit)) (withLength (lengths (pick (ltb table 5) 2 5)) 0 (octetsOf (now (text .entry)) (stretch place size))) × (r ≤ at + rowMost) ⌝ }
+{
+    let n = wide(size);
+    let behind = put_length(out, at, length_bit(table), 0, n);
+    put_part(out, behind, text, wide(place), n)
+}
+
+// A part of a name: its number, unless there is none.
+fn put_number(out: &mut [u8], at: usize, n: u32) -> usize
+    requires { ⌜ (at < 2 ^ 32) × (n ≤ top) ⌝ }
+    ensures { λ r. ⌜ Puts (now (out .entry)) at r (now (out .exit)) (partOctets n) × (r ≤ at + 3) ⌝ }
+{
+    if n == 0 {
+        return at;
+    }
+    put_number_at_bit_2(out, at, 0, n)
+}
+
+// The octet that says which of prefix and namespace a name has.
+fn parts(prefix: u32, namespace: u32) -> u8
+    ensures { λ r. ⌜ r ≡ 2 * some? prefix + some? namespace ⌝ }
+{
+    if namespace == 0 {
+        if prefix == 0 {
+            return 0;
+        }
+        return 2;
+    }
+    if prefix == 0 {
+        return 1;
+    }
+    3
+}
+
+// A name: that octet, and the numbers of its parts.
+fn put_name(out: &mut [u8], at: usize, prefix: u32, namespace: u32, local: u32) -> usize
+    requires { ⌜ (at < 2 ^ 31) × (prefix ≤ top) × (namespace ≤ top) × (local ≤ top) ⌝ }
+    ensures { λ r. ⌜ Puts (now (out .entry)) at r (now (out .exit)) (nameOctets (record { prefix = prefix; namespace = namespace; local = local })) × (r ≤ at + rowMost) ⌝ }
+{
+    put(out, at, parts(prefix, namespace));
+    let behind = put_number(out, at + 1, prefix);
+    let then = put_number(out, behind, namespace);
+    put_number(out, then, local)
+}
+
+fn put_row(out: &mut [u8], at: usize, given: &[u32], text: &[u8], table: usize, row: usize) -> usize
+    requires { ⌜ (at < 2 ^ 31) × (table < 10) × (row + 3 ≤ length (now given)) × (length (now text) ≤ 16384) × Fits (now text) (now given) table row ⌝ }
+    ensures { λ r. ⌜ Puts (now (out .entry)) at r (now (out .exit)) (rowOctets (now (text .entry)) (now (given .entry)) table row) × (r ≤ at + rowMost) ⌝ }
+{
+    if table < ELEMENT_NAME {
+        return put_string(out, at, table, text, given[row + 1], given[row + 2]);
+    }
+    put_name(out, at, given[row], given[row + 1], given[row + 2])
+}
+
+fn put_rows(out: &mut [u8], from: usize, given: &[u32], text: &[u8], table: usize) -> usize
+    requires { ⌜ (from < 2 ^ 30) × (table < 10) × Laid (now given) × Right (now text) (now given) × Few (now given) × (length (now text) ≤ 16384) ⌝ }
+    ensures { λ r. ⌜ Puts (now (out .entry)) from r (now (out .exit)) (rowsOctets (now (text .entry)) (now (given .entry)) table (getD (now (given .entry)) table 0)) × (r ≤ from + 256 * rowMost) ⌝ }
+{
+    let rows = rows_of(given, table);
+    let n = wide(given[table]);
+    let mut at = from;
+    let mut i = 0;
+    while i < n {
+        at = put_row(out, at, given, text, table, rows + ROW * i);
+        i += 1;
+    }
+    at
+}
+
+// A table: how many entries it lists, and these; nothing of one that lists none.
+fn put_table(out: &mut [u8], at: usize, given: &[u32], text: &[u8], table: usize) -> usize
+    requires { ⌜ (at < 2 ^ 29) × (table < 10) × Laid (now given) × Right (now text) (now given) × Few (now given) × (length (now text) ≤ 16384) ⌝ }
+    ensures { λ r. ⌜ Puts (now (out .entry)) at r (now (out .exit)) (tableOctetsOf (now (text .entry)) (now (given .entry)) table) × (r ≤ at + tableMost) ⌝ }
+{
+    let n = given[table];
+    if n == 0 {
+        return at;
+    }
+    let behind = put_count(out, at, n);
+    put_rows(out, behind, given, text, table)
+}
+
+fn put_tables(out: &mut [u8], from: usize, given: &[u32], text: &[u8]) -> usize
+    requires { ⌜ (from ≤ 7) × Laid (now given) × Right (now text) (now given) × Few (now given) × (length (now text) ≤ 16384) ⌝ }
+    ensures { λ r. ⌜ Puts (now (out .entry)) from r (now (out .exit)) (joinBelow (tableOctetsOf (now (text .entry)) (now (given .entry))) 10) ⌝ }
+{
+    let mut at = from;
+    let mut table = 0;
+    while table < Counts::TABLES {
+        at = put_table(out, at, given, text, table);
+        table += 1;
+    }
+    at
+}
+
+// All octets before the body: the identification, the bit of the head, the presence bits and the tables.
+pub fn put_head(out: &mut [u8], given: &[u32], text: &[u8]) -> usize
+    requires { ⌜ Laid (now given) × Right (now text) (now given) × Few (now given) × (length (now text) ≤ 16384) ⌝ }
+    ensures { λ r. ⌜ Puts (now (out .entry)) 0 r (now (out .exit)) (headOf (now (text .entry)) (now (given .entry))) ⌝ }
+{
+    let header = fields::HEADER;
+    let fifth = put_part(out, 0, &header, 0, 4);
+    put(out, fifth, fields::HEAD);
+    let bits = presence(given);
+    put(out, fifth + 1, (bits / 256) as u8);
+    put(out, fifth + 2, (bits % 256) as u8);
+    put_tables(out, fifth + 3, given, text)
+}
