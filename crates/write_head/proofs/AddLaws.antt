@@ -1,6 +1,6 @@
 -- Given entries added to the tables: a law for each way out of the functions that add them, on plain values.
 -- Assumes nothing.
-use mathlib.Core.Path.{_≡_, refl, sym, _∙_}
+use mathlib.Core.Path.{_≡_, refl, sym, ap, _∙_}
 use mathlib.Core.Bool.{_||_}
 use mathlib.Core.List.{List, map}
 use Prim.Native.Nat.{ℕ, _+_, _*_, _≤_, _<_}
@@ -11,14 +11,15 @@ use lib.Dec.{eqb, leb}
 use lib.ListN.{length, getD, set}
 use lib.Seq.{getD-set-same, getD-set-other}
 use Rattle.format.specs.Tables.{Triple, adding, addingName}
-use Rattle.tables.specs.Located.{stretch, octetsOf}
+use Rattle.tables.specs.Located.{Located, stretch, octetsOf}
 use Rattle.tables.specs.Rows.{tableOf, stringAt, tripleAt, entries}
 use Rattle.tables.specs.Search.{numberIn, numberOfTriple}
 use Rattle.tables.specs.Kept.{nameTableOf}
 use Rattle.index.specs.Indexed.{NamesIndexed, StringEntered, NameEntered}
 use Rattle.index.proofs.Counted.{count-at}
 use Rattle.index.proofs.Ordered.{string-more, name-more}
-use Rattle.write_names.specs.Contracts.{tablesIn, InOrder}
+use Rattle.events.specs.declared.EventString.the-variants.{Stretch}
+use Rattle.write_names.specs.Contracts.{tablesIn, InOrder, heldAs}
 use Rattle.write_names.proofs.Order.{entries-are, triples-are, order-string, order-name}
 use Rattle.write_head.specs.Given.{rowsOf}
 use Rattle.write_head.specs.RowContracts.{located, startCount, newIn, addRow, addRows, addTables, Grown}
@@ -26,6 +27,12 @@ use Rattle.write_head.proofs.RowLaws.{or-true}
 use Rattle.write_head.proofs.ListLaws.{and-true, or-false}
 
 module _ (text c w x : List ℕ) (t : ℕ) (order : InOrder text c w x) where
+  -- the number of a string, by the rows of its table
+  pub held-number : t < 8 → (p n k : ℕ) → k ≡ heldAs text (tableOf t) (tablesIn c w) (Stretch p n)
+      → k ≡ numberIn (map (octetsOf text) (entries (stringAt (tableOf t) w) (768 * t) (getD c t 0))) (octetsOf text (stretch p n))
+  unfolding heldAs
+  held-number small p n k e = e ∙ ap (λ (l : List Located). numberIn (map (octetsOf text) l) (octetsOf text (stretch p n))) (entries-are c w (order .ten) t small)
+
   pub names-indexed : 8 ≤ t → t < 10 → NamesIndexed w x t (getD c t 0)
   names-indexed low high = let k = count-at c (order .ten) t in rw k at (order .indexed .ofNames t low high refl)
 

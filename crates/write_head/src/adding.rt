@@ -11,13 +11,13 @@ ghost use Rattle.write_head.specs.RowContracts.{Laid, located, Right, Fe
 use crate::given::ROW;
 use crate::given::rows_of;
 use crate::given::wide;
+use events::EventString;
 use format::table::ATTRIBUTE_VALUE;
 use format::table::ELEMENT_NAME;
 use tables::Counts;
 
 // The string in the row at a word; one that its table holds already gets a number of its own, and keeps the lowest. Whether it is new, or may be a repeat: a value,
-// a chunk, another string. `find` and not `find_in`, though the bucket is known: with a second caller of `find_in`, writing a document without a head was counted
-// to cost more.
+// a chunk, another string. By `number_of`, as the writer of strings does it: with a second caller of what that calls, documents without a head cost more to write.
 fn add_string(
     text: &[u8],
     given: &[u32],
@@ -36,7 +36,8 @@ fn add_string(
     let len = wide(size);
     let h = index::bucket_of(text, from, len);
     let n = counts[table];
-    let known = index::find(text, t, index, table, n, from, len);
+    let x = EventString::Stretch(place, size);
+    let known = write_names::number_of(text, t, counts, index, table, x);
     index::enter_in(text, t, index, table, n, place, size, known, h);
     counts[table] = n + 1;
     known == 0 || ATTRIBUTE_VALUE <= table

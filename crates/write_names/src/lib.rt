@@ -63,7 +63,7 @@ pub struct QualifiedName {
 }
 
 // The number of a string in its table; 0 where it has none, or there is no string.
-fn number_of(
+pub fn number_of(
     text: &[u8],
     t: &[u32],
     counts: &[u32],

@@ -3,16 +3,14 @@
 use borrow.Author.Needs.{needs}
 use native.Mathlib.Omega.{arith}
 use mathlib.Core.Path.{refl}
-use Rattle.events.specs.declared.EventString.the-variants.{Stretch}
-use Rattle.write_names.proofs.StringLaws.{find-ready}
-use Rattle.write_head.proofs.AddLaws.{grown-string, string-new, string-known}
+use Rattle.write_head.proofs.AddLaws.{held-number, grown-string, string-new, string-known}
 use Rattle.write_head.proofs.adding.add_string.Statement.{statement}
 use Rattle.write_head.proofs.adding.add_string.Tie as tie
 use Rattle.write_head.proofs.adding.add_string.Reads as reads
 use Rattle.write_head.proofs.adding.add_string.Lts as lts
 use Rattle.index.proofs.bucket_of.Reads as bucket-of-reads
 use Rattle.index.proofs.enter_in.Reads as enter-in-reads
-use Rattle.index.proofs.find.Reads as find-reads
+use Rattle.write_names.proofs.number_of.Reads as number-of-reads
 use Rattle.write_head.proofs.given.wide.Reads as wide-reads
 
 add-place : tie.Need-add-place
@@ -48,11 +46,21 @@ mul-n c = search needs
 slice-read-n : tie.Need-slice-read-n
 slice-read-n c = search needs
 
-find-requires : tie.Need-find-requires
-find-requires c κs = let s = c .before .before .before .before .before .before .before .before .before .before .before .before .before in find-ready _ _ _ _ _ (s .pre .0) (s .pre .1) (Stretch _ _) _ _ refl (omega arith, omega arith)
+number-of-requires : tie.Need-number-of-requires
+number-of-requires c κs =
+    let s = c .before .before .before .before .before .before .before .before .before .before .before .before .before .before in
+    (s .pre .0, s .pre .1, (s .pre .4, s .pre .5))
 
 enter-in-requires : tie.Need-enter-in-requires
-enter-in-requires c κs = let s = c .before .before .before .before .before .before .before .before .before .before .before .before .before .before .before .before in let o = s .pre .0 in let h = c .before .before .before .before .before .before .bucket-of .ensures in let p = c .before .before .before .before .before .before .before .before .wide .ensures .0 in let q = c .before .before .before .before .before .before .before .wide2 .ensures .0 in (o .room, o .indexed .size, s .pre .1, s .pre .2, omega arith, s .pre .5, rw (← p, ← q) (c .before .before .find .ensures), rw (← p, ← q) (h .0), h .1)
+enter-in-requires c κs =
+    let at-number = c .before .before in
+    let at-bucket = at-number .before .before .before .before .before in
+    let s = at-bucket .before .before .before .before .before .before .before .before .before .before in
+    let o = s .pre .0 in
+    let h = at-bucket .bucket-of .ensures in
+    let p = at-bucket .before .before .wide .ensures .0 in
+    let q = at-bucket .before .wide2 .ensures .0 in
+    (o .room, o .indexed .size, s .pre .1, s .pre .2, omega arith, s .pre .5, held-number _ _ _ _ _ o (s .pre .1) _ _ _ (at-number .number-of .ensures .0), rw (← p, ← q) (h .0), h .1)
 
 add-counts : tie.Need-add-counts
 add-counts c = search needs
@@ -73,7 +81,13 @@ same-length-3 : tie.Need-same-length-3
 same-length-3 c = search needs
 
 returns : tie.Need-returns
-returns c = let s = c .before .before .before .before .before .before .before .before .before .before .before .before .before .before .before .before .before .before .before .before .before .before in (grown-string _ _ _ _ _ (s .pre .0) (s .pre .2) (s .pre .1) _ _ (s .pre .4) (s .pre .5) _ _ (c .before .before .before .before .before .enter-in .ensures), string-new _ _ _ _ _ _ _ (s .pre .0) _ (s .pre .1) _ _ (c .before .before .before .before .before .before .before .before .before .before .before .before .before .before .wide .ensures .0) (c .before .before .before .before .before .before .before .before .before .before .before .before .before .wide2 .ensures .0) (c .before .before .before .before .before .before .before .before .find .ensures) (omega arith))
+returns c =
+    let at-enter = c .before .before .before .before .before in
+    let at-number = at-enter .before .before .before in
+    let s = at-number .before .before .before .before .before .before .before .before .before .before .before .before .before .before .before in (
+      grown-string _ _ _ _ _ (s .pre .0) (s .pre .2) (s .pre .1) _ _ (s .pre .4) (s .pre .5) _ _ (at-enter .enter-in .ensures),
+      string-new _ _ _ _ _ _ _ (s .pre .0) _ (s .pre .1) _ _ refl refl (held-number _ _ _ _ _ (s .pre .0) (s .pre .1) _ _ _ (at-number .number-of .ensures .0)) (omega arith),
+    )
 
 same-length-4 : tie.Need-same-length-4
 same-length-4 c = search needs
@@ -85,7 +99,13 @@ same-length-6 : tie.Need-same-length-6
 same-length-6 c = search needs
 
 returns-2 : tie.Need-returns-2
-returns-2 c = let s = c .before .before .before .before .before .before .before .before .before .before .before .before .before .before .before .before .before .before .before .before .before .before in (grown-string _ _ _ _ _ (s .pre .0) (s .pre .2) (s .pre .1) _ _ (s .pre .4) (s .pre .5) _ _ (c .before .before .before .before .before .enter-in .ensures), string-known _ _ _ _ _ _ _ (s .pre .0) _ (s .pre .1) _ _ (c .before .before .before .before .before .before .before .before .before .before .before .before .before .before .wide .ensures .0) (c .before .before .before .before .before .before .before .before .before .before .before .before .before .wide2 .ensures .0) (c .before .before .before .before .before .before .before .before .find .ensures) (omega arith))
+returns-2 c =
+    let at-enter = c .before .before .before .before .before in
+    let at-number = at-enter .before .before .before in
+    let s = at-number .before .before .before .before .before .before .before .before .before .before .before .before .before .before .before in (
+      grown-string _ _ _ _ _ (s .pre .0) (s .pre .2) (s .pre .1) _ _ (s .pre .4) (s .pre .5) _ _ (at-enter .enter-in .ensures),
+      string-known _ _ _ _ _ _ _ (s .pre .0) _ (s .pre .1) _ _ refl refl (held-number _ _ _ _ _ (s .pre .0) (s .pre .1) _ _ _ (at-number .number-of .ensures .0)) (omega arith),
+    )
 
 pub add-string-spec : {M : Type 1} → statement M
 add-string-spec =
@@ -102,7 +122,7 @@ add-string-spec =
     bucket-of-requires
     mul-n
     slice-read-n
-    find-requires
+    number-of-requires
     enter-in-requires
     add-counts
     mul-counts
