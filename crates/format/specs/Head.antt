@@ -16,7 +16,7 @@ pub data Table : Type 0 where
   ofStrings : StringTable → Table
   ofNames : NameTable → Table
 
--- In the order of C.2.5.1, which is also that of their presence bits.
+-- All ten, in the order of C.2.5.1, which is also that of their presence bits.
 unfoldable pub tenTables : List Table
 tenTables =
     ofStrings PREFIX
@@ -50,11 +50,12 @@ c19 = record { spelledBits = 0; addBit = 0; lengthBit = 5; numberedBits = 0; num
 abbrev pub started : Version → Vocabulary Octets
 started ver = starting ver xmlPrefix xmlNamespace
 
--- A head is the entries that it lists: ten tables without the built-in entries, which the numbers of its names count all the same. So many it lists for a table.
+-- A head is the entries that it lists: ten tables without the built-in entries, which the numbers of its names count all the same. How many it lists for a table.
 unfoldable pub sizeOf : {S N : Type 0} → Tables S N → Table → ℕ
 sizeOf h (ofStrings t) = length (strings h t)
 sizeOf h (ofNames t) = length (names h t)
 
+-- A presence bit: 1 for a number that is not 0.
 abbrev pub some? : ℕ → ℕ
 some? zero = 0
 some? (suc n) = 1
@@ -65,14 +66,15 @@ unfoldable pub presence : {S N : Type 0} → Tables S N → List Table → ℕ
 presence h ts = fromBits (map (λ (t : Table). some? (sizeOf h t)) ts)
 
 module _ (ver : Version) where
-  -- C.2.5.3, C.2.5.4: an entry of a table of strings, which it is added to. An identifying one is as in C.13, spelled: it is not listed if the table holds it; another may be.
+  -- C.2.5.3, C.2.5.4: a string that becomes the next entry of its table. An identifying string is listed as C.13 spells it, and only if its table does not hold it yet. Another string may be
+  -- listed again.
   pub data StringListed (t : StringTable) (v : Vocabulary Octets) : Octets → Octets → Vocabulary Octets → Type 0 where
     -- 0lllllll: the length from bit 2 (C.22), and the string
     an-identifying : {x : Octets} {k : ℕ} {o : Octets} {w : Vocabulary Octets} → isIdentifying t ≡ true → Identifying ver t v x (spelled true) k o w → StringListed t v x o w
     -- 0000llll: the length from bit 5 (C.23), and the string
     another : {x : Octets} {o : Octets} {w : Vocabulary Octets} → isIdentifying t ≡ false → Literal ver c19 t v x (spelled true) o w → StringListed t v x o w
 
-  -- C.16: a part of a name surrogate, the number of an entry of a table that has so many; 0 if the part is absent.
+  -- C.16: a part of a name surrogate: its number in a table that has so many entries, or 0 if the part is absent.
   pub data PartListed (entries : ℕ) : (number : ℕ) → Octets → Type 0 where
     no-part : PartListed entries 0 []
     -- 0nnnnnnn: the number from bit 2 (C.25)

@@ -112,6 +112,6 @@ module _ (ver : Version) (text : Octets) (g : Given) where
   faultOfHead room =
       pick wellGiven (pick textGiven (pick newGiven (pick fewGiven (pick (isNone g || leb (length headOctets) (min room (ver .octets))) 0 ROOM) FULL) REPEAT) TEXT) EVENT
 
--- Words of another number than their counts say are EVENT, too.
+-- More or fewer words than the counts say are EVENT, too.
 unfoldable pub faultOfGiven : Version → Octets → Words → (room : ℕ) → ℕ
 faultOfGiven ver text g room = pick (isGiven g) (faultOfHead ver text (givenOf g) room) EVENT

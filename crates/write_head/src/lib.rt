@@ -76,8 +76,8 @@ fn begin_head(
     Begun::Body(at)
 }
 
-// The octets before the body, on cleared output, tables and index. A table that is too full beside a repeat elsewhere is no FULL, and an empty table sets no bit: neither answer
-// meets the contract. A refusal leaves anything in them.
+// The octets before the body, on output, tables and index that are clear. A refusal leaves anything in them.
+// Wrong would be: FULL for a table that is too full, where another lists something twice, which is REPEAT; a presence bit for a table that lists nothing.
 pub fn begin(
     given: &[u32],
     text: &[u8],

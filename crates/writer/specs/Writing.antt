@@ -184,7 +184,7 @@ module _ (ver : Version) where
   knownWriting g text room es = trace ver text room (2 * length (headOctets ver text g)) (beginning (tablesOf ver g)) es
 
   -- Writing, with the words `given` for the head, `room` octets of output and `table` table words lent: SIZE (1), since a text area is no longer than a document; then the table
-  -- room (14); then given words of another number than their counts say (16), all at place 0; then the head and the events.
+  -- room (14); then more or fewer given words than their counts say (16), all at place 0; then the head and the events.
   unfoldable pub writeOf : (given : Words) → List Event → Octets → (room table : ℕ) → Outcome
   writeOf given es text room table =
       pick (leb (length text) (ver .octets))
