@@ -12,6 +12,8 @@ mod judge;
 mod reader;
 #[path = "../compare/src/tables.rs"]
 mod tables;
+#[path = "../compare/src/text.rs"]
+mod text;
 #[path = "../compare/src/words.rs"]
 mod words;
 #[path = "../compare/src/writer/mod.rs"]

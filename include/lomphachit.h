@@ -127,7 +127,7 @@ enum lomphachit_refusal {
     LOMPHACHIT_REFUSED_RANGE = 7,
     /* Other string format than utf-8, entity reference, type declaration. */
     LOMPHACHIT_REFUSED_FORMAT = 8,
-    /* Not well-formed UTF-8. */
+    /* Not well-formed UTF-8, or a character that XML 1.0 does not have, such as a null. */
     LOMPHACHIT_REFUSED_TEXT = 9,
     /* Number beyond its table. */
     LOMPHACHIT_REFUSED_INDEX = 10,

@@ -1,5 +1,5 @@
 #!/usr/bin/env python3
-"""Makes events.tsv and boundary.tsv beside this script; see README.md.
+"""Makes events.tsv, boundary.tsv, characters_read.tsv and characters_write.tsv beside this script; see README.md.
 
 The first part is an oracle: a reader by the requirements that shares no code with
 the project.  It is held against every vector beside it that says how a
@@ -11,6 +11,7 @@ name is the local name or target, value the value, chunk, comment or content.
 A table is a list of strings, or of triples of numbers.
 """
 import hashlib
+import re
 from pathlib import Path
 
 HERE = Path(__file__).resolve().parent
@@ -56,12 +57,15 @@ def judge(place, *findings):
             raise Refusal(number, place)
 
 
-def well_formed(octets):
+# XML 1.0, clause 2.2.
+CHARACTERS = re.compile("[\x09\x0a\x0d\x20-\ud7ff\ue000-\ufffd\U00010000-\U0010ffff]*")
+
+
+def is_text(octets):
     try:
-        octets.decode("utf-8")      # Python's strict decoder follows RFC 3629
+        return CHARACTERS.fullmatch(octets.decode("utf-8"))      # Python's strict decoder follows RFC 3629
     except UnicodeDecodeError:
-        return False
-    return True
+        return None
 
 
 class Reader:
@@ -129,7 +133,7 @@ class Reader:
         place, length = self.at, self.coded(LENGTHS, bit)
         start, self.at = self.at, self.at + length
         judge(place, (self.at > len(self.octets), TRUNCATED),
-              (not well_formed(self.octets[start:self.at]), TEXT))
+              (not is_text(self.octets[start:self.at]), TEXT))
         return start, length
 
     def identifying(self, table):
@@ -347,16 +351,20 @@ def rows(name):
     return [line.split("\t") for line in (HERE / name).read_text().splitlines() if not line.startswith("#")]
 
 
+# The documents given to the project: name, octets, check number, sha1 of the listing.
+READ = ("read.tsv", "items/read_1.tsv", "items/read_2.tsv")
+
+
 def documents():
-    """The documents given to the project: name, octets, check number, sha1 of the listing."""
-    return rows("read.tsv") + rows("items/read_1.tsv")
+    """The rows of these files; some are in two of them."""
+    return list(dict.fromkeys(tuple(row) for name in READ for row in rows(name)))
 
 
 def disagreements():
     for name, octets, number, digest in documents():
         octets = bytes.fromhex(octets)
         if (check(octets)[0], hashlib.sha1(listing(octets).encode()).hexdigest()) != (int(number), digest):
-            yield "read.tsv or read_1.tsv: " + name
+            yield "%s: %s" % (" or ".join(READ), name)
     for name, octets, room, answer in rows("adversarial.tsv"):
         try:
             got = "accepted %d" % len(read(bytes.fromhex(octets), int(room)).events)
@@ -693,11 +701,175 @@ def boundary_rows():
             yield name, octets.hex(), str(number), str(count)
 
 
+# -------------------------------------------- characters_read.tsv, characters_write.tsv
+
+# Octets of a character, or of none, by what they are called. The neighbours at each edge of the table in XML 1.0, clause 2.2; some within; octets that are
+# not well-formed.
+THERE = {"%X" % n: chr(n).encode() for n in (0x9, 0xA, 0xD, 0x20, 0x7E, 0x7F, 0x80, 0x9F, 0x7FF, 0x800, 0xD7FF, 0xE000, 0xFDD0, 0xFEFF, 0xFFFD, 0x10000, 0x1FFFE, 0x10FFFF)}
+NOT_THERE = {"%X" % n: chr(n).encode("utf-8", "surrogatepass") for n in (0x0, 0x1, 0x8, 0xB, 0xC, 0xE, 0x1F, 0xD800, 0xDFFF, 0xFFFE, 0xFFFF)} | {
+    "110000": b"\xf4\x90\x80\x80", "0 in two octets": b"\xc0\x80", "9 in two octets": b"\xc0\x89", "FFFD in four octets": b"\xf0\x8f\xbf\xbd",
+    "a following octet alone": b"\xbf", "FFFD without its last octet": b"\xef\xbf"}
+PIECES = [(what, octets, 0) for what, octets in THERE.items()] + [(what, octets, TEXT) for what, octets in NOT_THERE.items()]
+SOME = [piece for piece in PIECES if piece[0] in ("9", "D", "20", "7F", "D7FF", "FFFD", "10FFFF", "0", "8", "1F", "D800", "FFFE", "FFFF", "110000")]
+
+# Octets of a string: each side of the lengths at which the archive tests text in another way.
+SIZES = (1, 2, 3, 4, 8, 9, 16, 17, 33, 64, 65, 66, 97, 129, 200)
+
+
+def in_string(piece, length, where, lead=b""):
+    """A string of so many octets, of letters but for what is in front and the piece: behind that, in the middle or at the end."""
+    rest = length - len(lead) - len(piece)
+    front = {"first": 0, "in the middle": rest // 2, "last": rest}[where]
+    return lead + long(front) + piece + long(rest - front)
+
+
+def strings():
+    """(what it is, string, refusal); the last are long and no longer plain where the piece comes."""
+    for length in SIZES:
+        for what, octets, refusal in SOME:
+            for where in ("first", "in the middle", "last"):
+                if len(octets) <= length:
+                    yield "%d octets, %s %s" % (length, what, where), in_string(octets, length, where), refusal
+    for name, lead in (("a tab", b"\t"), ("80", b"\xc2\x80"), ("800", b"\xe0\xa0\x80")):
+        for what, octets, refusal in SOME:
+            for where in ("first", "last"):
+                yield "65 octets, %s in front, %s %s" % (name, what, where), in_string(octets, 65, where, lead), refusal
+
+
+# Each place of a string, and how it is spelled there; the field of a chunk may begin with its presence bits.
+SPELLED = [(place, identifying) for place in IDENTIFYING] + [(place, encoded) for place in ENCODED] + [(place, chunk) for place in CHUNKS]
+
+
+def at_each_place():
+    """(what, document, the string's field, refusal)"""
+    for (name, table, around), spell in SPELLED:
+        for what, octets, refusal in PIECES:
+            field = spell(b"x" + octets + b"y")
+            yield "%s, %s" % (name, what), document(around(field)), field, refusal
+        field = spell(b"\0xy")
+        octets = document(around(field))
+        yield name + ", 0, one octet short", octets[:octets.index(field) + len(field) - 1], field[:-1], TRUNCATED
+        yield name + ", 0, table full", document(filled(table, 256) + around(field)), field, TEXT
+    for table in IDENTIFIED + OTHERS:
+        for what, octets, refusal in PIECES:
+            field = listed_string(table, b"x" + octets + b"y")
+            yield "head, %s, %s" % (TABLE_NAMES[table], what), headed({table: [field]}), field, refusal
+        field = listed_string(table, b"\0xy")
+        yield "head, %s, 0, one octet short" % TABLE_NAMES[table], headed({table: [field]}, b"")[:-1], field[:-1], TRUNCATED
+
+
+def in_long_strings():
+    """The same, of strings of many lengths in the fields that have code of their own."""
+    for (name, _, around), spell in SPELLED:
+        if name in ("chunk", "value", "local name of an element"):
+            for what, string, refusal in list(strings())[::1 if name == "chunk" else 2]:
+                field = spell(string)
+                yield "%s of %s" % (name, what), document(around(field)), field, refusal
+
+
+def character_rows():
+    for cases in (at_each_place, in_long_strings):
+        for name, octets, field, refusal in cases():
+            number, count = check(octets)
+            assert number == (octets.rindex(field) * 32 + refusal if refusal else 0), (name, number)
+            yield name, octets.hex(), str(number), str(count)
+
+
+# The event that the writer is given for each place, {} the string; the text area is "at" and the string. The root is `a`.
+EVENTS = {
+    "prefix of a declaration": "N,{},-,-,-",
+    "prefix of an element": "S,{},U,0+1,-",
+    "prefix of an attribute": "A,{},U,0+1,0",
+    "namespace of a declaration": "N,-,{},-,-",
+    "namespace of an element": "S,-,{},0+1,-",
+    "namespace of an attribute": "A,-,{},0+1,0",
+    "local name of an element": "S,-,-,{},-",
+    "local name of an attribute": "A,-,U,{},0",
+    "target before the root": "P,-,-,{},0",
+    "target": "P,-,-,{},0",
+    "value": "A,-,U,0+1,{}",
+    "comment before the root": "C,-,-,-,{}",
+    "comment": "C,-,-,-,{}",
+    "content before the root": "P,-,-,1+1,{}",
+    "content": "P,-,-,1+1,{}",
+    "chunk": "T,-,-,-,{}",
+}
+START, STOP, NO_TABLES = "S,-,-,0+1,-", "E,-,-,-,-", "-"
+
+
+def written(octets):
+    return "ok %s %s" % (octets.hex(), ",".join(str(len(table)) for table in read(octets).tables))
+
+
+def spelled_by_writer(spell, string):
+    """Values, chunks, comments and contents of more than five octets are not added."""
+    return spell(string) if spell is identifying else spell(string, len(string) <= 5)
+
+
+def lists_of(texts):
+    """A list with this string at each place: (name, text, output room, given tables, events, answer)"""
+    for (name, _, around), spell in SPELLED:
+        for what, string, refusal in texts(name):
+            event = EVENTS[name].format("2+%d" % len(string))
+            early = event[0] == "N" or name.endswith("before the root")     # before the root's start
+            events = [event, START] if early else [START, event]
+            answer = "refused %d %d" % (refusal, events.index(event)) if refusal else written(document(around(spelled_by_writer(spell, string))))
+            events += [STOP] * (2 if event[0] == "S" else 1)
+            yield "%s, %s" % (name, what), b"at" + string, TOP_SIZE, NO_TABLES, events, answer
+
+
+def given_lists():
+    """The same of each table that is given."""
+    for table in IDENTIFIED + OTHERS:
+        for what, octets, refusal in PIECES:
+            string = b"x" + octets + b"y"
+            given = ";".join("1+%d" % len(string) if t == table else "" for t in range(10))
+            start = "S,-,-,1+%d,-" % len(string) if table == LOCAL else START
+            answer = "refused %d 0" % refusal if refusal else written(headed({table: [listed_string(table, string)]}))
+            yield "head, %s, %s" % (TABLE_NAMES[table], what), b"~" + string, TOP_SIZE, given, [start, STOP], answer
+
+
+def order_lists():
+    """What is judged before the text and after it; the text area is "a" and a null."""
+    null, deep = "1+1", [START] * 32
+    for name, room, given, events, answer in (
+            ("a chunk before the root", TOP_SIZE, NO_TABLES, ["T,-,-,-," + null], "refused 16 0"),
+            ("a second root", TOP_SIZE, NO_TABLES, [START, STOP, "S,-,-,%s,-" % null], "refused 16 2"),
+            ("a name with a prefix alone", TOP_SIZE, NO_TABLES, ["S,%s,-,0+1,-" % null], "refused 16 0"),
+            ("a value of no octets", TOP_SIZE, NO_TABLES, [START, "A,-,-,%s,0+0" % null], "refused 16 1"),
+            ("an element 33 deep", TOP_SIZE, NO_TABLES, deep + ["S,-,-,%s,-" % null], "refused 9 32"),
+            ("an element 33 deep, by its declaration", TOP_SIZE, NO_TABLES, deep + ["N,%s,-,-,-" % null], "refused 9 32"),
+            ("no room", 0, NO_TABLES, ["S,-,-,%s,-" % null], "refused 9 0"),
+            ("room for the start alone", 8, NO_TABLES, [START, "T,-,-,-," + null], "refused 9 1"),
+            ("no room for the start", 7, NO_TABLES, [START, "T,-,-,-," + null], "refused 14 0"),
+            ("twice", TOP_SIZE, NO_TABLES, [START, "C,-,-,-," + null, "T,-,-,-," + null], "refused 9 1"),
+            ("listed, and an entry that is absent", TOP_SIZE, ";;%s,-;;;;;;;" % null, [START, STOP], "refused 16 0"),
+            ("listed, and a name of no local name", TOP_SIZE, ";;%s;;;;;;0.0.2;" % null, [START, STOP], "refused 16 0"),
+            ("listed twice", TOP_SIZE, ";;%s,%s;;;;;;;" % (null, null), [START, STOP], "refused 9 0"),
+            ("listed, and a prefix twice", TOP_SIZE, "0+1,0+1;;;;;;;%s;;" % null, [START, STOP], "refused 9 0"),
+            ("listed, and no room", 0, ";;;;;%s;;;;" % null, [START, STOP], "refused 9 0"),
+            ("listed, and no document", TOP_SIZE, ";;;;;;%s;;;" % null, [], "refused 9 0")):
+        yield "a null, " + name, b"a\0", room, given, events, answer
+
+
+def character_lists():
+    def each(_):
+        return [(what, b"x" + octets + b"y", refusal) for what, octets, refusal in PIECES]
+
+    def long_ones(name):
+        step = {"chunk": 2, "value": 5, "local name of an element": 5}.get(name)
+        return list(strings())[::step] if step else ()
+    for cases in (lists_of(each), lists_of(long_ones), given_lists(), order_lists()):
+        for name, text, room, given, events, answer in cases:
+            yield name, text.hex(), str(room), "standard", given, " ".join(events), answer
+
+
 def main():
     wrong = list(disagreements())
     if wrong:
         raise SystemExit("\n".join(wrong))
-    for name, made in (("events.tsv", event_rows()), ("boundary.tsv", boundary_rows())):
+    for name, made in (("events.tsv", event_rows()), ("boundary.tsv", boundary_rows()), ("characters_read.tsv", character_rows()),
+                       ("characters_write.tsv", character_lists())):
         lines = list(made)
         assert len({line[0] for line in lines}) == len(lines)
         (HERE / name).write_text("".join("\t".join(line) + "\n" for line in lines))

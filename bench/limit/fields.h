@@ -135,12 +135,12 @@ ALWAYS uint32_t identifying(struct run *run, const uint8_t **at, const uint8_t *
     if (**at & 0x80) return numbered_from_2(run, at, end, table, x);
     const uint8_t *text;
     size_t n;
-    uint64_t high;
+    uint64_t other;
     uint32_t refusal = length_from(*at, end, 2, &text, &n);
     if (unlikely(refusal)) return refusal;
-    uint32_t hash = hash_of(text, n, end, &high), count = run->counts[table];
+    uint32_t hash = hash_of(text, n, end, &other), count = run->counts[table];
     struct strings *strings = &run->strings[table];
-    if (unlikely(high) && !is_utf8(text, text + n)) return REFUSED(TEXT);
+    if (unlikely(other) && !is_utf8(text, text + n)) return REFUSED(TEXT);
     if (built_in(table, text, n) || find_string(strings, untouched(table, count), run->document, text, n, end, hash)) return REFUSED(REPEAT);
     x->tag = TAG(STRETCH), x->number = count + 1, x->fresh = 1, x->stretch = stretch_of(run, text, n);
     refusal = add(run, table, x->stretch);

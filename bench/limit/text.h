@@ -14,12 +14,21 @@
 #define unlikely(x) __builtin_expect(!!(x), 0)
 
 #define HIGH 0x8080808080808080u /* the highest bit of each octet */
+#define SPACES 0x2020202020202020u
 #define MIX 0x9E3779B97F4A7C15u  /* 2 to the 64 by the golden ratio */
 
 ALWAYS uint64_t eight(const uint8_t *at) { uint64_t x; memcpy(&x, at, sizeof x); return x; }
 ALWAYS uint32_t four(const uint8_t *at) { uint32_t x; memcpy(&x, at, sizeof x); return x; }
 ALWAYS __m128i block(const void *at) { return _mm_loadu_si128(at); }
-ALWAYS int above_7f(__m128i octets) { return _mm_movemask_epi8(octets); }
+
+/* Plain octets are those from 20 to 7F. Not 0 where one of n octets, 1 to 8 and the lowest of x, is not: a difference below 0 has the high bit set, and what it takes from the
+   octets above it does not matter then. */
+ALWAYS uint64_t differs(uint64_t x) { return x | (x - SPACES); }
+ALWAYS uint64_t not_plain(uint64_t x, size_t n) { return differs(x) & HIGH >> (64 - 8 * n); }
+
+/* Which of sixteen octets are not: as signed numbers those above 7F are below 20 too. */
+ALWAYS __m128i odd(__m128i octets) { return _mm_cmplt_epi8(octets, _mm_set1_epi8(0x20)); }
+ALWAYS int some(__m128i octets) { return _mm_movemask_epi8(octets); }
 
 /* One to seven octets as a number. */
 ALWAYS uint64_t few(const uint8_t *at, size_t n, const uint8_t *end) {
@@ -31,24 +40,29 @@ ALWAYS uint64_t few(const uint8_t *at, size_t n, const uint8_t *end) {
 
 ALWAYS int follows(uint8_t octet) { return (octet & 0xC0) == 0x80; }
 
-/* How many octets the character at `at` has, which is of more than one; 0 where it is not well-formed. */
+/* FFFE and FFFF, whose octets are EF BF BE and EF BF BF, are no characters of XML. */
+ALWAYS int is_barred(uint32_t x) { return (x & 0xFEFFFF) == 0xBEBFEF; }
+
+/* How many octets the character at `at` has, which is not plain; 0 where there is none. */
 ALWAYS size_t character(const uint8_t *at, const uint8_t *end) {
     uint8_t first = at[0];
     size_t left = (size_t)(end - at);
+    if (first < 0x20) return first == 0x9 || first == 0xA || first == 0xD;
     if (first < 0xE0) return first >= 0xC2 && left >= 2 && follows(at[1]) ? 2 : 0;
     if (first < 0xF0) {
         if (left < 3 || !follows(at[1]) || !follows(at[2])) return 0;
-        return (first == 0xE0 && at[1] < 0xA0) || (first == 0xED && at[1] >= 0xA0) ? 0 : 3;
+        return (first == 0xE0 && at[1] < 0xA0) || (first == 0xED && at[1] >= 0xA0) || is_barred((uint32_t)(at[0] | at[1] << 8 | at[2] << 16)) ? 0 : 3;
     }
     if (first > 0xF4 || left < 4 || !follows(at[1]) || !follows(at[2]) || !follows(at[3])) return 0;
     return (first == 0xF0 && at[1] < 0x90) || (first == 0xF4 && at[1] >= 0x90) ? 0 : 4;
 }
 
-/* Behind a run of characters of three octets, four octets loaded for each; null where one is not well-formed. */
+/* Behind a run of characters of three octets, four octets loaded for each; null where one is none. */
 ALWAYS const uint8_t *threes(const uint8_t *at, const uint8_t *end) {
     while (end - at >= 4) {
         uint32_t x = four(at);
         if ((x & 0xC0C0F0) != 0x8080E0) break;
+        if (is_barred(x)) return NULL;
         x &= 0x200F;
         if (x == 0 || x == 0x200D) return NULL; /* E0 with 80 to 9F behind it, ED with A0 to BF */
         at += 3;
@@ -59,14 +73,14 @@ ALWAYS const uint8_t *threes(const uint8_t *at, const uint8_t *end) {
 /* Text of any characters. */
 NEVER int is_utf8(const uint8_t *at, const uint8_t *end) {
     while (at < end) {
-        if (*at < 0x80) {
-            at += end - at >= 8 && !(eight(at) & HIGH) ? 8 : 1;
+        if (*at >= 0x20 && *at < 0x80) {
+            at += end - at >= 8 && !not_plain(eight(at), 8) ? 8 : 1;
             continue;
         }
         at = threes(at, end);
         if (!at) return 0;
         if (at >= end) return 1;
-        if (*at < 0x80) continue;
+        if (*at >= 0x20 && *at < 0x80) continue;
         size_t n = character(at, end);
         if (!n) return 0;
         at += n;
@@ -78,33 +92,31 @@ NEVER int is_utf8(const uint8_t *at, const uint8_t *end) {
 NEVER int is_long_text(const uint8_t *at, const uint8_t *end) {
     const uint8_t *from = at;
     for (; end - at >= 64; at += 64) {
-        __m128i octets = _mm_or_si128(_mm_or_si128(block(at), block(at + 16)), _mm_or_si128(block(at + 32), block(at + 48)));
-        if (above_7f(octets)) return is_utf8(from, end);
+        __m128i octets = _mm_or_si128(_mm_or_si128(odd(block(at)), odd(block(at + 16))), _mm_or_si128(odd(block(at + 32)), odd(block(at + 48))));
+        if (some(octets)) return is_utf8(from, end);
     }
     for (; end - at >= 16; at += 16)
-        if (above_7f(block(at))) return is_utf8(from, end);
-    return !above_7f(block(end - 16)) || is_utf8(from, end);
+        if (some(odd(block(at)))) return is_utf8(from, end);
+    return !some(odd(block(end - 16))) || is_utf8(from, end);
 }
 
 ALWAYS int is_text(const uint8_t *at, size_t n, const uint8_t *end) {
-    if (n < 8) return likely(!(few(at, n, end) & HIGH)) || is_utf8(at, at + n);
-    if (n < 16) return likely(!((eight(at) | eight(at + n - 8)) & HIGH)) || is_utf8(at, at + n);
+    if (n < 8) return likely(!not_plain(few(at, n, end), n)) || is_utf8(at, at + n);
+    if (n < 16) return likely(!((differs(eight(at)) | differs(eight(at + n - 8))) & HIGH)) || is_utf8(at, at + n);
     return is_long_text(at, at + n);
 }
 
-/* A hash of a string; *high is not 0 where an octet is above 7F, so that a name is looked through once. */
-ALWAYS uint32_t hash_of(const uint8_t *at, size_t n, const uint8_t *end, uint64_t *high) {
+/* A hash of a string; *other is not 0 where an octet is not plain, so that a name is looked through once. */
+ALWAYS uint32_t hash_of(const uint8_t *at, size_t n, const uint8_t *end, uint64_t *other) {
     uint64_t octets, hash;
-    if (n < 8) octets = few(at, n, end), hash = (octets + n) * MIX;
+    if (n < 8) octets = few(at, n, end), hash = (octets + n) * MIX, *other = not_plain(octets, n);
     else {
         const uint8_t *last = at + n - 8;
-        octets = eight(last), hash = (octets + n) * MIX;
-        for (; at < last; at += 8) {
-            uint64_t x = eight(at);
-            octets |= x, hash = ((hash << 5 | hash >> 59) ^ x) * MIX;
-        }
+        uint64_t x = eight(last);
+        octets = differs(x), hash = (x + n) * MIX;
+        for (; at < last; at += 8) x = eight(at), octets |= differs(x), hash = ((hash << 5 | hash >> 59) ^ x) * MIX;
+        *other = octets & HIGH;
     }
-    *high = octets & HIGH;
     return (uint32_t)(hash >> 32);
 }
 

@@ -43,9 +43,9 @@ ALWAYS void see(struct run *run, uint32_t table, uint32_t place, uint32_t length
 /* The number of a stretch that is text, 0 for none, and its hash. */
 NEVER uint32_t search(struct run *run, uint32_t table, uint32_t place, uint32_t length, uint32_t *hash) {
     const uint8_t *at = run->text + place;
-    uint64_t high;
+    uint64_t other;
     if (built_in(table, at, length)) return 1;
-    *hash = hash_of(at, length, run->end, &high);
+    *hash = hash_of(at, length, run->end, &other);
     uint32_t number = find_string(&run->strings[table], untouched(table, run->counts[table]), run->text, at, length, run->end, *hash);
     if (number) see(run, table, place, length, number);
     return number;

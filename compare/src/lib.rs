@@ -20,5 +20,6 @@ pub mod tails;
 pub mod tally;
 #[cfg(test)]
 mod tests;
+pub mod text;
 pub mod words;
 pub mod writer;

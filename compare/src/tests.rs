@@ -14,8 +14,12 @@ const READ: &str = include_str!("../../vectors/read.tsv");
 const WRITE: &str = include_str!("../../vectors/write.tsv");
 const ADVERSARIAL: &str = include_str!("../../vectors/adversarial.tsv");
 const BOUNDARY: &str = include_str!("../../vectors/boundary.tsv");
+const CHARACTERS: &str = include_str!("../../vectors/characters_read.tsv");
 const READ_1: &str = include_str!("../../vectors/items/read_1.tsv");
+const READ_2: &str = include_str!("../../vectors/items/read_2.tsv");
 const WRITE_1: &str = include_str!("../../vectors/items/write_1.tsv");
+const WRITE_2: &str = include_str!("../../vectors/items/write_2.tsv");
+const CHARACTERS_WRITE: &str = include_str!("../../vectors/characters_write.tsv");
 const EVENTS: &str = include_str!("../../vectors/events.tsv");
 
 fn string(s: &str) -> Text {
@@ -107,9 +111,13 @@ fn check(octets: &[u8]) -> u64 {
     reader::outcome(octets, 32768 * RECORD, TABLES, 10).0.answer & 0xFFFF_FFFF
 }
 
+fn read_rows() -> Vec<Vec<&'static str>> {
+    [READ, READ_1, READ_2].into_iter().flat_map(rows).collect()
+}
+
 #[test]
 fn documents_of_read_tsv() {
-    for r in rows(READ).into_iter().chain(rows(READ_1)) {
+    for r in read_rows() {
         let octets = unhex(r[1]);
         assert_eq!(check(&octets).to_string(), r[2], "check of {}", r[0]);
         assert_eq!(sha1(listing(&octets).as_bytes()), r[3], "listing of {}", r[0]);
@@ -117,8 +125,8 @@ fn documents_of_read_tsv() {
 }
 
 #[test]
-fn documents_of_boundary_tsv() {
-    for r in rows(BOUNDARY) {
+fn documents_of_boundary_and_characters() {
+    for r in rows(BOUNDARY).into_iter().chain(rows(CHARACTERS)) {
         let octets = unhex(r[1]);
         let count = reader::read(&octets, 32768).map_or(0, |done| done.events.len());
         assert_eq!((check(&octets).to_string(), count.to_string()), (r[2].to_string(), r[3].to_string()), "{}", r[0]);
@@ -153,7 +161,7 @@ fn tables(t: &Tables) -> String {
 
 #[test]
 fn events_and_tables_of_events_tsv() {
-    let documents: std::collections::HashMap<_, _> = rows(READ).into_iter().chain(rows(READ_1)).map(|r| (r[0], r[1])).collect();
+    let documents: std::collections::HashMap<_, _> = read_rows().into_iter().map(|r| (r[0], r[1])).collect();
     for r in rows(EVENTS) {
         let done = reader::read(&unhex(documents[r[0]]), 512).unwrap();
         assert_eq!(done.events.iter().map(|e| Some(*e)).collect::<Vec<_>>(), events(r[1]), "{}", r[0]);
@@ -189,8 +197,8 @@ fn lists_of_write_tsv() {
     for (i, r) in rows(WRITE).iter().enumerate() {
         assert_eq!(written(&[], r[1], r[2], r[3]), r[4], "line {}, {}", i + 1, r[0]);
     }
-    for (i, r) in rows(WRITE_1).iter().enumerate() {
-        assert_eq!(written(&given(r[4]), r[1], r[2], r[5]), r[6], "line {} of items, {}", i + 2, r[0]);
+    for r in [WRITE_1, WRITE_2, CHARACTERS_WRITE].into_iter().flat_map(rows) {
+        assert_eq!(written(&given(r[4]), r[1], r[2], r[5]), r[6], "{}, {}", r[0], r[5]);
     }
 }
 

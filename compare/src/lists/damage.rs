@@ -10,7 +10,7 @@ pub fn damage(dice: &mut Dice, l: &mut List) {
             return;
         }
         let (i, j) = (dice.below(l.records.len()), dice.below(l.records.len()));
-        match dice.below(12) {
+        match dice.below(14) {
             0 => drop(l.records.remove(i)),
             1 => l.records.insert(j, l.records[i]),
             2 => l.records.swap(i, j),
@@ -21,6 +21,7 @@ pub fn damage(dice: &mut Dice, l: &mut List) {
             7 => l.records[i][1 + dice.below(12)] = dice.next() as u32 >> dice.below(32),
             8 => l.records.push(dice.pick(&[[0; RECORD], l.records[i]])),
             9 => cut_text(dice, l),
+            10..=11 => dice.bar(&mut l.text),
             _ => spoil_text(dice, l),
         }
     }

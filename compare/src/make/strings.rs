@@ -51,6 +51,9 @@ impl<'d> Maker<'d> {
         while self.strings[table].contains(&s) {
             s.extend(self.dice.text(1));
         }
+        if self.wrong() {
+            self.dice.bar(&mut s);
+        }
         s
     }
 
@@ -123,7 +126,7 @@ impl<'d> Maker<'d> {
             return self.bits.number(number as u64, numbers);
         }
         let adds = count < self.style.entries && self.dice.percent(70);
-        let s = if count > 0 && self.dice.percent(10) {
+        let mut s = if count > 0 && self.dice.percent(10) {
             // Spelled though it is held: allowed here, and added under a new number.
             let i = self.dice.below(count);
             self.strings[table][i].clone()
@@ -131,6 +134,9 @@ impl<'d> Maker<'d> {
             let length = self.length();
             self.dice.text(length)
         };
+        if self.wrong() {
+            self.dice.bar(&mut s);
+        }
         self.bits.code(if adds { "0100" } else { "0000" });
         self.bits.number(s.len() as u64, lengths);
         self.bits.text(&s);

@@ -2,11 +2,8 @@
 use super::{Got, Reader};
 use crate::forms::{bits, form_at, Form, C22, C23, C25, TOP};
 use crate::judge::{Fault, Field};
+use crate::text::is_text;
 use crate::words::*;
-
-fn is_text(octets: &[u8]) -> bool {
-    std::str::from_utf8(octets).is_ok()
-}
 
 impl<'a> Reader<'a> {
     /// A number or length from a bit of the field's first octet; None where a fault leaves no value. Second is the octet behind.

@@ -1,6 +1,7 @@
 //! The given tables: one judgement over all of them, all at place 0, and their octets.
 use super::Writer;
 use crate::forms::{C21, C22, C23, C25};
+use crate::text::is_text;
 use crate::words::*;
 
 type Listed = [Vec<[u32; 3]>; 10];
@@ -56,7 +57,7 @@ impl<'a> Writer<'a> {
         if !given[8..].iter().flatten().all(|triple| names_entries(triple, most)) {
             return Err(refused(16, "given triple"));
         }
-        if !strings().flatten().all(|s| s.octets(self.text).map_or(false, |o| std::str::from_utf8(o).is_ok())) {
+        if !strings().flatten().all(|s| s.octets(self.text).map_or(false, is_text)) {
             return Err(refused(9, "given string"));
         }
         if repeats {

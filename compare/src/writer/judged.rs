@@ -1,5 +1,6 @@
 //! What the writer judges of an event before it writes: whether it may come, its strings, its text.
 use super::{Mode, Writer};
+use crate::text::is_text;
 use crate::words::*;
 
 impl<'a> Writer<'a> {
@@ -45,8 +46,8 @@ impl<'a> Writer<'a> {
         }
     }
 
-    pub(super) fn well_formed(&self, e: &Event) -> bool {
+    pub(super) fn has_text(&self, e: &Event) -> bool {
         let mut octets = e.strings.iter().filter_map(|s| s.octets(self.text));
-        octets.all(|s| std::str::from_utf8(s).is_ok())
+        octets.all(is_text)
     }
 }

@@ -95,7 +95,7 @@ impl<'a> Writer<'a> {
     /// The first of these events, judged in the required order; Err is the refusal's number.
     fn first(&mut self, events: &[Option<Event>], room: usize) -> Result<(), u32> {
         let e = events[0].filter(|e| self.may_come(e.kind) && self.strings_right(e)).ok_or(16u32)?;
-        if !self.well_formed(&e) {
+        if !self.has_text(&e) {
             return Err(9);
         }
         if self.starts_element(e.kind) && self.open >= DEEPEST {

@@ -1,48 +1,43 @@
 -- The test of text is exact: octets pass it exactly when they are those of some characters (`text-exact`), and of one list of characters only (`one-list`).
 -- Assumes nothing.
-use mathlib.Core.Path.{_≡_, refl, sym, ap, ap₂, _∙_, subst}
-use mathlib.Core.Bool.{Bool, true, false, _&&_}
+use mathlib.Core.Path.{_≡_, refl, sym, ap, ap₂, _∙_}
+use mathlib.Core.Bool.{true, _&&_}
 use mathlib.Core.List.{List, [], _∷_, _++_}
 use mathlib.Core.Logic.{_↔_}
 use Prim.Native.Nat.{ℕ, zero, suc, _+_, _-_, _*_, _/_, _%_, _≤_, _<_}
 use native.Mathlib.Nat.{div-div-eq-div-mul}
 use native.Mathlib.Omega.{arith}
-use borrow.Author.Tests.{lt-ltb, le-ltb, le-leb, leb-true, eq-eqb, eqb-true}
-use lib.Dec.{T, leb, eqb}
-use lib.ListN.{length, getD, take, drop, length-append, length-take, length-drop, take-append-drop}
+use borrow.Author.Tests.{lt-ltb, le-ltb, le-leb, leb-true}
+use lib.Dec.{leb}
+use lib.ListN.{length, getD, take, drop, length-append, length-drop, take-append-drop}
 use lib.Seq.{take-append-seam, drop-append-seam}
 use Rattle.format.specs.Characters.{Range, _‥_, among, characters, IsCharacter, tail, utf8, utf8s, All, IsText}
-use Rattle.fields.specs.declared.Within.{Within}
-use Rattle.fields.specs.Utf8.{Row, row, rows, astray, between, first, after, isText, fromFirst, character}
+use Rattle.fields.specs.Utf8.{rows, fits, startedBy, fromFirst, character, isText}
 use Rattle.fields.proofs.Laws.{case}
-use Rattle.fields.proofs.Utf8.{told, every, same, by-range, next-astray, next-more, stays, between-none, made, some-character, no-character}
+use Rattle.fields.proofs.Utf8.{told, never, both, alike, started, some-character, no-character, text-end}
 
--- ---- tests
+-- what holds of each of a list, one after the other
+infixr 20 _also_
+_also_ : {A B : Type 0} → A → B → A × B
+a also b = (a, b)
 
-never : {X : Type 0} → false ≡ true → X
-never e = absurd (subst (λ (t : Bool). T t) (sym e) tt)
-
-both : (a b : Bool) → (a && b) ≡ true → (a ≡ true) × (b ≡ true)
-both true b e = (refl, e)
-both false b e = never e
-
-in-range : (a z n : ℕ) → (leb a n && leb n z) ≡ true → (a ≤ n) × (n ≤ z)
-in-range a z n e = let p = both (leb a n) (leb n z) e in (leb-true _ _ (p .0), leb-true _ _ (p .1))
-
-range-in : (a z n : ℕ) → a ≤ n → n ≤ z → (leb a n && leb n z) ≡ true
-range-in a z n h k = rw (le-leb _ _ h, le-leb _ _ k)
-
--- ---- ranges of characters
+-- ---- ranges
 
 abbrev In : Range → ℕ → Type 0
 In (a ‥ z) n = (a ≤ n) × (n ≤ z)
+
+in-range : (a z n : ℕ) → (leb a n && leb n z) ≡ true → In (a ‥ z) n
+in-range a z n e = let p = both (leb a n) (leb n z) e in (leb-true _ _ (p .0), leb-true _ _ (p .1))
+
+range-in : (a z n : ℕ) → In (a ‥ z) n → (leb a n && leb n z) ≡ true
+range-in a z n h = rw (le-leb _ _ (h .0), le-leb _ _ (h .1))
 
 -- a number in the range at place i is among them; a number among them is in one of them
 in-among : (rs : List Range) (i n : ℕ) → In (getD rs i (1 ‥ 0)) n → among rs n ≡ true
 unfolding among
 in-among [] zero n h = absurd (omega arith)
 in-among [] (suc i) n h = absurd (omega arith)
-in-among (a ‥ z ∷ rs) zero n h = rw (range-in a z n (h .0) (h .1))
+in-among (a ‥ z ∷ rs) zero n h = rw (range-in a z n h)
 in-among (a ‥ z ∷ rs) (suc i) n h = told (leb a n && leb n z) (λ e. rw e) (λ e. rw e (in-among rs i n h))
 
 among-in : {X : Type 0} (rs : List Range) (n : ℕ) → among rs n ≡ true → All (λ r. In r n → X) rs → X
@@ -52,6 +47,26 @@ among-in (a ‥ z ∷ rs) n e fs = told (leb a n && leb n z) (λ t. fs .0 (in-ra
 
 abbrev InNth : ℕ → ℕ → Type 0
 InNth i n = In (getD characters i (1 ‥ 0)) n
+
+-- one octet for each range, in it
+abbrev Fits : List Range → List ℕ → Type 0
+Fits [] [] = Unit {0}
+Fits [] (b ∷ q) = ⊥
+Fits (r ∷ rs) [] = ⊥
+Fits (r ∷ rs) (b ∷ q) = In r b × Fits rs q
+
+fit : (r : List Range) (q y : List ℕ) → Fits r q → (fits r (q ++ y) ≡ true) × (length r ≡ length q)
+unfolding fits
+fit [] [] y f = (refl, refl)
+fit [] (b ∷ q) y f = absurd f
+fit (r ∷ rs) [] y f = absurd f
+fit (a ‥ z ∷ rs) (b ∷ q) y f = let p = fit rs q y (f .1) in (rw (range-in a z b (f .0)) (p .0), ap suc (p .1))
+
+fit-back : (r : List Range) (x : List ℕ) → fits r x ≡ true → Fits r (take (length r) x)
+unfolding fits
+fit-back [] x e = tt
+fit-back (r ∷ rs) [] e = never e
+fit-back (a ‥ z ∷ rs) (b ∷ x) e = let p = both (leb a b && leb b z) (fits rs x) e in (in-range a z b (p .0), fit-back rs x (p .1))
 
 -- ---- by the number of octets
 
@@ -112,79 +127,54 @@ back =
     (λ n h k. let s = sixes n in omega arith)
     (λ n h. let s = sixes n in rw (← s .0, ← s .1) (let e = split n in omega arith))
 
--- ---- the octets behind a first one
-
--- k octets, the first from low to high
-abbrev Fits : ℕ → ℕ → ℕ → List ℕ → Type 0
-Fits zero low high [] = Unit {0}
-Fits zero low high (b ∷ q) = ⊥
-Fits (suc k) low high [] = ⊥
-Fits (suc k) low high (b ∷ q) = (low ≤ b) × (b ≤ high) × Fits k 0x80 0xBF q
-
-fits-after : (k low high : ℕ) (q : List ℕ) → Fits k low high q → (length q ≡ k) × (after (record { left = k; low = low; high = high }) q .left ≡ 0)
-unfolding after
-fits-after zero low high [] f = (refl, refl)
-fits-after zero low high (b ∷ q) f = absurd f
-fits-after (suc k) low high [] f = absurd f
-fits-after (suc k) low high (b ∷ q) f =
-    let p = fits-after k 0x80 0xBF q (f .2) in
-    let u : Within = record { left = suc k; low = low; high = high } in
-    let m : suc k - 1 ≡ k = omega arith in
-    (ap suc (p .0), rw (after, ← next-more u b (λ z. omega arith) (range-in low high b (f .0) (f .1)), m) (p .1))
-
-after-fits : (k low high : ℕ) (q : List ℕ) → length q ≤ k → after (record { left = k; low = low; high = high }) q .left ≡ 0 → Fits k low high q
-unfolding after
-after-fits zero low high [] l e = tt
-after-fits zero low high (b ∷ q) l e = absurd (omega arith)
-after-fits (suc k) low high [] l e = absurd (omega arith)
-after-fits (suc k) low high (b ∷ q) l e =
-    let u : Within = record { left = suc k; low = low; high = high } in
-    let m : suc k - 1 ≡ k = omega arith in
-    told (leb low b && leb b high)
-    (λ t. let r = in-range low high b t in (r .0, r .1, after-fits k 0x80 0xBF q (omega arith) (rw (after, ← next-more u b (λ z. omega arith) t, m) at e)))
-    (λ t. absurd (let z = rw (after, ← next-astray u b (λ z. omega arith) t) at e in let f = stays q in omega arith))
-
 -- ---- every character's octets are seen whole
+
+first-row : (r : List Range) (rs : List (List Range)) (x : List ℕ) → fits r x ≡ true → fromFirst (r ∷ rs) x ≡ length r + 1
+unfolding fromFirst
+first-row r rs x e = rw e
+
+second-row : (q r : List Range) → length q ≡ length r → (x : List ℕ) → fits r x ≡ true → fromFirst (q ∷ r ∷ []) x ≡ length r + 1
+unfolding fromFirst
+second-row q r l x e = told (fits q x) (λ t. rw (t, l)) (λ t. rw (t, e))
 
 module _ (n : ℕ) (y : List ℕ) where
   abbrev Whole : Type 0
   Whole = character (utf8 n ++ y) ≡ length (utf8 n)
 
-  -- the first octet is one of m from lo, for which the table gives `k, low, high`, and the others fit
-  led : (b : ℕ) (q : List ℕ) (lo m k low high : ℕ) → utf8 n ≡ b ∷ q → T (every (λ i. same (record { left = k; low = low; high = high }) (first rows i)) lo m)
-      → (lo ≤ b) × (b < lo + m) × Fits k low high q → Whole
+  -- the first octet is one from lo to hi, which the table does not tell apart, and the others fit a row r that it may start
+  led : (b : ℕ) (o : List ℕ) (lo hi : ℕ) (r : List Range) → utf8 n ≡ b ∷ o → ((x : List ℕ) → fits r x ≡ true → fromFirst (startedBy lo rows) x ≡ length r + 1)
+      → alike lo hi rows ≡ true → In (lo ‥ hi) b × Fits r o → Whole
   unfolding character
-  led b q lo m k low high e t f =
-      let u : Within = record { left = k; low = low; high = high } in
-      let p = fits-after k low high q (f .2) in
-      let s : take k (q ++ y) ≡ q = rw (← p .0) (take-append-seam q y) in
-      let c = made u (q ++ y) k refl (rw s (p .1)) in
-      rw (e, ← by-range u b lo m t (f .0) (f .1)) (sym c ∙ omega (arith, p .0))
+  led b o lo hi r e s t f =
+      let p = fit r o y (f .1) in
+      rw (e, started b lo hi (f .0 .0) (f .0 .1) rows t, s (o ++ y) (p .0)) (omega (arith, p .1))
 
   front : IsCharacter n → Whole
-  unfolding characters first rows astray
+  unfolding characters startedBy rows alike
   front h =
-      among-in characters n h (
-        (λ r. case n 0x80
-            (λ k. led _ _ 0x00 128 0 0 0 (one n k) tt (omega arith))
-            (λ k. case n 0x800
-            (λ l. led _ _ 0xC2 30 1 0x80 0xBF (two n k l) tt (omega arith))
-            (λ l. case n 0x1000
-            (λ m. led _ _ 0xE0 1 2 0xA0 0xBF (three n l (omega arith)) tt (omega arith))
-            (λ m. case n 0xD000
-            (λ o. led _ _ 0xE1 12 2 0x80 0xBF (three n l (omega arith)) tt (omega arith))
-            (λ o. led _ _ 0xED 1 2 0x80 0x9F (three n l (omega arith)) tt (omega arith)))))),
-        (
-          (λ r. case n 0x10000
-              (λ k. led _ _ 0xEE 2 2 0x80 0xBF (three n (omega arith) k) tt (omega arith))
-              (λ k. case n 0x40000
-              (λ l. led _ _ 0xF0 1 3 0x90 0xBF (four n k) tt (omega arith))
-              (λ l. case n 0x100000
-              (λ m. led _ _ 0xF1 3 3 0x80 0xBF (four n k) tt (omega arith))
-              (λ m. led _ _ 0xF4 1 3 0x80 0x8F (four n k) tt (omega arith))))),
-          tt,
-        ),
-      )
+      among-in characters n h
+      ((λ r. led _ _ 0x09 0x0A _ (one n (omega arith)) (first-row _ _) refl (omega arith))
+      also (λ r. led _ _ 0x0D 0x0D _ (one n (omega arith)) (first-row _ _) refl (omega arith))
+      also (λ r. case n 0x80
+      (λ k. led _ _ 0x20 0x7F _ (one n k) (first-row _ _) refl (omega arith))
+      (λ k. case n 0x800
+      (λ l. led _ _ 0xC2 0xDF _ (two n k l) (first-row _ _) refl (omega arith))
+      (λ l. case n 0x1000
+      (λ m. led _ _ 0xE0 0xE0 _ (three n l (omega arith)) (first-row _ _) refl (omega arith))
+      (λ m. case n 0xD000
+      (λ o. led _ _ 0xE1 0xEC _ (three n l (omega arith)) (first-row _ _) refl (omega arith))
+      (λ o. led _ _ 0xED 0xED _ (three n l (omega arith)) (first-row _ _) refl (omega arith))))))
+      also (λ r. case n 0xF000
+      (λ k. led _ _ 0xEE 0xEE _ (three n (omega arith) (omega arith)) (first-row _ _) refl (omega arith))
+      (λ k. case n 0xFFC0
+      (λ l. led _ _ 0xEF 0xEF _ (three n (omega arith) (omega arith)) (first-row _ _) refl (omega arith))
+      (λ l. led _ _ 0xEF 0xEF _ (three n (omega arith) (omega arith)) (second-row _ _ refl) refl (omega arith))))
+      also (λ r. case n 0x40000
+      (λ l. led _ _ 0xF0 0xF0 _ (four n (r .0)) (first-row _ _) refl (omega arith))
+      (λ l. case n 0x100000
+      (λ m. led _ _ 0xF1 0xF3 _ (four n (r .0)) (first-row _ _) refl (omega arith))
+      (λ m. led _ _ 0xF4 0xF4 _ (four n (r .0)) (first-row _ _) refl (omega arith))))
+      also tt)
 
 -- ---- octets that are seen as a character are one's
 
@@ -193,24 +183,6 @@ pub record OfOne (o : List ℕ) : Type 0 where
   pub says : ℕ
   pub is : IsCharacter says
   pub octets : o ≡ utf8 says
-
--- what holds behind a first octet b, by rows: where a row takes b, it holds of what the row says
-module _ (P : Within → Type 0) (b : ℕ) where
-  abbrev Behind : List Row → Type 0 → Type 0
-  Behind [] X = X
-  Behind (row a z left low high ∷ rs) X = (a ≤ b → b ≤ z → P (record { left = left; low = low; high = high })) → Behind rs X
-
-  anyway : {X : Type 0} (rs : List Row) → X → Behind rs X
-  anyway [] x = x
-  anyway (row a z left low high ∷ rs) x = λ _. anyway rs x
-
-  by-rows : (rs : List Row) → P astray → Behind rs (P (first rs b))
-  unfolding first
-  by-rows [] p = p
-  by-rows (row a z left low high ∷ rs) p = λ f.
-      told (leb a b && leb b z)
-      (λ t. let r = in-range a z b t in rw t (anyway rs (f (r .0) (r .1))))
-      (λ t. rw t (by-rows rs p))
 
 -- a number by groups of six bits
 module _ (n p q : ℕ) (h : q < 64) where
@@ -266,102 +238,105 @@ module _ (n : ℕ) where
 
 -- octets that a row takes are those of a character, of range i
 module _ (a : ℕ) where
-  abbrev Good : Within → Type 0
-  Good u = (q : List ℕ) → Fits (u .left) (u .low) (u .high) q → OfOne (a ∷ q)
+  abbrev Good : List Range → Type 0
+  Good r = (q : List ℕ) → Fits r q → OfOne (a ∷ q)
 
-  none : Good astray
-  unfolding astray
-  none [] f = absurd f
-  none (b ∷ q) f = absurd (omega arith)
-
-  module _ (i low high : ℕ) where
+  module _ (i : ℕ) where
     character-of : (n : ℕ) (o : List ℕ) → InNth i n → o ≡ utf8 n → OfOne o
     character-of n o h e = record { says = n; is = in-among characters i n h; octets = e }
 
-    good1 : InNth i a × (a < 0x80) → Good (record { left = 0; low = low; high = high })
+    good1 : InNth i a × (a < 0x80) → Good []
     good1 h [] f = character-of a _ (h .0) (sym (one a (h .1)))
     good1 h (b ∷ q) f = absurd f
 
-    good2 : ((b n : ℕ) → n ≡ (a - 0xC0) * 64 + (b - 0x80) → (low ≤ b) × (b ≤ high) → InNth i n × Two n a b)
-        → Good (record { left = 1; low = low; high = high })
-    good2 h [] f = absurd f
-    good2 h (b ∷ []) f = let p = h b _ refl (f .0, f .1) in character-of _ _ (p .0) (made2 _ a b (p .1))
-    good2 h (b ∷ c ∷ q) f = absurd (f .2)
+    good2 : (r : Range) → ((b n : ℕ) → n ≡ (a - 0xC0) * 64 + (b - 0x80) → In r b → InNth i n × Two n a b) → Good (r ∷ [])
+    good2 r h [] f = absurd f
+    good2 r h (b ∷ []) f = let p = h b _ refl (f .0) in character-of _ _ (p .0) (made2 _ a b (p .1))
+    good2 r h (b ∷ c ∷ q) f = absurd (f .1)
 
-    good3 : ((b c n : ℕ) → n ≡ (a - 0xE0) * 4096 + (b - 0x80) * 64 + (c - 0x80) → (low ≤ b) × (b ≤ high) × (0x80 ≤ c) × (c ≤ 0xBF)
-        → InNth i n × Three n a b c) → Good (record { left = 2; low = low; high = high })
-    good3 h [] f = absurd f
-    good3 h (b ∷ []) f = absurd (f .2)
-    good3 h (b ∷ c ∷ []) f = let p = h b c _ refl (f .0, f .1, f .2 .0, f .2 .1) in character-of _ _ (p .0) (made3 _ a b c (p .1))
-    good3 h (b ∷ c ∷ d ∷ q) f = absurd (f .2 .2)
+    good3 : (r s : Range) → ((b c n : ℕ) → n ≡ (a - 0xE0) * 4096 + (b - 0x80) * 64 + (c - 0x80) → In r b → In s c → InNth i n × Three n a b c) → Good (r ∷ s ∷ [])
+    good3 r s h [] f = absurd f
+    good3 r s h (b ∷ []) f = absurd (f .1)
+    good3 r s h (b ∷ c ∷ []) f = let p = h b c _ refl (f .0) (f .1 .0) in character-of _ _ (p .0) (made3 _ a b c (p .1))
+    good3 r s h (b ∷ c ∷ d ∷ q) f = absurd (f .1 .1)
 
-    good4 : ((b c d n : ℕ) → n ≡ (a - 0xF0) * 262144 + (b - 0x80) * 4096 + (c - 0x80) * 64 + (d - 0x80)
-        → (low ≤ b) × (b ≤ high) × (0x80 ≤ c) × (c ≤ 0xBF) × (0x80 ≤ d) × (d ≤ 0xBF) → InNth i n × Four n a b c d)
-        → Good (record { left = 3; low = low; high = high })
-    good4 h [] f = absurd f
-    good4 h (b ∷ []) f = absurd (f .2)
-    good4 h (b ∷ c ∷ []) f = absurd (f .2 .2)
-    good4 h (b ∷ c ∷ d ∷ []) f = let p = h b c d _ refl (f .0, f .1, f .2 .0, f .2 .1, f .2 .2 .0, f .2 .2 .1) in character-of _ _ (p .0) (made4 _ a b c d (p .1))
-    good4 h (b ∷ c ∷ d ∷ e ∷ q) f = absurd (f .2 .2 .2)
+    good4 : (r s t : Range)
+        → ((b c d n : ℕ) → n ≡ (a - 0xF0) * 262144 + (b - 0x80) * 4096 + (c - 0x80) * 64 + (d - 0x80) → In r b → In s c → In t d → InNth i n × Four n a b c d)
+        → Good (r ∷ s ∷ t ∷ [])
+    good4 r s t h [] f = absurd f
+    good4 r s t h (b ∷ []) f = absurd (f .1)
+    good4 r s t h (b ∷ c ∷ []) f = absurd (f .1 .1)
+    good4 r s t h (b ∷ c ∷ d ∷ []) f = let p = h b c d _ refl (f .0) (f .1 .0) (f .1 .1 .0) in character-of _ _ (p .0) (made4 _ a b c d (p .1))
+    good4 r s t h (b ∷ c ∷ d ∷ e ∷ q) f = absurd (f .1 .1 .1)
 
-  good : Good (first rows a)
+  -- of a row whose first range takes a
+  abbrev GoodRow : List Range → Type 0
+  GoodRow [] = Unit {0}
+  GoodRow (r ∷ rs) = In r a → Good rs
+
+  good : All GoodRow rows
   unfolding rows characters
   good =
-      by-rows Good a rows none
-      (λ l h. good1 0 0 0 (omega arith))
-      (λ l h. good2 0 0x80 0xBF (λ b n e r. omega arith))
-      (λ l h. good3 0 0xA0 0xBF (λ b c n e r. omega arith))
-      (λ l h. good3 0 0x80 0xBF (λ b c n e r. omega arith))
-      (λ l h. good3 0 0x80 0x9F (λ b c n e r. omega arith))
-      (λ l h. good3 1 0x80 0xBF (λ b c n e r. omega arith))
-      (λ l h. good4 1 0x90 0xBF (λ b c d n e r. omega arith))
-      (λ l h. good4 1 0x80 0xBF (λ b c d n e r. omega arith))
-      (λ l h. good4 1 0x80 0x8F (λ b c d n e r. omega arith))
+      (λ r. good1 0 (omega arith))
+      also (λ r. good1 1 (omega arith))
+      also (λ r. good1 2 (omega arith))
+      also (λ r. good2 2 (0x80 ‥ 0xBF) (λ b n e p. omega arith))
+      also (λ r. good3 2 (0xA0 ‥ 0xBF) (0x80 ‥ 0xBF) (λ b c n e p q. omega arith))
+      also (λ r. good3 2 (0x80 ‥ 0xBF) (0x80 ‥ 0xBF) (λ b c n e p q. omega arith))
+      also (λ r. good3 2 (0x80 ‥ 0x9F) (0x80 ‥ 0xBF) (λ b c n e p q. omega arith))
+      also (λ r. good3 3 (0x80 ‥ 0xBF) (0x80 ‥ 0xBF) (λ b c n e p q. omega arith))
+      also (λ r. good3 3 (0x80 ‥ 0xBE) (0x80 ‥ 0xBF) (λ b c n e p q. omega arith))
+      also (λ r. good3 3 (0xBF ‥ 0xBF) (0x80 ‥ 0xBD) (λ b c n e p q. omega arith))
+      also (λ r. good4 4 (0x90 ‥ 0xBF) (0x80 ‥ 0xBF) (0x80 ‥ 0xBF) (λ b c d n e p q s. omega arith))
+      also (λ r. good4 4 (0x80 ‥ 0xBF) (0x80 ‥ 0xBF) (0x80 ‥ 0xBF) (λ b c d n e p q s. omega arith))
+      also (λ r. good4 4 (0x80 ‥ 0x8F) (0x80 ‥ 0xBF) (0x80 ‥ 0xBF) (λ b c d n e p q s. omega arith))
+      also tt
 
--- the first character that is seen
-seen : (k : ℕ) (b : ℕ) (bs : List ℕ) → suc k ≡ character (b ∷ bs) → OfOne (b ∷ take k bs)
-unfolding character fromFirst
-seen k b bs e =
-    let u = first rows b in
-    told (eqb (after u (take (u .left) bs) .left) 0)
-    (λ t.
-    let m : suc k ≡ u .left + 1 = rw t at e in
-    let l : u .left ≡ k = omega arith in
-    let f = after-fits (u .left) (u .low) (u .high) (take (u .left) bs) (rw (length-take (u .left) bs) (omega arith)) (eqb-true _ _ t) in
-    rw (← l) (good b (take (u .left) bs) f))
-    (λ t. absurd (let z = rw t at e in omega arith))
+  -- the first character that is seen
+  seen : (k : ℕ) (x : List ℕ) (rs : List (List Range)) → All GoodRow rs → suc k ≡ fromFirst (startedBy a rs) x → OfOne (a ∷ take k x)
+  unfolding fromFirst startedBy
+  seen k x [] g e = absurd (omega arith)
+  seen k x ([] ∷ rs) g e = seen k x rs (g .1) e
+  seen k x ((l ‥ h ∷ r) ∷ rs) g e =
+      told (leb l a && leb a h)
+      (λ t. told (fits r x)
+      (λ f.
+      let m : suc k ≡ length r + 1 = rw (t, f) at e in
+      let n : length r ≡ k = omega arith in
+      rw (← n) (g .0 (in-range l h a t) (take (length r) x) (fit-back r x f)))
+      (λ f. seen k x rs (g .1) (rw (t, f) at e)))
+      (λ t. seen k x rs (g .1) (rw t at e))
 
 -- ---- the laws
 
 -- the octets of characters pass
-passes : (ns : List ℕ) → All IsCharacter ns → after between (utf8s ns) .left ≡ 0
-unfolding utf8s after
-passes [] h = between-none
+passes : (ns : List ℕ) → All IsCharacter ns → isText (utf8s ns) ≡ true
+unfolding utf8s
+passes [] h = text-end [] 0 0 (omega arith)
 passes (n ∷ ns) h =
     let y = utf8s ns in
     some-character (length (utf8 n)) (utf8 n ++ y) (sym (front n y (h .0))) (λ z. let l = long n in omega arith) .1
-    ∙ ap (λ x. after between x .left) (drop-append-seam (utf8 n) y)
+    ∙ ap isText (drop-append-seam (utf8 n) y)
     ∙ passes ns (h .1)
 
 -- what passes, no longer than m, is the octets of characters
-passed : (m : ℕ) (x : List ℕ) → length x ≤ m → after between x .left ≡ 0 → IsText x
+passed : (m : ℕ) (x : List ℕ) → length x ≤ m → isText x ≡ true → IsText x
 unfolding utf8s
 passed zero [] l e = record { says = []; are = tt; octets = refl }
 passed (suc m) [] l e = record { says = []; are = tt; octets = refl }
 passed zero (b ∷ x) l e = absurd (omega arith)
 passed (suc m) (b ∷ x) l e = go (character (b ∷ x)) refl (λ y. passed m y)
   where
-    go : (k : ℕ) → k ≡ character (b ∷ x) → ((y : List ℕ) → length y ≤ m → after between y .left ≡ 0 → IsText y) → IsText (b ∷ x)
-    go zero c r = absurd (no-character b x c e)
+    go : (k : ℕ) → k ≡ character (b ∷ x) → ((y : List ℕ) → length y ≤ m → isText y ≡ true → IsText y) → IsText (b ∷ x)
+    go zero c r = never (sym (no-character b x c) ∙ e)
     go (suc k) c r =
         let s = some-character (suc k) (b ∷ x) c (λ z. omega arith) in
-        let o = seen k b x c in
+        let o = seen b k x rows (good b) (unfold character in c) in
         let t = r (drop k x) (rw (length-drop k x) (omega arith)) (sym (s .1) ∙ e) in
         record { says = o .says ∷ t .says; are = (o .is, t .are); octets = ap (λ y. b ∷ y) (sym (take-append-drop k x)) ∙ ap₂ (λ y z. y ++ z) (o .octets) (t .octets) }
 
 pub text-exact : (x : List ℕ) → (isText x ≡ true) ↔ IsText x
-unfolding isText
-text-exact x = (λ e. passed (length x) x (omega arith) (eqb-true _ _ e), λ t. rw (t .octets) (eq-eqb _ _ (passes (t .says) (t .are))))
+text-exact x = (λ e. passed (length x) x (omega arith) e, λ t. rw (t .octets) (passes (t .says) (t .are)))
 
 some-octets : (n : ℕ) (y : List ℕ) → [] ≡ utf8 n ++ y → ⊥
 some-octets n y e = let l = long n in let a = length-append (utf8 n) y in let z = ap length e in omega arith

@@ -9,6 +9,6 @@ pub mod Numbers
 pub mod Lengths
 pub mod Spelled
 pub mod Weights
-pub mod Low
 pub mod Utf8
+pub mod Plain
 pub mod Characters

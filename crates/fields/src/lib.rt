@@ -3,14 +3,17 @@
 pub mod put;
 
 ghost use mathlib.Core.Path.{_≡_};
-ghost use mathlib.Core.Bool.{_&&_};
-ghost use Prim.Native.Nat.{_+_, _-_, _^_, _<_, _≤_};
-ghost use lib.Dec.{leb, ltb};
+ghost use mathlib.Core.Bool.{true, _&&_};
+ghost use mathlib.Core.List.{[], _∷_};
+ghost use Prim.Native.Nat.{ℕ, _+_, _-_, _*_, _/_, _^_, _<_, _≤_};
+ghost use lib.Bits.{bitAnd};
+ghost use lib.Dec.{leb};
 ghost use lib.ListN.{length, getD, take, drop};
+ghost use Rattle.format.specs.Characters.{_‥_};
 ghost use Rattle.format.specs.Numbers.{lengths, numbers, c21, c25, top};
 ghost use Rattle.fields.specs.Fields.{bitsOf, valueFrom, behind, fieldAt, noTop};
-ghost use Rattle.fields.specs.WeightContracts.{weight, Small};
-ghost use Rattle.fields.specs.Utf8.{isText, fromFirst, character, higher, highestOf};
+ghost use Rattle.fields.specs.WeightContracts.{weight, Small, highBits, notPlain, Plain, Alone};
+ghost use Rattle.fields.specs.Utf8.{alone, tails, fromFirst, character, isText};
 
 // The link's version: the octets before the body, which are E0 00 (12.6), version 1 (12.7, 12.9) and no optional part (12.8); where the body starts; octets of the longest document.
 pub const HEADER: [u8; 5] = [0xE0, 0x00, 0x00, 0x01, 0x00];
@@ -226,70 +229,83 @@ fn among(b: u8, low: u8, high: u8) -> bool
     low <= b && b <= high
 }
 
-// Within a character: how many octets are still to come, and from which to which the next may be.
-struct Within {
-    left: u8,
-    low: u8,
-    high: u8,
+// An octet from 20 to 7F is plain: a character by itself, of which most text is made.
+pub fn is_plain(b: u8) -> bool
+    ensures { λ r. ⌜ r ≡ (leb 0x20 b && leb b 0x7F) ⌝ }
+{
+    among(b, 0x20, 0x7F)
 }
 
-impl Within {
-    fn coming(left: u8, low: u8, high: u8) -> Within
-        ensures { λ r. ⌜ r ≡ record { left = left; low = low; high = high } ⌝ }
-    {
-        Within { left, low, high }
-    }
-
-    // How many octets the character has whose first stands at i, 0 where one that is to come is missing or may not follow.
-    // Without a loop: where `self` is known, as in `character`, only the comparisons that it needs are left.
-    fn from_first(self, s: &[u8], i: usize, to: usize) -> usize
-        requires { ⌜ (i < to) × (to ≤ length (now s)) × (1 ≤ self .left) × (self .left ≤ 3) ⌝ }
-        ensures { λ r. ⌜ r ≡ fromFirst self (take (to - (i + 1)) (drop (i + 1) (now (s .entry)))) ⌝ }
-    {
-        let n = self.left as usize;
-        if to <= i + n {
-            return 0;
-        }
-        if !among(s[i + 1], self.low, self.high) {
-            return 0;
-        }
-        if n == 1 {
-            return n + 1;
-        }
-        if !among(s[i + 2], 0x80, 0xBF) {
-            return 0;
-        }
-        if n == 2 {
-            return n + 1;
-        }
-        if !among(s[i + 3], 0x80, 0xBF) {
-            return 0;
-        }
-        n + 1
-    }
+// The octet is a character by itself: plain, or the tab, a line feed or a carriage return.
+fn is_alone(b: u8) -> bool
+    ensures { λ r. ⌜ r ≡ alone b ⌝ }
+{
+    among(b, 0x09, 0x0A) || (b == 0x0D || is_plain(b))
 }
 
-// How many octets the character at i has, 0 where none is: the rows of RFC 3629.
-fn character(s: &[u8], i: usize, to: usize) -> usize
+// How many octets the character has whose first stands at i and has `left` behind it, the next of them from `low` to `high`; 0 where one is missing or may not
+// follow. Without a loop: where `left` is known, as in `character`, only the comparisons that it needs are left.
+fn from_first(s: &[u8], i: usize, to: usize, left: usize, low: u8, high: u8) -> usize
+    requires { ⌜ (i < to) × (to ≤ length (now s)) × (1 ≤ left) × (left ≤ 3) ⌝ }
+    ensures { λ r. ⌜ r ≡ fromFirst ((low ‥ high ∷ tails (left - 1)) ∷ []) (take (to - (i + 1)) (drop (i + 1) (now (s .entry)))) ⌝ }
+{
+    if to <= i + left {
+        return 0;
+    }
+    if !among(s[i + 1], low, high) {
+        return 0;
+    }
+    if left == 1 {
+        return 2;
+    }
+    if !among(s[i + 2], 0x80, 0xBF) {
+        return 0;
+    }
+    if left == 2 {
+        return 3;
+    }
+    if !among(s[i + 3], 0x80, 0xBF) {
+        return 0;
+    }
+    4
+}
+
+// The same where the first is EF: EF BF BE and EF BF BF would be FFFE and FFFF.
+fn from_last_first(s: &[u8], i: usize, to: usize) -> usize
     requires { ⌜ (i < to) × (to ≤ length (now s)) ⌝ }
+    ensures { λ r. ⌜ r ≡ fromFirst ((0x80 ‥ 0xBE ∷ 0x80 ‥ 0xBF ∷ []) ∷ (0xBF ‥ 0xBF ∷ 0x80 ‥ 0xBD ∷ []) ∷ []) (take (to - (i + 1)) (drop (i + 1) (now (s .entry)))) ⌝ }
+{
+    let n = from_first(s, i, to, 2, 0x80, 0xBF);
+    if n == 0 {
+        return 0;
+    }
+    if s[i + 1] == 0xBF && 0xBE <= s[i + 2] {
+        return 0;
+    }
+    n
+}
+
+// How many octets the character at i has, whose first is no character by itself; 0 where none is: the rows of RFC 3629.
+fn character(s: &[u8], i: usize, to: usize) -> usize
+    requires { ⌜ (i < to) × (to ≤ length (now s)) × (0x80 ≤ getD (now s) i 0) ⌝ }
     ensures { λ r. ⌜ r ≡ character (take (to - i) (drop i (now (s .entry)))) ⌝ }
 {
     match s[i] {
-        0x00..=0x7F => 1,
-        0xC2..=0xDF => Within::coming(1, 0x80, 0xBF).from_first(s, i, to),
-        0xE0 => Within::coming(2, 0xA0, 0xBF).from_first(s, i, to),
-        0xE1..=0xEC => Within::coming(2, 0x80, 0xBF).from_first(s, i, to),
-        0xED => Within::coming(2, 0x80, 0x9F).from_first(s, i, to),
-        0xEE..=0xEF => Within::coming(2, 0x80, 0xBF).from_first(s, i, to),
-        0xF0 => Within::coming(3, 0x90, 0xBF).from_first(s, i, to),
-        0xF1..=0xF3 => Within::coming(3, 0x80, 0xBF).from_first(s, i, to),
-        0xF4 => Within::coming(3, 0x80, 0x8F).from_first(s, i, to),
+        0xC2..=0xDF => from_first(s, i, to, 1, 0x80, 0xBF),
+        0xE0 => from_first(s, i, to, 2, 0xA0, 0xBF),
+        0xE1..=0xEC => from_first(s, i, to, 2, 0x80, 0xBF),
+        0xED => from_first(s, i, to, 2, 0x80, 0x9F),
+        0xEE => from_first(s, i, to, 2, 0x80, 0xBF),
+        0xEF => from_last_first(s, i, to),
+        0xF0 => from_first(s, i, to, 3, 0x90, 0xBF),
+        0xF1..=0xF3 => from_first(s, i, to, 3, 0x80, 0xBF),
+        0xF4 => from_first(s, i, to, 3, 0x80, 0x8F),
         _ => 0,
     }
 }
 
 fn higher(a: u8, b: u8) -> u8
-    ensures { λ r. ⌜ r ≡ higher a b ⌝ }
+    ensures { λ r. ⌜ (a ≤ r) × (b ≤ r) ⌝ }
 {
     if a < b {
         return b;
@@ -297,18 +313,75 @@ fn higher(a: u8, b: u8) -> u8
     a
 }
 
-// The highest octet from `from` to before `to`, 0 where there is none. Nothing ends the loop early, so that one instruction looks at many octets.
-fn highest(s: &[u8], from: usize, to: usize) -> u8
-    requires { ⌜ (from ≤ to) × (to ≤ length (now s)) ⌝ }
-    ensures { λ r. ⌜ r ≡ highestOf 0 (take (to - from) (drop from (now (s .entry)))) ⌝ }
+fn lower(a: u8, b: u8) -> u8
+    ensures { λ r. ⌜ (r ≤ a) × (r ≤ b) ⌝ }
 {
+    if b < a {
+        return b;
+    }
+    a
+}
+
+// No octet of some is below `low` or above `high`.
+struct LowHigh {
+    low: u8,
+    high: u8,
+}
+
+// The octets of each of two stretches that are n together or more, where they overlap: a multiple of 32.
+fn half_of(n: usize) -> usize
+    requires { ⌜ n < 2 ^ 63 ⌝ }
+    ensures { λ r. ⌜ r ≡ (n + 63) / 64 * 32 ⌝ }
+{
+    (n + 63) / 64 * 32
+}
+
+// Those of more than 32 octets. Nothing ends the loop early, so that one instruction looks at many of them. It goes through two stretches side by side, which
+// overlap, each of a multiple of 32 octets, so that none is left for a loop of its own.
+fn extremes(s: &[u8], from: usize, to: usize) -> LowHigh
+    requires { ⌜ (from + 32 < to) × (to ≤ length (now s)) ⌝ }
+    ensures { λ r. ⌜ ((j : ℕ) → from ≤ j → j < to → (r .low ≤ getD (now (s .entry)) j 0) × (getD (now (s .entry)) j 0 ≤ r .high)) ⌝ }
+{
+    let half = half_of(to - from);
+    let second = to - half;
+    let mut low = 0xFF;
     let mut high = 0;
-    let mut i = from;
-    while i < to {
-        high = higher(high, s[i]);
+    let mut i = 0;
+    while i < half {
+        low = lower(lower(low, s[from + i]), s[second + i]);
+        high = higher(higher(high, s[from + i]), s[second + i]);
         i += 1;
     }
-    high
+    LowHigh { low, high }
+}
+
+// A space in place of a tab, a line feed or a carriage return.
+fn raised(b: u8) -> u8
+    ensures { λ r. ⌜ (0x20 ≤ r → b ≤ 0x7F → alone b ≡ true) ⌝ }
+{
+    if among(b, 0x09, 0x0A) {
+        return 0x20;
+    }
+    if b == 0x0D {
+        return 0x20;
+    }
+    b
+}
+
+// Each of more than 32 octets is a character by itself, if none is above 7F. A loop as that of `extremes`.
+fn all_alone(s: &[u8], from: usize, to: usize) -> bool
+    requires { ⌜ (from + 32 < to) × (to ≤ length (now s)) ⌝ }
+    ensures { λ r. ⌜ (r ≡ true → ((j : ℕ) → from ≤ j → j < to → getD (now (s .entry)) j 0 ≤ 0x7F) → Alone (now (s .entry)) from to) ⌝ }
+{
+    let half = half_of(to - from);
+    let second = to - half;
+    let mut low = 0xFF;
+    let mut i = 0;
+    while i < half {
+        low = lower(lower(low, raised(s[from + i])), raised(s[second + i]));
+        i += 1;
+    }
+    0x20 <= low
 }
 
 // Four octets from `at` on as one number, the first the lowest.
@@ -330,40 +403,79 @@ pub fn eight(x: &[u8], at: usize) -> u64
     four(x, at) + 0x1_0000_0000 * four(x, at + 4)
 }
 
-// The high bit of each of eight octets, set where one is above 0x7F.
+// The high bit of each of eight octets.
 pub const HIGH: u64 = 0x8080_8080_8080_8080;
 
-// No octet from `from` to before `to` is above 0x7F. Most strings are short: one load of eight octets tells it, or two that overlap.
-fn plain(s: &[u8], from: usize, to: usize) -> bool
+// Eight spaces, the lowest plain octets.
+pub const SPACES: u64 = 0x2020_2020_2020_2020;
+
+// Of eight octets the first that is not plain has its high bit set in the answer: it had, or it is less than a space. No octet before it has.
+pub fn not_plain(x: u64) -> u64
+    ensures { λ r. ⌜ r ≡ notPlain x ⌝ }
+{
+    x | std::num::wrapping_sub_u64(x, SPACES)
+}
+
+// The same of eight octets or more, by eights, the last of which may overlap.
+fn none_plain(s: &[u8], from: usize, to: usize) -> u64
+    requires { ⌜ (from + 8 ≤ to) × (to ≤ length (now s)) ⌝ }
+    ensures { λ r. ⌜ (bitAnd r (highBits 8) ≡ 0 → Plain (now (s .entry)) from to) ⌝ }
+{
+    let mut seen = not_plain(eight(s, to - 8));
+    let mut i = from;
+    while 8 < to - i {
+        seen = seen | not_plain(eight(s, i));
+        i += 8;
+    }
+    seen
+}
+
+// Each octet is plain. Most strings are short: one load of eight octets tells it, or two that overlap.
+fn all_plain(s: &[u8], from: usize, to: usize) -> bool
     requires { ⌜ (from ≤ to) × (to ≤ length (now s)) ⌝ }
-    ensures { λ r. ⌜ r ≡ ltb (highestOf 0 (take (to - from) (drop from (now (s .entry))))) 0x80 ⌝ }
+    ensures { λ r. ⌜ (r ≡ true → Plain (now (s .entry)) from to) ⌝ }
 {
     let n = to - from;
     if n < 8 {
-        if 8 <= s.len() - from {
-            // Only the first n of them count. Two shifts: where n is 0, one would be by 64, which none may be.
-            return eight(s, from) & ((HIGH >> 8) >> (56 - 8 * n)) == 0;
+        if s.len() - from < 8 {
+            return false;
         }
-    } else if n <= 16 {
-        let first = eight(s, from) & HIGH;
-        let last = eight(s, to - 8) & HIGH;
-        return first == 0 && last == 0;
+        // Only the first n of them count. Two shifts: where n is 0, one would be by 64, which none may be.
+        return not_plain(eight(s, from)) & ((HIGH >> 8) >> (56 - 8 * n)) == 0;
     }
-    highest(s, from, to) < 0x80
+    if n <= 16 {
+        let both = not_plain(eight(s, from)) | not_plain(eight(s, to - 8));
+        return both & HIGH == 0;
+    }
+    none_plain(s, from, to) & HIGH == 0
 }
 
-// The octets from `from` to before `to` are text. Where none is above 0x7F, they are.
-pub fn is_text(s: &[u8], from: usize, to: usize) -> bool
+// Each of more than 32 octets is a character by itself. Most long texts are plain, and most others have line ends beside.
+fn is_easy(s: &[u8], from: usize, to: usize) -> bool
+    requires { ⌜ (from + 32 < to) × (to ≤ length (now s)) ⌝ }
+    ensures { λ r. ⌜ (r ≡ true → Alone (now (s .entry)) from to) ⌝ }
+{
+    let e = extremes(s, from, to);
+    if is_plain(e.low) && is_plain(e.high) {
+        return true;
+    }
+    e.high < 0x80 && all_alone(s, from, to)
+}
+
+// The octets from `from` to before `to` are text: many at once where that tells it, or character by character.
+fn by_characters(s: &[u8], from: usize, to: usize) -> bool
     requires { ⌜ (from ≤ to) × (to ≤ length (now s)) ⌝ }
     ensures { λ r. ⌜ r ≡ isText (take (to - from) (drop from (now (s .entry)))) ⌝ }
 {
-    if plain(s, from, to) {
+    if SHORT < to - from && is_easy(s, from, to) {
         return true;
     }
     let mut i = from;
     while i < to {
-        // Also where some characters have more octets, most have one.
         if s[i] < 0x80 {
+            if !is_alone(s[i]) {
+                return false;
+            }
             i += 1;
             continue;
         }
@@ -374,4 +486,21 @@ pub fn is_text(s: &[u8], from: usize, to: usize) -> bool
         i += n;
     }
     true
+}
+
+// The octets of a short string, at most, which is looked at by eights.
+const SHORT: usize = 32;
+
+// The octets from `from` to before `to` are text. `by_characters` stands twice, so that it is called, and a short string costs none of its registers.
+pub fn is_text(s: &[u8], from: usize, to: usize) -> bool
+    requires { ⌜ (from ≤ to) × (to ≤ length (now s)) ⌝ }
+    ensures { λ r. ⌜ r ≡ isText (take (to - from) (drop from (now (s .entry)))) ⌝ }
+{
+    if SHORT < to - from {
+        return by_characters(s, from, to);
+    }
+    if all_plain(s, from, to) {
+        return true;
+    }
+    by_characters(s, from, to)
 }

@@ -22,7 +22,7 @@ unfolding spread
 spread-lt h x = omega arith
 
 module _ (s : List ℕ) (place len : ℕ) (h : place + len ≤ length s) where
-  pub octet-at : (i : ℕ) → i < len → getD (octetsOf s (stretch place len)) i 0 ≡ getD s (place + i) 0
+  octet-at : (i : ℕ) → i < len → getD (octetsOf s (stretch place len)) i 0 ≡ getD s (place + i) 0
   unfolding octetsOf
   octet-at i l = getD-take len (drop place s) i 0 l ∙ getD-drop place s i 0
 

@@ -1,11 +1,14 @@
 -- Contracts of the code, not definitions to be believed. The bucket of a string and of a name: any function of the entry serves, and nothing but speed rests on how it spreads.
-use Prim.Native.Nat.{ℕ, zero, suc, _+_, _-_, _*_, _/_, _%_}
+use mathlib.Core.Path.{_≡_}
+use Prim.Native.Nat.{ℕ, zero, suc, _+_, _-_, _*_, _/_, _%_, _≤_, _<_}
+use lib.Bits.{bitAnd}
 use lib.ListN.{length, getD, take, drop}
 use lib.Dec.{ltb}
 use Rattle.format.specs.Octets.{Octets}
 use Rattle.format.specs.Numbers.{pick}
 use Rattle.format.specs.Tables.{Triple}
-use Rattle.fields.specs.WeightContracts.{weight}
+use Rattle.fields.specs.WeightContracts.{weight, highBits, Plain}
+use Rattle.tables.specs.Located.{stretch, octetsOf}
 
 -- A number of 32 bits and one of 64, in one sum that fits 64 bits. Factors and shifts were chosen by trial on names of many shapes.
 unfoldable pub summed : ℕ → ℕ → ℕ
@@ -34,6 +37,12 @@ bucket l =
     pick (ltb (length l) 4) (spread 0 (getD l 0 0 + 256 * getD l (length l / 2) 0 + 65536 * getD l (length l - 1) 0))
     (pick (ltb (length l) 9) (spread 0 (part l 0 4 + 4294967296 * part l (length l - 4) 4))
     (spread (rolled l 0 (pick (ltb (length l) 66) ((length l - 1) / 8) 8) 0) (part l (length l - 8) 8)))
+
+-- What the code takes of the string at a place: two numbers that its bucket is made of, and one whose high bits tell that each octet is plain.
+abbrev pub Takes : Octets → (place len number last other : ℕ) → Type 0
+Takes s place len number last other =
+    (number < 4294967296) × (spread number last ≡ bucket (octetsOf s (stretch place len)))
+    × (bitAnd other (highBits 8) ≡ 0 → len ≤ 65 → Plain s place (place + len))
 
 unfoldable pub nameBucket : Triple → ℕ
 nameBucket x = spread (x .prefix) (x .local + 4294967296 * x .namespace)

@@ -6,14 +6,14 @@ ghost use mathlib.Core.List.{List, map};
 ghost use Prim.Native.Nat.{ℕ, _+_, _-_, _*_, _/_, _<_, _≤_};
 ghost use lib.ListN.{length};
 ghost use Rattle.format.specs.Tables.{same};
-ghost use Rattle.fields.specs.WeightContracts.{Low};
+ghost use Rattle.fields.specs.WeightContracts.{Plain};
 ghost use Rattle.fields.specs.Utf8.{isText};
 ghost use Rattle.tables.specs.Located.{stretch, octetsOf};
 ghost use Rattle.tables.specs.Counts.{tableWords};
 ghost use Rattle.tables.specs.Rows.{tableOf, builtIn, stringAt, tripleAt, entries};
 ghost use Rattle.tables.specs.Search.{numberIn, numberOfTriple};
 ghost use Rattle.tables.specs.Kept.{Inside};
-ghost use Rattle.index.specs.Hash.{summed, blended, spread, rolled, bucket, nameBucket};
+ghost use Rattle.index.specs.Hash.{summed, blended, spread, bucket, nameBucket, Takes};
 ghost use Rattle.index.specs.Chain.{lastRow, pushed};
 ghost use Rattle.index.specs.Indexed.{slots, strings, stringsAt, names, StringsIndexed, NamesIndexed, StringEntered, NameEntered, listed, NewString, Sought, SoughtInChain, SoughtToAdd};
 use tables::Counts;
@@ -29,8 +29,11 @@ const HEADS: usize = 128;
 // The row whose number does not fit an octet: it is in no chain, and is looked at apart.
 const LAST: u32 = 255;
 
-// Of a longer string the first 64 octets, which `roll` takes of so many, and the last eight count: a long chunk is not looked through.
+// Of a longer string the first 64 octets, which `eights` takes of so many, and the last eight count: a long chunk is not looked through.
 const COUNTED: usize = 65;
+
+// Five spaces above three octets: with them a number of eight octets that is plain where these are.
+const FIVE: u64 = 0x2020_2020_2000_0000;
 
 // Casts, so that they are proved here alone.
 fn octet(x: u8) -> u64
@@ -80,29 +83,6 @@ fn spread(h: u64, x: u64) -> usize
     (sum(h, x) / 0x100_0000 % 128) as usize
 }
 
-// What eights of a string come to: one number, and the high bits that some octet of them has.
-struct Rolled {
-    number: u64,
-    high: u64,
-}
-
-// The eights of the string of s at place, but for the last.
-fn roll(s: &[u8], place: usize, len: usize) -> Rolled
-    requires { ⌜ (1 ≤ len) × (place + len ≤ length (now s)) ⌝ }
-    ensures { λ r. ⌜ (r .number ≡ rolled (octetsOf (now (s .entry)) (stretch place len)) 0 ((len - 1) / 8) 0) × (r .number < 0x1_0000_0000) × (r .high ≡ 0 → Low (now (s .entry)) place (place + 8 * ((len - 1) / 8))) ⌝ }
-{
-    let mut number = 0;
-    let mut high = 0;
-    let mut i = 0;
-    while 8 < len - i {
-        let x = fields::eight(s, place + i);
-        number = blend(number, x);
-        high = high | (x & fields::HIGH);
-        i += 8;
-    }
-    Rolled { number, high }
-}
-
 // How many octets of so long a string count beside the last eight.
 fn counting(len: usize) -> usize
     requires { ⌜ 9 ≤ len ⌝ }
@@ -114,7 +94,80 @@ fn counting(len: usize) -> usize
     COUNTED
 }
 
-// What one look at the octets of a string tells: its bucket, and whether it is plain: none of them is above 0x7F. A long one is never said to be plain.
+// What the octets of a string come to: two numbers, of which its bucket is made; and one that tells, as `fields::not_plain` does, whether each is plain.
+struct Taken {
+    number: u64,
+    last: u64,
+    other: u64,
+}
+
+// Up to three octets.
+fn few(s: &[u8], place: usize, len: usize) -> Taken
+    requires { ⌜ (1 ≤ len) × (len < 4) × (place + len ≤ length (now s)) ⌝ }
+    ensures { λ r. ⌜ Takes (now (s .entry)) place len (r .number) (r .last) (r .other) ⌝ }
+{
+    let middle = octet(s[place + len / 2]);
+    let end = octet(s[place + (len - 1)]);
+    let last = octet(s[place]) + 0x100 * middle + 0x1_0000 * end;
+    Taken {
+        number: 0,
+        last,
+        other: fields::not_plain(last + FIVE),
+    }
+}
+
+// Four to eight.
+fn fours(s: &[u8], place: usize, len: usize) -> Taken
+    requires { ⌜ (4 ≤ len) × (len ≤ 8) × (place + len ≤ length (now s)) ⌝ }
+    ensures { λ r. ⌜ Takes (now (s .entry)) place len (r .number) (r .last) (r .other) ⌝ }
+{
+    let end = fields::four(s, place + (len - 4));
+    let last = fields::four(s, place) + 0x1_0000_0000 * end;
+    Taken {
+        number: 0,
+        last,
+        other: fields::not_plain(last),
+    }
+}
+
+// Nine or more: eights, of which the last may overlap.
+fn eights(s: &[u8], place: usize, len: usize) -> Taken
+    requires { ⌜ (9 ≤ len) × (place + len ≤ length (now s)) ⌝ }
+    ensures { λ r. ⌜ Takes (now (s .entry)) place len (r .number) (r .last) (r .other) ⌝ }
+{
+    let last = fields::eight(s, place + (len - 8));
+    let n = counting(len);
+    let mut number = 0;
+    let mut other = fields::not_plain(last);
+    let mut i = 0;
+    while 8 < n - i {
+        let x = fields::eight(s, place + i);
+        number = blend(number, x);
+        other = other | fields::not_plain(x);
+        i += 8;
+    }
+    Taken {
+        number,
+        last,
+        other,
+    }
+}
+
+// The string of s at place.
+fn take(s: &[u8], place: usize, len: usize) -> Taken
+    requires { ⌜ (1 ≤ len) × (place + len ≤ length (now s)) ⌝ }
+    ensures { λ r. ⌜ Takes (now (s .entry)) place len (r .number) (r .last) (r .other) ⌝ }
+{
+    if len < 4 {
+        return few(s, place, len);
+    }
+    if len <= 8 {
+        return fours(s, place, len);
+    }
+    eights(s, place, len)
+}
+
+// What one look at the octets of a string tells: its bucket, and whether it is plain: each octet is. A long one is never said to be plain.
 struct Seen {
     bucket: usize,
     plain: bool,
@@ -123,32 +176,12 @@ struct Seen {
 // The string of s at place.
 fn look(s: &[u8], place: usize, len: usize) -> Seen
     requires { ⌜ (1 ≤ len) × (place + len ≤ length (now s)) ⌝ }
-    ensures { λ r. ⌜ (r .bucket ≡ bucket (octetsOf (now (s .entry)) (stretch place len))) × (r .bucket < 128) × (r .plain ≡ true → Low (now (s .entry)) place (place + len)) ⌝ }
+    ensures { λ r. ⌜ (r .bucket ≡ bucket (octetsOf (now (s .entry)) (stretch place len))) × (r .bucket < 128) × (r .plain ≡ true → Plain (now (s .entry)) place (place + len)) ⌝ }
 {
-    if len < 4 {
-        let middle = octet(s[place + len / 2]);
-        let last = octet(s[place + (len - 1)]);
-        let few = octet(s[place]) + 0x100 * middle + 0x1_0000 * last;
-        return Seen {
-            bucket: spread(0, few),
-            plain: few & fields::HIGH == 0,
-        };
-    }
-    if len <= 8 {
-        let last = fields::four(s, place + (len - 4));
-        let both = fields::four(s, place) + 0x1_0000_0000 * last;
-        return Seen {
-            bucket: spread(0, both),
-            plain: both & fields::HIGH == 0,
-        };
-    }
-    let end = fields::eight(s, place + (len - 8));
-    let n = counting(len);
-    let r = roll(s, place, n);
-    let high = r.high | (end & fields::HIGH);
+    let x = take(s, place, len);
     Seen {
-        bucket: spread(r.number, end),
-        plain: high == 0 && n == len,
+        bucket: spread(x.number, x.last),
+        plain: x.other & fields::HIGH == 0 && len <= COUNTED,
     }
 }
 

@@ -6,10 +6,9 @@ use mathlib.Core.List.{List, [], _∷_}
 use Prim.Native.Nat.{ℕ, zero, suc, _+_, _-_, _*_, _/_, _%_, _^_, _≤_, _<_}
 use native.Mathlib.Omega.{arith}
 use native.Mathlib.Decide.{ℕ-discrete}
-use borrow.Author.Tests.{lt-ltb, eq-eqb, ne-eqb, eqb-true, ltb-true}
-use lib.Dec.{eqb, ltb}
+use borrow.Author.Tests.{lt-ltb, eq-eqb, ne-eqb, eqb-true, ltb-true, leb-true}
+use lib.Dec.{eqb, ltb, leb}
 use lib.ListN.{length, getD, take, drop}
-use lib.Seq.{drop-cons}
 use Rattle.format.specs.Octets.{Octets, Words}
 use Rattle.format.specs.Numbers.{lengths, numbers, top}
 use Rattle.format.specs.Tables.{Triple, link}
@@ -21,8 +20,7 @@ use Rattle.fields.specs.Fields.{valueFrom, fieldAt, noTop}
 use Rattle.fields.specs.Utf8.{isText}
 use Rattle.fields.proofs.Laws.{sizesIn, roomsIn}
 use Rattle.fields.proofs.Cases.{behind-got, field-form}
-use Rattle.fields.proofs.Low.{allLow, highest-low}
-use Rattle.fields.proofs.Utf8.{low-text}
+use Rattle.fields.proofs.Utf8.{plain-text}
 use Rattle.fields.proofs.Numbers.{numberShares, number-values, numbers-are}
 use Rattle.tables.specs.declared.Row.{Row}
 use Rattle.tables.specs.Counts.{tableWords}
@@ -312,22 +310,16 @@ module _ {s : Octets} {t c r : Words} {y : Lane} (w : Stands s c t y) where
           near = omega arith;
         }
 
--- ---- one or two octets of ASCII
-module _ (s : Octets) (from to : ℕ) (l : from < to) (h : to ≤ length s) (a : getD s from 0 < 0x80) (b : ltb (getD s (to - 1) 0) 0x80 ≡ true) where
-  ascii-one : to - from ≡ 1 → true ≡ isText (take (to - from) (drop from s))
-  unfolding allLow
-  ascii-one z = rw (z, drop-cons s from 0 (omega arith)) (low-text (getD s from 0 ∷ []) (highest-low 0 (getD s from 0 ∷ []) ∙ rw (lt-ltb (getD s from 0) 0x80 a) refl))
+-- ---- one or two octets that are plain
+module _ (s : Octets) (from to : ℕ) (l : from < to) (h : to ≤ length s) (k : to ≤ from + 2) where
+  plain-at : (i j : ℕ) → j ≡ i → (leb 0x20 (getD s i 0) && leb (getD s i 0) 0x7F) ≡ true → (0x20 ≤ getD s j 0) × (getD s j 0 ≤ 0x7F)
+  plain-at i j e t =
+      let p = both-true (leb 0x20 (getD s i 0)) (leb (getD s i 0) 0x7F) t in
+      rw e (leb-true 0x20 (getD s i 0) (p .0), leb-true (getD s i 0) 0x7F (p .1))
 
-  ascii-two : to - from ≡ 2 → true ≡ isText (take (to - from) (drop from s))
-  unfolding allLow
-  ascii-two z =
-      let e : to - 1 ≡ suc from = omega arith in
-      let c = rw e at b in
-      rw (z, drop-cons s from 0 (omega arith), drop-cons s (suc from) 0 (omega arith))
-      (low-text (getD s from 0 ∷ getD s (suc from) 0 ∷ []) (highest-low 0 (getD s from 0 ∷ getD s (suc from) 0 ∷ []) ∙ rw (lt-ltb (getD s from 0) 0x80 a, c) refl))
-
-  pub ascii-text : to ≤ from + 2 → true ≡ isText (take (to - from) (drop from s))
-  ascii-text k = elim (ℕ-discrete (to - from) 1) [ yes z ↦ ascii-one z | no n ↦ ascii-two (omega arith) ]
+  pub few-text : (leb 0x20 (getD s from 0) && leb (getD s from 0) 0x7F) ≡ true → (leb 0x20 (getD s (to - 1) 0) && leb (getD s (to - 1) 0) 0x7F) ≡ true
+      → true ≡ isText (take (to - from) (drop from s))
+  few-text a b = plain-text s from to h λ j p q. elim (ℕ-discrete j from) [ yes e ↦ plain-at from j e a | no n ↦ plain-at (to - 1) j (omega arith) b ]
 
 -- no room for a row more
 pub takes-full : {s : Octets} {t c t′ c′ r : Words} {y : Lane} → Stands s c t y → (c′ ≡ c) × (t′ ≡ t) → Skims s (y .n + 1) y t c r y t′ c′ r

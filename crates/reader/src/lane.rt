@@ -174,7 +174,7 @@ fn end(s: &[u8], t: &[u32], counts: &[u32], records: &mut [u32], lane: Lane) -> 
     }
 }
 
-// The octets from `from` to before `to` are text. One or two are looked at here, so that they cost no call; where they are not ASCII, false leaves them to the step.
+// The octets from `from` to before `to` are text. One or two are looked at here, so that they cost no call; where they are not plain, false leaves them to the step.
 fn is_text(s: &[u8], from: usize, to: usize) -> bool
     requires { ⌜ (from < to) × (to ≤ length (now s)) ⌝ }
     ensures { λ r. ⌜ (r ≡ true → true ≡ isText (take (to - from) (drop from (now (s .entry))))) ⌝ }
@@ -182,10 +182,7 @@ fn is_text(s: &[u8], from: usize, to: usize) -> bool
     if 2 < to - from {
         return fields::is_text(s, from, to);
     }
-    if 0x80 <= s[from] {
-        return false;
-    }
-    s[to - 1] < 0x80
+    fields::is_plain(s[from]) && fields::is_plain(s[to - 1])
 }
 
 // A row more of chunks, where one is to be added; false where there is no room for it.

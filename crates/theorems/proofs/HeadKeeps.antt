@@ -15,7 +15,7 @@ use Rattle.format.specs.Strings.{Spelling, id-spelled, literal-spelled}
 use Rattle.format.specs.Head.{Table, ofStrings, ofNames, isIdentifying, started, sizeOf, an-identifying, another, PartListed, no-part, a-part, a-surrogate}
 use Rattle.format.specs.Head.{Each, no-entry, an-entry, TablesListed, no-table, absent, present, Opens, without-head, with-head}
 use Rattle.format.specs.Allowed.{All}
-use Rattle.fields.specs.Utf8.{rows, between, first as firstOf, next, after, isText}
+use Rattle.fields.proofs.Utf8.{built-in-texts}
 use Rattle.fields.proofs.Characters.{text-exact}
 use Rattle.tables.specs.Rows.{place}
 use Rattle.tables.proofs.Adding.{extended, sameNames, strings-adding, names-adding, strings-adding-name, names-adding-name}
@@ -187,8 +187,8 @@ module _ (ver : Version) where
   if-built-in x h false = tt
 
   two-spelled : Spelling xmlPrefix × Spelling xmlNamespace
-  unfolding xmlPrefix xmlNamespace rows between firstOf next after isText
-  two-spelled = (record { some = omega arith; fits = omega arith; formed = text-exact xmlPrefix .0 refl }, record { some = omega arith; fits = omega arith; formed = text-exact xmlNamespace .0 refl })
+  unfolding xmlPrefix xmlNamespace
+  two-spelled = (record { some = omega arith; fits = omega arith; formed = text-exact xmlPrefix .0 (built-in-texts .0) }, record { some = omega arith; fits = omega arith; formed = text-exact xmlNamespace .0 (built-in-texts .1) })
 
   spelled-started : (t : StringTable) → All Spelling (strings (started ver) t)
   unfolding strings starting

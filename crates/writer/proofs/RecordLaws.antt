@@ -1,6 +1,6 @@
 -- Event records: a law for each way out of the functions that judge one, on plain values.
 -- Assumes nothing.
-use mathlib.Core.Path.{_≡_, refl}
+use mathlib.Core.Path.{_≡_, refl, sym}
 use mathlib.Core.Bool.{true, false, _&&_}
 use mathlib.Core.List.{List}
 use Prim.Native.Nat.{ℕ, _+_, _-_, _≤_}
@@ -8,8 +8,8 @@ use native.Mathlib.Omega.{arith}
 use borrow.Author.Tests.{eq-eqb, ne-eqb}
 use lib.Dec.{eqb, ltb, leb}
 use lib.ListN.{length, take, drop}
-use Rattle.fields.specs.Utf8.{isText, after, next, first, rows, between}
-use Rattle.format.specs.Tables.{xmlPrefix, xmlNamespace}
+use Rattle.fields.specs.Utf8.{isText}
+use Rattle.fields.proofs.Utf8.{none-text, built-in-texts}
 use Rattle.tables.specs.Located.{stretch, octetsOf}
 use Rattle.tables.proofs.Search.{octets-stretch}
 use Rattle.events.specs.declared.EventString.{EventString}
@@ -80,16 +80,16 @@ tag-absent XmlNamespace = refl
 module _ (text : List ℕ) where
   -- what is no stretch is text
   pub absent-text : true ≡ isText (octetsOf text (locatedOf Absent))
-  unfolding octetsOf isText after between
-  absent-text = refl
+  unfolding octetsOf
+  absent-text = sym none-text
 
   pub prefix-text : true ≡ isText (octetsOf text (locatedOf XmlPrefix))
-  unfolding octetsOf xmlPrefix isText after next first rows between
-  prefix-text = refl
+  unfolding octetsOf
+  prefix-text = sym (built-in-texts .0)
 
   pub namespace-text : true ≡ isText (octetsOf text (locatedOf XmlNamespace))
-  unfolding octetsOf xmlNamespace isText after next first rows between
-  namespace-text = refl
+  unfolding octetsOf
+  namespace-text = sym (built-in-texts .1)
 
   pub stretch-text : (p n : ℕ) → isText (take ((p + n) - p) (drop p text)) ≡ isText (octetsOf text (stretch p n))
   stretch-text p n = let q : p + n - p ≡ n = omega arith in rw (q, octets-stretch text p n)

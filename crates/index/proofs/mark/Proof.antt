@@ -5,12 +5,12 @@ use native.Mathlib.Omega.{arith}
 use mathlib.Core.Path.{_≡_, _∙_}
 use Prim.Native.Nat.{_+_, _-_}
 use Rattle.tables.specs.Located.{octetsOf}
-use Rattle.index.proofs.Plain.{plain-text}
+use Rattle.index.proofs.Plain.{plain-string}
 use Rattle.index.proofs.mark.Statement.{statement}
 use Rattle.index.proofs.mark.Tie as tie
 
 returns : tie.Need-returns
-returns c = (c .before .look .ensures .0, c .before .look .ensures .1, plain-text _ _ _ (omega arith) (c .before .look .ensures .2 (c .if1 .taken)))
+returns c = (c .before .look .ensures .0, c .before .look .ensures .1, plain-string _ _ _ (omega arith) (c .before .look .ensures .2 (c .if1 .taken)))
 
 returns-2 : tie.Need-returns-2
 unfolding octetsOf

@@ -1,10 +1,10 @@
--- `is_text` meets its contract: one or two octets of ASCII, or what the fields say.
+-- `is_text` meets its contract: one or two octets that are plain, or what the fields say.
 -- Assumes nothing.
 use borrow.Author.Needs.{needs}
 use native.Mathlib.Omega.{arith}
 use mathlib.Core.Path.{sym, _∙_}
 use mathlib.Core.Bool.{true≢false}
-use Rattle.reader.proofs.LaneLaws.{ascii-text}
+use Rattle.reader.proofs.LaneLaws.{few-text}
 use Rattle.reader.proofs.lane.is_text.Statement.{statement}
 use Rattle.reader.proofs.lane.is_text.Tie as tie
 
@@ -12,10 +12,13 @@ returns : tie.Need-returns
 returns c = λ e. sym e ∙ c .is-text .ensures
 
 returns-2 : tie.Need-returns-2
-returns-2 c = λ e. absurd (true≢false (sym e))
+returns-2 c = λ e.
+    let a = c .before .before .before .before .before .before .before .args in
+    let first = sym (c .before .before .before .is-plain .ensures) ∙ c .before .before .if2 .taken in
+    few-text (a .s .now) (a .from) (a .to) (omega arith) (omega arith) (omega arith) first (sym (c .is-plain2 .ensures) ∙ e)
 
 returns-3 : tie.Need-returns-3
-returns-3 c = λ e. ascii-text _ _ _ (c .before .before .before .before .before .pre .0) (c .before .before .before .before .before .pre .1) (omega arith) e (omega arith)
+returns-3 c = λ e. absurd (true≢false (sym e ∙ c .if2 .left))
 
 pub is-text-spec : {M : Type 1} → statement M
 is-text-spec =
@@ -25,7 +28,9 @@ is-text-spec =
     (λ c κs. search needs)
     returns
     (λ c. search needs)
+    (λ c κs. search needs)
+    (λ c. search needs)
+    (λ c. search needs)
+    (λ c κs. search needs)
     returns-2
-    (λ c. search needs)
-    (λ c. search needs)
     returns-3)
