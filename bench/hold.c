@@ -1,6 +1,6 @@
 /* Holds the limit against the archive: the same answers, and the same words and octets in room that was full of other things, on the documents given and on seeded changes of
    each; on all tails of one and two octets behind the starts given; and on the lists of events that the documents give, or that are given, and seeded changes of these, with
-   the tables that the document has, too.
+   the tables that the document has, too. Each list that is written is measured before.
 
    usage: hold CHANGES SEED < inputs          an input is a letter and stretches, each its length in 4 octets and its octets: `d` and a document, `t` and a start, or `l`, a text
                                               area, given words and records
@@ -26,7 +26,7 @@ static uint32_t list[RECORD * MOST], changed_list[RECORD * MOST];
 static uint32_t given[2 * GIVEN], changed_given[2 * GIVEN];
 static size_t given_words;
 static uint8_t document[LONGEST], changed_document[LONGEST];
-static unsigned long checks, reads, writes, differences, read_answers[32], write_answers[32];
+static unsigned long checks, reads, writes, measures, differences, read_answers[32], write_answers[32], measure_answers[32];
 
 static uint64_t seed;
 static uint64_t dice(uint64_t sides) {
@@ -69,6 +69,14 @@ static uint64_t hold_read(const uint8_t *octets, size_t n, size_t words, size_t 
     return a;
 }
 
+static void hold_measure(const uint32_t *g, size_t g_words, const uint32_t *records, size_t words, const uint8_t *text, size_t n, size_t tables, size_t counts) {
+    dirty(&ours, 0, 0), dirty(&limits, 0, 0);
+    uint64_t a = lomphachit_measure(g, g_words, records, words, text, n, ours.tables, tables, ours.counts, counts);
+    uint64_t b = limit_measure(g, g_words, records, words, text, n, limits.tables, tables, limits.counts, counts);
+    measures++, measure_answers[lomphachit_refusal_of(a)]++;
+    if (a != b || !same_room(0, 0)) differs("measuring", text, n, 0, a, b);
+}
+
 static uint64_t hold_write(const uint32_t *g, size_t g_words, const uint32_t *records, size_t words, const uint8_t *text, size_t n, size_t room, size_t tables, size_t counts) {
     dirty(&ours, 0, room), dirty(&limits, 0, room);
     uint64_t a = lomphachit_write(g, g_words, records, words, text, n, ours.out, room, ours.tables, tables, ours.counts, counts);
@@ -102,6 +110,7 @@ static void write_with_changed(const uint32_t *records, size_t words, const uint
     memcpy(changed_given, given, sizeof given);
     for (size_t many = dice(3); many; many--) change_given(changed_given, given_words, n);
     if (!dice(8)) g_words = dice(2) ? dice(given_words) : given_words + dice(4);
+    hold_measure(changed_given, g_words, records, words, text, n, LOMPHACHIT_TABLES, LOMPHACHIT_COUNTS);
     hold_write(changed_given, g_words, records, words, text, n, dice(4) ? LOMPHACHIT_OCTETS : dice(n + 2), LOMPHACHIT_TABLES, LOMPHACHIT_COUNTS);
 }
 
@@ -123,14 +132,18 @@ static void change_event(uint32_t *records, size_t events, size_t n) {
 static void hold_list(const uint32_t *records, size_t events, const uint8_t *text, size_t n, size_t changes) {
     uint64_t answer = write_in(records, RECORD * events, text, n, LOMPHACHIT_OCTETS + 1);
     size_t used = lomphachit_count_of(answer);
+    hold_measure(given, given_words, records, RECORD * events, text, n, LOMPHACHIT_TABLES, LOMPHACHIT_COUNTS);
     if (used) write_in(records, RECORD * events, text, n, used), write_in(records, RECORD * events, text, n, used - 1);
     write_in(records, RECORD * events, text, n, dice(n + 2));
     write_in(records, RECORD * dice(events + 1) + dice(RECORD), text, n, n + 8);
-    hold_write(given, given_words, records, RECORD * events, text, n, n, LOMPHACHIT_TABLES - dice(2), LOMPHACHIT_COUNTS + 1 - dice(2));
+    size_t tables = LOMPHACHIT_TABLES - dice(2), counts = LOMPHACHIT_COUNTS + 1 - dice(2);
+    hold_measure(given, given_words, records, RECORD * events, text, n, tables, counts);
+    hold_write(given, given_words, records, RECORD * events, text, n, n, tables, counts);
     for (size_t i = 0; i < changes && events; i++) {
         if (given_words > LOMPHACHIT_COUNTS) write_with_changed(records, RECORD * events, text, n);
         memcpy(changed_list, records, RECORD * events * sizeof *records);
         for (size_t many = 1 + dice(3); many; many--) change_event(changed_list, events, n);
+        hold_measure(given, given_words, changed_list, RECORD * events, text, n, LOMPHACHIT_TABLES, LOMPHACHIT_COUNTS);
         write_in(changed_list, RECORD * events, text, n, dice(4) ? LOMPHACHIT_OCTETS : used - dice(used / 2 + 1));
     }
 }
@@ -239,7 +252,7 @@ int main(int argc, char **argv) {
             hold_list(list, take(list, sizeof list) / RECORD / sizeof *list, document, n, changes / LIST_SHARE);
         }
     }
-    show("reads", read_answers), show("writes", write_answers);
-    printf("hold: %lu checks, %lu reads and %lu writes, %lu differences between archive and limit\n", checks, reads, writes, differences);
+    show("reads", read_answers), show("writes", write_answers), show("measures", measure_answers);
+    printf("hold: %lu checks, %lu reads, %lu writes and %lu measures, %lu differences between archive and limit\n", checks, reads, writes, measures, differences);
     return differences != 0;
 }

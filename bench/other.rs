@@ -2,7 +2,7 @@
 //! same words and octets left in room that is lent exactly as long as the document needs it. `compare` itself keeps events, tables and fields in vectors and hash
 //! maps of its own for each call; what is added here is only the way of its results into the lent room.
 //!
-//! usage: other check|read|write CALLS < octets    # a digest of what is left in the lent room on standard output, as `ours` prints it
+//! usage: other check|read|write|measure CALLS < octets    # a digest of what is left in the lent room on standard output, as `ours` prints it
 #![allow(dead_code)]
 #[path = "../compare/src/forms.rs"]
 mod forms;
@@ -78,9 +78,20 @@ fn read(octets: &[u8], records: &mut [u32], known: &mut Known) -> Option<usize> 
     Some(done.events.len())
 }
 
+fn events_of(records: &[u32]) -> Vec<Option<Event>> {
+    records.chunks_exact(RECORD).map(Event::from_record).collect()
+}
+
+/// The number of octets.
+fn measure(given: &[u32], records: &[u32], text: &[u8], known: &mut Known) -> Option<usize> {
+    let (octets, tables) = writer::measure(given, &events_of(records), text).ok()?;
+    known.fill(&tables);
+    Some(octets)
+}
+
 /// The number of octets, which are filled in.
 fn write(given: &[u32], records: &[u32], text: &[u8], out: &mut [u8], known: &mut Known) -> Option<usize> {
-    let events: Vec<Option<Event>> = records.chunks_exact(RECORD).map(Event::from_record).collect();
+    let events = events_of(records);
     let done = writer::write(given, &events, text, out.len()).ok()?;
     let n = done.octets.len();
     out[..n].copy_from_slice(&done.octets);
@@ -109,6 +120,7 @@ fn main() {
         let right = match arguments[1].as_str() {
             "check" => check(&octets) == Some(events),
             "read" => read(&octets, &mut records, &mut known) == Some(events),
+            "measure" => measure(&given, &records, &octets, &mut known) == Some(octets.len()),
             _ => write(&given, &records, &octets, &mut out, &mut known) == Some(octets.len()),
         };
         if !right {

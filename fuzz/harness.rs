@@ -1,4 +1,4 @@
-//! One input of the fuzzer: both readers on it. A difference ends the process.
+//! One input of the fuzzer: both readers on it, and measuring and writing on its events. A difference ends the process.
 #![no_main]
 use compare::{differ, kept};
 use std::fs::File;
@@ -20,7 +20,7 @@ pub unsafe extern "C" fn LLVMFuzzerTestOneInput(data: *const u8, size: usize) ->
     let input = std::slice::from_raw_parts(data, size);
     keep(input).expect("the input at hand is written");
     if let Some((lent, document)) = kept::input(input) {
-        if let Err(message) = differ::read(document, &lent).0 {
+        if let Err(message) = differ::document(document, &lent).0 {
             eprintln!("DIFFERENCE {message}");
             std::process::abort();
         }

@@ -13,7 +13,22 @@
            if (record[0] == LOMPHACHIT_KIND_TEXT) fwrite(octets + value[1], 1, value[2], stdout);
        }
 
-   These are the three functions of the archive liblomphachit.a, for C and C++. They read and write
+   Writing its events again, without a head: measure first, lend that much, then write.
+
+       static const uint32_t none[1] = {0};
+       size_t words = (size_t)lomphachit_count_of(answer) * LOMPHACHIT_RECORD;
+       answer = lomphachit_measure(none, 0, records, words, octets, octets_len,
+                                   tables, LOMPHACHIT_TABLES, counts, LOMPHACHIT_COUNTS);
+       if (lomphachit_refusal_of(answer) != LOMPHACHIT_ACCEPTED) return 1;
+       size_t out_len = lomphachit_count_of(answer);
+       uint8_t *out = malloc(out_len);
+       if (!out) return 2;
+       lomphachit_write(none, 0, records, words, octets, octets_len, out, out_len,
+                        tables, LOMPHACHIT_TABLES, counts, LOMPHACHIT_COUNTS);
+       fwrite(out, 1, out_len, stdout);
+       free(out);
+
+   These are the four functions of the archive liblomphachit.a, for C and C++. They read and write
    the documents of ITU-T X.891 that the link to the switches carries.
 
    Every function takes all input: there is no document, list or length of lent room that it may
@@ -137,7 +152,8 @@ enum lomphachit_refusal {
     LOMPHACHIT_REFUSED_FULL = 12,
     /* Elements over 32 deep. */
     LOMPHACHIT_REFUSED_DEPTH = 13,
-    /* Event room or output full; tables or counts of another length. */
+    /* Event room or output full, or a document over 16,384 octets to be written; tables or counts
+       of another length. */
     LOMPHACHIT_REFUSED_ROOM = 14,
     /* No root, second root, empty list, a head that lists nothing, prefix without namespace in a
        name, octets after the end. */
@@ -178,11 +194,40 @@ uint64_t lomphachit_read(const uint8_t *octets, size_t octets_len,
                          uint32_t *tables, size_t tables_len,
                          uint32_t *counts, size_t counts_len);
 
+/* How many octets lomphachit_write writes for these given words, records and text area, with the
+   tables and counts that it leaves, and without output: for a caller that must know the length
+   first. What given words and records are, and where a refusal's place is, stands at
+   lomphachit_write below. The answer is taken apart by the functions below; its count is that of
+   the octets, 16,384 at most.
+
+   Promised:
+   - It answers what lomphachit_write answers with 16,384 octets of output or more, and leaves the
+     same tables and counts. So it never answers ROOM for want of output, and does for a document
+     over 16,384 octets.
+   - Where it gives n octets, lomphachit_write accepts exactly if n or more are lent. Then it gives
+     n too, the same n octets in every such room, and the same tables and counts. With fewer it
+     answers ROOM, at the first event that does not fit.
+   - What it refuses, lomphachit_write refuses whatever is lent: the same at the same place, or
+     ROOM if an event before that, or the head, does not fit.
+   - Every word lent is determined. On acceptance: the tables' rows (places in the text area) and
+     their counts, and 0 beyond the part used. On a refusal: 0 in all tables_len and counts_len
+     words.
+   - Nothing that stood there before is read, and nothing of it is left.
+   - Given words, records and text are only read.
+
+   Refusals: SIZE, TEXT, REPEAT (of given tables only), FULL, DEPTH, ROOM, EVENT. */
+uint64_t lomphachit_measure(const uint32_t *given, size_t given_len,
+                            const uint32_t *records, size_t records_len,
+                            const uint8_t *text, size_t text_len,
+                            uint32_t *tables, size_t tables_len,
+                            uint32_t *counts, size_t counts_len);
+
 /* Writes the document of the events in the records, whose strings are stretches of the text area,
-   into the output, tables and counts. There are records_len / 13 records. At most 16,384 octets of
-   the output are used. The answer is taken apart by the functions below; its count is that of the
-   octets. The place of a refusal is an event's number from 0, or the number of events where the
-   list stops too soon or the last end has no room.
+   into the output, tables and counts. There are records_len / 13 records. Measure first: for the
+   same words and text lomphachit_measure gives the octets that are enough. At most 16,384 are used.
+   The answer is taken apart by the functions below; its count is that of the octets. The place of a
+   refusal is an event's number from 0, or the number of events where the list stops too soon or the
+   last end has no room.
 
    The words `given` are the tables that the document's head lists. No words, or ten that are 0, are
    none, and the document has no head. Otherwise they are ten counts in the order of the tables, and
@@ -193,8 +238,9 @@ uint64_t lomphachit_read(const uint8_t *octets, size_t octets_len,
    EVENT, TEXT, REPEAT, FULL, ROOM, the first of these that is due for any of them.
 
    Promised:
-   - It accepts every list that none of the refusals below is due for. X.891's rules write these
-     octets from these events, and lomphachit_read gives back the same events and tables.
+   - It accepts every list that none of the refusals below is due for: those that lomphachit_measure
+     accepts, where as many octets are lent as it says. X.891's rules write these octets from these
+     events, and lomphachit_read gives back the same events and tables.
    - Every octet and word lent is determined. On acceptance: the document, the tables' rows (places
      in the text area) and their counts, and 0 beyond the part used. On a refusal: 0 in all out_len
      octets and all tables_len and counts_len words.
@@ -212,7 +258,7 @@ uint64_t lomphachit_write(const uint32_t *given, size_t given_len,
                           uint32_t *tables, size_t tables_len,
                           uint32_t *counts, size_t counts_len);
 
-/* The parts of an answer of any of the three; a check's answer has the count 0. */
+/* The parts of an answer of any of the four; a check's answer has the count 0. */
 
 /* LOMPHACHIT_ACCEPTED, or which refusal. */
 static inline uint32_t lomphachit_refusal_of(uint64_t answer) { return (uint32_t)(answer % 32); }
@@ -220,7 +266,7 @@ static inline uint32_t lomphachit_refusal_of(uint64_t answer) { return (uint32_t
 /* Where, for a refusal; 0 for accepted. */
 static inline uint32_t lomphachit_place_of(uint64_t answer) { return (uint32_t)answer / 32; }
 
-/* How many events were read or octets written; 0 for a refusal. */
+/* How many events were read, or octets measured or written; 0 for a refusal. */
 static inline uint32_t lomphachit_count_of(uint64_t answer) { return (uint32_t)(answer >> 32); }
 
 /* The first word of entry `number`, from 1 to the table's count, of a table. */

@@ -1,4 +1,4 @@
-/* Uses include/lomphachit.h, as C and as C++: reads two documents that have all kinds and tags, writes one again, and takes answers apart. Each thing that is
+/* Uses include/lomphachit.h, as C and as C++: reads two documents that have all kinds and tags, measures and writes one again, and takes answers apart. Each thing that is
    otherwise than it should be is printed and ends with status 1. */
 #include "lomphachit.h"
 
@@ -64,27 +64,43 @@ static void rest(void) {
 /* A pointer is never null, even where nothing is given. */
 static const uint32_t NONE[1] = {0};
 
-/* The document is its own events' text area. */
+/* The answer of measuring the first so many events of the sample, which is its own text area. */
+static uint64_t measure(const uint32_t *given, size_t given_len, size_t events) {
+    return lomphachit_measure(given, given_len, records, events * LOMPHACHIT_RECORD, SAMPLE, OCTETS, tables, LOMPHACHIT_TABLES, counts, LOMPHACHIT_COUNTS);
+}
+
+/* That of writing them into so many octets. */
+static uint64_t write_into(size_t out_len, const uint32_t *given, size_t given_len, size_t events) {
+    return lomphachit_write(given, given_len, records, events * LOMPHACHIT_RECORD, SAMPLE, OCTETS, out, out_len, tables, LOMPHACHIT_TABLES, counts, LOMPHACHIT_COUNTS);
+}
+
+/* Measured, and written into that much and into an octet less. */
+static void written(const uint32_t *given, size_t given_len, const uint8_t *wanted, size_t wanted_len) {
+    uint64_t a = measure(given, given_len, EVENTS);
+    is("the answer of measuring", lomphachit_refusal_of(a), LOMPHACHIT_ACCEPTED), is("its count", lomphachit_count_of(a), wanted_len);
+    is("the measured count of LOCAL NAME", counts[LOMPHACHIT_TABLE_LOCAL_NAME], 2);
+    string("the measured ATTRIBUTE VALUE 1", tables + lomphachit_row(LOMPHACHIT_TABLE_ATTRIBUTE_VALUE, 1), 12, 1, 0);
+    out[wanted_len] = 0xAB;
+    is("the answer of writing", write_into(lomphachit_count_of(a), given, given_len, EVENTS), a);
+    is("a difference of what is written", (uint64_t)!!memcmp(out, wanted, wanted_len), 0), is("an octet behind it", out[wanted_len], 0xAB);
+    is("the count of LOCAL NAME", counts[LOMPHACHIT_TABLE_LOCAL_NAME], 2), is("the check of it", lomphachit_check(out, wanted_len), LOMPHACHIT_ACCEPTED);
+    is("an octet less", lomphachit_refusal_of(write_into(wanted_len - 1, given, given_len, EVENTS)), LOMPHACHIT_REFUSED_ROOM), is("an octet after a refusal", out[0], 0);
+}
+
 static void writing(void) {
-    uint64_t a = lomphachit_write(NONE, 0, records, EVENTS * LOMPHACHIT_RECORD, SAMPLE, OCTETS, out, sizeof out, tables, LOMPHACHIT_TABLES, counts, LOMPHACHIT_COUNTS);
-    is("the answer of writing", lomphachit_refusal_of(a), LOMPHACHIT_ACCEPTED), is("its count", lomphachit_count_of(a), OCTETS);
-    is("a difference of what is written", (uint64_t)!!memcmp(out, SAMPLE, OCTETS), 0);
-    a = lomphachit_write(NONE, 0, records, 3 * LOMPHACHIT_RECORD, SAMPLE, OCTETS, out, sizeof out, tables, LOMPHACHIT_TABLES, counts, LOMPHACHIT_COUNTS);
+    written(NONE, 0, SAMPLE, OCTETS);
+    uint64_t a = measure(NONE, 0, 3);
     is("a list that stops", lomphachit_refusal_of(a), LOMPHACHIT_REFUSED_EVENT), is("its place", lomphachit_place_of(a), 3), is("its count", lomphachit_count_of(a), 0);
-    is("an octet after a refusal", out[0], 0), is("a count after a refusal", counts[0], 0);
+    is("a count after a refusal of measuring", counts[0], 0), is("a row after it", tables[lomphachit_row(LOMPHACHIT_TABLE_LOCAL_NAME, 1) + 1], 0);
+    is("writing a list that stops", write_into(sizeof out, NONE, 0, 3), a), is("an octet after a refusal", out[0], 0), is("a count after a refusal", counts[0], 0);
 }
 
 /* The sample behind a head that lists its names and its value. */
 static void listing(void) {
     static const uint32_t given[] = {0, 0, 2, 0, 0, 1, 0, 0, 1, 1, LOMPHACHIT_TAG_STRETCH, 7, 1, LOMPHACHIT_TAG_STRETCH, 10, 1, LOMPHACHIT_TAG_STRETCH, 12, 1, 0, 0, 1, 0, 0, 2};
     static const uint8_t wanted[] = {0xE0, 0, 0, 1, 0x20, 0, 0x93, 1, 0, 'a', 0, 'b', 0, 0, 'c', 0, 0, 0, 0, 0, 1, 0x40, 0, 0x80, 0xF0, 0x91, 'h', 'i', 0xFF};
-    uint64_t a = lomphachit_read(SAMPLE, OCTETS, records, EVENTS * LOMPHACHIT_RECORD, tables, LOMPHACHIT_TABLES, counts, LOMPHACHIT_COUNTS);
-    a = lomphachit_write(given, sizeof given / 4, records, EVENTS * LOMPHACHIT_RECORD, SAMPLE, OCTETS, out, sizeof out, tables, LOMPHACHIT_TABLES, counts, LOMPHACHIT_COUNTS);
-    is("the answer of writing a head", lomphachit_refusal_of(a), LOMPHACHIT_ACCEPTED), is("its count", lomphachit_count_of(a), sizeof wanted);
-    is("a difference of what is written with a head", (uint64_t)!!memcmp(out, wanted, sizeof wanted), 0);
-    is("the count of LOCAL NAME", counts[LOMPHACHIT_TABLE_LOCAL_NAME], 2), is("the check of a head", lomphachit_check(out, sizeof wanted), LOMPHACHIT_ACCEPTED);
-    a = lomphachit_write(given, 9, records, EVENTS * LOMPHACHIT_RECORD, SAMPLE, OCTETS, out, sizeof out, tables, LOMPHACHIT_TABLES, counts, LOMPHACHIT_COUNTS);
-    is("words that give no tables", a, LOMPHACHIT_REFUSED_EVENT);
+    written(given, sizeof given / 4, wanted, sizeof wanted);
+    is("words that give no tables", measure(given, 9, EVENTS), LOMPHACHIT_REFUSED_EVENT), is("writing with them", write_into(sizeof out, given, 9, EVENTS), LOMPHACHIT_REFUSED_EVENT);
 }
 
 static void checking(void) {

@@ -1,12 +1,14 @@
-/* Reads event lists, one to a line, and prints for each what lomphachit_write answers and leaves in lent room that was full of other things. Each list is
-   written twice on the same room, and what was written is read back. Then it is written in two other places: all that is lent starts, and then ends, at a page
-   that may not be touched. A difference, an octet or word that is not 0 behind the part used or after a refusal, and anything changed that was not lent to be changed,
-   is printed as a fault and ends with status 1.
+/* Reads event lists, one to a line, and prints for each what lomphachit_write answers and leaves in lent room that was full of other things, and what lomphachit_measure
+   does. Each list is written twice on the same room, and what was written is read back. Then it is written in two other places: all that is lent starts, and then ends,
+   at a page that may not be touched. It is measured in the same four ways, which must be what writing gives with room for the longest document; and written with exactly as
+   many octets as were measured, and with one less. A difference, an octet or word that is not 0 behind the part used or after a refusal, and anything changed that was not
+   lent to be changed, is printed as a fault and ends with status 1.
 
    usage: writer < lines
    A line has, with one blank between: the octets and the table and count words to lend, the text area in hex ('-' for none), how many words give tables and these, the
    words of the records.
-   A line of output for each: "ok", the octets, the ten counts with commas between; or "refused", the number, the place. */
+   Two lines of output for each: "ok", the octets, the ten counts with commas between; or "refused", the number, the place. Then "measured", and the same with the number of
+   octets in place of the octets. */
 #define _GNU_SOURCE
 #include "fenced.h"
 #include <string.h>
@@ -14,8 +16,9 @@
 uint64_t lomphachit_read(const uint8_t *octets, size_t n, uint32_t *records, size_t r, uint32_t *tables, size_t t, uint32_t *counts, size_t c);
 uint64_t lomphachit_write(const uint32_t *given, size_t g, const uint32_t *records, size_t r, const uint8_t *text, size_t n, uint8_t *out, size_t o, uint32_t *tables,
                           size_t t, uint32_t *counts, size_t c);
+uint64_t lomphachit_measure(const uint32_t *given, size_t g, const uint32_t *records, size_t r, const uint8_t *text, size_t n, uint32_t *tables, size_t t, uint32_t *counts, size_t c);
 
-enum { RECORD = 13, STRINGS = 4, TABLES = 7680, COUNTS = 10, ROWS = 256, NAMES = 8, EVENTS = 1 << 15, GIVEN = 1 << 14, OCTETS = 1 << 16, FENCE = 16 };
+enum { RECORD = 13, STRINGS = 4, TABLES = 7680, COUNTS = 10, ROWS = 256, NAMES = 8, EVENTS = 1 << 15, GIVEN = 1 << 14, OCTETS = 1 << 16, FENCE = 16, LONGEST = 16384, ROOM = 14 };
 static const char *const XML = "xml", *const XMLNS = "http://www.w3.org/XML/1998/namespace";
 
 /* What one call is lent, and what it is lent to read only. Behind each lent part stands a fence that no call may change. */
@@ -29,7 +32,7 @@ struct list {
     uint32_t given[GIVEN], records[EVENTS * RECORD];
     uint8_t text[OCTETS];
 };
-static struct room first, second, dirt;
+static struct room first, second, dirt, measured, whole;
 static struct list list, before;
 static uint32_t back[EVENTS * RECORD], back_tables[TABLES], back_counts[COUNTS];
 static int faults;
@@ -97,6 +100,17 @@ static uint64_t write_list(struct room *r) {
     return lomphachit_write(list.given, list.g, list.records, list.r, list.text, list.n, r->out, r->o, r->tables, r->t, r->counts, r->c);
 }
 
+static uint64_t measure_list(struct room *r) {
+    return lomphachit_measure(list.given, list.g, list.records, list.r, list.text, list.n, r->tables, r->t, r->counts, r->c);
+}
+
+/* On dirty room with so many octets of output. */
+static uint64_t write_in(struct room *r, size_t octets) {
+    *r = dirt;
+    r->o = octets;
+    return write_list(r);
+}
+
 /* A copy at a page that may not be touched. */
 static void *placed(struct fenced f, const void *from, size_t octets, int at_end) {
     void *to = fenced_part(f, octets, at_end);
@@ -104,8 +118,8 @@ static void *placed(struct fenced f, const void *from, size_t octets, int at_end
     return to;
 }
 
-/* Once more in another place; what is lent is still dirty. */
-static void write_elsewhere(uint64_t a, int at_end) {
+/* Written, with the answer a, and measured, with the answer m, once more in another place; what is lent is still dirty. */
+static void elsewhere(uint64_t a, uint64_t m, int at_end) {
     static struct fenced of[6];
     if (!of[0].first) {
         const size_t most[] = {sizeof list.given, sizeof list.records, OCTETS, OCTETS, sizeof first.tables, sizeof first.counts};
@@ -117,6 +131,42 @@ static void write_elsewhere(uint64_t a, int at_end) {
     uint32_t *tables = placed(of[4], dirt.tables, first.t * 4, at_end), *counts = placed(of[5], dirt.counts, first.c * 4, at_end);
     uint64_t b = lomphachit_write(given, list.g, records, list.r, text, list.n, out, first.o, tables, first.t, counts, first.c);
     if (a != b || memcmp(out, first.out, first.o) || memcmp(tables, first.tables, first.t * 4) || memcmp(counts, first.counts, first.c * 4)) fault("the writing in another place differs");
+    placed(of[4], dirt.tables, first.t * 4, at_end), placed(of[5], dirt.counts, first.c * 4, at_end);
+    b = lomphachit_measure(given, list.g, records, list.r, text, list.n, tables, first.t, counts, first.c);
+    if (m != b || memcmp(tables, measured.tables, first.t * 4) || memcmp(counts, measured.counts, first.c * 4)) fault("the measuring in another place differs");
+}
+
+static int same_left(const struct room *a, const struct room *b) { return !memcmp(a->tables, b->tables, a->t * 4) && !memcmp(a->counts, b->counts, a->c * 4); }
+
+/* Measured on dirty room, again on what that left, and beside writing with room for the longest document: answer, tables and counts, and nothing else changed. */
+static uint64_t measure(void) {
+    measured = dirt;
+    uint64_t m = measure_list(&measured);
+    second = measured;
+    if (measure_list(&second) != m || memcmp(&measured, &second, sizeof second)) fault("the second measuring differs");
+    if (memcmp(measured.out, dirt.out, sizeof dirt.out) || memcmp(measured.tables + dirt.t, dirt.tables + dirt.t, sizeof dirt.tables - 4 * dirt.t)
+        || memcmp(measured.counts + dirt.c, dirt.counts + dirt.c, sizeof dirt.counts - 4 * dirt.c))
+        fault("measuring changes what is not lent");
+    if (write_in(&whole, LONGEST) != m || !same_left(&measured, &whole)) fault("measuring is not writing with room for the longest document");
+    return m;
+}
+
+/* The octets that were measured are enough, and one less is not: the end of the root and of the document share the last octet, FF, and the last event is refused; or the
+   document's end has an octet of its own, F0, and the list's end is. */
+static void write_measured(size_t n) {
+    if (write_in(&second, n) != (uint64_t)n << 32 || !same_left(&measured, &second) || memcmp(second.out, whole.out, n) || memcmp(second.out + n, dirt.out + n, FENCE))
+        fault("the octets measured are not what is written");
+    size_t place = list.r / RECORD - (whole.out[n - 1] == 0xFF);
+    if (write_in(&second, n - 1) != place * 32 + ROOM) fault("an octet less than was measured is not refused where it should be");
+    if (!all_zero(second.out, 0, n - 1) || !all_zero(second.tables, 0, second.t * 4) || !all_zero(second.counts, 0, second.c * 4)) fault("a refusal of an octet less leaves something");
+    if (memcmp(second.out + n - 1, dirt.out + n - 1, FENCE)) fault("something is written behind an octet less");
+}
+
+/* The answer in the line's own room is that of measuring, or ROOM at an event that does not fit, which is none behind one that is refused for something else. */
+static int related(uint64_t a, uint64_t m) {
+    uint32_t refusal = (uint32_t)a % 32, fits = !(uint32_t)m && m >> 32 <= first.o;
+    if (fits || first.o >= LONGEST) return a == m;
+    return !(uint32_t)m ? refusal == ROOM : a == m || (refusal == ROOM && (uint32_t)a / 32 <= (uint32_t)m / 32);
 }
 
 /* What both calls left, with the first one's answer. */
@@ -134,15 +184,24 @@ static void judge(uint64_t a) {
     read_back(used);
 }
 
-static void print(uint64_t a) {
-    if ((uint32_t)a) {
-        printf("refused %u %u\n", (uint32_t)a % 32, (uint32_t)a / 32);
-        return;
-    }
-    printf("ok ");
-    for (size_t i = 0; i < a >> 32; i++) printf("%02x", first.out[i]);
-    for (int k = 0; k < COUNTS; k++) printf("%c%u", k ? ',' : ' ', first.counts[k]);
+static void print_counts(const uint32_t *counts) {
+    for (int k = 0; k < COUNTS; k++) printf("%c%u", k ? ',' : ' ', counts[k]);
     printf("\n");
+}
+
+static int print_refusal(uint64_t a) {
+    if ((uint32_t)a) printf("refused %u %u\n", (uint32_t)a % 32, (uint32_t)a / 32);
+    return !!(uint32_t)a;
+}
+
+static void print(uint64_t a, uint64_t m) {
+    if (!print_refusal(a)) {
+        printf("ok ");
+        for (size_t i = 0; i < a >> 32; i++) printf("%02x", first.out[i]);
+        print_counts(first.counts);
+    }
+    printf("measured ");
+    if (!print_refusal(m)) printf("ok %u", (uint32_t)(m >> 32)), print_counts(measured.counts);
 }
 
 static unsigned digit(char c) { return (unsigned)(c <= '9' ? c - '0' : c - 'a' + 10); }
@@ -174,8 +233,11 @@ int main(void) {
         second = first;
         if (write_list(&second) != a || memcmp(&first, &second, sizeof first)) fault("the second writing differs");
         judge(a);
-        write_elsewhere(a, 0), write_elsewhere(a, 1);
-        print(a);
+        uint64_t m = measure();
+        if (!(uint32_t)m) write_measured((size_t)(m >> 32));
+        if (!related(a, m)) fault("the writing in this room does not go with the measuring");
+        elsewhere(a, m, 0), elsewhere(a, m, 1);
+        print(a, m);
     }
     return faults != 0;
 }

@@ -1,4 +1,4 @@
-/* Given tables for the limit's write: judged as one thing, then written as the document's head. */
+/* Given tables for the limit's run over events: judged as one thing, then written as the document's head, or counted. */
 #ifndef LIMIT_GIVEN_H
 #define LIMIT_GIVEN_H
 
@@ -85,9 +85,7 @@ ALWAYS uint32_t add_given(struct run *run, const uint32_t *given) {
 }
 
 ALWAYS uint8_t *put_count(uint8_t *to, uint32_t n) {
-    if (n <= 128) *to++ = (uint8_t)(n - 1);
-    else *to++ = 0x80, *to++ = 0, *to++ = (uint8_t)(n - 129);
-    return to;
+    return n <= 128 ? put(to, n - 1) : put(put(put(to, 0x80), 0), n - 129);
 }
 
 ALWAYS uint8_t *put_listed(const struct run *run, uint8_t *to, uint32_t table, const uint32_t *entry) {
@@ -95,7 +93,7 @@ ALWAYS uint8_t *put_listed(const struct run *run, uint8_t *to, uint32_t table, c
         struct string x = {TAG(STRETCH), entry[1], entry[2], 0, 0};
         return spell(run, to, 0, table <= URI ? 2 : 5, &x);
     }
-    *to++ = (uint8_t)((entry[0] > 0) << 1 | (entry[1] > 0));
+    to = put(to, (entry[0] > 0) << 1 | (entry[1] > 0));
     for (int i = 0; i < ROW; i++)
         if (entry[i]) to = put_number(to, 0, 2, entry[i]);
     return to;
@@ -108,7 +106,8 @@ ALWAYS uint32_t put_head(struct run *run, struct hand *h, const uint32_t *given)
     for (uint32_t table = 0; table < COUNTS; table++) listed = listed << 1 | (given[table] > 0);
     uint8_t *from = room_for(run, h, 0), *to = from;
     const uint8_t opening[] = {0xE0, 0, 0, 1, 0x20, (uint8_t)(listed >> 8), (uint8_t)listed};
-    memcpy(to, opening, sizeof opening), to += sizeof opening;
+    if (KEEP) memcpy(to, opening, sizeof opening);
+    to += sizeof opening;
     if ((refusal = keep(run, h, from, to))) return refusal;
     for (uint32_t table = 0; table < COUNTS; table++) {
         if (!given[table]) continue;

@@ -20,6 +20,18 @@ extern "C" {
         counts: *mut u32,
         c: usize,
     ) -> u64;
+    fn lomphachit_measure(
+        given: *const u32,
+        g: usize,
+        records: *const u32,
+        r: usize,
+        text: *const u8,
+        n: usize,
+        tables: *mut u32,
+        t: usize,
+        counts: *mut u32,
+        c: usize,
+    ) -> u64;
 }
 
 const FENCE: usize = 8;
@@ -139,6 +151,37 @@ pub fn compare_read(octets: &[u8], wanted: &Outcome, lent: &Lent) -> Result<(), 
         judged.map_err(|e| format!("read, call {call}: {e}"))?;
         if !(records.fenced() && tables.fenced() && counts.fenced()) || before != octets {
             return Err(format!("read, call {call}: words outside of the lent room are changed"));
+        }
+    }
+    Ok(())
+}
+
+/// The same for measuring, which is lent so many table words and counts.
+pub fn compare_measure(given: &[u32], records: &[u32], text: &[u8], wanted: &Outcome, room: [usize; 2], seed: u32) -> Result<(), String> {
+    let mut tables = Room::dirty(room[0], seed ^ 0x5555);
+    let mut counts = Room::dirty(room[1], seed ^ 0x3333);
+    let before = (given.to_vec(), records.to_vec(), text.to_vec());
+    for call in 1..=2 {
+        let answer = unsafe {
+            lomphachit_measure(
+                given.as_ptr(),
+                given.len(),
+                records.as_ptr(),
+                records.len(),
+                text.as_ptr(),
+                text.len(),
+                tables.words.as_mut_ptr(),
+                tables.lent,
+                counts.words.as_mut_ptr(),
+                counts.lent,
+            )
+        };
+        let judged = same_answer(wanted.answer, answer)
+            .and_then(|_| same("tables", &wanted.tables, tables.left()))
+            .and_then(|_| same("counts", &wanted.counts, counts.left()));
+        judged.map_err(|e| format!("measure, call {call}: {e}"))?;
+        if !(tables.fenced() && counts.fenced()) || before.0 != given || before.1 != records || before.2 != text {
+            return Err(format!("measure, call {call}: words outside of the lent room are changed"));
         }
     }
     Ok(())

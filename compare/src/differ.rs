@@ -19,12 +19,59 @@ pub fn read(octets: &[u8], lent: &Lent) -> Compared {
     (archive::compare_read(octets, &wanted, lent), refusal)
 }
 
-pub fn write(l: &List, seed: u32) -> Compared {
+/// The refusals of a list: of writing it with the room that it has, of measuring it, and, where that accepts it, of writing it with an octet less than was measured.
+#[derive(Default)]
+pub struct Refusals {
+    pub write: Option<Refusal>,
+    pub measure: Option<Refusal>,
+    pub less: Option<Refusal>,
+}
+
+/// A list is written with the room that it has, measured, and written with exactly the octets measured and with one less.
+pub fn list(l: &List, seed: u32) -> (Result<(), String>, Refusals) {
+    let mut found = Refusals::default();
+    let compared = list_into(l, seed, &mut found);
+    (compared, found)
+}
+
+fn list_into(l: &List, seed: u32, found: &mut Refusals) -> Result<(), String> {
+    let written = write(l, l.out, seed);
+    found.write = written.1;
+    written.0?;
+    let (wanted, refusal) = writer::measured(&l.given.words(), &l.words(), &l.text, [l.tables, l.counts]);
+    found.measure = refusal;
+    archive::compare_measure(&l.given.words(), &l.words(), &l.text, &wanted, [l.tables, l.counts], seed)?;
+    if refusal.is_some() {
+        return Ok(());
+    }
+    let octets = (wanted.answer >> 32) as usize;
+    let (just, less) = (write(l, octets, seed), write(l, octets - 1, seed));
+    found.less = less.1;
+    just.0.and(less.0)?;
+    // Of the other program itself: what it measures is what it writes.
+    match (just.1, less.1) {
+        (None, Some(Refusal { number: 14, .. })) => Ok(()),
+        _ => Err(format!("the other program measures {octets} octets, and does not write so many")),
+    }
+}
+
+/// A list in so many octets.
+fn write(l: &List, out: usize, seed: u32) -> Compared {
     let words = l.words();
-    let (wanted, refusal) = writer::outcome(&l.given.words(), &words, &l.text, [l.out, l.tables, l.counts]);
-    let compared = archive::compare_write(&l.given.words(), &words, &l.text, &wanted, [l.out, l.tables, l.counts], seed);
+    let (wanted, refusal) = writer::outcome(&l.given.words(), &words, &l.text, [out, l.tables, l.counts]);
+    let compared = archive::compare_write(&l.given.words(), &words, &l.text, &wanted, [out, l.tables, l.counts], seed);
     let own = if refusal.is_none() { reads_back(l, &wanted) } else { Ok(()) };
     (own.and(compared), refusal)
+}
+
+/// A document that is read with room enough, and whose events are then measured and written as a list of their own.
+pub fn document(octets: &[u8], lent: &Lent) -> Compared {
+    let compared = read(octets, lent);
+    if compared.0.is_err() {
+        return compared;
+    }
+    let again = reader::read(octets, 2 * MOST).map_or(Ok(()), |done| list(&List::of(&done.events, octets.to_vec()), lent.seed).0);
+    (again, compared.1)
 }
 
 /// What our own writer writes, our own reader reads back as the same events: a fault in both alike would have to be a pair.

@@ -32,7 +32,7 @@ fn compare_one(octets: &[u8], tally: &mut Tally) -> bool {
     let lent = Lent { records: 30 * RECORD, tables: TABLES, counts: 10, calls: 1, seed: 1 };
     let (compared, refusal) = differ::read(octets, &lent);
     tally.count("heads, cut or with another octet", "read", refusal);
-    compared.map_err(|e| report::read(octets, &lent, &e)).is_ok()
+    compared.map_err(|e| report::read(octets, &lent, &e, differ::read)).is_ok()
 }
 
 /// Document number `i`; false at a difference.

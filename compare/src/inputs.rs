@@ -67,8 +67,13 @@ pub fn compare(i: u64, seed: u64, tally: &mut Tally) -> bool {
 fn compare_list(dice: &mut Dice, tally: &mut Tally) -> bool {
     let l = lists::list(dice);
     let dirt = dice.next() as u32;
-    let (compared, refusal) = differ::write(&l, dirt);
-    tally.count("event lists", "write", refusal);
+    let (compared, refusals) = differ::list(&l, dirt);
+    tally.count("event lists", "write", refusals.write);
+    tally.answer("measure", refusals.measure);
+    if refusals.measure.is_none() {
+        tally.answer("write, the octets measured", None);
+        tally.answer("write, an octet less", refusals.less);
+    }
     compared.map_err(|e| report::write(&l, dirt, &e)).is_ok()
 }
 
@@ -81,5 +86,5 @@ fn compare_document(dice: &mut Dice, tally: &mut Tally) -> bool {
         println!("DIFFERENCE the other program refuses a document made by the rules: {}", report::hex(&octets));
         return false;
     }
-    compared.map_err(|e| report::read(&octets, &lent, &e)).is_ok()
+    compared.map_err(|e| report::read(&octets, &lent, &e, differ::read)).is_ok()
 }

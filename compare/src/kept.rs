@@ -24,11 +24,11 @@ pub fn compare(files: &[&str], tally: &mut Tally) -> Result<bool, String> {
     for file in files {
         let octets = std::fs::read(file).map_err(|e| format!("{file}: {e}"))?;
         let (lent, document) = input(&octets).ok_or_else(|| format!("{file} is empty"))?;
-        let (compared, refusal) = differ::read(document, &lent);
+        let (compared, refusal) = differ::document(document, &lent);
         tally.count("kept by the fuzzer", "read", refusal);
         if let Err(e) = compared {
             println!("in {file}");
-            report::read(document, &lent, &e);
+            report::read(document, &lent, &e, differ::document);
             return Ok(false);
         }
     }

@@ -1,6 +1,6 @@
 //! A difference in print: the shortest input that shows it, and the room lent.
 use crate::archive::Lent;
-use crate::differ;
+use crate::differ::{self, Compared};
 use crate::lists::given::Given;
 use crate::lists::List;
 use crate::shrink;
@@ -11,17 +11,17 @@ pub fn hex(octets: &[u8]) -> String {
     octets.iter().map(|o| format!("{o:02x}")).collect()
 }
 
-pub fn read(octets: &[u8], lent: &Lent, message: &str) {
+pub fn read(octets: &[u8], lent: &Lent, message: &str, compare: fn(&[u8], &Lent) -> Compared) {
     println!("DIFFERENCE {message}");
-    let short = shrink::octets(octets, &starts(), &|o| differ::read(o, lent).0.is_err());
+    let short = shrink::octets(octets, &starts(), &|o| compare(o, lent).0.is_err());
     println!("shortest: {}", hex(&short));
     println!("lent words: records {}, tables {}, counts {}", lent.records, lent.tables, lent.counts);
-    println!("there: {}", differ::read(&short, lent).0.unwrap_err());
+    println!("there: {}", compare(&short, lent).0.unwrap_err());
 }
 
 pub fn write(l: &List, seed: u32, message: &str) {
     println!("DIFFERENCE {message}");
-    let differs = |l: &List| differ::write(l, seed).0.is_err();
+    let differs = |l: &List| differ::list(l, seed).0.is_err();
     let given = fewer(l, &differs);
     let with = |records: &[Record], text: &[u8]| List { given: given.clone(), records: records.to_vec(), text: text.to_vec(), ..*l };
     let records = shrink::shorter(&l.records, &|r| differs(&with(r, &l.text)));
@@ -32,7 +32,7 @@ pub fn write(l: &List, seed: u32, message: &str) {
     println!("shortest, text: {}", hex(&text));
     short.records.iter().for_each(|r| println!("shortest, record: {r:?}"));
     println!("lent: output {}, tables {}, counts {}", l.out, l.tables, l.counts);
-    println!("there: {}", differ::write(&with(&short.records, &text), seed).0.unwrap_err());
+    println!("there: {}", differ::list(&with(&short.records, &text), seed).0.unwrap_err());
 }
 
 /// Given tables with fewer entries.

@@ -52,7 +52,7 @@ pub fn compare(start: &[u8], tally: &mut Tally) -> bool {
         let (compared, refusal) = differ::read(&octets, &lent);
         tally.count("tails of one and two octets", "read", refusal);
         if let Err(e) = compared {
-            report::read(&octets, &lent, &e);
+            report::read(&octets, &lent, &e, differ::read);
             return false;
         }
     }

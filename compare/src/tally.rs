@@ -9,6 +9,11 @@ impl Tally {
     /// Counts an input of a kind, and the answer to the call that it was for.
     pub fn count(&mut self, kind: &'static str, call: &'static str, refusal: Option<Refusal>) {
         self.add(("inputs", kind, 0));
+        self.answer(call, refusal);
+    }
+
+    /// Counts the answer to a further call for the same input.
+    pub fn answer(&mut self, call: &'static str, refusal: Option<Refusal>) {
         self.add(refusal.map_or((call, "accepted", 0), |r| (call, r.field, r.number)));
     }
 

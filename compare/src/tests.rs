@@ -180,9 +180,21 @@ fn given(s: &str) -> Vec<u32> {
     counts.chain(tables.iter().flatten().flat_map(|e| entry(e))).collect()
 }
 
+fn records_of(list: &str) -> Vec<u32> {
+    events(list).iter().flat_map(|e| e.map_or([0; RECORD], |e| e.record())).collect()
+}
+
+/// Measuring is writing with room for the longest document, but for the octets.
+fn measures_too(given: &[u32], text: &str, list: &str) {
+    let (got, refusal) = writer::measured(given, &records_of(list), &unhex(text), [TABLES, 10]);
+    let (written, same) = writer::outcome(given, &records_of(list), &unhex(text), [MOST, TABLES, 10]);
+    assert_eq!((got.answer, refusal, got.tables, got.counts), (written.answer, same, written.tables, written.counts), "{list}");
+    assert!(got.out.is_empty() && written.out.len() as u64 == got.answer >> 32);
+}
+
 fn written(given: &[u32], text: &str, room: &str, list: &str) -> String {
-    let records: Vec<u32> = events(list).iter().flat_map(|e| e.map_or([0; RECORD], |e| e.record())).collect();
-    let (got, refusal) = writer::outcome(given, &records, &unhex(text), [room.parse().unwrap(), TABLES, 10]);
+    measures_too(given, text, list);
+    let (got, refusal) = writer::outcome(given, &records_of(list), &unhex(text), [room.parse().unwrap(), TABLES, 10]);
     match refusal {
         Some(x) => format!("refused {} {}", x.number, x.place),
         None => {

@@ -1,6 +1,7 @@
-//! Event lists for the writer: of documents, and made from a small pool of strings so that they come again; good and damaged, with and without given tables.
+//! Event lists for the writer: of documents, and made from a small pool of strings so that they come again; good and damaged, with and without given tables, some about as long as may be.
 mod damage;
 pub mod given;
+mod long;
 mod pool;
 
 use crate::dice::Dice;
@@ -25,6 +26,11 @@ pub struct List {
 }
 
 impl List {
+    /// Events over a text area, without given tables and with room enough.
+    pub fn of(events: &[Event], text: Vec<u8>) -> List {
+        List { given: Given::default(), records: events.iter().map(Event::record).collect(), text, out: MOST, tables: TABLES, counts: 10, rest: 0 }
+    }
+
     pub fn words(&self) -> Vec<u32> {
         let mut w: Vec<u32> = self.records.iter().flatten().copied().collect();
         w.resize(w.len() + self.rest, 7);
@@ -37,6 +43,9 @@ pub fn list(dice: &mut Dice) -> List {
     if dice.percent(40) {
         given::give(dice, &mut l);
     }
+    if dice.percent(5) {
+        long::lengthen(dice, &mut l);
+    }
     let sound = if l.given.entries() > 0 { 25 } else { 45 };
     if dice.percent(sound) {
         damage::damage(dice, &mut l);
@@ -45,15 +54,11 @@ pub fn list(dice: &mut Dice) -> List {
     l
 }
 
-fn with(events: &[Event], text: Vec<u8>) -> List {
-    List { given: Given::default(), records: events.iter().map(Event::record).collect(), text, out: MOST, tables: TABLES, counts: 10, rest: 0 }
-}
-
 fn of_document(dice: &mut Dice) -> List {
     let style = make::Style::any(dice);
     let document = make::document(dice, style);
     match read(&document, MOST * 2) {
-        Ok(done) => with(&done.events, document),
+        Ok(done) => List::of(&done.events, document),
         Err(_) => from_pool(dice),
     }
 }

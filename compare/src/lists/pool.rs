@@ -1,5 +1,5 @@
 //! Event lists from a small pool of strings, so that they come again.
-use super::{with, List};
+use super::List;
 use crate::dice::Dice;
 use crate::words::*;
 
@@ -36,7 +36,7 @@ pub fn from_pool(dice: &mut Dice) -> List {
     p.beside_root();
     p.element(1);
     p.beside_root();
-    with(&p.events, p.text)
+    List::of(&p.events, p.text)
 }
 
 impl<'d> Pool<'d> {

@@ -1,5 +1,5 @@
 //! The given tables: one judgement over all of them, all at place 0, and their octets.
-use super::Writer;
+use super::{Row, Writer};
 use crate::forms::{C21, C22, C23, C25};
 use crate::text::is_text;
 use crate::words::*;
@@ -43,7 +43,7 @@ fn filled(given: &Listed, text: &[u8]) -> (Tables, bool) {
     (tables, repeats)
 }
 
-impl<'a> Writer<'a> {
+impl<'a, R: Row> Writer<'a, R> {
     /// Judges the given tables and writes header and head. Without any entry there is no head, and the header comes with the first event.
     pub(super) fn head(&mut self, words: &[u32], room: usize) -> Result<(), Refusal> {
         let refused = |number, field| Refusal { number, place: 0, field };
@@ -68,7 +68,7 @@ impl<'a> Writer<'a> {
         }
         self.tables = tables;
         self.put_head(&given);
-        self.right = self.bits.octets.len();
+        self.right = self.bits.len();
         self.fits(room).map_err(|number| refused(number, "head"))
     }
 

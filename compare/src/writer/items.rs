@@ -1,12 +1,12 @@
 //! The octets of each kind of event.
-use super::{Mode, Writer};
+use super::{Mode, Row, Writer};
 use crate::forms::{C24, C25, C27, C28};
 use crate::words::*;
 
-impl<'a> Writer<'a> {
+impl<'a, R: Row> Writer<'a, R> {
     /// The event's octets, with all that is owed before it; None where a table is full.
     pub(super) fn put(&mut self, e: &Event, attributes: bool) -> Option<()> {
-        if self.bits.octets.is_empty() {
+        if self.bits.len() == 0 {
             self.bits.text(&[0xE0, 0, 0, 1, 0]);
         }
         if self.owed && e.kind != Kind::Attribute {

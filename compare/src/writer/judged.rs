@@ -3,7 +3,7 @@ use super::{Mode, Writer};
 use crate::text::is_text;
 use crate::words::*;
 
-impl<'a> Writer<'a> {
+impl<'a, R> Writer<'a, R> {
     pub(super) fn may_come(&self, kind: Kind) -> bool {
         match kind {
             Kind::Start if self.mode == Mode::Declaring => true,

@@ -1,9 +1,9 @@
 //! Strings and names with the required choices: the lowest number that fits, else spelled.
-use super::Writer;
+use super::{Row, Writer};
 use crate::forms::{Form, C22, C23, C25};
 use crate::words::*;
 
-impl<'a> Writer<'a> {
+impl<'a, R: Row> Writer<'a, R> {
     /// The number of a string in a table: 0 where it is absent, None where it is not held.
     fn held(&self, table: usize, s: Text) -> Option<usize> {
         match s.octets(self.text) {

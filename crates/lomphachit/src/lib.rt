@@ -5,7 +5,7 @@ ghost use lib.ListN.{length};
 ghost use Rattle.format.specs.Tables.{link};
 ghost use Rattle.reader.specs.Reading.{checkOf};
 ghost use Rattle.reader.specs.Words.{leaving, readWords};
-ghost use Rattle.writer.specs.Words.{leaving as written, writeWords};
+ghost use Rattle.writer.specs.Words.{leaving as written, writeWords, measured, measureWords};
 
 // 0 for a document of the link, else the place times 32 plus the refusal's number.
 // No octets: 1, which is SIZE at place 0; 0 would be wrong. E0 00 00 01 00 and nothing behind it: 162, which is TRUNCATED at place 5; 2, without the place, would be wrong.
@@ -48,4 +48,21 @@ pub extern "C" fn lomphachit_write(
     ensures { λ r. ⌜ written r (now (out .exit)) (now (tables .exit)) (now (counts .exit)) ≡ writeWords link (now (given .entry)) (now (records .entry)) (now (text .entry)) (length (now (out .entry))) (length (now (tables .entry))) (length (now (counts .entry))) ⌝ }
 {
     writer::write_words(given, records, text, out, tables, counts)
+}
+
+// The length of the document that `lomphachit_write` makes of the same words, and its tables and counts, before any output is lent: the answer has the octet count above
+// its low 32 bits, and in them 0 or the event's number times 32 plus the refusal's. ROOM by size is refused for more than 16,384 octets only.
+// Wrong would be: a count that leaves out the last octet, where the document's end fills only half of it; ROOM (14) for events that make exactly 16,384 octets; on a
+// refusal, counts that are left of an earlier call.
+#[no_mangle]
+pub extern "C" fn lomphachit_measure(
+    given: &[u32],
+    records: &[u32],
+    text: &[u8],
+    tables: &mut [u32],
+    counts: &mut [u32],
+) -> u64
+    ensures { λ r. ⌜ measured r (now (tables .exit)) (now (counts .exit)) ≡ measureWords link (now (given .entry)) (now (records .entry)) (now (text .entry)) (length (now (tables .entry))) (length (now (counts .entry))) ⌝ }
+{
+    writer::measure_words(given, records, text, tables, counts)
 }

@@ -64,5 +64,6 @@ pub mod DemandOne
 pub mod DemandThree
 pub mod DemandTwo
 pub mod DemandWords
+pub mod Measures
 pub mod Theorems
 pub mod Bench

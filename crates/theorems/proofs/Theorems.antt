@@ -1,11 +1,14 @@
 -- THE THEOREMS: the three demands hold of every bounded version, and so of the link, which is the version that the contracts of the code name; and its rules are exact. Their
--- statements are specs/Demands.
+-- statements are specs/Demands. And measuring says of writing what specs/Measures states, of every version.
+use Prim.Native.Nat.{ℕ}
 use mathlib.Core.Path.{refl}
 use mathlib.Core.List.{[]}
+use Rattle.format.specs.Octets.{Octets, Words}
 use Rattle.format.specs.Tables.{Version, link}
 use Rattle.write_head.specs.Given.{givenOf}
 use Rattle.theorems.specs.Bounded.{Bounded}
 use Rattle.theorems.specs.Demands.{Demand1, Demand2, Demand3, RulesExact, AsRequired}
+use Rattle.theorems.specs.Measures.{Measures}
 use Rattle.theorems.proofs.Document.{link-bounded}
 use Rattle.theorems.proofs.Heads.{head-allowed, every-head, opened-ranged, begins, holds-begins}
 use Rattle.theorems.proofs.GivenWords.{given-back}
@@ -18,6 +21,7 @@ use Rattle.theorems.proofs.DemandOne.{check-answers, read-answers, read
 use Rattle.theorems.proofs.DemandTwo.{write-exactly, tables-same}
 use Rattle.theorems.proofs.DemandThree.{read-exactly}
 use Rattle.theorems.proofs.DemandWords.{read-words-exactly, write-words-exactly, check-exactly}
+use Rattle.theorems.proofs.Measures as Rooms
 
 module _ (ver : Version) (ok : Bounded ver) where
   pub demand-1 : Demand1 ver
@@ -64,6 +68,9 @@ module _ (ver : Version) (ok : Bounded ver) where
         every-choice = λ h items w right. every-choice-within ver ok h items w right;
       }
 
+pub measures : (ver : Version) (given records : Words) (text : Octets) (t c : ℕ) → Measures ver given records text t c
+measures ver given records text t c = Rooms.measures ver given records text t c
+
 -- Of the link, whose values are the requirements'.
 pub link-as-required : AsRequired link
 unfolding link
@@ -80,3 +87,6 @@ link-demand-3 = demand-3 link link-bounded
 
 pub link-rules-exact : RulesExact link
 link-rules-exact = rules-exact link link-bounded
+
+pub link-measures : (given records : Words) (text : Octets) (t c : ℕ) → Measures link given records text t c
+link-measures = measures link

@@ -1,6 +1,6 @@
 -- The head as one thing: a law for each way out of the functions that judge and write it, on plain values.
 -- Assumes nothing.
-use mathlib.Core.Path.{_≡_, refl, sym, _∙_}
+use mathlib.Core.Path.{_≡_, refl, sym, ap, _∙_}
 use mathlib.Core.Bool.{true, false, _||_}
 use mathlib.Core.List.{List, [], _∷_}
 use Prim.Native.Nat.{ℕ, zero, suc, _+_, _*_, _≤_, _<_, min}
@@ -8,7 +8,7 @@ use native.Mathlib.Omega.{arith}
 use borrow.Author.Tests.{le-ltb, eq-eqb, ne-eqb, le-leb, lt-leb, leb-true, eqb-true}
 use lib.Dec.{eqb, leb}
 use lib.ListN.{length, getD, replicate}
-use lib.Seq.{sets}
+use lib.Seq.{sets, length-sets}
 use Rattle.format.specs.Numbers.{pick, fromBits}
 use Rattle.format.specs.Tables.{noEntries, followedBy, vocabularyMap, starting, strings, names, holds, holdsName, link}
 use Rattle.format.specs.Head.{some?, isIdentifying, tenTables, sizeOf, presence}
@@ -30,6 +30,12 @@ use Rattle.write_head.specs.RowContracts.{below, Laid, startCount, keeps
 use Rattle.write_head.proofs.RowLaws.{given-laid}
 use Rattle.write_head.proofs.GivenLaws.{right-is, text-is, new-is, few-is}
 use Rattle.write_head.proofs.HeadLaws.{none-is, added-is, head-is}
+
+-- ---- output that was clear, behind what was put into it
+cleared : (s : List ℕ) {o out : List ℕ} → o ≡ replicate (length o) 0 → out ≡ sets o 0 s → out ≡ sets (replicate (length out) 0) 0 s
+cleared s {o} {out} e put =
+    let n : length out ≡ length o = rw put (length-sets o 0 s) in
+    put ∙ ap (λ (l : List ℕ). sets l 0 s) (rw (← n) at e)
 
 -- ---- the judgement
 module _ (text g : List ℕ) where
@@ -122,14 +128,14 @@ module _ (text g : List ℕ) where
     pub no-room : (room : ℕ) → min room 16384 < at → (faultOfGiven link text g room ≡ 14) × (1 ≤ 14) × (14 ≤ 16)
     no-room room h = (fault-left room ∙ rw (lt-leb at (min room 16384) h), omega arith, omega arith)
 
-    pub opened : (room : ℕ) → out ≡ replicate room 0 → at ≤ room → at ≤ 16384 → {c w x : List ℕ} → (tablesIn c w ≡ addTables g 10) × InOrder text c w x → Opened g text room at out′ c w x
+    pub opened : (room : ℕ) → out ≡ replicate (length out) 0 → at ≤ room → at ≤ 16384 → {c w x : List ℕ} → (tablesIn c w ≡ addTables g 10) × InOrder text c w x → Opened g text room at out′ c w x
     opened room e h k a =
         let l : at ≤ min room 16384 = omega arith in
         record {
           right = fault-left room ∙ rw (le-leb at (min room 16384) l);
           behind = sym long;
           near = k;
-          written = put .is ∙ rw (e, head-is g text (judged .right z) ne);
+          written = cleared (headOctets link text (givenOf g)) e (put .is ∙ rw (head-is g text (judged .right z) ne));
           tables = a .0 ∙ added-is g text (judged .right z);
           order = a .1;
         }
@@ -190,16 +196,16 @@ module _ (text : List ℕ) {c w x : List ℕ} (short : length text ≤ 16384) (e
   pub tables-begun : tablesIn c w ≡ start link
   tables-begun = rw (ec, ew) (vocabulary-start (replicate 7680 0) refl refl)
 
-  pub opened-none : (g : List ℕ) (room : ℕ) → isGiven g ≡ true → ((t : ℕ) → t < 10 → getD g t 0 ≡ 0) → {o out : List ℕ} → o ≡ replicate room 0 → out ≡ sets o 0 (0xE0 ∷ 0x00 ∷ 0x00 ∷ 0x01 ∷ 0x00 ∷ [])
+  pub opened-none : (g : List ℕ) (room : ℕ) → isGiven g ≡ true → ((t : ℕ) → t < 10 → getD g t 0 ≡ 0) → {o out : List ℕ} → o ≡ replicate (length o) 0 → out ≡ sets o 0 (0xE0 ∷ 0x00 ∷ 0x00 ∷ 0x01 ∷ 0x00 ∷ [])
       → Opened g text room 5 out c w x
   unfolding faultOfGiven
-  opened-none g room given z cleared e =
+  opened-none g room given z clear e =
       let n = given-nothing g z in
       record {
         right = rw (given, n) (none-wrong text room);
         behind = rw (n, none-octets text);
         near = omega arith;
-        written = e ∙ rw (cleared, n, none-octets text);
+        written = cleared (headOctets link text (givenOf g)) clear (e ∙ rw (n, none-octets text));
         tables = rw n (tables-begun ∙ sym none-tables);
         order = order-begun;
       }

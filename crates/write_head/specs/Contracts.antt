@@ -11,13 +11,13 @@ use Rattle.write_head.specs.declared.Begun.the-variants.{Body, Refused}
 use Rattle.write_head.specs.Given.{givenOf}
 use Rattle.write_head.specs.Head.{tablesOf, headOctets, faultOfGiven}
 
--- The words g were right: the body starts at octet `at`, behind the octets of the head, which are in the output as far as its `room` octets reach; c and w are the words of counts and tables then,
+-- The words g were right, judged by `room`: the body starts at octet `at`, behind the octets of the head, which are in the output as far as this reaches; c and w are the words of counts and tables then,
 -- which hold what is built in and what was given, and x is the index.
 pub record Opened (g : Words) (text : Octets) (room at : ℕ) (out : Octets) (c w : Words) (x : Octets) : Type 0 where
   pub right : faultOfGiven link text g room ≡ 0
   pub behind : at ≡ length (headOctets link text (givenOf g))
   pub near : at ≤ 16384
-  pub written : out ≡ sets (replicate room 0) 0 (headOctets link text (givenOf g))
+  pub written : out ≡ sets (replicate (length out) 0) 0 (headOctets link text (givenOf g))
   pub tables : tablesIn c w ≡ tablesOf link (givenOf g)
   pub order : InOrder text c w x
 

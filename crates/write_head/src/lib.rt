@@ -51,12 +51,13 @@ fn begin_head(
     given: &[u32],
     text: &[u8],
     out: &mut [u8],
+    room: usize,
     t: &mut [u32],
     counts: &mut [u32],
     index: &mut [u8],
 ) -> Begun
     requires { ⌜ (length (now text) ≤ 16384) × (now out ≡ replicate (length (now out)) 0) × (now t ≡ replicate tableWords 0) × (length (now counts) ≡ 10) × (now index ≡ replicate slots 0) × Laid (now given) × (presenceOf (now given) ≡ 0 → ⊥) ⌝ }
-    ensures { λ r. ⌜ Opens (now (given .entry)) (now (text .entry)) (length (now (out .entry))) r (now (out .exit)) (now (counts .exit)) (now (t .exit)) (now (index .exit)) ⌝ }
+    ensures { λ r. ⌜ Opens (now (given .entry)) (now (text .entry)) room r (now (out .exit)) (now (counts .exit)) (now (t .exit)) (now (index .exit)) ⌝ }
 {
     let n = fault(given, text);
     if n != 0 {
@@ -67,7 +68,7 @@ fn begin_head(
         return Begun::Refused(REPEAT);
     }
     let at = put_head(out, given, text);
-    if out.len() < at {
+    if room < at {
         return Begun::Refused(ROOM);
     }
     if fields::OCTETS < at {
@@ -76,18 +77,20 @@ fn begin_head(
     Begun::Body(at)
 }
 
-// The octets before the body, on output, tables and index that are clear. A refusal leaves anything in them.
+// The octets before the body, judged by `room`, on output, tables and index that are clear; what the output has no place for is left out. A refusal leaves anything
+// in them.
 // Wrong would be: FULL for a table that is too full, where another lists something twice, which is REPEAT; a presence bit for a table that lists nothing.
 pub fn begin(
     given: &[u32],
     text: &[u8],
     out: &mut [u8],
+    room: usize,
     t: &mut [u32],
     counts: &mut [u32],
     index: &mut [u8],
 ) -> Begun
     requires { ⌜ (length (now text) ≤ 16384) × (now out ≡ replicate (length (now out)) 0) × (now t ≡ replicate tableWords 0) × (length (now counts) ≡ 10) × (now index ≡ replicate slots 0) ⌝ }
-    ensures { λ r. ⌜ Opens (now (given .entry)) (now (text .entry)) (length (now (out .entry))) r (now (out .exit)) (now (counts .exit)) (now (t .exit)) (now (index .exit)) ⌝ }
+    ensures { λ r. ⌜ Opens (now (given .entry)) (now (text .entry)) room r (now (out .exit)) (now (counts .exit)) (now (t .exit)) (now (index .exit)) ⌝ }
 {
     if !is_given(given) {
         return Begun::Refused(EVENT);
@@ -100,5 +103,5 @@ pub fn begin(
         put_header(out, counts);
         return Begun::Body(fields::BODY);
     }
-    begin_head(given, text, out, t, counts, index)
+    begin_head(given, text, out, room, t, counts, index)
 }

@@ -36,7 +36,7 @@ use Rattle.writer.specs.StepContracts.{itemOf, halvesFor, verdict}
 use Rattle.writer.specs.RunContracts.{behind}
 use Rattle.writer.specs.LaneContracts.{SameWords, Known, Taught, Remembered, Filed, Kept, standing, OnWay, Passes, Ahead, listed, Started, Ended, Passable, Passed, Safe}
 use Rattle.writer.proofs.Faults.{Faultless, fault-free, fault-none, judge-fault, judge-none}
-use Rattle.writer.proofs.OutputLaws.{end-written, item-written}
+use Rattle.writer.proofs.OutputLaws.{held-size, end-written, item-written}
 use Rattle.writer.proofs.AheadLaws.{attribute-first}
 use Rattle.writer.proofs.RunLaws.{behind-on}
 use Rattle.writer.proofs.KnownLaws.{Extends, extends-item, known-kept, known-written, known-new}
@@ -75,18 +75,18 @@ start-no-end k e q = rw q
 module _ (to : Outcome) (text : List ℕ) (room : ℕ) (es : List Event) (v : Vocabulary Located) (in-tables : within link v ≡ true) where
   taken : {l l′ : Lane} {out out′ : List ℕ} {e : Event} (o : OnWay to text room es v l out) → drop (l .i) es ≡ e ∷ drop (suc (l .i)) es
       → Faultless text (standing v l) e → itemOf text (bitAhead es l e) (standing v l) e .state ≡ standing v l′
-      → Grown room (o .hs) (halvesFor text room (bitAhead es l e) (l .at) (standing v l) e) (l .at) (l′ .at) out′ → fits link text room (l′ .at) ≡ true → l′ .i ≡ l .i + 1 → l .at < l′ .at
+      → Grown (length out) (o .hs) (halvesFor text room (bitAhead es l e) (l .at) (standing v l) e) (l .at) (l′ .at) out′ → fits link text room (l′ .at) ≡ true → l′ .i ≡ l .i + 1 → l .at < l′ .at
       → OnWay to text room es v l′ out′
   unfolding verdict
-  taken {l} {l′} {e = e} o d f s g t n m =
+  taken {l} {l′} {out} {e = e} o d f s g t n m =
       let j : verdict text room (bitAhead es l e) (l .at) (standing v l) e ≡ 0 =
       judge-none text (standing v l) e room (l .at) _ _ (sym (fault-free text (standing v l) e (f .made) (f .goes) (f .texts) (f .shallow))) ∙ rw (s, in-tables, ← (g .place), t) in
       let b = o .small in
       record {
         hs = o .hs ++ halvesFor text room (bitAhead es l e) (l .at) (standing v l) e;
-        holds = rw (g .place) (g .holds);
+        holds = rw (g .place, held-size (g .holds)) (g .holds);
         small = omega arith;
-        leads = rw (← s, g .place, n, add-one (l .i)) (sym (behind-on text room (l .at) (standing v l) e (drop (suc (l .i)) es) (l .i) (o .hs) j) ∙ (rw d at (o .leads)));
+        leads = rw (← s, g .place, n, add-one (l .i), held-size (g .holds)) (sym (behind-on text room (l .at) (standing v l) e (drop (suc (l .i)) es) (l .i) (o .hs) (length out) j) ∙ (rw d at (o .leads)));
       }
 
   module _ {l : Lane} {out : List ℕ} (among : l .listing ≡ false) (inside : 0 < l .level) (room-left : l .at / 2 + 5 ≤ room) (limit : l .at / 2 + 5 ≤ 16384) (o : OnWay to text room es v l out) where
@@ -97,7 +97,7 @@ module _ (to : Outcome) (text : List ℕ) (room : ℕ) (es : List Event) (v : Vo
         (taken o d
         (record { made = refl; goes = rw (among, lt-ltb 0 (l .level) inside); texts = refl; shallow = refl })
         (rw among)
-        (end-written text (standing v l) E.End _ (o .holds) (rw among) refl (p .puts))
+        (end-written text room (standing v l) E.End _ (o .holds) (rw among) refl (p .puts))
         (near-fits text room (l .at + 1) (omega arith) (omega arith))
         refl
         (omega arith))
@@ -123,9 +123,9 @@ module _ (to : Outcome) (text : List ℕ) (room : ℕ) (es : List Event) (v : Vo
         start-octets = rw (t .kind, among) (known-written (64 * bit b) (t .known) .0)
 
         start-grown : {octet : ℕ} {out′ : List ℕ} → Puts out (aligned (l .at) / 2) octet out′ (spell (numbers 3) (64 * bit b) k)
-            → Grown room (o .hs) (halvesFor text room b (l .at) (standing v l) e) (l .at) (2 * octet) out′
+            → Grown (length out) (o .hs) (halvesFor text room b (l .at) (standing v l) e) (l .at) (2 * octet) out′
         unfolding halvesFor
-        start-grown p = item-written text (standing v l) (eventOf (e .kind) e) (itemOf text b (standing v l) e) (o .holds) (rw among) (start-no-end (e .kind) e (t .kind)) (rw start-octets p)
+        start-grown p = item-written text room (standing v l) (eventOf (e .kind) e) (itemOf text b (standing v l) e) (o .holds) (rw among) (start-no-end (e .kind) e (t .kind)) (rw start-octets p)
 
         start-some : 1 ≤ length (spell (numbers 3) (64 * bit b) k)
         unfolding sizes numbers
@@ -173,8 +173,8 @@ module _ (w : List ℕ) {l : Lane} {out : List ℕ} (k : ℕ) where
       let z : (l .at + 1) / 2 ≡ aligned (l .at) / 2 = omega arith in
       record { octet = octet; puts = rw (← b, ← q, ← z) p; few = omega arith; is = rw (← b) is }
 
-  module _ (room : ℕ) {l′ : Lane} {out′ : List ℕ} (m : Passable w l k) where
-    pub passed-end : k ≡ 512 → Ended l out l′ out′ → Passed w room l out k l′ out′
+  module _ {l′ : Lane} {out′ : List ℕ} (m : Passable w l k) where
+    pub passed-end : k ≡ 512 → Ended l out l′ out′ → Passed w l out k l′ out′
     passed-end q p =
         let limit = m .limit in
         let level = m .level in
@@ -182,10 +182,10 @@ module _ (w : List ℕ) {l : Lane} {out : List ℕ} (k : ℕ) where
           at = rw (p .is) (omega arith);
           level = rw (p .is) (omega arith);
           next = rw (p .is);
-          passes = λ memory a. end-passes w memory room a q p;
+          passes = λ memory room a. end-passes w memory room a q p;
         }
 
-    pub passed-start : (k ≡ 512 → ⊥) → Started w l out k l′ out′ → Passed w room l out k l′ out′
+    pub passed-start : (k ≡ 512 → ⊥) → Started w l out k l′ out′ → Passed w l out k l′ out′
     unfolding aligned
     passed-start n p =
         let limit = m .limit in
@@ -195,7 +195,7 @@ module _ (w : List ℕ) {l : Lane} {out : List ℕ} (k : ℕ) where
           at = rw (p .is) (omega arith);
           level = rw (p .is) (omega arith);
           next = rw (p .is);
-          passes = λ memory a. start-passes w memory room a n p;
+          passes = λ memory room a. start-passes w memory room a n p;
         }
 
 -- what is next may be passed
@@ -212,10 +212,9 @@ ahead-passable {w} {memory} {l} {k = k} s a n =
     }
 
 -- and was, behind what was passed before
-pub passes-on : {w memory : List ℕ} {room n : ℕ} {l₀ l l′ : Lane} {out₀ out out′ : List ℕ} {k : ℕ} → n ≡ room → Passed w n l out k l′ out′ → Ahead w memory l n k
+pub passes-on : {w memory : List ℕ} {room : ℕ} {l₀ l l′ : Lane} {out₀ out out′ : List ℕ} {k : ℕ} → Passed w l out k l′ out′ → Ahead w memory l room k
     → Passes w memory room l₀ out₀ l out → Passes w memory room l₀ out₀ l′ out′
-passes-on {w} {memory} {l = l} {l′ = l′} {out = out} {out′ = out′} e p a s to text v t r o =
-    subst (λ (m : ℕ). Passes w memory m l out l′ out′) e (p .passes memory a) to text v t r (s to text v t r o)
+passes-on {w} {memory} {room} p a s to text v t r o = p .passes memory room a to text v t r (s to text v t r o)
 
 -- ---- what is remembered
 zero-at : (n s : ℕ) → getD (replicate {A = ℕ} n 0) s 0 ≡ 0

@@ -8,6 +8,7 @@ pub mod AheadLaws
 pub mod ItemLaws
 pub mod StepLaws
 pub mod RunLaws
+pub mod RanLaws
 pub mod PhaseLaws
 pub mod WordLaws
 pub mod KnownLaws

@@ -10,7 +10,7 @@ use native.Mathlib.Decide.{ℕ-discrete}
 use native.Mathlib.Omega.{arith}
 use borrow.Author.Tests.{eq-eqb, ne-eqb}
 use lib.ListN.{length, drop, set, replicate, length-append, length-replicate}
-use lib.Seq.{sets, sets-eq, set-set, append-snoc}
+use lib.Seq.{sets, sets-eq, length-sets, set-set, append-snoc}
 use Rattle.format.specs.Events as E
 use Rattle.format.specs.Tables.{link}
 use Rattle.format.specs.Items.{State}
@@ -64,6 +64,12 @@ drop-zeros zero room = let z : room - 0 ≡ room = omega arith in rw z
 drop-zeros (suc n) zero = let z : 0 - suc n ≡ 0 = omega arith in rw z
 drop-zeros (suc n) (suc room) = let z : suc room - suc n ≡ room - n = omega arith in rw z (drop-zeros n room)
 
+-- octets in room that was clear, where they have room
+pub sets-whole : (s : List ℕ) (room : ℕ) → length s ≤ room → sets (replicate room 0) 0 s ≡ s ++ replicate (room - length s) 0
+sets-whole s room h =
+    let z = length-replicate {A = ℕ} room 0 in
+    sets-eq s (replicate room 0) 0 (omega arith) ∙ simp (zero-add, drop-zeros)
+
 -- ---- one octet behind halves that fill theirs
 
 sets-last : (l xs : List ℕ) (b : ℕ) → sets l 0 (xs ++ (b ∷ [])) ≡ set (sets l 0 xs) (length xs) b
@@ -93,24 +99,20 @@ module _ (at : ℕ) where
 -- ---- what is held goes on
 
 -- nothing but what stands before the body
-pub head-held : {room at : ℕ} {out : List ℕ} (before : List ℕ) → at ≡ length before → out ≡ sets (replicate room 0) 0 before → Holds room (halves before) (2 * at) out
+pub head-held : {size at : ℕ} {out : List ℕ} (before : List ℕ) → at ≡ length before → out ≡ sets (replicate size 0) 0 before → Holds size (halves before) (2 * at) out
 head-held before n e =
     record { behind = rw (n, length-halves before); is = rw (joined-halves before) e; ends = λ o. absurd (omega arith) }
 
 pub joined-head : (before ks : List ℕ) → joined (halves before ++ ks) ≡ before ++ joined ks
 joined-head before ks = let n = length-halves before in joined-append (halves before) ks (omega arith) ∙ rw (joined-halves before)
 
-module _ {room at : ℕ} {hs out : List ℕ} (h : Holds room hs at out) where
+module _ {size at : ℕ} {hs out : List ℕ} (h : Holds size hs at out) where
   pub held-length : length (joined hs) ≡ aligned at / 2
   unfolding aligned
   held-length = let l = length-joined hs in let b = h .behind in omega arith
 
-  -- all of it, where it has room
-  pub held-whole : aligned at / 2 ≤ room → out ≡ joined hs ++ replicate (room - length (joined hs)) 0
-  held-whole k =
-      let l = held-length in
-      let z = length-replicate {A = ℕ} room 0 in
-      h .is ∙ sets-eq (joined hs) (replicate room 0) 0 (omega arith) ∙ simp (zero-add, drop-zeros)
+  pub held-size : length out ≡ size
+  held-size = let z = length-sets (replicate size 0) 0 (joined hs) in let n = length-replicate {A = ℕ} size 0 in rw (h .is) (omega arith)
 
   joined-item : (os : List ℕ) → joined (hs ++ (pad at ++ halves os)) ≡ joined hs ++ os
   joined-item os =
@@ -118,31 +120,31 @@ module _ {room at : ℕ} {hs out : List ℕ} (h : Holds room hs at out) where
       rw (← append-assoc hs (pad at) (halves os), joined-append (hs ++ pad at) (halves os) (omega arith), joined-padded hs at (omega arith), joined-halves os)
 
   -- octets from the next whole octet on
-  pub item-held : {r : ℕ} {out′ os : List ℕ} → Puts out (aligned at / 2) r out′ os → Holds room (hs ++ (pad at ++ halves os)) (2 * r) out′
+  pub item-held : {r : ℕ} {out′ os : List ℕ} → Puts out (aligned at / 2) r out′ os → Holds size (hs ++ (pad at ++ halves os)) (2 * r) out′
   unfolding aligned
   item-held {r} {out′} {os} p =
       let l = held-length in
-      let q : Puts (replicate room 0) 0 (aligned at / 2) out (joined hs) = record { behind = omega arith; is = h .is } in
+      let q : Puts (replicate size 0) 0 (aligned at / 2) out (joined hs) = record { behind = omega arith; is = h .is } in
       record {
         behind = simp (length-append, length-pad, length-halves) (omega arith);
         is = puts-append q p .is ∙ rw (joined-item os);
         ends = λ o. absurd (omega arith);
       }
 
-  end-even : {out′ : List ℕ} → at % 2 ≡ 0 → out′ ≡ set out (at / 2) 0xF0 → out′ ≡ sets (replicate room 0) 0 (joined (hs ++ (15 ∷ [])))
+  end-even : {out′ : List ℕ} → at % 2 ≡ 0 → out′ ≡ set out (at / 2) 0xF0 → out′ ≡ sets (replicate size 0) 0 (joined (hs ++ (15 ∷ [])))
   unfolding joined
   end-even z e =
       let n : at / 2 ≡ length hs / 2 = omega arith in
-      rw (octet-more (replicate room 0) hs (15 ∷ []) 0xF0 (omega arith) refl, ← (h .is), ← n) e
+      rw (octet-more (replicate size 0) hs (15 ∷ []) 0xF0 (omega arith) refl, ← (h .is), ← n) e
 
-  end-odd : {out′ : List ℕ} → at % 2 ≡ 1 → out′ ≡ set out (at / 2) 0xFF → out′ ≡ sets (replicate room 0) 0 (joined (hs ++ (15 ∷ [])))
+  end-odd : {out′ : List ℕ} → at % 2 ≡ 1 → out′ ≡ set out (at / 2) 0xFF → out′ ≡ sets (replicate size 0) 0 (joined (hs ++ (15 ∷ [])))
   end-odd {out′} z e =
       let ks = h .ends z .before in
       let n : length hs ≡ length ks + 1 = rw (h .ends z .is) (simp length-append) in
       let m : at / 2 ≡ length ks / 2 = omega arith in
-      e ∙ rw (h .is, m, h .ends z .is, append-snoc) (octet-again (replicate room 0) ks (omega arith))
+      e ∙ rw (h .is, m, h .ends z .is, append-snoc) (octet-again (replicate size 0) ks (omega arith))
 
-  pub end-held : {out′ : List ℕ} → out′ ≡ set out (at / 2) (endOctet at) → Holds room (hs ++ (15 ∷ [])) (at + 1) out′
+  pub end-held : {out′ : List ℕ} → out′ ≡ set out (at / 2) (endOctet at) → Holds size (hs ++ (15 ∷ [])) (at + 1) out′
   end-held {out′} e =
       record {
         behind = simp length-append (omega arith);
@@ -154,7 +156,7 @@ module _ {room at : ℕ} {hs out : List ℕ} (h : Holds room hs at out) where
       }
 
 -- the document's end, behind which the octet is filled up
-pub document-end-held : {room at : ℕ} {hs out out′ : List ℕ} → Holds room hs at out → out′ ≡ set out (at / 2) (endOctet at) → Holds room (hs ++ (15 ∷ pad (suc at))) (aligned (suc at)) out′
+pub document-end-held : {size at : ℕ} {hs out out′ : List ℕ} → Holds size hs at out → out′ ≡ set out (at / 2) (endOctet at) → Holds size (hs ++ (15 ∷ pad (suc at))) (aligned (suc at)) out′
 unfolding aligned halves
 document-end-held {at = at} h e =
     let n : 2 * (aligned (at + 1) / 2) ≡ aligned (at + 1) = omega arith in
@@ -162,29 +164,29 @@ document-end-held {at = at} h e =
 
 -- ---- an event's halves, by what is put for it
 
-grown : {room at next : ℕ} {hs ks out out′ : List ℕ} → Holds room hs at out → Holds room (hs ++ ks) next out′ → Grown room hs ks at next out′
+grown : {size at next : ℕ} {hs ks out out′ : List ℕ} → Holds size hs at out → Holds size (hs ++ ks) next out′ → Grown size hs ks at next out′
 grown {at = at} {next = next} {hs = hs} {ks = ks} h g =
     let n : next ≡ at + length ks = g .behind ∙ simp length-append (omega arith) in
     record { holds = rw n at g; place = n }
 
-module _ (text : List ℕ) (v : State Located) (e : E.Event Located) (w : WroteItem) {room at : ℕ} {hs out : List ℕ} (h : Holds room hs at out) where
+module _ (text : List ℕ) (room : ℕ) (v : State Located) (e : E.Event Located) (w : WroteItem) {size at : ℕ} {hs out : List ℕ} (h : Holds size hs at out) where
   module _ (o : (isListing (v .mode) && not (isAttribute e)) ≡ false) where
-    pub end-written : {out′ : List ℕ} → isEnd e ≡ true → out′ ≡ set out (at / 2) (endOctet at) → Grown room hs (halvesOf link text room at v e w) at (at + 1) out′
+    pub end-written : {out′ : List ℕ} → isEnd e ≡ true → out′ ≡ set out (at / 2) (endOctet at) → Grown size hs (halvesOf link text room at v e w) at (at + 1) out′
     unfolding halvesOf owed
     end-written i p = rw (o, i) (grown h (end-held h p))
 
-    pub item-written : {r : ℕ} {out′ : List ℕ} → isEnd e ≡ false → Puts out (aligned at / 2) r out′ (w .octets) → Grown room hs (halvesOf link text room at v e w) at (2 * r) out′
+    pub item-written : {r : ℕ} {out′ : List ℕ} → isEnd e ≡ false → Puts out (aligned at / 2) r out′ (w .octets) → Grown size hs (halvesOf link text room at v e w) at (2 * r) out′
     unfolding halvesOf owed
     item-written i p = let z : at + 0 ≡ at = omega arith in rw (o, i, z) (grown h (item-held h p))
 
   -- the end of the attribute list is put before it
   module _ (o : (isListing (v .mode) && not (isAttribute e)) ≡ true) {out₁ : List ℕ} (f : out₁ ≡ set out (at / 2) (endOctet at)) where
     pub end-written-behind-list : {out′ : List ℕ} → isEnd e ≡ true → out′ ≡ set out₁ ((at + 1) / 2) (endOctet (at + 1))
-        → Grown room hs (halvesOf link text room at v e w) at (at + 1 + 1) out′
+        → Grown size hs (halvesOf link text room at v e w) at (at + 1 + 1) out′
     unfolding halvesOf owed
     end-written-behind-list i p = rw (o, i) (grown h (rw append-snoc at (end-held (end-held h f) p)))
 
     pub item-written-behind-list : {r : ℕ} {out′ : List ℕ} → isEnd e ≡ false → Puts out₁ (aligned (at + 1) / 2) r out′ (w .octets)
-        → Grown room hs (halvesOf link text room at v e w) at (2 * r) out′
+        → Grown size hs (halvesOf link text room at v e w) at (2 * r) out′
     unfolding halvesOf owed
     item-written-behind-list i p = rw (o, i) (grown h (rw append-snoc at (item-held (end-held h f) p)))

@@ -38,7 +38,7 @@ use Rattle.writer.specs.RunContracts.{Underway, Moving, Going, Bounded, 
 use Rattle.writer.specs.LaneContracts.{Taught, Remembered, Filed, Kept, Safe, OnWay, standing, Passes, Onward as Further}
 use Rattle.writer.specs.RideContracts.{Learns, arrivedAt, Rides, Leading, Through}
 use Rattle.writer.proofs.RunLaws.{bit-started, underway-number}
-use Rattle.writer.proofs.PhaseLaws.{moving-on, moving-stop, moving-kept, going-bounded, going-settled}
+use Rattle.writer.proofs.PhaseLaws.{moving-on, moving-stop, moving-kept, going-bounded}
 use Rattle.writer.proofs.LaneLaws.{remembered-none, remembered-kept, remembered-more, remembered-filed, extends-event, taught-new}
 
 -- ---- a Start that is remembered
@@ -172,12 +172,9 @@ module _ {From : Outcome → Type 0} {w text : List ℕ} {room table i : ℕ} {s
   pub stepping-small : i ≤ 32768
   stepping-small = underway-number under
 
-  module _ (there : i < length w / 13) (long : length out ≡ room) {n : ℕ} (look : n ≡ fromMode (modeOf (st .mode)) i (length w / 13)) {a : Bool}
+  module _ (there : i < length w / 13) {n : ℕ} (look : n ≡ fromMode (modeOf (st .mode)) i (length w / 13)) {a : Bool}
       (told : a ≡ announced (drop n (recordsOf w))) {e : Event} (is : e ≡ recordAt w (13 * i)) {b : Bool} (bit : b ≡ bitOf (modeOf (st .mode)) a) (r : Step) (out′ c′ t′ ix′ : List ℕ)
-      (step : Steps text (length out) b st c out t e r out′ c′ t′ ix′) where
-    here : Steps text room b st c out t e r out′ c′ t′ ix′
-    here = rw long at step
-
+      (step : Steps text room b st c out t e r out′ c′ t′ ix′) where
     next-is : drop i (recordsOf w) ≡ e ∷ drop (suc i) (recordsOf w)
     next-is = rw is (records-drop w i there)
 
@@ -186,17 +183,17 @@ module _ {From : Outcome → Type 0} {w text : List ℕ} {room table i : ℕ} {s
 
     pub stepped : {next : State} → r ≡ On next → Stepped From w text room table i (getD c 8 0) next c′ out′ t′ ix′ memory
     stepped q =
-        let g = rw q at here in
+        let g = rw q at step in
         record {
           to = s .to;
           begun = s .begun;
-          moving = λ o m. moving-on o (recordsOf w) text room table i st c out t ix (s .moving o m) e next-is a told-is b bit r out′ c′ t′ ix′ here q;
+          moving = λ o m. moving-on o (recordsOf w) text room table i st c out t ix (s .moving o m) e next-is a told-is b bit r out′ c′ t′ ix′ step q;
           remembered = step-keeps g (recordsOf w) memory (s .remembered);
           teaches = λ l k. rw is at (step-teaches g stepping-ten l (rw is k));
         }
 
-    pub step-stopped : {k : ℕ} → r ≡ Stop k → (o : Outcome) → From o → Going o (recordsOf w) text room table (length (recordsOf w)) (Halted k i) out′ t′ ix′
-    step-stopped q o m = moving-stop o (recordsOf w) text room table i st c out t ix (s .moving o m) e next-is a told-is b bit r out′ c′ t′ ix′ here q
+    pub step-stopped : {k : ℕ} → r ≡ Stop k → length out′ ≡ length out → (o : Outcome) → From o → Going o (recordsOf w) text room table (length (recordsOf w)) (Halted k i) out′ t′ ix′
+    step-stopped q kept o m = moving-stop o (recordsOf w) text room table i st c out t ix (s .moving o m) e next-is a told-is b bit r out′ c′ t′ ix′ step q kept
 
 -- the quick lane behind it
 module _ {From : Outcome → Type 0} {w text : List ℕ} {room table i before : ℕ} {st : State} {c out t ix memory : List ℕ} (s : Stepped From w text room table i before st c out t ix memory) where
@@ -215,14 +212,14 @@ module _ {From : Outcome → Type 0} {w text : List ℕ} {room table i before : 
   pub stepped-filed : (memory′ : List ℕ) → Remembered (recordsOf w) text (tablesIn c t) memory′ → Filed memory′ (length w / 13)
   stepped-filed memory′ r = remembered-filed (recordsOf w) text (tablesIn c t) memory′ (length w / 13) (records-length w) r
 
-  pub stepping-on : (memory′ : List ℕ) → Remembered (recordsOf w) text (tablesIn c t) memory′ → i < length w / 13 → {room′ : ℕ} → room′ ≡ room → {l : Lane} {out′ : List ℕ}
-      → Rides w memory′ room′ (i + 1) st out l out′ → {st′ : State} → st′ ≡ arrivedAt st l → Stepping From w text room table (l .i) st′ c out′ t ix memory′
-  stepping-on memory′ r h q d z =
+  pub stepping-on : (memory′ : List ℕ) → Remembered (recordsOf w) text (tablesIn c t) memory′ → i < length w / 13 → {l : Lane} {out′ : List ℕ}
+      → Rides w memory′ room (i + 1) st out l out′ → {st′ : State} → st′ ≡ arrivedAt st l → Stepping From w text room table (l .i) st′ c out′ t ix memory′
+  stepping-on memory′ r h d z =
       rw z
       (record {
         to = s .to;
         begun = s .begun;
-        moving = λ o m. let g = s .moving o m in (g .0, (rw q at d) .under o text c t ix r (g .1));
+        moving = λ o m. let g = s .moving o m in (g .0, d .under o text c t ix r (g .1));
         remembered = r;
         inside = d .onward .inside (omega arith);
       })
@@ -259,7 +256,5 @@ module _ (to : Outcome) (w text : List ℕ) (room table : ℕ) (p : Phase) (out 
   pub through-bounded : Bounded (length w / 13) p
   through-bounded = going-bounded to (recordsOf w) text room table (length w / 13) p out t ix going-all
 
-  pub through-settled : length out ≡ room → length t ≡ table → (r : Answer) (out′ t′ : List ℕ) → Settles (length out) (length t) (length w / 13) p out t r out′ t′ → Leaves r out′ t′ to
-  through-settled long long′ r out′ t′ h =
-      let n = records-length w in
-      going-settled to (recordsOf w) text room table (length w / 13) p out t ix going-all long long′ (over p _ _ (omega arith)) r out′ t′ h
+  pub through-settled : length t ≡ table → (r : Answer) (out′ t′ : List ℕ) → Settles room (length t) (length w / 13) p out t r out′ t′ → Leaves r out′ t′ to
+  through-settled long r out′ t′ h = let n = records-length w in (rw long at h) to (recordsOf w) text ix going-all (over p _ _ (omega arith))

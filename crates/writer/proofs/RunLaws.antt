@@ -3,12 +3,13 @@
 use mathlib.Core.Path.{_≡_, refl, sym, ap, _∙_}
 use mathlib.Core.Bool.{Bool, true, false, true≢false, _&&_}
 use mathlib.Core.List.{List, _∷_, _++_, append-assoc}
-use Prim.Native.Nat.{ℕ, zero, suc, _+_, _*_, _/_, _%_, _≤_, _<_, min}
+use Prim.Native.Nat.{ℕ, zero, suc, _+_, _-_, _*_, _/_, _%_, _≤_, _<_, min}
 use native.Mathlib.Omega.{arith}
 use native.Mathlib.Numerals.{add-one}
 use borrow.Author.Tests.{le-leb, lt-leb}
 use lib.Dec.{eqb}
-use lib.ListN.{length, drop, set, drop-of-length-le}
+use lib.ListN.{length, drop, set, replicate, drop-of-length-le}
+use lib.Seq.{take-append-seam}
 use Rattle.format.specs.Numbers.{pick}
 use Rattle.format.specs.Tables.{Vocabulary, link}
 use Rattle.format.specs.Events as E
@@ -38,11 +39,12 @@ use Rattle.writer.specs.declared.Step.{Step}
 use Rattle.writer.specs.declared.Step.the-variants.{On, Stop}
 use Rattle.writer.specs.Events.{eventOf, isContent, amongChildren, goesOn, wellMade}
 use Rattle.writer.specs.Items.{writeItem}
-use Rattle.writer.specs.Writing.{announced, isAttribute, Result, written, refusal, plus, fits, judge, settled, finish, run, Outcome, outcome, refusing}
+use Rattle.writer.specs.Writing.{announced, isAttribute, Result, written, refusal, plus, fits, judge, settled, finish, run, joined, Outcome, outcome, refusing}
 use Rattle.writer.specs.OutputContracts.{endOctet}
 use Rattle.writer.specs.StepContracts.{known, itemOf, halvesFor, verdict, Steps}
+use Rattle.writer.specs.RanContracts.{reached}
 use Rattle.writer.specs.RunContracts.{Foretold, behind, remains, Underway, Finishes}
-use Rattle.writer.proofs.OutputLaws.{head-held, joined-head, held-length, held-whole, document-end-held}
+use Rattle.writer.proofs.OutputLaws.{head-held, joined-head, held-length, held-size, document-end-held}
 use Rattle.writer.proofs.AheadLaws.{announced-on}
 
 -- ---- the attribute bit
@@ -74,12 +76,12 @@ first-test : (b : Bool) (n : ℕ) → pick b n 16 ≡ 0 → b ≡ true
 first-test true n h = refl
 first-test false n h = absurd (omega arith)
 
-behind-plus : (i : Item Located) (hs ks : List ℕ) (x : Result) (room : ℕ) → behind hs (plus i ks x) room ≡ behind (hs ++ ks) x room
-behind-plus i hs ks (written is js z) room = rw (append-assoc hs ks js)
-behind-plus i hs ks (refusal n p) room = refl
+behind-plus : (i : Item Located) (hs ks : List ℕ) (x : Result) (size : ℕ) → behind hs (plus i ks x) size ≡ behind (hs ++ ks) x size
+behind-plus i hs ks (written is js z) size = rw (append-assoc hs ks js)
+behind-plus i hs ks (refusal n p) size = refl
 
 module _ (text : List ℕ) (room at : ℕ) (v : F.State Located) (e : Event) (es : List Event) where
-  abbrev bit : Bool
+  abbrev pub bit : Bool
   bit = announced (e ∷ es)
 
   bit-next : verdict text room bit at v e ≡ 0 → Foretold (itemOf text bit v e .state .mode) (announced es)
@@ -90,26 +92,28 @@ module _ (text : List ℕ) (room at : ℕ) (v : F.State Located) (e : Event) (es
 
   -- ---- one event of a run
   module _ (i : ℕ) where
-    abbrev wrote : Item Located
+    abbrev pub wrote : Item Located
     wrote = eventOf (e .kind) e by itemOf text bit v e .choice
 
-    abbrev rest : Result
+    abbrev pub rest : Result
     rest = run link text room (at + length (halvesFor text room bit at v e)) (itemOf text bit v e .state) (suc i) es
 
-    run-on : {n : ℕ} → verdict text room bit at v e ≡ n → run link text room at v i (e ∷ es) ≡ elim n [ zero ↦ plus wrote (halvesFor text room bit at v e) rest | suc k ↦ refusal (suc k) i ]
+    pub run-on : {n : ℕ} → verdict text room bit at v e ≡ n → run link text room at v i (e ∷ es) ≡ elim n [ zero ↦ plus wrote (halvesFor text room bit at v e) rest | suc k ↦ refusal (suc k) i ]
     unfolding run verdict itemOf halvesFor
     run-on h = ap (λ (n : ℕ). elim n [ zero ↦ plus wrote (halvesFor text room bit at v e) rest | suc k ↦ refusal (suc k) i ]) h
 
-    pub behind-on : (hs : List ℕ) → verdict text room bit at v e ≡ 0 → behind hs (run link text room at v i (e ∷ es)) room ≡ behind (hs ++ halvesFor text room bit at v e) rest room
-    behind-on hs h = ap (λ (x : Result). behind hs x room) (run-on h) ∙ behind-plus wrote hs (halvesFor text room bit at v e) rest room
+    pub behind-on : (hs : List ℕ) (size : ℕ) → verdict text room bit at v e ≡ 0 → behind hs (run link text room at v i (e ∷ es)) size ≡ behind (hs ++ halvesFor text room bit at v e) rest size
+    behind-on hs size h = ap (λ (x : Result). behind hs x size) (run-on h) ∙ behind-plus wrote hs (halvesFor text room bit at v e) rest size
 
     run-stop : (n : ℕ) → verdict text room bit at v e ≡ n → 1 ≤ n → run link text room at v i (e ∷ es) ≡ refusal n i
     run-stop zero h l = absurd (omega arith)
     run-stop (suc n) h l = run-on h
 
-behind-head : (before : List ℕ) (x : Result) (room : ℕ) → behind (halves before) x room ≡ outcome link before x room
-behind-head before (written is hs z) room = rw (joined-head before hs)
-behind-head before (refusal n p) room = refl
+behind-head : (before : List ℕ) (x : Result) (room size : ℕ) → behind (halves before) x size ≡ reached size (outcome link before x room)
+behind-head before (written is hs z) room size =
+    let s : List ℕ = before ++ joined hs in
+    rw (joined-head before hs, take-append-seam s (replicate (room - length s) 0))
+behind-head before (refusal n p) room size = refl
 
 -- ---- behind the head, before the events es
 module _ {g text : List ℕ} {room at : ℕ} {out c w ix : List ℕ} (o : Opened g text room at out c w ix) (es : List Event) where
@@ -120,7 +124,7 @@ module _ {g text : List ℕ} {room at : ℕ} {out c w ix : List ℕ} (o : Opened
   unfolding beginning modeOf rootOf
   start-known = rw (o .tables)
 
-  pub underway-start : Underway (outcome link before (run link text room (2 * length before) (beginning (tablesOf link (givenOf g))) 0 es) room) text room es 0 (fresh at) c out w ix
+  pub underway-start : Underway (reached (length out) (outcome link before (run link text room (2 * length before) (beginning (tablesOf link (givenOf g))) 0 es) room)) text room es 0 (fresh at) c out w ix
   underway-start =
       let near = o .near in
       let none = coming-low 0 (omega arith) in
@@ -130,7 +134,7 @@ module _ {g text : List ℕ} {room at : ℕ} {out c w ix : List ℕ} (o : Opened
         ready = record { order = o .order; at = omega arith; shallow = omega arith };
         bit-known = rw mode-content tt;
         small = omega arith;
-        leads = rw (start-known, o .behind) (behind-head before (run link text room (2 * length before) (beginning (tablesOf link (givenOf g))) 0 es) room);
+        leads = rw (start-known, o .behind) (behind-head before (run link text room (2 * length before) (beginning (tablesOf link (givenOf g))) 0 es) room (length out));
       }
 
 module _ {to : Outcome} {text : List ℕ} {room : ℕ} {es : List Event} {i : ℕ} {st : State} {c out w ix : List ℕ} (u : Underway to text room es i st c out w ix) where
@@ -139,7 +143,7 @@ module _ {to : Outcome} {text : List ℕ} {room : ℕ} {es : List Event} {i : �
 
   -- a step with the next event
   module _ {e : Event} (d : drop i es ≡ e ∷ drop (suc i) es) {a : Bool} (b : a ≡ announced (drop i es)) (r : Step) (out′ c′ w′ ix′ : List ℕ) (p : Steps text room a st c out w e r out′ c′ w′ ix′) where
-    leads-here : behind (u .hs) (run link text room (st .at) (known st c w) i (e ∷ drop (suc i) es)) room ≡ to
+    leads-here : behind (u .hs) (run link text room (st .at) (known st c w) i (e ∷ drop (suc i) es)) (length out) ≡ to
     leads-here = rw d at (u .leads)
 
     stepped : Steps text room (announced (e ∷ drop (suc i) es)) st c out w e r out′ c′ w′ ix′
@@ -155,21 +159,21 @@ module _ {to : Outcome} {text : List ℕ} {room : ℕ} {es : List Event} {i : �
         let m : modeOf (next .mode) ≡ itemOf text (announced (e ∷ drop (suc i) es)) (known st c w) e .state .mode = ap (λ (v : F.State Located). v .mode) (g .state) in
         record {
           hs = u .hs ++ k;
-          holds = rw (grown .place) (grown .holds);
+          holds = rw (grown .place, held-size (grown .holds)) (grown .holds);
           ready = g .ready;
           bit-known = rw (m, add-one i) (bit-next text room (st .at) (known st c w) e (drop (suc i) es) (g .judged));
           small = omega arith;
-          leads = rw (g .state, grown .place, add-one i) (sym (behind-on text room (st .at) (known st c w) e (drop (suc i) es) i (u .hs) (g .judged)) ∙ leads-here);
+          leads = rw (g .state, grown .place, add-one i, held-size (grown .holds)) (sym (behind-on text room (st .at) (known st c w) e (drop (suc i) es) i (u .hs) (length out) (g .judged)) ∙ leads-here);
         }
 
-    pub run-refused : {n : ℕ} → r ≡ Stop n → refusing n i room tableWords ≡ to
+    pub run-refused : {n : ℕ} → r ≡ Stop n → refusing n i (length out) tableWords ≡ to
     run-refused {n} q =
         let g = rw q at stepped in
-        sym (ap (λ (x : Result). behind (u .hs) x room) (run-stop text room (st .at) (known st c w) e (drop (suc i) es) i n (g .0) (g .1))) ∙ leads-here
+        sym (ap (λ (x : Result). behind (u .hs) x (length out)) (run-stop text room (st .at) (known st c w) e (drop (suc i) es) i n (g .0) (g .1))) ∙ leads-here
 
 -- the end behind the last event
 pub run-finished : {to : Outcome} {text : List ℕ} {room : ℕ} {es : List Event} {i : ℕ} {st : State} {cs : Counts} {out w ix : List ℕ} → Underway to text room es i st (listed cs) out w ix → length es ≤ i
-    → (r : Answer) (out′ : List ℕ) → Finishes room st cs out i r out′ → remains room tableWords r out′ w ≡ to
+    → (r : Answer) (out′ : List ℕ) → Finishes room st cs out i r out′ → remains (length out) tableWords r out′ w ≡ to
 unfolding run
 run-finished {text = text} {es = es} {w = w} {ix = ix} u l r out′ f = f text w ix (u .hs) (u .ready) (u .holds) ∙ (rw (drop-of-length-le es l) at (u .leads))
 
@@ -206,8 +210,7 @@ module _ (room : ℕ) (st : State) (cs : Counts) (out : List ℕ) (i : ℕ) wher
     finish-written l {out′} p text w ix hs g h =
         let held = document-end-held h p in
         let n = held-length held ∙ whole-octets (st .at) in
-        let k : aligned (aligned (suc (st .at))) / 2 ≤ room = rw (whole-octets (st .at)) (omega arith) in
-        let o = held-whole held k in
+        let o = held .is in
         let c = counts-are cs w in
         let t = sym (entries-are (vocabulary cs w) ∙ ap listed c) in
         rw (← e, fits-so text room (st .at) l) (λ j. record { answer = Accepted (sym n j) (sym c j); told = toldAccepted (sym n j) (t j); out = o j; tables = sym (g .order .clean) j })

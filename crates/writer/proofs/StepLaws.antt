@@ -60,11 +60,11 @@ module _ (text : List ℕ) (room at : ℕ) (v : F.State Located) (e : E.Event Lo
   laid-onward false false l = let p = l .0 .behind in omega arith
 
   laid-grown : (b : Bool) → (isListing (v .mode) && not (isAttribute e)) ≡ b → (i : Bool) → isEnd e ≡ i → Laid i (endPut b out at) (pick b (at + 1) at) next out′ (d .octets)
-      → (hs : List ℕ) → Holds room hs at out → Grown room hs (halvesOf link text room at v e d) at next out′
-  laid-grown true o true i l hs h = rw (l .0) (end-written-behind-list text v e d h o refl i (l .1))
-  laid-grown true o false i l hs h = rw (l .1) (item-written-behind-list text v e d h o refl i (l .0))
-  laid-grown false o true i l hs h = rw (l .0) (end-written text v e d h o i (l .1))
-  laid-grown false o false i l hs h = rw (l .1) (item-written text v e d h o i (l .0))
+      → (hs : List ℕ) → Holds (length out) hs at out → Grown (length out) hs (halvesOf link text room at v e d) at next out′
+  laid-grown true o true i l hs h = rw (l .0) (end-written-behind-list text room v e d h o refl i (l .1))
+  laid-grown true o false i l hs h = rw (l .1) (item-written-behind-list text room v e d h o refl i (l .0))
+  laid-grown false o true i l hs h = rw (l .0) (end-written text room v e d h o i (l .1))
+  laid-grown false o false i l hs h = rw (l .1) (item-written text room v e d h o i (l .0))
 
 -- ---- what the item is written from
 end-inside : (v : F.State Located) (e : E.Event Located) → goesOn v e ≡ true → isEnd e ≡ true → 0 < v .level
@@ -169,7 +169,7 @@ module _ (text : List ℕ) (st : State) (c w : List ℕ) (e : Event) where
             → (verdict text room a (st .at) (known st c w) e ≡ n) × (1 ≤ n) × (n ≤ 16)
         step-full n h = rw (h .0) (full-by (owes st e) refl room (rw (ended .0) at (h .1)), omega arith, omega arith)
 
-        pub step-held : {next : State} {out′ c′ w′ ix′ : List ℕ} → Landed text a st₁ c out₁ w (eventOf (e .kind) e) next out′ c′ w′ ix′ → (r : Step) (n : ℕ) → n ≡ room
-            → r ≡ holding text n next → Steps text room a st c out w e r out′ c′ w′ ix′
+        pub step-held : {next : State} {out′ c′ w′ ix′ : List ℕ} → Landed text a st₁ c out₁ w (eventOf (e .kind) e) next out′ c′ w′ ix′ → (r : Step) → r ≡ holding text room next
+            → Steps text room a st c out w e r out′ c′ w′ ix′
         unfolding holding
-        step-held {next} {out′} {c′} {w′} {ix′} landed r n l h = rw (h, l) (steps-by (owes st e) refl room next out out′ c′ w′ ix′ (rw (ended .0, ended .1) at landed) _ refl)
+        step-held {next} {out′} {c′} {w′} {ix′} landed r h = rw h (steps-by (owes st e) refl room next out out′ c′ w′ ix′ (rw (ended .0, ended .1) at landed) _ refl)

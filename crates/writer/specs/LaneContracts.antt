@@ -90,9 +90,9 @@ pub record Safe (w memory : Words) (l : Lane) : Type 0 where
 -- The output holds what was written, and the events from the lane's next record on lead to what the call is to leave, o.
 pub record OnWay (o : Outcome) (text : Octets) (room : ℕ) (es : List Event) (v : Vocabulary Located) (l : Lane) (out : Octets) : Type 0 where
   pub hs : Halves
-  pub holds : Holds room hs (l .at) out
+  pub holds : Holds (length out) hs (l .at) out
   pub small : l .i ≤ l .at
-  pub leads : behind hs (run link text room (l .at) (standing v l) (l .i) (drop (l .i) es)) room ≡ o
+  pub leads : behind hs (run link text room (l .at) (standing v l) (l .i) (drop (l .i) es)) (length out) ≡ o
 
 -- Records were taken: where the lane was on its way it is so still, further on or not. The tables are as they were.
 abbrev pub Passes : (w memory : Words) (room : ℕ) → Lane → Octets → Lane → Octets → Type 0
@@ -138,8 +138,8 @@ pub record Passable (w : Words) (l : Lane) (k : ℕ) : Type 0 where
   pub some : 1 ≤ k
   pub name : (k ≡ 512 → ⊥) → (k ≤ 256) × (l .level < 32)
 
-pub record Passed (w : Words) (room : ℕ) (l : Lane) (out : Octets) (k : ℕ) (l′ : Lane) (out′ : Octets) : Type 0 where
+pub record Passed (w : Words) (l : Lane) (out : Octets) (k : ℕ) (l′ : Lane) (out′ : Octets) : Type 0 where
   pub at : l′ .at ≤ 32768
   pub level : l′ .level ≤ 32
   pub next : l′ .i ≡ l .i + 1
-  pub passes : (memory : Words) → Ahead w memory l room k → Passes w memory room l out l′ out′
+  pub passes : (memory : Words) (room : ℕ) → Ahead w memory l room k → Passes w memory room l out l′ out′

@@ -10,6 +10,7 @@ pub mod RecordContracts
 pub mod AheadContracts
 pub mod StepContracts
 pub mod ItemContracts
+pub mod RanContracts
 pub mod RunContracts
 pub mod LaneContracts
 pub mod RideContracts

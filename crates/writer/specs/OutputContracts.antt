@@ -14,11 +14,11 @@ pub record Ended (hs : Halves) : Type 0 where
   pub before : Octets
   pub is : hs ≡ before ++ (15 ∷ [])
 
--- The output, of `room` octets, holds these halves, which are the document's so far, as far as it reaches, and 0 behind them; `at` is the half behind them. What
+-- The output, of `size` octets, holds these halves, which are the document's so far, as far as it reaches, and 0 behind them; `at` is the half behind them. What
 -- stands before the body and items are whole octets, so only an end leaves the last octet half filled: the next end has to keep that half.
-pub record Holds (room : ℕ) (hs : Halves) (at : ℕ) (out : Octets) : Type 0 where
+pub record Holds (size : ℕ) (hs : Halves) (at : ℕ) (out : Octets) : Type 0 where
   pub behind : at ≡ length hs
-  pub is : out ≡ sets (replicate room 0) 0 (joined hs)
+  pub is : out ≡ sets (replicate size 0) 0 (joined hs)
   pub ends : at % 2 ≡ 1 → Ended hs
 
 -- The octet of an end at the half `at`, when what stands before it in the octet is an end too.
@@ -26,6 +26,6 @@ unfoldable pub endOctet : ℕ → ℕ
 endOctet at = pick (eqb (at % 2) 0) 0xF0 0xFF
 
 -- The halves ks are written behind hs, which ended at the half `at`; `next` is the half behind them.
-pub record Grown (room : ℕ) (hs ks : Halves) (at next : ℕ) (out : Octets) : Type 0 where
-  pub holds : Holds room (hs ++ ks) (at + length ks) out
+pub record Grown (size : ℕ) (hs ks : Halves) (at next : ℕ) (out : Octets) : Type 0 where
+  pub holds : Holds size (hs ++ ks) (at + length ks) out
   pub place : next ≡ at + length ks

@@ -3,15 +3,18 @@ use Prim.Native.Nat.{ℕ, suc, _+_, _≤_}
 use mathlib.Core.Path.{_≡_}
 use mathlib.Core.Bool.{Bool, false}
 use mathlib.Core.List.{List, _∷_, _++_}
-use lib.ListN.{length, drop}
+use lib.ListN.{length, drop, replicate}
 use lib.Dec.{ltb}
+use lib.Seq.{sets}
 use Rattle.format.specs.Octets.{Octets, Halves, Words}
 use Rattle.format.specs.Numbers.{pick}
-use Rattle.format.specs.Tables.{link}
+use Rattle.format.specs.Tables.{Vocabulary, link}
 use Rattle.format.specs.Items.{Mode, content, declaring, listing}
 use Rattle.tables.specs.declared.Counts.{Counts}
-use Rattle.tables.specs.Counts.{tableWords}
+use Rattle.tables.specs.Located.{Located}
+use Rattle.tables.specs.Counts.{countsOf, tableWords, entryWords, wordsOf}
 use Rattle.tables.specs.Kept.{listed}
+use Rattle.tables.specs.Told.{toldAccepted, entriesOf}
 use Rattle.states.specs.declared.State.{State}
 use Rattle.states.specs.States.{modeOf}
 use Rattle.events.specs.declared.Event.{Event}
@@ -20,7 +23,8 @@ use Rattle.writer.specs.declared.Answer.the-variants.{Accepted, Refused}
 use Rattle.writer.specs.declared.run.Phase.{Phase}
 use Rattle.writer.specs.declared.run.Phase.the-variants.{Onward, Halted}
 use Rattle.writer.specs.Events.{isDeclaring}
-use Rattle.writer.specs.Writing.{announced, Result, written, refusal, finish, run, joined, told, Outcome, refusing, accepting, Leaves, writeOf}
+use Rattle.writer.specs.Writing.{announced, Result, written, refusal, finish, run, joined, told, Outcome, refusing, Leaves, writeOf}
+use Rattle.writer.specs.RanContracts.{ranOf}
 use Rattle.writer.specs.OutputContracts.{Holds}
 use Rattle.writer.specs.StepContracts.{Ready, known}
 
@@ -30,29 +34,40 @@ Foretold content b = Unit {0}
 Foretold (declaring a) b = a ≡ b
 Foretold (listing any) b = Unit {0}
 
+-- What a call leaves in `size` octets of output that makes the document s: as much of it as they reach, and 0 behind it.
+abbrev pub reaching : Octets → Vocabulary Located → (size : ℕ) → Outcome
+reaching s v size =
+    record {
+      answer = Accepted (length s) (countsOf v);
+      told = toldAccepted (length s) (entriesOf v);
+      out = sets (replicate size 0) 0 s;
+      tables = wordsOf entryWords v;
+    }
+
 -- What a call leaves whose run has the halves hs behind it and then comes out so.
-abbrev pub behind : Halves → Result → (room : ℕ) → Outcome
-behind hs (written is ks z) room = accepting (joined (hs ++ ks)) (z .tables) room
-behind hs (refusal n p) room = refusing n p room tableWords
+abbrev pub behind : Halves → Result → (size : ℕ) → Outcome
+behind hs (written is ks z) size = reaching (joined (hs ++ ks)) (z .tables) size
+behind hs (refusal n p) size = refusing n p size tableWords
 
--- What a run's answer leaves in `room` octets and `table` words: on a refusal, nothing.
-abbrev pub remains : (room table : ℕ) → Answer → (out : Octets) (tables : Words) → Outcome
-remains room table (Accepted n c) out tables = record { answer = Accepted n c; told = told (Accepted n c); out = out; tables = tables }
-remains room table (Refused n p) out tables = refusing n p room table
+-- What a run's answer leaves in `size` octets and `table` words: on a refusal, nothing.
+abbrev pub remains : (size table : ℕ) → Answer → (out : Octets) (tables : Words) → Outcome
+remains size table (Accepted n c) out tables = record { answer = Accepted n c; told = told (Accepted n c); out = out; tables = tables }
+remains size table (Refused n p) out tables = refusing n p size table
 
--- Behind i of the events es; out, c and w are the output and the words of counts and tables, beside the index. Each event took a half. The others lead to what the call is to leave, o.
+-- Behind i of the events es, which are judged by `room`; out, c and w are the output and the words of counts and tables, beside the index. Each event took a half. The others lead to what the call is to leave, o.
 pub record Underway (o : Outcome) (text : Octets) (room : ℕ) (es : List Event) (i : ℕ) (st : State) (c : Words) (out : Octets) (w : Words) (index : Octets) : Type 0 where
   pub hs : Halves
-  pub holds : Holds room hs (st .at) out
+  pub holds : Holds (length out) hs (st .at) out
   pub ready : Ready text st c w index
   pub bit-known : Foretold (modeOf (st .mode)) (announced (drop i es))
   pub small : i ≤ st .at
-  pub leads : behind hs (run link text room (st .at) (known st c w) i (drop i es)) room ≡ o
+  pub leads : behind hs (run link text room (st .at) (known st c w) i (drop i es)) (length out) ≡ o
 
 -- The document's end behind i events came out as the definition says; out and out′ are the output before and then.
 abbrev pub Finishes : (room : ℕ) → State → Counts → Octets → ℕ → Answer → Octets → Type 0
 Finishes room st cs out i r out′ =
-    (text : Octets) (w : Words) (index : Octets) (hs : Halves) → Ready text st (listed cs) w index → Holds room hs (st .at) out → remains room tableWords r out′ w ≡ behind hs (finish link text room (st .at) (known st (listed cs) w) i) room
+    (text : Octets) (w : Words) (index : Octets) (hs : Halves) → Ready text st (listed cs) w index → Holds (length out) hs (st .at) out
+    → remains (length out) tableWords r out′ w ≡ behind hs (finish link text room (st .at) (known st (listed cs) w) i) (length out)
 
 -- ---- phases: where a run stands between two records
 -- There is a further record, number i of n, and it is to be written.
@@ -73,15 +88,18 @@ bitOf content a = a
 bitOf (declaring b) a = b
 bitOf (listing any) a = a
 
--- Behind i of the events es, with `room` octets of output and `table` table words lent, which are out and w, and the index. The counts are in the words c, or in the phase.
+-- Behind i of the events es, which are judged by `room`, with `table` table words lent, which are w, the output out and the index. The counts are in the words c, or in the phase.
 abbrev pub Moving : Outcome → List Event → Octets → (room table i : ℕ) → State → (c : Words) (out : Octets) (w : Words) (index : Octets) → Type 0
 Moving o es text room table i st c out w index = (table ≡ tableWords) × Underway o text room es i st c out w index
 
 abbrev pub Going : Outcome → List Event → Octets → (room table i : ℕ) → Phase → (out : Octets) (w : Words) (index : Octets) → Type 0
 Going o es text room table i (Onward st cs) out w index = Moving o es text room table i st (listed cs) out w index
-Going o es text room table i (Halted k p) out w index = refusing k p room table ≡ o
+Going o es text room table i (Halted k p) out w index = refusing k p (length out) table ≡ o
 
--- Before the events, whichever they are, with the words `given` for the head: the run leads to what the definition leaves.
+-- Before the events, whichever they are, with the words `given` for the head: the run leads to what a call leaves that judges by `room`; and, where this is the output's length, to what the definition leaves.
+abbrev pub Readies : (given : Words) → Octets → (room table : ℕ) → Phase → (out : Octets) (w : Words) (index : Octets) → Type 0
+Readies given text room table p out w index = (es : List Event) → Going (ranOf given es text room (length out) table) es text room table 0 p out w index
+
 abbrev pub Prepares : (given : Words) → Octets → (room table : ℕ) → Phase → (out : Octets) (w : Words) (index : Octets) → Type 0
 Prepares given text room table p out w index = (es : List Event) → Going (writeOf link given es text room table) es text room table 0 p out w index
 
@@ -102,7 +120,7 @@ Turns text room table i p out w index e a p′ out′ w′ index′ =
 -- What the records came to, once no further one is to be written; the lent room behind it is blanked after that.
 abbrev pub Ends : (room i : ℕ) → Phase → Octets → Answer → Octets → Type 0
 Ends room i p out r out′ =
-    (o : Outcome) (es : List Event) (text : Octets) (w : Words) (index : Octets) → Going o es text room (length w) i p out w index → goesOn p i (length es) ≡ false → remains room (length w) r out′ w ≡ o
+    (o : Outcome) (es : List Event) (text : Octets) (w : Words) (index : Octets) → Going o es text room (length w) i p out w index → goesOn p i (length es) ≡ false → remains (length out) (length w) r out′ w ≡ o
 
 abbrev pub Settles : (room table i : ℕ) → Phase → (out : Octets) (w : Words) → Answer → (out′ : Octets) (w′ : Words) → Type 0
 Settles room table i p out w r out′ w′ =

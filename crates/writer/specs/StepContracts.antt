@@ -2,6 +2,7 @@
 use Prim.Native.Nat.{ℕ, _+_, _<_, _≤_}
 use mathlib.Core.Path.{_≡_}
 use mathlib.Core.Bool.{Bool}
+use lib.ListN.{length}
 use Rattle.format.specs.Octets.{Octets, Halves, Words}
 use Rattle.format.specs.Tables.{link}
 use Rattle.format.specs.Items as F
@@ -41,7 +42,7 @@ verdict text room a at v e = judge link text room at v e (itemOf text a v e) (ha
 pub record Went (text : Octets) (room : ℕ) (a : Bool) (st : State) (c : Words) (out : Octets) (w : Words) (e : Event) (next : State) (out′ : Octets) (c′ w′ : Words) (index′ : Octets) : Type 0 where
   pub judged : verdict text room a (st .at) (known st c w) e ≡ 0
   pub state : known next c′ w′ ≡ itemOf text a (known st c w) e .state
-  pub grown : (hs : Halves) → Holds room hs (st .at) out → Grown room hs (halvesFor text room a (st .at) (known st c w) e) (st .at) (next .at) out′
+  pub grown : (hs : Halves) → Holds (length out) hs (st .at) out → Grown (length out) hs (halvesFor text room a (st .at) (known st c w) e) (st .at) (next .at) out′
   pub ready : Ready text next c′ w′ index′
   pub onward : st .at < next .at
 

@@ -39,3 +39,19 @@ inWords o = leaving (answerWord (o .answer)) (o .out) (o .tables) (countWords (o
 unfoldable pub writeWords : Version → (given records : Words) → Octets → (r t c : ℕ) → WordsLeft
 writeWords ver given records text r t c =
     pick (leb (length text) (ver .octets)) (pick (eqb c 10) (inWords (writeOf ver given (recordsOf records) text r t)) (nothing ROOM r t c)) (nothing SIZE r t c)
+
+-- What measuring answers and leaves: the answer, every word for tables and counts. No output is lent.
+pub record WordsMeasured : Type 0 where
+  pub answer : ℕ
+  pub tables : Words
+  pub counts : Words
+
+abbrev pub measured : ℕ → (tables counts : Words) → WordsMeasured
+measured answer tables counts = record { answer = answer; tables = tables; counts = counts }
+
+-- The same without output, with t and c words for tables and counts lent: what writing with room for the longest document answers and leaves beside
+-- the octets.
+unfoldable pub measureWords : Version → (given records : Words) → Octets → (t c : ℕ) → WordsMeasured
+measureWords ver given records text t c =
+    let w : WordsLeft = writeWords ver given records text (ver .octets) t c in
+    measured (w .answer) (w .tables) (w .counts)

@@ -151,16 +151,16 @@ fn settle(st: State, out: &mut [u8], e: Event) -> State
     st.behind_end(st.level)
 }
 
-// The place is behind what fits the output and the limit of a document.
+// The place is behind what fits the room and the limit of a document.
 fn held(st: State, room: usize) -> Step
     requires { ⌜ st .at ≤ 2 * farthest ⌝ }
     ensures { λ r. ⌜ ((text : Octets) → r ≡ holding text room st) ⌝ }
 {
     let octets = (st.at + 1) / 2;
-    if room < octets {
+    if LONGEST < octets {
         return Step::Stop(ROOM);
     }
-    if LONGEST < octets {
+    if room < octets {
         return Step::Stop(ROOM);
     }
     Step::On(st)
@@ -344,7 +344,8 @@ fn item(
     }
 }
 
-// One event: judged, then written behind the end that an attribute list owes, then held against the room.
+// One event: judged, then written behind the end that an attribute list owes, then held against the room. This is not the output's length where the document is
+// only measured.
 pub fn step(
     st: State,
     text: &[u8],
@@ -352,11 +353,12 @@ pub fn step(
     counts: &mut [u32],
     index: &mut [u8],
     out: &mut [u8],
+    room: usize,
     e: Event,
     a: bool,
 ) -> Step
     requires { ⌜ Ready (now text) st (now counts) (now t) (now index) ⌝ }
-    ensures { λ r. ⌜ Steps (now (text .entry)) (length (now (out .entry))) a st (now (counts .entry)) (now (out .entry)) (now (t .entry)) e r (now (out .exit)) (now (counts .exit)) (now (t .exit)) (now (index .exit)) ⌝ }
+    ensures { λ r. ⌜ Steps (now (text .entry)) room a st (now (counts .entry)) (now (out .entry)) (now (t .entry)) e r (now (out .exit)) (now (counts .exit)) (now (t .exit)) (now (index .exit)) ⌝ }
 {
     let fault = fault(st, text, e);
     if fault != 0 {
@@ -365,7 +367,7 @@ pub fn step(
     let settled = settle(st, out, e);
     let r = item(settled, text, t, counts, index, out, e, a);
     match r {
-        Step::On(next) => held(next, out.len()),
+        Step::On(next) => held(next, room),
         Step::Stop(n) => Step::Stop(n),
     }
 }

@@ -187,7 +187,7 @@ impl Lane {
     // The record that is next.
     fn pass(self, w: &[u32], out: &mut [u8], k: u32) -> Lane
         requires { ⌜ Passable (now w) self k ⌝ }
-        ensures { λ r. ⌜ Passed (now (w .entry)) (length (now (out .entry))) self (now (out .entry)) k r (now (out .exit)) ⌝ }
+        ensures { λ r. ⌜ Passed (now (w .entry)) self (now (out .entry)) k r (now (out .exit)) ⌝ }
     {
         if k == AN_END {
             return self.closed(out);
@@ -196,15 +196,15 @@ impl Lane {
     }
 
     // As far as the lane goes.
-    pub fn run(self, w: &[u32], memory: &[u32; SLOTS], out: &mut [u8]) -> Lane
+    pub fn run(self, w: &[u32], memory: &[u32; SLOTS], out: &mut [u8], room: usize) -> Lane
         requires { ⌜ Safe (now w) (now memory) self ⌝ }
-        ensures { λ r. ⌜ Safe (now (w .entry)) (now (memory .entry)) r × Onward (self .i) (r .i) (length (now (w .entry)) / 13) × Passes (now (w .entry)) (now (memory .entry)) (length (now (out .entry))) self (now (out .entry)) r (now (out .exit)) ⌝ }
+        ensures { λ r. ⌜ Safe (now (w .entry)) (now (memory .entry)) r × Onward (self .i) (r .i) (length (now (w .entry)) / 13) × Passes (now (w .entry)) (now (memory .entry)) room self (now (out .entry)) r (now (out .exit)) ⌝ }
     {
         let mut l = self;
-        let mut k = next(w, memory, l, out.len());
+        let mut k = next(w, memory, l, room);
         while k != NOTHING {
             l = l.pass(w, out, k);
-            k = next(w, memory, l, out.len());
+            k = next(w, memory, l, room);
         }
         l
     }

@@ -9,6 +9,7 @@ mod run;
 mod steps;
 pub mod write;
 
+pub use run::measure_words;
 pub use run::write_words;
 use states::State;
 use tables::Counts;

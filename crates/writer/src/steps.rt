@@ -38,9 +38,16 @@ fn learn(memory: &mut [u32; SLOTS], records: &[u32], i: usize, before: u32, n: u
 }
 
 // The records that the quick lane takes from number i on: it goes inside the root, among children.
-fn ride(st: State, records: &[u32], memory: &[u32; SLOTS], out: &mut [u8], i: usize) -> Lane
+fn ride(
+    st: State,
+    records: &[u32],
+    memory: &[u32; SLOTS],
+    out: &mut [u8],
+    room: usize,
+    i: usize,
+) -> Lane
     requires { ⌜ (st .at ≤ 32768) × (st .level ≤ 32) × Filed (now memory) (length (now records) / 13) ⌝ }
-    ensures { λ r. ⌜ Rides (now (records .entry)) (now (memory .entry)) (length (now (out .entry))) i st (now (out .entry)) r (now (out .exit)) ⌝ }
+    ensures { λ r. ⌜ Rides (now (records .entry)) (now (memory .entry)) room i st (now (out .entry)) r (now (out .exit)) ⌝ }
 {
     let from = Lane {
         at: st.at,
@@ -54,7 +61,7 @@ fn ride(st: State, records: &[u32], memory: &[u32; SLOTS], out: &mut [u8], i: us
     if st.root == 0 {
         return from;
     }
-    from.run(records, memory, out)
+    from.run(records, memory, out, room)
 }
 
 // The mode behind the lane: an attribute list, if it ends with a Start that has attributes.
@@ -84,13 +91,14 @@ pub fn steps(
     records: &[u32],
     text: &[u8],
     out: &mut [u8],
+    room: usize,
     t: &mut [u32],
     index: &mut [u8],
     first: State,
     start: Counts,
 ) -> Phase
-    requires { ⌜ Leading (recordsOf (now records)) (now text) (length (now out)) (length (now t)) (Onward first start) (now out) (now t) (now index) ⌝ }
-    ensures { λ r. ⌜ Through (recordsOf (now (records .entry))) (now (text .entry)) (length (now (out .entry))) (length (now (t .entry))) (Onward first start) (now (out .entry)) (now (t .entry)) (now (index .entry)) r (now (out .exit)) (now (t .exit)) (now (index .exit)) ⌝ }
+    requires { ⌜ Leading (recordsOf (now records)) (now text) room (length (now t)) (Onward first start) (now out) (now t) (now index) ⌝ }
+    ensures { λ r. ⌜ Through (recordsOf (now (records .entry))) (now (text .entry)) room (length (now (t .entry))) (Onward first start) (now (out .entry)) (now (t .entry)) (now (index .entry)) r (now (out .exit)) (now (t .exit)) (now (index .exit)) ⌝ }
 {
     let mut memory = [0u32; SLOTS];
     let mut counts = [0u32; Counts::TABLES];
@@ -102,10 +110,10 @@ pub fn steps(
         let e = events::from_words(records, i);
         let before = counts[ELEMENT_NAME];
         let b = bit(st.mode, a);
-        match step(st, text, t, &mut counts, index, out, e, b) {
+        match step(st, text, t, &mut counts, index, out, room, e, b) {
             Step::On(next) => {
                 learn(&mut memory, records, i, before, counts[ELEMENT_NAME]);
-                let l = ride(next, records, &memory, out, i + 1);
+                let l = ride(next, records, &memory, out, room, i + 1);
                 st = arrived(next, l);
                 i = l.i;
             }

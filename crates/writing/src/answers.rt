@@ -40,18 +40,29 @@ pub fn put_fault(number: u64, fault: Fault) {
     put_text(b"\n");
 }
 
-// The writer's answer: the refusal in its low 32 bits, or 0 there and the number of octets above them.
+fn put_refusal(refusal: u64) {
+    put_text(b"refused ");
+    io::print_decimal(STDOUT_FILENO, refusal % 32);
+    put_text(b" at ");
+    io::print_decimal(STDOUT_FILENO, refusal / 32);
+    put_text(b"\n");
+}
+
+// An answer of measuring or writing has the refusal in its low 32 bits, or 0 there and the number of octets above them.
+fn refusal_of(answer: u64) -> u64 {
+    answer % 0x1_0000_0000
+}
+
+fn count_of(answer: u64) -> usize {
+    (answer / 0x1_0000_0000) as usize
+}
+
 fn put_answer(out: &[u8], answer: u64) {
-    let refusal = answer % 0x1_0000_0000;
-    if refusal != 0 {
-        put_text(b"refused ");
-        io::print_decimal(STDOUT_FILENO, refusal % 32);
-        put_text(b" at ");
-        io::print_decimal(STDOUT_FILENO, refusal / 32);
-        put_text(b"\n");
+    if refusal_of(answer) != 0 {
+        put_refusal(refusal_of(answer));
         return;
     }
-    let n = least((answer / 0x1_0000_0000) as usize, out.len());
+    let n = least(count_of(answer), out.len());
     put_text(&out[0..n]);
 }
 
@@ -63,21 +74,32 @@ fn given_words(line: Line) -> usize {
     head_lines::word_of(line.entries)
 }
 
-pub fn put_document(line: Line, text: &[u8], words: &[u32]) {
-    let mut out = [0u8; fields::OCTETS];
+// The document, whose output is lent as long as it was measured.
+fn put_written(out: &mut [u8], given: &[u32], records: &[u32], text: &[u8]) {
     let mut tables = [0u32; Counts::WORDS];
     let mut counts = [0u32; Counts::TABLES];
+    let answer = lomphachit::lomphachit_write(given, records, text, out, &mut tables, &mut counts);
+    put_answer(out, answer);
+}
+
+// Measured first: what that refuses is not written.
+fn put_measured(given: &[u32], records: &[u32], text: &[u8]) {
+    let mut tables = [0u32; Counts::WORDS];
+    let mut counts = [0u32; Counts::TABLES];
+    let answer = lomphachit::lomphachit_measure(given, records, text, &mut tables, &mut counts);
+    if refusal_of(answer) != 0 {
+        put_refusal(refusal_of(answer));
+        return;
+    }
+    let mut out = [0u8; fields::OCTETS];
+    let n = least(count_of(answer), out.len());
+    put_written(&mut out[0..n], given, records, text);
+}
+
+pub fn put_document(line: Line, text: &[u8], words: &[u32]) {
     let g = least(given_words(line), words.len());
     let r = least(line.from, words.len());
     let first = least(head_lines::WORDS, r);
     let t = least(least(line.fill, LENT), text.len());
-    let answer = lomphachit::lomphachit_write(
-        &words[0..g],
-        &words[first..r],
-        &text[0..t],
-        &mut out,
-        &mut tables,
-        &mut counts,
-    );
-    put_answer(&out, answer);
+    put_measured(&words[0..g], &words[first..r], &text[0..t]);
 }

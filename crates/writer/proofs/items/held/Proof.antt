@@ -8,10 +8,10 @@ use Rattle.writer.proofs.items.held.Statement.{statement}
 use Rattle.writer.proofs.items.held.Tie as tie
 
 returns : tie.Need-returns
-returns c = λ text. held-over text _ _ (omega (arith, min-le-left (c .before .before .args .room) 16384))
+returns c = λ text. held-over text _ _ (omega (arith, min-le-right (c .before .before .args .room) 16384))
 
 returns-2 : tie.Need-returns-2
-returns-2 c = λ text. held-over text _ _ (omega (arith, min-le-right (c .before .before .before .args .room) 16384))
+returns-2 c = λ text. held-over text _ _ (omega (arith, min-le-left (c .before .before .before .args .room) 16384))
 
 returns-3 : tie.Need-returns-3
 returns-3 c = λ text. held-fitting text _ _ (omega arith) (omega arith)

@@ -32,7 +32,7 @@ returns-2 c =
     let at-fault = at-if1 .before in
     let at-start = at-fault .before .before .before .before .before .before in
     let landed = rw (c .before .before .r .given .1) at (at-item .item .ensures) in
-    step-held (at-start .args .text .now) (at-start .args .st) (at-start .args .counts .now) (at-start .args .t .now) (at-start .args .e) (at-start .args .a) (sym (at-fault .fault .ensures _) ∙ omega (arith, at-if1 .if1 .left)) _ _ (at-start .args .out .now) _ (at-settle .settle .ensures) landed _ _ (omega (arith, at-item .item .kept, at-settle .settle .kept)) (c .held .ensures _)
+    step-held (at-start .args .text .now) (at-start .args .st) (at-start .args .counts .now) (at-start .args .t .now) (at-start .args .e) (at-start .args .a) (sym (at-fault .fault .ensures _) ∙ omega (arith, at-if1 .if1 .left)) _ _ (at-start .args .out .now) _ (at-settle .settle .ensures) landed _ (c .held .ensures _)
 
 returns-3 : tie.Need-returns-3
 returns-3 c =

@@ -3,7 +3,6 @@
 use borrow.Author.Needs.{needs}
 use native.Mathlib.Omega.{arith}
 use Rattle.writer.proofs.LaneLaws.{passed-end, passed-start}
-use lib.ListN.{length}
 use Rattle.writer.proofs.lane.Lane.pass.Statement.{statement}
 use Rattle.writer.proofs.lane.Lane.pass.Tie as tie
 
@@ -11,13 +10,13 @@ closed-requires : tie.Need-closed-requires
 closed-requires c κs = (omega arith, omega arith, omega arith)
 
 returns : tie.Need-returns
-returns c = passed-end (c .before .before .before .before .before .before .before .args .w .now) (c .before .before .before .before .before .before .before .args .k) (length (c .before .before .before .before .before .before .before .args .out .now)) (c .before .before .before .before .before .before .before .pre) (omega arith) (c .before .before .closed .ensures)
+returns c = passed-end (c .before .before .before .before .before .before .before .args .w .now) (c .before .before .before .before .before .before .before .args .k) (c .before .before .before .before .before .before .before .pre) (omega arith) (c .before .before .closed .ensures)
 
 opened-requires : tie.Need-opened-requires
 opened-requires c κs = let n = c .before .before .before .before .pre .name (λ q. omega arith) in (omega arith, omega arith, omega arith, omega arith, omega arith)
 
 returns-2 : tie.Need-returns-2
-returns-2 c = passed-start (c .before .before .before .before .before .before .before .args .w .now) (c .before .before .before .before .before .before .before .args .k) (length (c .before .before .before .before .before .before .before .args .out .now)) (c .before .before .before .before .before .before .before .pre) (λ q. omega arith) (c .before .before .opened .ensures)
+returns-2 c = passed-start (c .before .before .before .before .before .before .before .args .w .now) (c .before .before .before .before .before .before .before .args .k) (c .before .before .before .before .before .before .before .pre) (λ q. omega arith) (c .before .before .opened .ensures)
 
 pub pass-spec : {M : Type 1} → statement M
 pass-spec =

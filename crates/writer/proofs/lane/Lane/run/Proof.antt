@@ -10,11 +10,11 @@ use Rattle.writer.proofs.lane.Lane.run.Statement.{statement}
 use Rattle.writer.proofs.lane.Lane.run.Tie as tie
 
 abbrev Inv-loop : tie.InvT-loop
-Inv-loop w memory out₀ l₀ k₀ out l k =
-    (length out ≡ length out₀) × Safe w memory l × ((k ≡ 0 → ⊥) → Ahead w memory l (length out) k) × Passes w memory (length out₀) l₀ out₀ l out × Onward (l₀ .i) (l .i) (length w / 13)
+Inv-loop w memory out₀ room l₀ k₀ out l k =
+    (length out ≡ length out₀) × Safe w memory l × ((k ≡ 0 → ⊥) → Ahead w memory l room k) × Passes w memory room l₀ out₀ l out × Onward (l₀ .i) (l .i) (length w / 13)
 
 abbrev μ-loop : tie.MeasureT-loop
-μ-loop w memory out₀ l₀ k₀ out l k = length w / 13 - l .i
+μ-loop w memory out₀ room l₀ k₀ out l k = length w / 13 - l .i
 
 next-requires : tie.Need-next-requires Inv-loop μ-loop
 next-requires c κs = c .before .before .pre
@@ -32,7 +32,7 @@ loop-less : tie.Need-loop-less Inv-loop μ-loop
 loop-less c = let a = c .before .before .before .before .before .before .loop .inv .2 (c .before .before .before .before .before .loop-test .taken) in let there = a .there in let next = c .before .before .before .pass .ensures .next in omega arith
 
 loop-again : tie.Need-loop-again Inv-loop μ-loop
-loop-again c = (omega arith, record { at = c .before .before .before .pass .ensures .at; level = c .before .before .before .pass .ensures .level; filed = c .before .before .before .before .before .before .loop .inv .1 .filed }, c .next2 .ensures, passes-on (c .before .before .before .before .before .before .loop .inv .0) (c .before .before .before .pass .ensures) (c .before .before .before .before .before .before .loop .inv .2 (c .before .before .before .before .before .loop-test .taken)) (c .before .before .before .before .before .before .loop .inv .3), let next = c .before .before .before .pass .ensures .next in let there = c .before .before .before .before .before .before .loop .inv .2 (c .before .before .before .before .before .loop-test .taken) .there in let on = c .before .before .before .before .before .before .loop .inv .4 .on in record { on = omega arith; inside = λ h. omega arith })
+loop-again c = (omega arith, record { at = c .before .before .before .pass .ensures .at; level = c .before .before .before .pass .ensures .level; filed = c .before .before .before .before .before .before .loop .inv .1 .filed }, c .next2 .ensures, passes-on (c .before .before .before .pass .ensures) (c .before .before .before .before .before .before .loop .inv .2 (c .before .before .before .before .before .loop-test .taken)) (c .before .before .before .before .before .before .loop .inv .3), let next = c .before .before .before .pass .ensures .next in let there = c .before .before .before .before .before .before .loop .inv .2 (c .before .before .before .before .before .loop-test .taken) .there in let on = c .before .before .before .before .before .before .loop .inv .4 .on in record { on = omega arith; inside = λ h. omega arith })
 
 returns : tie.Need-returns Inv-loop μ-loop
 returns c = (c .before .loop .inv .1, c .before .loop .inv .4, c .before .loop .inv .3)

@@ -10,18 +10,18 @@ use Rattle.writer.proofs.run.Phase.through.Tie as tie
 steps-requires : tie.Need-steps-requires
 steps-requires c κs =
     let a = c .before .before .before .before .before .before .before .before .before .before .before .args in
-    leading-onward (recordsOf (a .records .now)) (a .text .now) (length (a .out .now)) (length (a .t .now)) (a .out .now) (a .t .now) (a .index .now) (c .before .before .before .before .self .given .1) (c .before .before .before .before .before .before .before .before .before .before .before .pre)
+    leading-onward (recordsOf (a .records .now)) (a .text .now) (a .room) (length (a .t .now)) (a .out .now) (a .t .now) (a .index .now) (c .before .before .before .before .self .given .1) (c .before .before .before .before .before .before .before .before .before .before .before .pre)
 
 returns : tie.Need-returns
 returns c =
     let a = c .before .before .before .before .before .before .before .before .before .before .before .before .before .before .before .before .before .before .args in
     let steps = c .before .before .before .before .before .before .steps in
-    through-onward (recordsOf (a .records .now)) (a .text .now) (length (a .out .now)) (length (a .t .now)) (a .out .now) (a .t .now) (a .index .now) (c .before .before .before .before .before .before .before .before .before .before .before .self .given .1) (steps .result) (steps .last .1 .1 .0) (steps .last .1 .1 .1 .0) (steps .last .1 .1 .1 .1 .0) (steps .ensures)
+    through-onward (recordsOf (a .records .now)) (a .text .now) (a .room) (length (a .t .now)) (a .out .now) (a .t .now) (a .index .now) (c .before .before .before .before .before .before .before .before .before .before .before .self .given .1) (steps .result) (steps .last .1 .1 .0) (steps .last .1 .1 .1 .1 .0) (steps .last .1 .1 .1 .1 .1 .0) (steps .ensures)
 
 returns-2 : tie.Need-returns-2
 returns-2 c =
     let a = c .before .before .before .before .before .before .before .before .args in
-    through-halted (recordsOf (a .records .now)) (a .text .now) (length (a .out .now)) (length (a .t .now)) (a .out .now) (a .t .now) (a .index .now) (c .before .self2 .given .1)
+    through-halted (recordsOf (a .records .now)) (a .text .now) (a .room) (length (a .t .now)) (a .out .now) (a .t .now) (a .index .now) (c .before .self2 .given .1)
 
 pub through-spec : {M : Type 1} → statement M
 through-spec =

@@ -14,8 +14,8 @@ step-requires c κs =
     let steady = steady-onward (at-start .args .text .now) (at-start .args .i) (at-start .args .t .now) (at-start .args .index .now) (at-self .self .given .1) (at-start .pre) in
     rw (c .before .before .before .before .before .before .put-counts .ensures) (steady .0)
 
-cast-t34 : tie.Need-cast-t34
-cast-t34 c =
+cast-t35 : tie.Need-cast-t35
+cast-t35 c =
     let at-self = c .before .before .before .before .before .before .before .before .before .before .before .before .before .before .before .before .before .before .before .before in
     let at-start = at-self .before .before .before .before .before .before in
     let steady = steady-onward (at-start .args .text .now) (at-start .args .i) (at-start .args .t .now) (at-start .args .index .now) (at-self .self .given .1) (at-start .pre) in
@@ -40,7 +40,7 @@ returns-2 c =
     let at-self = at-put-counts .before .before .before in
     let at-start = at-self .before .before .before .before .before .before in
     let last = at-step .step .last in
-    turn-stop (at-start .args .text .now) (length (at-start .args .out .now)) (length (at-start .args .t .now)) (at-start .args .i) (at-start .args .out .now) (at-start .args .t .now) (at-start .args .index .now) (at-start .args .e) (at-start .args .a) (last .1 .1 .1 .1 .1 .0) (last .1 .1 .0) (last .1 .1 .1 .1 .0) _ _ (at-start .args .self) (at-self .self .given .1) (at-put-counts .put-counts .ensures) _ (at-bit .bit .ensures) (at-step .step .result) (last .1 .1 .1 .0) (at-step .step .ensures) _ (c .before .number .given .1)
+    turn-stop (at-start .args .text .now) (length (at-start .args .out .now)) (length (at-start .args .t .now)) (at-start .args .i) (at-start .args .out .now) (at-start .args .t .now) (at-start .args .index .now) (at-start .args .e) (at-start .args .a) (last .1 .1 .1 .1 .1 .0) (last .1 .1 .0) (last .1 .1 .1 .1 .0) _ _ (at-start .args .self) (at-self .self .given .1) (at-put-counts .put-counts .ensures) _ (at-bit .bit .ensures) (at-step .step .result) (last .1 .1 .1 .0) (at-step .step .ensures) _ (c .before .number .given .1) (omega (arith, at-step .step .kept))
 
 returns-3 : tie.Need-returns-3
 returns-3 c =
@@ -61,7 +61,7 @@ turn-spec =
     (λ c. search needs)
     (λ c κs. search needs)
     (λ c. search needs)
-    cast-t34
+    cast-t35
     (λ c. search needs)
     (λ c. search needs)
     (λ c. search needs)
