@@ -15,12 +15,12 @@ use Rattle.format.specs.Strings.{bit, Identifying, id-spelled, id-numbered, Opt
 use Rattle.format.specs.Names.{NameLayout, Named, in-parts, by-number, Declared, declared}
 use Rattle.format.specs.Items.{Mode, content, declaring, listing, State, afterStart, moved, ItemWrittenAs, o-start, o-first-namespace, o-namespace, o-named-start, o-attribute, o-text, o-comment, o-instruction}
 use Rattle.format.specs.Document.{halves, pad, aligned, closed, Written, attributes-end, element-end, item, knownAfter, Begun, begun, after-attributes, after-end, after-item}
-use Rattle.writer.specs.Events.{isDeclaring}
+use Rattle.write_items.specs.Events.{isDeclaring}
 use Rattle.tables.proofs.Found.{clash}
 use Rattle.tables.specs.Rows.{place}
 use Rattle.tables.proofs.Adding.{sameNames, strings-adding, names-adding, strings-adding-name, names-adding-name}
 use Rattle.theorems.proofs.Lists.{halves-length, pad-length}
-use Rattle.writer.specs.Writing.{isAttribute}
+use Rattle.write_items.specs.Steps.{isAttribute}
 use Rattle.theorems.proofs.OneWriting.{inList, identifying-one, literal-one, value-one, named-one, declared-one, where-attributes, no-end}
 use Rattle.theorems.proofs.Growing.{same-table, same-name-table, extended-few}
 use Rattle.theorems.proofs.Documents.{events}

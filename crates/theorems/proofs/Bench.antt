@@ -21,13 +21,14 @@ use Rattle.read_head.specs.Head as RHead
 use Rattle.read_items.specs.Items as RItems
 use Rattle.read_items.specs.Steps as RSteps
 use Rattle.reader.specs.Reading as RReading
-use Rattle.write_head.specs.Head as WHead
-use Rattle.writer.specs.Events as WEvents
 use Rattle.write_names.specs.Choices as WChoices
-use Rattle.writer.specs.Items as WItems
+use Rattle.write_head.specs.Head as WHead
+use Rattle.write_items.specs.Events as WEvents
+use Rattle.write_items.specs.Items as WItems
+use Rattle.write_items.specs.Steps as WSteps
 use Rattle.writer.specs.Writing as WWriting
 use Rattle.theorems.specs.Bench.{cases, finds, wants}
 
 pub proved : map finds cases ≡ map wants cases
-unfolding FNumbers.c21 FNumbers.lengths FNumbers.numbers FNumbers.c25 FNumbers.octets FNumbers.fromBits FNumbers.behindFirst FNumbers.spell FEvents.eventMap FTables.strings FTables.names FTables.adding FTables.addingName FTables.vocabularyMap FTables.noEntries FTables.followedBy FTables.starting FTables.xmlPrefix FTables.xmlNamespace FTables.same FTables.holds FTables.sameTriple FTables.holdsName FTables.link FStrings.c14 FStrings.c15 FHead.tenTables FHead.isIdentifying FHead.c19 FHead.sizeOf FHead.presence FNames.ofElement FNames.ofAttribute FItems.mayStart FDocument.halves FDocument.pad FDocument.aligned FDocument.beginning DFields.valueFrom DFields.behind DFields.shareOf DFields.readIn DFields.fieldAt DUtf8.rows DUtf8.fits DUtf8.startedBy DUtf8.fromFirst DUtf8.character DUtf8.textBehind DUtf8.isText TCounts.countsOf TSearch.lowest TSearch.numberIn TSearch.numberOfTriple TLocated.octetsOf TLocated.start ERecords.recordOf RStrings.spelling RStrings.idAt RStrings.optionalAt RStrings.spelledAt RStrings.literalAt RStrings.valueAt RNames.nameOf RNames.partsAt RNames.numberedAt RNames.nameAt RNames.declaredAt RHead.partAt RHead.identifyingAt RHead.anotherAt RHead.surrogateAt RHead.entryAt RHead.entriesAt RHead.tablesAt RHead.headAt RItems.namePadding RItems.namespaceAt RItems.elementAt RItems.namedAt RItems.attributeAt RItems.chunkAt RItems.commentAt RItems.instructionAt RItems.otherAt RItems.childAt RItems.declaringAt RItems.itemAt RSteps.halfAt RSteps.endsAt RSteps.padsAt RSteps.documentEnd RSteps.endAt RSteps.step RReading.run RReading.sized RReading.opening RReading.reading WHead.entryOctets WHead.nameOctets WHead.joinedBy WHead.tableOctets WHead.isNone WHead.octetsBefore WHead.inStrings WHead.inNames WHead.every WHead.distinct WHead.distinctNames WHead.isTriple WHead.wellGiven WHead.textGiven WHead.newGiven WHead.fewGiven WHead.headOctets WHead.faultOfHead WEvents.isName WEvents.noName WEvents.wellMade WEvents.eventOf WEvents.goesOn WEvents.nameText WEvents.allText WChoices.writeId WChoices.writeOptional WChoices.writeName WChoices.worthAdding WChoices.writeLiteral WChoices.writeValue WItems.writeItem WChoices.within WWriting.announced WWriting.owed WWriting.settled WWriting.fits WWriting.halvesOf WWriting.judge WWriting.finish WWriting.run WWriting.joined WWriting.writing
+unfolding FNumbers.c21 FNumbers.lengths FNumbers.numbers FNumbers.c25 FNumbers.octets FNumbers.fromBits FNumbers.behindFirst FNumbers.spell FEvents.eventMap FTables.strings FTables.names FTables.adding FTables.addingName FTables.vocabularyMap FTables.noEntries FTables.followedBy FTables.starting FTables.xmlPrefix FTables.xmlNamespace FTables.same FTables.holds FTables.sameTriple FTables.holdsName FTables.link FStrings.c14 FStrings.c15 FHead.tenTables FHead.isIdentifying FHead.c19 FHead.sizeOf FHead.presence FNames.ofElement FNames.ofAttribute FItems.mayStart FDocument.halves FDocument.pad FDocument.aligned FDocument.beginning DFields.valueFrom DFields.behind DFields.shareOf DFields.readIn DFields.fieldAt DUtf8.rows DUtf8.fits DUtf8.startedBy DUtf8.fromFirst DUtf8.character DUtf8.textBehind DUtf8.isText TCounts.countsOf TSearch.lowest TSearch.numberIn TSearch.numberOfTriple TLocated.octetsOf TLocated.start ERecords.recordOf RStrings.spelling RStrings.idAt RStrings.optionalAt RStrings.spelledAt RStrings.literalAt RStrings.valueAt RNames.nameOf RNames.partsAt RNames.numberedAt RNames.nameAt RNames.declaredAt RHead.partAt RHead.identifyingAt RHead.anotherAt RHead.surrogateAt RHead.entryAt RHead.entriesAt RHead.tablesAt RHead.headAt RItems.namePadding RItems.namespaceAt RItems.elementAt RItems.namedAt RItems.attributeAt RItems.chunkAt RItems.commentAt RItems.instructionAt RItems.otherAt RItems.childAt RItems.declaringAt RItems.itemAt RSteps.halfAt RSteps.endsAt RSteps.padsAt RSteps.documentEnd RSteps.endAt RSteps.step RReading.run RReading.sized RReading.opening RReading.reading WHead.entryOctets WHead.nameOctets WHead.joinedBy WHead.tableOctets WHead.isNone WHead.octetsBefore WHead.inStrings WHead.inNames WHead.every WHead.distinct WHead.distinctNames WHead.isTriple WHead.wellGiven WHead.textGiven WHead.newGiven WHead.fewGiven WHead.headOctets WHead.faultOfHead WEvents.isName WEvents.noName WEvents.wellMade WEvents.eventOf WEvents.goesOn WEvents.nameText WEvents.allText WChoices.writeId WChoices.writeOptional WChoices.writeName WChoices.worthAdding WChoices.writeLiteral WChoices.writeValue WItems.writeItem WChoices.within WSteps.announced WSteps.owed WSteps.settled WSteps.fits WSteps.halvesOf WSteps.judge WWriting.finish WWriting.run WSteps.joined WWriting.writing
 proved = refl

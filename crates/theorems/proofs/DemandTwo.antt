@@ -21,7 +21,8 @@ use Rattle.events.specs.WellMade.{WellMade}
 use Rattle.reader.specs.Reading.{Mark, marks}
 use Rattle.write_head.specs.Given.{Given, isGiven, givenOf}
 use Rattle.write_head.specs.Head.{tablesOf, headOctets}
-use Rattle.writer.specs.Writing.{Result, written, refusal, joined, writing, Outcome, outcome, writeOf, knownWriting}
+use Rattle.write_items.specs.Steps.{joined}
+use Rattle.writer.specs.Writing.{Result, written, refusal, writing, Outcome, outcome, writeOf, knownWriting}
 use Rattle.theorems.specs.Bounded.{Bounded}
 use Rattle.theorems.specs.Heads.{headed}
 use Rattle.theorems.specs.Verdicts.{plainOf, plains, itemsOf, headOf, Fault, not-an-event, not-text, too-deep, too-many, no-room, at-event, too-soon, no-room-for-end}

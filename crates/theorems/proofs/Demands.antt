@@ -25,7 +25,8 @@ use Rattle.events.specs.Records.{recordOf}
 use Rattle.events.specs.WellMade.{WellMade}
 use Rattle.write_head.specs.Given.{Given}
 use Rattle.write_head.specs.Head.{tablesOf, headOctets}
-use Rattle.writer.specs.Writing.{written, joined, writing, knownWriting}
+use Rattle.write_items.specs.Steps.{joined}
+use Rattle.writer.specs.Writing.{written, writing, knownWriting}
 use Rattle.theorems.specs.Bounded.{Bounded}
 use Rattle.theorems.specs.Heads.{headed, HeadAllowed}
 use Rattle.theorems.specs.Places.{allSpelled, spelledIn}

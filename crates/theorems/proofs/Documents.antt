@@ -9,7 +9,7 @@ use Rattle.format.specs.Events.{Event, Namespace, Start, Attribute, Text, Comme
 use Rattle.format.specs.Tables.{Vocabulary, Version}
 use Rattle.format.specs.Items.{State, mayStart, ItemWrittenAs, o-start, o-first-namespace, o-namespace, o-named-start, o-attribute, o-text, o-comment, o-instruction}
 use Rattle.format.specs.Document.{Written, document-end, attributes-end, element-end, item, Document}
-use Rattle.writer.specs.Events.{goesOn}
+use Rattle.write_items.specs.Events.{goesOn}
 use Rattle.theorems.proofs.Structure.{Rest, back, ended-back, all-left}
 
 abbrev pub events : List (Item Octets) → List (Event Octets)

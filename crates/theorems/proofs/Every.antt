@@ -17,7 +17,7 @@ use Rattle.format.specs.Head.{Opens}
 use Rattle.format.specs.Document.{Written, document-end, beginning, Document}
 use Rattle.format.specs.Allowed.{All, Allowed}
 use Rattle.write_names.specs.Chosen.{tablesAfter}
-use Rattle.writer.specs.Writing.{opens, joined}
+use Rattle.write_items.specs.Steps.{opens, joined}
 use Rattle.fields.proofs.Laws.{case}
 use Rattle.theorems.specs.Bounded.{Bounded}
 use Rattle.theorems.specs.Heads.{headed, HeadAllowed}

@@ -13,8 +13,9 @@ use Rattle.events.specs.declared.Event.{Event}
 use Rattle.events.specs.Records.{recordOf}
 use Rattle.tables.specs.Located.{Located}
 use Rattle.write_head.specs.Given.{Given}
-use Rattle.writer.specs.Events.{wellMade, eventOf, goesOn}
-use Rattle.writer.specs.Writing.{written, judge, writing}
+use Rattle.write_items.specs.Events.{wellMade, eventOf, goesOn}
+use Rattle.write_items.specs.Steps.{judge}
+use Rattle.writer.specs.Writing.{written, writing}
 use Rattle.theorems.proofs.Turns.{as-written}
 use Rattle.theorems.proofs.Sayable.{made-is, record-back}
 

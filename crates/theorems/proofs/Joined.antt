@@ -10,7 +10,7 @@ use Rattle.format.specs.Tables.{Vocabulary, Version}
 use Rattle.format.specs.Head.{Opens}
 use Rattle.format.specs.Items.{State}
 use Rattle.format.specs.Document.{halves, pad, aligned, Written, document-end, attributes-end, element-end, item, beginning, Document}
-use Rattle.writer.specs.Writing.{joined}
+use Rattle.write_items.specs.Steps.{joined}
 use Rattle.theorems.proofs.Lists.{parity, halves-append}
 
 -- ---- halves joined to octets are those halves, where the first starts an octet

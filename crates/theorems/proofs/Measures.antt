@@ -18,12 +18,13 @@ use Rattle.tables.specs.Located.{Located}
 use Rattle.tables.specs.Counts.{tableWords}
 use Rattle.events.specs.declared.Event.{Event}
 use Rattle.events.specs.FromWords.{recordsOf}
+use Rattle.write_names.specs.Choices.{within}
 use Rattle.write_head.specs.Given.{Given, isGiven, givenOf}
 use Rattle.write_head.specs.Head.{isNone, tablesOf, wellGiven, textGiven, newGiven, fewGiven, headOctets, faultOfHead}
-use Rattle.write_names.specs.Choices.{within}
-use Rattle.writer.specs.Events.{wellMade, eventOf, isContent, goesOn, allText}
-use Rattle.writer.specs.Items.{WroteItem, writeItem}
-use Rattle.writer.specs.Writing.{announced, settled, opens, Result, written, refusal, plus, fits, halvesOf, judge, finish, run, joined}
+use Rattle.write_items.specs.Events.{wellMade, eventOf, isContent, goesOn, allText}
+use Rattle.write_items.specs.Items.{WroteItem, writeItem}
+use Rattle.write_items.specs.Steps.{announced, settled, opens, fits, halvesOf, judge, joined}
+use Rattle.writer.specs.Writing.{Result, written, refusal, plus, finish, run}
 use Rattle.writer.specs.Writing.{outcome, writing, writeOf}
 use Rattle.writer.specs.Words.{WordsLeft, WordsMeasured, leaving, nothing, inWords, writeWords, measured, measureWords}
 use Rattle.theorems.specs.Measures.{taken, takenBy, firstAbove, RefusesToo, Measures}

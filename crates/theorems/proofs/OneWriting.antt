@@ -11,7 +11,7 @@ use Rattle.format.specs.Tables.{StringTable, Vocabulary, addingName, Version}
 use Rattle.format.specs.Strings.{bit, Identifying, id-spelled, id-numbered, Optional, absent, present, Layout, Literal, literal-spelled, literal-numbered, Value, value-empty, value}
 use Rattle.format.specs.Names.{has, NameLayout, Named, in-parts, by-number, Declared, declared}
 use Rattle.format.specs.Items.{Mode, content, declaring, listing, State, afterStart, knowing, moved, opened, ItemWrittenAs, o-start, o-first-namespace, o-namespace, o-named-start, o-attribute, o-text, o-comment, o-instruction}
-use Rattle.writer.specs.Writing.{isAttribute}
+use Rattle.write_items.specs.Steps.{isAttribute}
 use Rattle.tables.proofs.Found.{clash as false-true}
 use Rattle.format.specs.Document.{halves, pad, Written, document-end, attributes-end, element-end, item}
 use Rattle.theorems.proofs.Lists.{octet-is}

@@ -20,9 +20,9 @@ use Rattle.tables.specs.Rows.{place}
 use Rattle.tables.specs.Located.{Located, octetsOf, plainTables, plainState}
 use Rattle.write_names.specs.Choices.{within}
 use Rattle.write_names.specs.Chosen.{chooseFor}
-use Rattle.writer.specs.Events.{isDeclaring, isListing, eventOf}
-use Rattle.writer.specs.Items.{WroteItem, writeItem}
-use Rattle.writer.specs.Writing.{attributeNext, announced, isAttribute, opens, owed, settled, halvesOf}
+use Rattle.write_items.specs.Events.{isDeclaring, isListing, eventOf}
+use Rattle.write_items.specs.Items.{WroteItem, writeItem}
+use Rattle.write_items.specs.Steps.{attributeNext, announced, isAttribute, opens, owed, settled, halvesOf}
 use Rattle.tables.proofs.Found.{both-true}
 use Rattle.tables.proofs.ByNumber.{by-table}
 use Rattle.theorems.specs.Verdicts.{plainOf}

@@ -19,7 +19,7 @@ use Rattle.format.specs.Document.{closed}
 use Rattle.tables.specs.Rows.{place}
 use Rattle.tables.proofs.Adding.{extended, strings-adding, strings-adding-name}
 use Rattle.write_names.specs.Chosen.{Chose, chooseId, chooseOptional, chooseName, chooseLiteral, chooseValue, chooseFor}
-use Rattle.writer.specs.Items.{beforeDeclaration, beforeName, nameLead}
+use Rattle.write_items.specs.Items.{beforeDeclaration, beforeName, nameLead}
 use Rattle.theorems.specs.Permitted.{PermitsIfAny, Permits, a-declaration, a-start, an-attribute, a-chunk, a-comment, an-instruction, an-end}
 use Rattle.theorems.proofs.Growing.{same-table, extended-few}
 use Rattle.theorems.proofs.Chosen.{Grows, same-size, grows-on, fits-before, idOctets, optionalOctets, literalOctets, valueOctets, nameOctets, More, as-was, one-more, id-more, optional-more, string-more, value-more, more-grows, id-case, id-rule, optional-case, optional-rule, SpellingIfAny, SpellingIfSome, LiteralCase, lit-held, lit-new, literal-case, literal-permits, literal-rule, ValueCase, is-empty, is-literal, value-case, value-permits, value-rule, Ranged, more-ranged, NameCase, name-held, name-new, name-case, name-permits, name-grows, name-ranged, NameSaid, name-rule}

@@ -30,8 +30,8 @@ use Rattle.events.specs.Records.{eventString, optionalEventString as stringIfAn
 use Rattle.events.specs.WellMade.{IsStretch, inside, IsPrefix, no-prefix, xml-prefix, a-prefix, IsNamespace, no-namespace, xml-namespace, a-namespace, IsValue, no-octets, some-octets, IsName, WellMade, a-declaration, a-start, an-attribute, a-chunk, a-comment, an-instruction, an-end}
 use Rattle.tables.specs.Located.{Located, empty, stretch, builtInPrefix, builtInNamespace, octetsOf}
 use Rattle.tables.proofs.Search.{short-octets, length-octets}
-use Rattle.writer.specs.Events.{isAbsent, isStretch, isPrefix, isNamespace, isValue, isName, noName, wellMade, locatedOf, optionalOf, eventOf, optionalText, nameText, allText}
-use Rattle.writer.specs.Writing.{fits}
+use Rattle.write_items.specs.Events.{isAbsent, isStretch, isPrefix, isNamespace, isValue, isName, noName, wellMade, locatedOf, optionalOf, eventOf, optionalText, nameText, allText}
+use Rattle.write_items.specs.Steps.{fits}
 use Rattle.tables.proofs.Found.{clash, both-true}
 use Rattle.theorems.specs.Verdicts.{plainOf}
 use Rattle.theorems.proofs.Chosen.{SpellingIfAny, SpellingIfSome, NameSaid}

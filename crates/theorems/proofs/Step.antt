@@ -15,8 +15,8 @@ use Rattle.format.specs.Tables.{Vocabulary, Version, InLimits}
 use Rattle.format.specs.Items.{Mode, content, declaring, listing, State, mayStart, afterStart, knowing, moved, ItemWrittenAs}
 use Rattle.format.specs.Document.{halves, pad, Begun, begun, after-attributes, after-end, after-item}
 use Rattle.write_names.specs.Chosen.{chooseFor}
-use Rattle.writer.specs.Events.{amongChildren, isDeclaring, isListing, goesOn}
-use Rattle.writer.specs.Writing.{isAttribute, isEnd, opens, owed, settled}
+use Rattle.write_items.specs.Events.{amongChildren, isDeclaring, isListing, goesOn}
+use Rattle.write_items.specs.Steps.{isAttribute, isEnd, opens, owed, settled}
 use Rattle.tables.proofs.Found.{clash, both-true}
 use Rattle.theorems.proofs.Structure.{stepped}
 use Rattle.theorems.specs.Permitted.{Permits, an-end}

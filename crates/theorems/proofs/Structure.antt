@@ -12,8 +12,8 @@ use Rattle.format.specs.Events.{Name, Event, Namespace, Start, Attribute, Text,
 use Rattle.format.specs.Tables.{Vocabulary}
 use Rattle.format.specs.Items.{Mode, content, declaring, listing, State, mayStart, afterStart, moved, opened}
 use Rattle.format.specs.Document.{closed, beginning}
-use Rattle.writer.specs.Events.{amongChildren, isDeclaring, isListing, goesOn}
-use Rattle.writer.specs.Writing.{isAttribute, isEnd, opens}
+use Rattle.write_items.specs.Events.{amongChildren, isDeclaring, isListing, goesOn}
+use Rattle.write_items.specs.Steps.{isAttribute, isEnd, opens}
 use Rattle.tables.proofs.Found.{clash, both-true}
 
 -- A place to which a document comes: elements are open only where there is a root, and an attribute list is an element's. The tables do not matter.

@@ -15,9 +15,10 @@ use Rattle.events.specs.declared.Event.{Event}
 use Rattle.tables.specs.Located.{Located}
 use Rattle.write_head.specs.Given.{Given}
 use Rattle.write_head.specs.Head.{tablesOf, headOctets, faultOfHead}
-use Rattle.writer.specs.Events.{isContent, eventOf}
-use Rattle.writer.specs.Items.{WroteItem, writeItem}
-use Rattle.writer.specs.Writing.{announced, Result, written, refusal, plus, settled, fits, halvesOf, judge, finish, run, writing}
+use Rattle.write_items.specs.Events.{isContent, eventOf}
+use Rattle.write_items.specs.Items.{WroteItem, writeItem}
+use Rattle.write_items.specs.Steps.{announced, settled, fits, halvesOf, judge}
+use Rattle.writer.specs.Writing.{Result, written, refusal, plus, finish, run, writing}
 use Rattle.theorems.proofs.Lists.{test}
 
 module _ (ver : Version) (text : Octets) (room : ℕ) where

@@ -1,4 +1,4 @@
--- DEMANDS 1 AND 2 OF THE WRITER'S CODE. The contract of `writer::write::write` equates what a call answers and leaves with `writeOf`, that of `lomphachit_write`
+-- DEMANDS 1 AND 2 OF THE WRITER'S CODE. The contract of `write_rows::write` equates what a call answers and leaves with `writeOf`, that of `lomphachit_write`
 -- with `writeWords`, which is `writeOf` in words: so what it accepts is written by the rules, from the very tables and records that were given, and reading it gives back the same events and tables, whatever stood in the room.
 use Prim.Native.Nat.{ℕ, zero, suc, _+_, _*_, _^_, _≤_, min}
 use mathlib.Core.Path.{_≡_, refl, sym, ap, _∙_, subst}
@@ -20,14 +20,15 @@ use Rattle.events.specs.declared.Event.{Event}
 use Rattle.events.specs.Records.{recordOf}
 use Rattle.events.specs.FromWords.{recordsOf}
 use Rattle.reader.specs.Reading.{EventRead, itemsRead, recordRead, accepting as reading, readOf}
+use Rattle.write_names.specs.Choices.{within}
 use Rattle.write_head.specs.Given.{Given, givenOf}
 use Rattle.write_head.specs.Head.{isNone, tablesOf, wellGiven, textGiven, newGiven, fewGiven, headOctets, faultOfHead}
+use Rattle.write_items.specs.Events.{wellMade, eventOf, isContent, goesOn, allText}
+use Rattle.write_items.specs.Items.{WroteItem, writeItem}
+use Rattle.write_items.specs.Steps.{announced, opens, settled, fits, halvesOf, judge, joined}
 use Rattle.writer.specs.declared.Answer.{Answer}
 use Rattle.writer.specs.declared.Answer.the-variants.{Accepted, Refused}
-use Rattle.writer.specs.Events.{wellMade, eventOf, isContent, goesOn, allText}
-use Rattle.write_names.specs.Choices.{within}
-use Rattle.writer.specs.Items.{WroteItem, writeItem}
-use Rattle.writer.specs.Writing.{announced, Result, written, refusal, plus, opens, settled, fits, halvesOf, judge, finish, run, joined, Outcome, Leaves, accepting, outcome, writing, writeOf}
+use Rattle.writer.specs.Writing.{Result, written, refusal, plus, finish, run, Outcome, Leaves, accepting, outcome, writing, writeOf}
 use Rattle.theorems.specs.Bounded.{Bounded}
 use Rattle.theorems.specs.Verdicts.{headOf}
 use Rattle.theorems.proofs.Document as Whole

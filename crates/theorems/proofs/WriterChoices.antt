@@ -18,7 +18,7 @@ use Rattle.tables.specs.Located.{Located, octetsOf, plainTables, plainState}
 use Rattle.tables.specs.Search.{numberIn, numberOfTriple}
 use Rattle.write_names.specs.Choices.{Wrote, writeId, writeOptional, writeName, worthAdding, writeLiteral, writeValue}
 use Rattle.write_names.specs.Chosen.{Chose, chooseId, chooseOptional, chooseName, chooseLiteral, chooseValue, chooseFor}
-use Rattle.writer.specs.Items.{beforeDeclaration, beforeName, nameLead, writeItem}
+use Rattle.write_items.specs.Items.{beforeDeclaration, beforeName, nameLead, writeItem}
 use Rattle.theorems.proofs.Words.{strings-map, names-map, adding-map, keeping-map, adding-name-map}
 use Rattle.theorems.proofs.Chosen.{idOctets, optionalOctets, literalOctets, valueOctets, nameOctets, literal-value, literal-case}
 use Rattle.theorems.proofs.Produced.{octetsBy, knownBy}

@@ -15,10 +15,11 @@ use Rattle.format.specs.Items.{content, State}
 use Rattle.format.specs.Document.{halves, aligned, Written, document-end, attributes-end, element-end, item, knownAfter, begun, beginning, Document}
 use Rattle.events.specs.declared.Event.{Event}
 use Rattle.tables.specs.Located.{Located, plain, plainState}
+use Rattle.write_names.specs.Chosen.{chosen, tablesAfter}
 use Rattle.write_head.specs.Given.{Given}
 use Rattle.write_head.specs.Head.{tablesOf, headOctets}
-use Rattle.write_names.specs.Chosen.{chosen, tablesAfter}
-use Rattle.writer.specs.Writing.{Result, written, refusal, fits, run, joined, writing, knownWriting}
+use Rattle.write_items.specs.Steps.{fits, joined}
+use Rattle.writer.specs.Writing.{Result, written, refusal, run, writing, knownWriting}
 use Rattle.theorems.specs.Bounded.{Bounded}
 use Rattle.theorems.specs.Heads.{headed}
 use Rattle.theorems.specs.Verdicts.{plains, itemsOf, headOf, HeadRight, HeadFault, AllRight, Refused}

@@ -23,9 +23,10 @@ use Rattle.events.specs.WellMade.{WellMade}
 use Rattle.tables.specs.Located.{Located, octetsOf, plain, plainTables, plainState}
 use Rattle.write_names.specs.Choices.{within}
 use Rattle.write_names.specs.Chosen.{chooseFor, chosen, tablesAfter}
-use Rattle.writer.specs.Events.{wellMade, eventOf, isContent, isDeclaring, goesOn, allText}
-use Rattle.writer.specs.Items.{WroteItem, writeItem}
-use Rattle.writer.specs.Writing.{attributeNext, announced, Result, written, refusal, plus, opens, settled, fits, halvesOf, judge, finish, run, trace}
+use Rattle.write_items.specs.Events.{wellMade, eventOf, isContent, isDeclaring, goesOn, allText}
+use Rattle.write_items.specs.Items.{WroteItem, writeItem}
+use Rattle.write_items.specs.Steps.{attributeNext, announced, opens, settled, fits, halvesOf, judge}
+use Rattle.writer.specs.Writing.{Result, written, refusal, plus, finish, run, trace}
 use Rattle.tables.proofs.Found.{clash, both-true}
 use Rattle.theorems.specs.Bounded.{Bounded}
 use Rattle.theorems.specs.Heads.{headed}

@@ -22,9 +22,10 @@ use Rattle.tables.specs.Search.{numberIn, numberOfTriple}
 use Rattle.write_names.specs.Choices.{Wrote, writeId, writeOptional, writeName, worthAdding, writeLiteral, writeValue}
 use Rattle.write_head.specs.Given.{Given}
 use Rattle.write_head.specs.Head.{tablesOf}
-use Rattle.writer.specs.Events.{isListing, eventOf}
-use Rattle.writer.specs.Items.{writeItem, nameLead}
-use Rattle.writer.specs.Writing.{announced, written, isAttribute, settled, writing}
+use Rattle.write_items.specs.Events.{isListing, eventOf}
+use Rattle.write_items.specs.Items.{writeItem, nameLead}
+use Rattle.write_items.specs.Steps.{announced, isAttribute, settled}
+use Rattle.writer.specs.Writing.{written, writing}
 use Rattle.theorems.proofs.Lists.{either}
 use Rattle.theorems.proofs.Turns.{as-written}
 use Rattle.theorems.proofs.Earlier.{Adds, adds-none, adds-both, adds-string, adds-name, adds-number, adds-name-number}

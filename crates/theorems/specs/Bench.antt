@@ -12,6 +12,7 @@ use Rattle.events.specs.declared.EventString.the-variants.{Stretch}
 use Rattle.reader.specs.Reading as RReading
 use Rattle.write_head.specs.Given.{Given}
 use Rattle.write_head.specs.Head.{headOctets}
+use Rattle.write_items.specs.Steps.{joined}
 use Rattle.writer.specs.Writing as WWriting
 
 -- A document, the tables that its head lists, as they are given to the writer with the document as text area, and the events and the tables that it stands for; or octets, the refusal's
@@ -29,7 +30,7 @@ abbrev eventsIn : Octets → List RReading.EventRead → List (Event Octets)
 eventsIn s es = map (λ (e : RReading.EventRead). eventMap (octetsOf s) (e .item .event)) es
 
 abbrev pub both : Octets → Given → List RReading.EventRead → Vocabulary Located → WWriting.Result → Found
-both s g es v (WWriting.written js hs z) = found (eventsIn s es) (plainTables s v) (headOctets link s g ++ WWriting.joined hs) (plainTables s (z .tables))
+both s g es v (WWriting.written js hs z) = found (eventsIn s es) (plainTables s v) (headOctets link s g ++ joined hs) (plainTables s (z .tables))
 both s g es v (WWriting.refusal n p) = number n p
 
 abbrev pub read : Octets → Given → RReading.Result → Found

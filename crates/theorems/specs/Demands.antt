@@ -31,6 +31,7 @@ use Rattle.reader.specs.Words as ReadWords
 use Rattle.write_head.specs.Given.{Given, isGiven, givenOf}
 use Rattle.write_head.specs.Head.{tablesOf, headOctets}
 use Rattle.writer.specs.declared.Answer as WriteAnswer
+use Rattle.write_items.specs.Steps.{joined}
 use Rattle.writer.specs.Writing as Write
 use Rattle.writer.specs.Words as WriteWords
 use Rattle.theorems.specs.Acts.{allNumbers, used, HoldAfter}
@@ -127,7 +128,7 @@ pub record Wrote (ver : Version) (g : Given) (es : List Event) (text : Octets) (
   pub halves : Halves
   pub last : State Located
   pub is : Write.writing ver g text room es ≡ Write.written items halves last
-  pub octets : headOctets ver text g ++ Write.joined halves ≡ s
+  pub octets : headOctets ver text g ++ joined halves ≡ s
   pub known : plainState text last ≡ z
 
 -- The call left these octets, 0 behind them, and tables that are these as octets; its answer has their counts. The items are the records given, with the required choices;

@@ -16,9 +16,9 @@ use Rattle.events.specs.declared.Event.{Event}
 use Rattle.events.specs.FromWords.{recordsOf}
 use Rattle.write_head.specs.Given.{Given, givenOf}
 use Rattle.write_head.specs.Head.{isNone, tablesOf, headOctets}
-use Rattle.writer.specs.Events.{eventOf}
-use Rattle.writer.specs.Items.{WroteItem, writeItem}
-use Rattle.writer.specs.Writing.{announced, settled, halvesOf}
+use Rattle.write_items.specs.Events.{eventOf}
+use Rattle.write_items.specs.Items.{WroteItem, writeItem}
+use Rattle.write_items.specs.Steps.{announced, settled, halvesOf}
 use Rattle.writer.specs.Words.{WordsLeft, leaving, nothing, writeWords, WordsMeasured, measured, measureWords}
 
 module _ (ver : Version) (text : Octets) where

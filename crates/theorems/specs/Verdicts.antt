@@ -18,9 +18,9 @@ use Rattle.tables.specs.Located.{octetsOf, plainTables}
 use Rattle.events.specs.declared.Event.{Event}
 use Rattle.events.specs.WellMade.{IsStretch, WellMade}
 use Rattle.write_names.specs.Chosen.{chosen, tablesAfter}
-use Rattle.writer.specs.Events.{eventOf}
 use Rattle.write_head.specs.Given.{Given}
 use Rattle.write_head.specs.Head.{listedOf}
+use Rattle.write_items.specs.Events.{eventOf}
 use Rattle.theorems.specs.Heads.{headed, AllDistinct, NamesParts}
 
 -- The plain event of a record over a text area; those of a list.

@@ -1,23 +1,19 @@
--- Whether an element has attributes, record by record: a declaration leaves the question as it is; and what a look at the records comes to.
+-- Whether an element has attributes, record by record: a declaration leaves the question as it is.
 -- Assumes nothing.
-use mathlib.Core.Path.{_≡_, refl, sym, ap, _∙_}
-use mathlib.Core.Bool.{Bool, true, false, true≢false, _&&_}
+use mathlib.Core.Path.{_≡_, refl, sym, _∙_}
+use mathlib.Core.Bool.{Bool, true, false, _&&_}
 use mathlib.Core.List.{List, [], _∷_}
-use Prim.Native.Nat.{ℕ, zero, suc, _+_, _<_}
+use Prim.Native.Nat.{ℕ, zero, suc, _+_}
 use native.Mathlib.Numerals.{add-one}
-use borrow.Author.Tests.{ltb-true, ltb-false}
 use lib.Dec.{eqb}
-use lib.ListN.{length, drop, drop-of-length-le}
+use lib.ListN.{drop}
 use Rattle.events.specs.declared.Kind.{Kind}
 use Rattle.events.specs.declared.Kind.the-variants.{Blank, Namespace, Start, Attribute, Chunk, Comment, Instruction, End}
 use Rattle.events.specs.declared.Event.{Event}
 use Rattle.events.specs.Words.{kindNumber}
 use Rattle.events.specs.FromWords.{beginsWith}
 use Rattle.tables.proofs.Found.{clash}
-use Rattle.writer.specs.declared.ahead.Look.{Look}
-use Rattle.writer.specs.declared.ahead.Look.the-variants.{Before, Behind, Known}
-use Rattle.writer.specs.Writing.{attributeNext, announced}
-use Rattle.writer.specs.AheadContracts.{decided, onward}
+use Rattle.write_items.specs.Steps.{attributeNext, announced}
 
 module _ (e : Event) (es : List Event) where
   pub announced-on : e .kind ≡ Namespace → announced (e ∷ es) ≡ announced es
@@ -85,19 +81,3 @@ module _ (xs : List Event) (n : ℕ) where
 
   pub behind-declared : beginsWith 1 (drop n xs) ≡ false → {w : Bool} → announced (drop n xs) ≡ w → (beginsWith 2 (drop n xs) && beginsWith 3 (drop (n + 1) xs)) ≡ w
   behind-declared h q = rw (← one-more) (sym (declared-over (drop n xs) h) ∙ q)
-
--- ---- a look at the records from number n on
-pub look-inside : (a : Look) (n end : ℕ) → onward a n end ≡ true → n < end
-unfolding onward
-look-inside Before n end h = ltb-true n end h
-look-inside Behind n end h = ltb-true n end h
-look-inside (Known answer) n end h = absurd (true≢false (sym h))
-
-pub look-past : (a b : Look) (e : Event) (xs : List Event) (n : ℕ) {w : Bool} → decided a (drop n xs) ≡ w → ((es : List Event) → decided b es ≡ decided a (e ∷ es)) → drop n xs ≡ e ∷ drop (suc n) xs → decided b (drop (n + 1) xs) ≡ w
-look-past a b e xs n leads past at = rw (add-one n) (past (drop (suc n) xs) ∙ ap (decided a) (sym at) ∙ leads)
-
-pub look-over : (a : Look) (xs : List Event) (n : ℕ) {w : Bool} → decided a (drop n xs) ≡ w → onward a n (length xs) ≡ false → decided a [] ≡ w
-unfolding onward decided
-look-over Before xs n leads h = rw (drop-of-length-le xs (ltb-false n (length xs) h)) at leads
-look-over Behind xs n leads h = rw (drop-of-length-le xs (ltb-false n (length xs) h)) at leads
-look-over (Known answer) xs n leads h = leads

@@ -21,7 +21,7 @@ use Rattle.tables.specs.Search.{lowest, numberIn, numberOfTriple}
 use Rattle.tables.proofs.Adding.{extended, sameNames, strings-adding, names-adding, strings-adding-name, names-adding-name}
 use Rattle.tables.proofs.Found.{same-refl, same-triple-refl}
 use Rattle.write_names.specs.Choices.{Wrote, writeId, writeOptional, writeName, writeLiteral, writeValue, worthAdding}
-use Rattle.writer.specs.Items.{writeItem}
+use Rattle.write_items.specs.Items.{writeItem}
 use Rattle.writer.specs.LaneContracts.{HasNumber, Known}
 
 -- ---- the lowest number in a list that grows

@@ -26,17 +26,18 @@ use Rattle.events.specs.Records.{blank, endRecord}
 use Rattle.events.specs.FromWords.{kindOf, toldByTag, toldBy, recordAt, recordsOf, beginsWith}
 use Rattle.events.proofs.FromWords.{records-length, record-nth, records-drop}
 use Rattle.write_names.specs.Choices.{within}
+use Rattle.write_items.specs.Events.{noName, wellMade, eventOf, isListing, goesOn, allText, nameOf}
+use Rattle.write_items.specs.Contracts.{faultOf}
+use Rattle.write_items.specs.Items.{writeItem}
+use Rattle.write_items.specs.Steps.{announced, isAttribute, isEnd, settled, fits}
+use Rattle.write_items.specs.OutputContracts.{Grown}
+use Rattle.write_items.specs.StepContracts.{itemOf, halvesFor, verdict}
+use Rattle.write_items.proofs.Faults.{Faultless, fault-free, fault-none, judge-fault, judge-none}
+use Rattle.write_items.proofs.OutputLaws.{held-size, end-written, item-written}
 use Rattle.writer.specs.declared.lane.Lane.{Lane}
-use Rattle.writer.specs.Events.{noName, wellMade, eventOf, isListing, goesOn, allText, nameOf}
-use Rattle.writer.specs.Contracts.{faultOf}
-use Rattle.writer.specs.Items.{writeItem}
-use Rattle.writer.specs.Writing.{announced, isAttribute, isEnd, settled, fits, Outcome}
-use Rattle.writer.specs.OutputContracts.{Grown}
-use Rattle.writer.specs.StepContracts.{itemOf, halvesFor, verdict}
+use Rattle.writer.specs.Writing.{Outcome}
 use Rattle.writer.specs.RunContracts.{behind}
 use Rattle.writer.specs.LaneContracts.{SameWords, Known, Taught, Remembered, Filed, Kept, standing, OnWay, Passes, Ahead, listed, Started, Ended, Passable, Passed, Safe}
-use Rattle.writer.proofs.Faults.{Faultless, fault-free, fault-none, judge-fault, judge-none}
-use Rattle.writer.proofs.OutputLaws.{held-size, end-written, item-written}
 use Rattle.writer.proofs.AheadLaws.{attribute-first}
 use Rattle.writer.proofs.RunLaws.{behind-on}
 use Rattle.writer.proofs.KnownLaws.{Extends, extends-item, known-kept, known-written, known-new}

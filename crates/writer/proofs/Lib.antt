@@ -1,12 +1,5 @@
-pub mod RecordLaws
-pub mod WellMade
-pub mod Faults
 pub mod ModeLaws
-pub mod KindLaws
-pub mod OutputLaws
 pub mod AheadLaws
-pub mod ItemLaws
-pub mod StepLaws
 pub mod RunLaws
 pub mod RanLaws
 pub mod PhaseLaws

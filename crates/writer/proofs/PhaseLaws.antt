@@ -23,15 +23,16 @@ use Rattle.events.specs.Records.{blank}
 use Rattle.write_head.specs.Given.{isGiven, givenOf}
 use Rattle.write_head.specs.Head.{tablesOf, headOctets, faultOfHead, faultOfGiven}
 use Rattle.write_head.specs.Contracts.{Opened}
+use Rattle.write_items.specs.declared.Step.{Step}
+use Rattle.write_items.specs.declared.Step.the-variants.{On, Stop}
+use Rattle.write_items.specs.Steps.{announced}
+use Rattle.write_items.specs.StepContracts.{Steps}
 use Rattle.writer.specs.declared.Answer.{Answer}
 use Rattle.writer.specs.declared.Answer.the-variants.{Accepted, Refused}
-use Rattle.writer.specs.declared.Step.{Step}
-use Rattle.writer.specs.declared.Step.the-variants.{On, Stop}
 use Rattle.writer.specs.declared.run.Phase.{Phase}
 use Rattle.writer.specs.declared.run.Phase.the-variants.{Onward, Halted}
-use Rattle.writer.specs.Writing.{announced, Result, refusal, run, writing, Outcome, outcome, refusing, Leaves, writeOf}
+use Rattle.writer.specs.Writing.{Result, refusal, run, writing, Outcome, outcome, refusing, Leaves, writeOf}
 use Rattle.writer.specs.RanContracts.{reached, ranOf}
-use Rattle.writer.specs.StepContracts.{Steps}
 use Rattle.writer.specs.RunContracts.{Foretold, remains, Finishes, goesOn, fromMode, lookFrom, bitOf, Moving, Going, Readies, Prepares, Steady, Bounded, Turns, Ends, Settles}
 use Rattle.writer.proofs.RanLaws.{ran-whole}
 use Rattle.writer.proofs.RunLaws.{underway-start, underway-number, underway-on, run-refused, run-finished}

@@ -20,11 +20,12 @@ use Rattle.tables.specs.Counts.{tableWords}
 use Rattle.events.specs.declared.Event.{Event}
 use Rattle.write_head.specs.Given.{Given, isGiven, givenOf}
 use Rattle.write_head.specs.Head.{tablesOf, headOctets, faultOfHead}
-use Rattle.writer.specs.Events.{eventOf, isContent}
-use Rattle.writer.specs.Writing.{announced, Result, written, refusal, plus, fits, finish, run, joined, Outcome, outcome, refusing, writing, writeOf}
-use Rattle.writer.specs.StepContracts.{itemOf, halvesFor, verdict}
+use Rattle.write_items.specs.Events.{eventOf, isContent}
+use Rattle.write_items.specs.Steps.{announced, fits, joined}
+use Rattle.write_items.specs.StepContracts.{itemOf, halvesFor, verdict}
+use Rattle.write_items.proofs.OutputLaws.{length-joined, length-pad, sets-whole}
+use Rattle.writer.specs.Writing.{Result, written, refusal, plus, finish, run, Outcome, outcome, refusing, writing, writeOf}
 use Rattle.writer.specs.RanContracts.{reached, ranOf}
-use Rattle.writer.proofs.OutputLaws.{length-joined, length-pad, sets-whole}
 use Rattle.writer.proofs.RunLaws.{run-on}
 
 -- ---- what a run accepts fits

@@ -26,14 +26,15 @@ use Rattle.events.specs.FromWords.{recordAt, recordsOf, beginsWith}
 use Rattle.events.proofs.FromWords.{records-length, record-nth, records-drop}
 use Rattle.write_names.specs.Contracts.{tablesIn}
 use Rattle.write_names.proofs.Order.{triples-count, counted-at, within-order}
+use Rattle.write_items.specs.declared.Step.{Step}
+use Rattle.write_items.specs.declared.Step.the-variants.{On, Stop}
+use Rattle.write_items.specs.Steps.{announced}
+use Rattle.write_items.specs.StepContracts.{Ready, Steps, known, itemOf, Went}
 use Rattle.writer.specs.declared.Answer.{Answer}
 use Rattle.writer.specs.declared.lane.Lane.{Lane}
-use Rattle.writer.specs.declared.Step.{Step}
-use Rattle.writer.specs.declared.Step.the-variants.{On, Stop}
 use Rattle.writer.specs.declared.run.Phase.{Phase}
 use Rattle.writer.specs.declared.run.Phase.the-variants.{Onward, Halted}
-use Rattle.writer.specs.Writing.{announced, Outcome, Leaves}
-use Rattle.writer.specs.StepContracts.{Ready, Steps, known, itemOf, Went}
+use Rattle.writer.specs.Writing.{Outcome, Leaves}
 use Rattle.writer.specs.RunContracts.{Underway, Moving, Going, Bounded, Settles, goesOn, fromMode, bitOf}
 use Rattle.writer.specs.LaneContracts.{Taught, Remembered, Filed, Kept, Safe, OnWay, standing, Passes, Onward as Further}
 use Rattle.writer.specs.RideContracts.{Learns, arrivedAt, Rides, Leading, Through}

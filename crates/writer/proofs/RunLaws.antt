@@ -33,18 +33,19 @@ use Rattle.tables.proofs.Found.{both-true}
 use Rattle.write_head.specs.Given.{givenOf}
 use Rattle.write_head.specs.Head.{tablesOf, headOctets}
 use Rattle.write_head.specs.Contracts.{Opened}
+use Rattle.write_items.specs.declared.Step.{Step}
+use Rattle.write_items.specs.declared.Step.the-variants.{On, Stop}
+use Rattle.write_items.specs.Events.{eventOf, isContent, amongChildren, goesOn, wellMade}
+use Rattle.write_items.specs.Items.{writeItem}
+use Rattle.write_items.specs.Steps.{announced, isAttribute, fits, judge, settled, joined}
+use Rattle.write_items.specs.OutputContracts.{endOctet}
+use Rattle.write_items.specs.StepContracts.{known, itemOf, halvesFor, verdict, Steps}
+use Rattle.write_items.proofs.OutputLaws.{head-held, joined-head, held-length, held-size, document-end-held}
 use Rattle.writer.specs.declared.Answer.{Answer}
 use Rattle.writer.specs.declared.Answer.the-variants.{Accepted, Refused}
-use Rattle.writer.specs.declared.Step.{Step}
-use Rattle.writer.specs.declared.Step.the-variants.{On, Stop}
-use Rattle.writer.specs.Events.{eventOf, isContent, amongChildren, goesOn, wellMade}
-use Rattle.writer.specs.Items.{writeItem}
-use Rattle.writer.specs.Writing.{announced, isAttribute, Result, written, refusal, plus, fits, judge, settled, finish, run, joined, Outcome, outcome, refusing}
-use Rattle.writer.specs.OutputContracts.{endOctet}
-use Rattle.writer.specs.StepContracts.{known, itemOf, halvesFor, verdict, Steps}
+use Rattle.writer.specs.Writing.{Result, written, refusal, plus, finish, run, Outcome, outcome, refusing}
 use Rattle.writer.specs.RanContracts.{reached}
 use Rattle.writer.specs.RunContracts.{Foretold, behind, remains, Underway, Finishes}
-use Rattle.writer.proofs.OutputLaws.{head-held, joined-head, held-length, held-size, document-end-held}
 use Rattle.writer.proofs.AheadLaws.{announced-on}
 
 -- ---- the attribute bit

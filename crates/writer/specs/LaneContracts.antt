@@ -20,10 +20,10 @@ use Rattle.events.specs.declared.Event.{Event}
 use Rattle.events.specs.Records.{blank, endRecord}
 use Rattle.events.specs.FromWords.{recordAt, recordsOf, beginsWith}
 use Rattle.write_names.specs.Choices.{within}
+use Rattle.write_items.specs.Events.{wellMade, nameOf, nameText}
+use Rattle.write_items.specs.OutputContracts.{Holds, endOctet}
 use Rattle.writer.specs.declared.lane.Lane.{Lane}
-use Rattle.writer.specs.Events.{wellMade, nameOf, nameText}
 use Rattle.writer.specs.Writing.{run, Outcome}
-use Rattle.writer.specs.OutputContracts.{Holds, endOctet}
 use Rattle.writer.specs.RunContracts.{behind}
 
 -- The three words from a on, of one list, and from b on, of another, are the same.

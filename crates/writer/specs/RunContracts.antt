@@ -18,15 +18,16 @@ use Rattle.tables.specs.Told.{toldAccepted, entriesOf}
 use Rattle.states.specs.declared.State.{State}
 use Rattle.states.specs.States.{modeOf}
 use Rattle.events.specs.declared.Event.{Event}
+use Rattle.write_items.specs.Events.{isDeclaring}
+use Rattle.write_items.specs.Steps.{announced, joined}
+use Rattle.write_items.specs.OutputContracts.{Holds}
+use Rattle.write_items.specs.StepContracts.{Ready, known}
 use Rattle.writer.specs.declared.Answer.{Answer}
 use Rattle.writer.specs.declared.Answer.the-variants.{Accepted, Refused}
 use Rattle.writer.specs.declared.run.Phase.{Phase}
 use Rattle.writer.specs.declared.run.Phase.the-variants.{Onward, Halted}
-use Rattle.writer.specs.Events.{isDeclaring}
-use Rattle.writer.specs.Writing.{announced, Result, written, refusal, finish, run, joined, told, Outcome, refusing, Leaves, writeOf}
+use Rattle.writer.specs.Writing.{Result, written, refusal, finish, run, told, Outcome, refusing, Leaves, writeOf}
 use Rattle.writer.specs.RanContracts.{ranOf}
-use Rattle.writer.specs.OutputContracts.{Holds}
-use Rattle.writer.specs.StepContracts.{Ready, known}
 
 -- The attribute bit in front of an element's declarations is b.
 abbrev pub Foretold : Mode → Bool → Type 0

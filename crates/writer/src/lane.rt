@@ -7,14 +7,14 @@ ghost use lib.ListN.{length, replicate};
 ghost use Rattle.events.specs.Records.{endRecord};
 ghost use Rattle.events.specs.FromWords.{recordAt};
 ghost use Rattle.writer.specs.LaneContracts.{SameWords, Filed, Recalled, Kept, Safe, Passes, Ahead, Started, Ended, Passable, Passed, Onward};
-use crate::items::attribute_bit;
-use crate::output::put_end;
 use events::RECORD;
 use events::is_kind;
 use events::kinds;
 use events::strings;
 use fields::put::put_number;
 use states::State;
+use write_items::items::attribute_bit;
+use write_items::output::put_end;
 
 // The word of a record that has the place of its name.
 const NAME_PLACE: usize = events::strings::NAME + 1;

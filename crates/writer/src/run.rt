@@ -1,5 +1,5 @@
-// A run: the head, then the events one by one, then the document's end. What is decided is decided by value, in the functions over a `Phase`; `write` takes the
-// records out of a row, and `steps` out of words. The writer for C is such a run.
+// A run: the head, then the events one by one, then the document's end. What is decided is decided by value, in the functions over a `Phase`; `steps` takes the
+// records out of words, and crate `write_rows` out of a row. The writer for C is such a run.
 ghost use mathlib.Core.Path.{_≡_};
 ghost use mathlib.Core.Bool.{_&&_};
 ghost use Prim.Native.Nat.{_≤_};
@@ -9,17 +9,13 @@ ghost use Rattle.format.specs.Tables.{link};
 ghost use Rattle.index.specs.Indexed.{slots};
 ghost use Rattle.states.specs.States.{modeOf, rootOf};
 ghost use Rattle.events.specs.FromWords.{recordsOf};
-ghost use Rattle.writer.specs.Events.{isContent};
+ghost use Rattle.write_items.specs.Events.{isContent};
 ghost use Rattle.writer.specs.Writing.{Leaves};
 ghost use Rattle.writer.specs.Words.{answerWord, leaving, writeWords, measured, measureWords};
 ghost use Rattle.writer.specs.RanContracts.{ranOf, ranWords};
 ghost use Rattle.writer.specs.RunContracts.{Finishes, goesOn, fromMode, lookFrom, bitOf, Readies, Prepares, Steady, Bounded, Turns, Ends, Settles};
 ghost use Rattle.writer.specs.RideContracts.{Leading, Through};
 use crate::Answer;
-use crate::Step;
-use crate::ahead;
-use crate::items::step;
-use crate::output;
 use crate::steps::steps;
 use events::Event;
 use events::RECORD;
@@ -29,6 +25,9 @@ use format::refusals::SIZE;
 use states::State;
 use tables::Counts;
 use write_head::Begun;
+use write_items::Step;
+use write_items::items::step;
+use write_items::output;
 
 // Between two records: where the writer stands and the tables' counts there, or the refusal and the event's number.
 pub enum Phase {

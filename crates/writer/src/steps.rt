@@ -7,9 +7,7 @@ ghost use Rattle.events.specs.FromWords.{recordsOf};
 ghost use Rattle.writer.specs.declared.run.Phase.the-variants.{Onward};
 ghost use Rattle.writer.specs.LaneContracts.{Filed};
 ghost use Rattle.writer.specs.RideContracts.{arrivedAt, Learns, Rides, Leading, Through};
-use crate::Step;
 use crate::ahead;
-use crate::items::step;
 use crate::lane::Lane;
 use crate::lane::SLOTS;
 use crate::lane::remember;
@@ -22,6 +20,8 @@ use events::kinds;
 use format::table::ELEMENT_NAME;
 use states::State;
 use tables::Counts;
+use write_items::Step;
+use write_items::items::step;
 
 // Record i, with which the names of elements became n, is remembered if it is a Start that added its name: there were fewer before.
 fn learn(memory: &mut [u32; SLOTS], records: &[u32], i: usize, before: u32, n: u32)

@@ -7,7 +7,7 @@ use borrow.Author.Needs.{needs}
 use lib.ListN.{length, drop}
 use Rattle.events.specs.FromWords.{recordsOf}
 use Rattle.events.proofs.KindLaws.{begins-inside}
-use Rattle.writer.specs.Writing.{announced}
+use Rattle.write_items.specs.Steps.{announced}
 use Rattle.writer.proofs.AheadLaws.{past-declared, behind-declared}
 use Rattle.writer.proofs.ahead.announced_words.Statement.{statement}
 use Rattle.writer.proofs.ahead.announced_words.Tie as tie

@@ -1,7 +1,7 @@
 -- `complete` meets its contract: a law for each way out.
 -- Assumes nothing.
 use borrow.Author.Tests.{eq-eqb, ne-eqb}
-use Rattle.writer.proofs.ModeLaws.{is-content}
+use Rattle.write_items.proofs.ModeLaws.{is-content}
 use Rattle.states.specs.States.{rootOf}
 use Rattle.writer.proofs.run.complete.Statement.{statement}
 use Rattle.writer.proofs.run.complete.Tie as tie

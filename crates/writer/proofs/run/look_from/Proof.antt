@@ -1,7 +1,7 @@
 -- `look_from` meets its contract.
 -- Assumes nothing.
 use borrow.Author.Tests.{le-leb, lt-leb}
-use Rattle.writer.proofs.ModeLaws.{declares}
+use Rattle.write_items.proofs.ModeLaws.{declares}
 use Rattle.writer.proofs.run.look_from.Statement.{statement}
 use Rattle.writer.proofs.run.look_from.Tie as tie
 

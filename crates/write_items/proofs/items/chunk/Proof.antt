@@ -1,0 +1,34 @@
+-- `chunk` meets its contract: a law for each way out.
+-- Assumes nothing.
+use borrow.Author.Needs.{needs}
+use native.Mathlib.Omega.{arith}
+use Rattle.events.specs.declared.Kind.the-variants.{Chunk}
+use Rattle.write_items.proofs.WellMade.{by-kind}
+use Rattle.write_items.proofs.ItemLaws.{stretch-spells, chunk-lands}
+use Rattle.write_items.proofs.items.chunk.Statement.{statement}
+use Rattle.write_items.proofs.items.chunk.Tie as tie
+
+chunk-requires : tie.Need-chunk-requires
+chunk-requires c κs =
+    let at-start = c .before .before .before .before .before .before .before .before .before .before in
+    (at-start .pre .order, omega arith, stretch-spells (at-start .args .text .now) (at-start .args .e .value) (by-kind (at-start .args .text .now) (at-start .args .e) Chunk (at-start .pre .made) .2))
+
+returns : tie.Need-returns
+returns c =
+    let at-chunk = c .before .before .before .before .before .before .before .before .before in
+    let at-octet = at-chunk .before in
+    let at-start = at-octet .before .before .before .before .before .before .before .before .before .before in
+    rw (c .landed .ensures) (chunk-lands _ _ _ _ _ _ (at-start .pre) (at-octet .octet .ensures) (at-chunk .chunk .ensures))
+
+pub chunk-spec : {M : Type 1} → statement M
+chunk-spec =
+    tie.close
+    (tie.spec
+    (λ c κs. search needs)
+    chunk-requires
+    (λ c κs. search needs)
+    (λ c. search needs)
+    (λ c. search needs)
+    (λ c. search needs)
+    (λ c. search needs)
+    returns)
