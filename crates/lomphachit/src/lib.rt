@@ -1,5 +1,5 @@
 // The C boundary: any octets, and words that the caller lends. A slice is a pointer and a length.
-// May depend on all crates but listing, writing and theorems.
+// May depend on all crates but read_rows, write_rows, listing, writing and theorems.
 ghost use mathlib.Core.Path.{_≡_};
 ghost use lib.ListN.{length};
 ghost use Rattle.format.specs.Tables.{link};

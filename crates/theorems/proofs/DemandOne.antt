@@ -21,7 +21,7 @@ use Rattle.writer.specs.Writing as Write
 use Rattle.writer.specs.Words as WriteWords
 use Rattle.theorems.specs.Bounded.{Bounded}
 use Rattle.theorems.specs.Verdicts.{headOf, HeadFault, not-entries, not-texts, not-new, not-few, not-room, Fault, not-an-event, not-text, too-deep, too-many, no-room, Refused, at-event, too-soon, no-room-for-end}
-use Rattle.theorems.specs.Demands.{WriterNumber, CheckAnswers, ReadAnswers, ReadWordsAnswer, WriteAnswers, WriteWordsAnswer, InReadWords, InWriteWords}
+use Rattle.theorems.specs.Demands.{WriterNumber, CheckAnswers, ReadAnswers, ReadWordsAnswer, WriteAnswers, WriteWordsAnswer, MeasureWordsAnswer, InReadWords, InWriteWords}
 use Rattle.theorems.proofs.Lists.{either, either-eq}
 use Rattle.theorems.proofs.Document as Whole
 use Rattle.theorems.proofs.WriterDocument.{RefusedWith, by-head, by-event, refused-by}
@@ -131,3 +131,14 @@ module _ (ver : Version) (ok : Bounded ver) (given records : Words) (text : Octe
               (λ l. WriteWordsAnswer.refuses {p = 0} WriterNumber.size (omega arith) refl refl refl refl)
               (λ l. WriteWordsAnswer.refuses {p = 0} WriterNumber.room (omega arith) refl refl refl refl)
         ]
+
+-- measuring: as writing with room for the longest document, without what stands in the output
+module _ (ver : Version) (ok : Bounded ver) (given records : Words) (text : Octets) (t c : ℕ) where
+  without-output : (w : WriteWords.WordsLeft) → WriteWordsAnswer (recordsOf records) (ver .octets) t c w
+      → MeasureWordsAnswer (recordsOf records) t c (WriteWords.measured (w .answer) (w .tables) (w .counts))
+  without-output w (WriteWordsAnswer.accepts e) = MeasureWordsAnswer.accepts e
+  without-output w (WriteWordsAnswer.refuses {n} {p} k h e out tables counts) = MeasureWordsAnswer.refuses {n = n} {p = p} k h e tables counts
+
+  pub measure-words-answer : MeasureWordsAnswer (recordsOf records) t c (WriteWords.measureWords ver given records text t c)
+  unfolding WriteWords.measureWords
+  measure-words-answer = without-output _ (write-words-answer ver ok given records text (ver .octets) t c)

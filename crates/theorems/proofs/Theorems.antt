@@ -16,8 +16,8 @@ use Rattle.theorems.proofs.GivenOnly.{given-none, given-only}
 use Rattle.theorems.proofs.Demands.{head-read-back, a-document, allowed, permitted, one-document, every-choice-within}
 use Rattle.theorems.proofs.Acts.{every-number, tables-after}
 use Rattle.theorems.proofs.Calls.{whatever-stood, words-whatever-stood}
-use Rattle.theorems.proofs.WriterCalls.{write-whatever-stood, written-whatever-stood}
-use Rattle.theorems.proofs.DemandOne.{check-answers, read-answers, read-words-answer, write-answers, write-words-answer}
+use Rattle.theorems.proofs.WriterCalls.{write-whatever-stood, written-whatever-stood, measured-whatever-stood}
+use Rattle.theorems.proofs.DemandOne.{check-answers, read-answers, read-words-answer, write-answers, write-words-answer, measure-words-answer}
 use Rattle.theorems.proofs.DemandTwo.{write-exactly, tables-same}
 use Rattle.theorems.proofs.DemandThree.{read-exactly}
 use Rattle.theorems.proofs.DemandWords.{read-words-exactly, write-words-exactly, check-exactly}
@@ -32,10 +32,12 @@ module _ (ver : Version) (ok : Bounded ver) where
         read-words = read-words-answer ver ok;
         write = write-answers ver ok;
         write-words = write-words-answer ver ok;
+        measure-words = measure-words-answer ver ok;
         read-again = whatever-stood ver;
         read-words-again = words-whatever-stood ver;
         write-again = write-whatever-stood ver;
         write-words-again = written-whatever-stood ver;
+        measure-words-again = measured-whatever-stood ver;
       }
 
   pub demand-2 : Demand2 ver

@@ -33,7 +33,7 @@ use Rattle.theorems.specs.Bounded.{Bounded}
 use Rattle.theorems.specs.Verdicts.{headOf}
 use Rattle.theorems.proofs.Document as Whole
 use Rattle.theorems.proofs.Demands.{written-by-the-rules, the-events-given}
-use Rattle.writer.specs.Words.{answerWord, leaving, nothing, inWords, writeWords}
+use Rattle.writer.specs.Words.{answerWord, leaving, nothing, inWords, writeWords, measured, measureWords}
 use Rattle.theorems.proofs.Fits.{accepted-sized}
 use Rattle.theorems.proofs.Turns.{by-head}
 use Rattle.theorems.proofs.Asked.{by-asked}
@@ -211,3 +211,8 @@ pub written-whatever-stood : (ver : Version) (given records : Words) (text o p :
     → leaving a o′ t′ c′ ≡ writeWords ver given records text (length o) (length t) (length c) → leaving b p′ u′ d′ ≡ writeWords ver given records text (length p) (length u) (length d)
     → leaving a o′ t′ c′ ≡ leaving b p′ u′ d′
 written-whatever-stood ver given records text o p t u c d a b o′ p′ t′ u′ c′ d′ l m n x y = x ∙ rw (l, m, n) (sym y)
+
+--     The same of measuring.
+pub measured-whatever-stood : (ver : Version) (given records : Words) (text : Octets) (t u c d : Words) (a b : ℕ) (t′ u′ c′ d′ : Words) → length t ≡ length u → length c ≡ length d
+    → measured a t′ c′ ≡ measureWords ver given records text (length t) (length c) → measured b u′ d′ ≡ measureWords ver given records text (length u) (length d) → measured a t′ c′ ≡ measured b u′ d′
+measured-whatever-stood ver given records text t u c d a b t′ u′ c′ d′ m n x y = x ∙ rw (m, n) (sym y)

@@ -238,4 +238,9 @@ cases =
     ∷ refused (inNames (0x00 ∷ 0x00 ∷ 0xF0 ∷ [])) 5 12
     ∷ refused (inNames (0x00 ∷ 0x00 ∷ 0xE0 ∷ [])) 6 12
     ∷ refused (inNames (0x01 ∷ 0x00 ∷ 0x00 ∷ 0x00 ∷ 0x00 ∷ [])) 11 13
+    -- characters: a tab in a chunk; and some that XML does not have: 1 in a chunk, a null in a name, FFFE in a name
+    ∷ document (behindHeader (0x3C ∷ 0x00 ∷ 0x61 ∷ 0x90 ∷ 0x09 ∷ 0xFF ∷ [])) noEntries (Start (local a) ∷ Text (0x09 ∷ []) ∷ End ∷ []) (tables [] (a ∷ []) [] ((0x09 ∷ []) ∷ []) (triple 0 0 1 ∷ []) [])
+    ∷ refused (behindHeader (0x3C ∷ 0x00 ∷ 0x61 ∷ 0x90 ∷ 0x01 ∷ [])) 9 8
+    ∷ refused (behindHeader (0x3C ∷ 0x00 ∷ 0x00 ∷ [])) 9 6
+    ∷ refused (behindHeader (0x3C ∷ 0x02 ∷ 0xEF ∷ 0xBF ∷ 0xBE ∷ [])) 9 6
     ∷ []

@@ -1,5 +1,5 @@
 -- THE THREE DEMANDS, as statements of what the calls answer and leave: `Demand1`, `Demand2`, `Demand3` at the end of this file, and before them what each call owes. The
--- contracts equate what a call answers and leaves with `checkOf`, `readOf`, `readWords`, `writeOf` and `writeWords`. That the demands hold of these is proofs/Theorems.
+-- contracts equate what a call answers and leaves with `checkOf`, `readOf`, `readWords`, `writeOf`, `writeWords` and `measureWords`. That the demands hold of these is proofs/Theorems.
 use Prim.Native.Nat.{ℕ, _+_, _-_, _*_, _/_, _%_, _^_, _≤_, _<_}
 use mathlib.Core.Path.{_≡_}
 use mathlib.Core.Bool.{true}
@@ -74,6 +74,10 @@ pub data WriteAnswers (es : List Event) (room table : ℕ) (o : Write.Outcome) :
 pub data WriteWordsAnswer (es : List Event) (r t c : ℕ) (w : WriteWords.WordsLeft) : Type 0 where
   accepts : w .answer % 2 ^ 32 ≡ 0 → WriteWordsAnswer es r t c w
   refuses : {n p : ℕ} → WriterNumber n → p ≤ length es → w .answer ≡ p * 32 + n → w .out ≡ replicate r 0 → w .tables ≡ replicate t 0 → w .counts ≡ replicate c 0 → WriteWordsAnswer es r t c w
+
+pub data MeasureWordsAnswer (es : List Event) (t c : ℕ) (w : WriteWords.WordsMeasured) : Type 0 where
+  accepts : w .answer % 2 ^ 32 ≡ 0 → MeasureWordsAnswer es t c w
+  refuses : {n p : ℕ} → WriterNumber n → p ≤ length es → w .answer ≡ p * 32 + n → w .tables ≡ replicate t 0 → w .counts ≡ replicate c 0 → MeasureWordsAnswer es t c w
 
 -- ---- what a call that reads owes by demand 3
 -- For this head and these items, which the rules write by the derivation w, the call left their records, blank ones behind them, and their tables; its answer has the counts. The
@@ -207,6 +211,7 @@ pub record Demand1 (ver : Version) : Type 0 where
   pub read-words : (s : Octets) → AreOctets s → (r t c : ℕ) → ReadWordsAnswer s r t c (ReadWords.readWords ver s r t c)
   pub write : (given : Words) (es : List Event) (text : Octets) (room table : ℕ) → WriteAnswers es room table (Write.writeOf ver given es text room table)
   pub write-words : (given records : Words) (text : Octets) (r t c : ℕ) → WriteWordsAnswer (recordsOf records) r t c (WriteWords.writeWords ver given records text r t c)
+  pub measure-words : (given records : Words) (text : Octets) (t c : ℕ) → MeasureWordsAnswer (recordsOf records) t c (WriteWords.measureWords ver given records text t c)
   pub read-again : (s : Octets) (e f : List Event) (t u : Words) (a b : ReadAnswer.Answer) (e′ f′ : List Event) (t′ u′ : Words) → length e ≡ length f → length t ≡ length u
       → Read.Leaves a e′ t′ (Read.readOf ver s (length e) (length t)) → Read.Leaves b f′ u′ (Read.readOf ver s (length f) (length u)) → (a ≡ b) × (e′ ≡ f′) × (t′ ≡ u′)
   pub read-words-again : (s : Octets) (r q t u c d : Words) (a b : ℕ) (r′ q′ t′ u′ c′ d′ : Words) → length r ≡ length q → length t ≡ length u → length c ≡ length d
@@ -218,6 +223,10 @@ pub record Demand1 (ver : Version) : Type 0 where
       → WriteWords.leaving a o′ t′ c′ ≡ WriteWords.writeWords ver given records text (length o) (length t) (length c)
       → WriteWords.leaving b p′ u′ d′ ≡ WriteWords.writeWords ver given records text (length p) (length u) (length d)
       → WriteWords.leaving a o′ t′ c′ ≡ WriteWords.leaving b p′ u′ d′
+  pub measure-words-again : (given records : Words) (text : Octets) (t u c d : Words) (a b : ℕ) (t′ u′ c′ d′ : Words) → length t ≡ length u → length c ≡ length d
+      → WriteWords.measured a t′ c′ ≡ WriteWords.measureWords ver given records text (length t) (length c)
+      → WriteWords.measured b u′ d′ ≡ WriteWords.measureWords ver given records text (length u) (length d)
+      → WriteWords.measured a t′ c′ ≡ WriteWords.measured b u′ d′
 
 -- 2. The writer accepts whatever the requirements give it no number to refuse, as the rules write it with the required choices; reading that gives back the events and, after
 -- the head and after each of them, the same tables.
