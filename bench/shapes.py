@@ -43,9 +43,9 @@ def small_elements(size):
     return OPEN + b'\x00\xf0' * ((size - 11) // 2) + b'\x00' + ENDS
 
 
-def long_texts(size, characters='abcd'):
-    """Four chunks, none added, each of one character again and again."""
-    texts = [c.encode() * ((size - 29) // 4 // len(c.encode())) for c in characters]
+def long_texts(size, pieces='abcd'):
+    """Four chunks, none added, each of one character, or one line, again and again."""
+    texts = [piece.encode() * ((size - 29) // 4 // len(piece.encode())) for piece in pieces]
     return OPEN + b''.join(chunk(text, False) for text in texts) + END
 
 
@@ -110,7 +110,8 @@ def full_head(size):
 # moves the cost.
 SHAPES = [
     ('small elements', small_elements), ('full tables', full_tables),
-    ('long texts', long_texts), ('long texts, not ASCII', lambda size: long_texts(size, '机场端口')),
+    ('long texts', long_texts), ('long texts, line ends', lambda size: long_texts(size, [39 * c + '\n' for c in 'abcd'])),
+    ('long texts, not ASCII', lambda size: long_texts(size, '机场端口')),
     ('new names', new_names), ('repeated names', repeated_names), ('full head', full_head),
     ('new names, middle', lambda size: new_names(size, True)), ('repeated names, middle', lambda size: repeated_names(size, True)),
 ]

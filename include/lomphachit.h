@@ -206,7 +206,8 @@ uint64_t lomphachit_read(const uint8_t *octets, size_t octets_len,
      over 16,384 octets.
    - Where it gives n octets, lomphachit_write accepts exactly if n or more are lent. Then it gives
      n too, the same n octets in every such room, and the same tables and counts. With fewer it
-     answers ROOM, at the first event that does not fit.
+     answers ROOM, at the first event that does not fit, or behind the last where only the
+     document's end does not.
    - What it refuses, lomphachit_write refuses whatever is lent: the same at the same place, or
      ROOM if an event before that, or the head, does not fit.
    - Every word lent is determined. On acceptance: the tables' rows (places in the text area) and

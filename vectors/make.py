@@ -713,7 +713,7 @@ PIECES = [(what, octets, 0) for what, octets in THERE.items()] + [(what, octets,
 SOME = [piece for piece in PIECES if piece[0] in ("9", "D", "20", "7F", "D7FF", "FFFD", "10FFFF", "0", "8", "1F", "D800", "FFFE", "FFFF", "110000")]
 
 # Octets of a string: each side of the lengths at which the archive tests text in another way.
-SIZES = (1, 2, 3, 4, 8, 9, 16, 17, 33, 64, 65, 66, 97, 129, 200)
+SIZES = (1, 2, 3, 4, 7, 8, 9, 16, 17, 32, 33, 64, 65, 66, 97, 129, 200)
 
 
 def in_string(piece, length, where, lead=b""):
