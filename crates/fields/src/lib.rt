@@ -416,8 +416,8 @@ pub fn not_plain(x: u64) -> u64
     x | std::num::wrapping_sub_u64(x, SPACES)
 }
 
-// The same of eight octets or more, by eights, the last of which may overlap.
-fn none_plain(s: &[u8], from: usize, to: usize) -> u64
+// The same of eight octets or more, by eights of which the last may overlap, in one number: no high bit of it is set where all octets are plain.
+fn not_plain_by_eights(s: &[u8], from: usize, to: usize) -> u64
     requires { ⌜ (from + 8 ≤ to) × (to ≤ length (now s)) ⌝ }
     ensures { λ r. ⌜ (bitAnd r (highBits 8) ≡ 0 → Plain (now (s .entry)) from to) ⌝ }
 {
@@ -447,7 +447,7 @@ fn all_plain(s: &[u8], from: usize, to: usize) -> bool
         let both = not_plain(eight(s, from)) | not_plain(eight(s, to - 8));
         return both & HIGH == 0;
     }
-    none_plain(s, from, to) & HIGH == 0
+    not_plain_by_eights(s, from, to) & HIGH == 0
 }
 
 // Each of more than 32 octets is a character by itself. Most long texts are plain, and most others have line ends beside.
@@ -461,6 +461,9 @@ fn is_easy(s: &[u8], from: usize, to: usize) -> bool
     }
     e.high < 0x80 && all_alone(s, from, to)
 }
+
+// The octets of a short string, at most, which is looked at by eights.
+const SHORT: usize = 32;
 
 // The octets from `from` to before `to` are text: many at once where that tells it, or character by character.
 fn by_characters(s: &[u8], from: usize, to: usize) -> bool
@@ -487,9 +490,6 @@ fn by_characters(s: &[u8], from: usize, to: usize) -> bool
     }
     true
 }
-
-// The octets of a short string, at most, which is looked at by eights.
-const SHORT: usize = 32;
 
 // The octets from `from` to before `to` are text. `by_characters` stands twice, so that it is called, and a short string costs none of its registers.
 pub fn is_text(s: &[u8], from: usize, to: usize) -> bool

@@ -39,7 +39,7 @@ returns-3 c =
 
 returns-4 : tie.Need-returns-4
 unfolding highBits
-returns-4 c = λ e. c .none-plain .ensures (eqb-true _ _ e)
+returns-4 c = λ e. c .not-plain-by-eights .ensures (eqb-true _ _ e)
 
 pub all-plain-spec : {M : Type 1} → statement M
 all-plain-spec =

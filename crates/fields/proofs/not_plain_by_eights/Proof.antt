@@ -1,4 +1,4 @@
--- `none_plain` meets its contract: the eights that were looked at, from the first octet on, and the last eight, which are looked at first.
+-- `not_plain_by_eights` meets its contract: the eights that were looked at, from the first octet on, and the last eight, which are looked at first.
 -- Assumes nothing.
 use mathlib.Core.Path.{_≡_}
 use Prim.Native.Nat.{_+_, _-_, _≤_}
@@ -7,8 +7,8 @@ use borrow.Author.Needs.{needs}
 use lib.Bits.{bitAnd}
 use Rattle.fields.specs.WeightContracts.{highBits, Plain}
 use Rattle.fields.proofs.Plain.{neither, eight-plain, At, joined}
-use Rattle.fields.proofs.none_plain.Statement.{statement}
-use Rattle.fields.proofs.none_plain.Tie as tie
+use Rattle.fields.proofs.not_plain_by_eights.Statement.{statement}
+use Rattle.fields.proofs.not_plain_by_eights.Tie as tie
 
 abbrev Inv-loop : tie.InvT-loop
 Inv-loop s from to seen₀ i₀ seen i = (i ≤ to) × (bitAnd seen (highBits 8) ≡ 0 → Plain s from i × Plain s (to - 8) to)
@@ -40,8 +40,8 @@ returns c =
     let l = c .before .loop in
     λ z. let p = l .inv .1 z in joined (At (a .s .now)) (a .from) (l .i) (p .0) (a .to - 8) (a .to) (p .1) (omega arith)
 
-pub none-plain-spec : {M : Type 1} → statement M
-none-plain-spec =
+pub not-plain-by-eights-spec : {M : Type 1} → statement M
+not-plain-by-eights-spec =
     tie.close
     (tie.spec
     Inv-loop
