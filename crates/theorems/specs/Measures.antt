@@ -55,7 +55,7 @@ module _ (ver : Version) (given records : Words) (text : Octets) (t c : ℕ) whe
 
   -- What measuring refuses with the answer k, at place k / 32, writing with r octets lent refuses:
   pub data RefusesToo (k r : ℕ) : Type 0 where
-    -- alike, if behind no event before that one more is taken than is lent, unless it is the last case
+    -- alike, if behind no event before that one more is taken than is lent; the last case comes before this one
     alike : k / 32 ≤ beyond r → wrote r ≡ nothing k r t c → RefusesToo k r
     -- if it is behind one, at the first such event, for want of room
     sooner : beyond r < k / 32 → wrote r ≡ nothing (beyond r * 32 + ROOM) r t c → RefusesToo k r

@@ -49,8 +49,7 @@ pub record WordsMeasured : Type 0 where
 abbrev pub measured : ℕ → (tables counts : Words) → WordsMeasured
 measured answer tables counts = record { answer = answer; tables = tables; counts = counts }
 
--- The same without output, with t and c words for tables and counts lent: what writing with room for the longest document answers and leaves beside
--- the octets.
+-- Measuring, with t and c words for tables and counts lent: what writing with room for the longest document answers, and leaves in tables and counts.
 unfoldable pub measureWords : Version → (given records : Words) → Octets → (t c : ℕ) → WordsMeasured
 measureWords ver given records text t c =
     let w : WordsLeft = writeWords ver given records text (ver .octets) t c in
