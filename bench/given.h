@@ -13,7 +13,7 @@ static size_t given_of(const uint32_t *tables, const uint32_t *counts, uint32_t 
         given[t] = counts[t] - built_in;
         for (uint32_t i = 1 + built_in; i <= counts[t]; i++) {
             const uint32_t *row = tables + lomphachit_row(t, i);
-            if (t < LOMPHACHIT_TABLE_ELEMENT_NAME) given[n++] = LOMPHACHIT_TAG_STRETCH, given[n++] = row[0], given[n++] = row[1];
+            if (t < LOMPHACHIT_TABLE_ELEMENT_NAME) given[n++] = lomphachit_tag_of(row[2]), given[n++] = row[0], given[n++] = row[1];
             else given[n++] = row[0], given[n++] = row[1], given[n++] = row[2];
         }
     }

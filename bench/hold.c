@@ -90,11 +90,12 @@ static uint64_t write_in(const uint32_t *records, size_t words, const uint8_t *t
     return hold_write(given, given_words, records, words, text, n, room, LOMPHACHIT_TABLES, LOMPHACHIT_COUNTS);
 }
 
-/* One change of given tables: a word, an entry over another, a string a little shorter or longer. */
+/* One change of given tables: a word, an entry over another, a form, a string a little shorter or longer. */
 static void change_given(uint32_t *g, size_t words, size_t n) {
     size_t entries = (words - LOMPHACHIT_COUNTS) / LOMPHACHIT_ROW;
     uint32_t *entry = g + LOMPHACHIT_COUNTS + LOMPHACHIT_ROW * dice(entries);
-    switch (dice(6)) {
+    switch (dice(7)) {
+    case 5: entry[0] = lomphachit_tag_of((uint32_t)dice(4)); break;
     case 0: g[dice(words)] = (uint32_t)dice(9); break;
     case 1: g[dice(words)]++; break;
     case 2: memcpy(entry, g + LOMPHACHIT_COUNTS + LOMPHACHIT_ROW * dice(entries), LOMPHACHIT_ROW * sizeof *entry); break;
@@ -114,17 +115,18 @@ static void write_with_changed(const uint32_t *records, size_t words, const uint
     hold_write(changed_given, g_words, records, words, text, n, dice(4) ? LOMPHACHIT_OCTETS : dice(n + 2), LOMPHACHIT_TABLES, LOMPHACHIT_COUNTS);
 }
 
-/* One change of an event: a word, a tag, a string a little shorter or longer, a whole record. */
+/* One change of an event: a word, a tag, a value's form, a string a little shorter or longer, a whole record. */
 static void change_event(uint32_t *records, size_t events, size_t n) {
     uint32_t *record = records + RECORD * dice(events), *string = record + 1 + 3 * dice(4);
-    switch (dice(7)) {
+    switch (dice(8)) {
     case 0: record[dice(RECORD)] = (uint32_t)dice(9); break;
+    case 6: if (record[LOMPHACHIT_AT_VALUE + 2]) record[LOMPHACHIT_AT_VALUE] = lomphachit_tag_of((uint32_t)dice(4)); break;
     case 1: record[dice(RECORD)] = (uint32_t)dice(n + 3); break;
     case 2: record[dice(RECORD)]++; break;
     case 3: memcpy(record, records + RECORD * dice(events), RECORD * sizeof *record); break;
-    case 4: string[0] = (uint32_t)dice(5); break;
+    case 4: string[0] = (uint32_t)dice(9); break;
     case 5: if (string[2] > 1) string[2] -= 1 + (uint32_t)dice(string[2] - 1); break;
-    default: if (string[0] == LOMPHACHIT_TAG_STRETCH) string[1 + dice(2)] += (uint32_t)dice(3) - 1;
+    default: if (string[2]) string[1 + dice(2)] += (uint32_t)dice(3) - 1;
     }
 }
 
@@ -150,7 +152,7 @@ static void hold_list(const uint32_t *records, size_t events, const uint8_t *tex
 
 /* One change of a document: an octet, a bit, an octet that says much, an end, some octets out, in, or over others. */
 static size_t change_octets(uint8_t *octets, size_t n) {
-    static const uint8_t telling[] = {0x00, 0x3C, 0x3D, 0x3E, 0x3F, 0x38, 0x40, 0x78, 0x7B, 0x7C, 0x80, 0x81, 0x90, 0xA0, 0xB0, 0xCC, 0xCF, 0xE1, 0xE2, 0xED, 0xF0, 0xF1, 0xF4, 0xFF};
+    static const uint8_t telling[] = {0x00, 0x3C, 0x3D, 0x3E, 0x3F, 0x38, 0x40, 0x20, 0x60, 0x10, 0x30, 0x78, 0x7B, 0x7C, 0x80, 0x81, 0x84, 0x85, 0x88, 0x8C, 0x90, 0x98, 0xA0, 0xB0, 0xCC, 0xCF, 0xE1, 0xE2, 0xED, 0xF0, 0xF1, 0xF4, 0xFF};
     size_t at = dice(n + 1), from = dice(n + 1), some = 1 + dice(8);
     if (at + some > n || from + some > n) return dice(8) ? n : at;
     switch (dice(8)) {

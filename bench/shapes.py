@@ -10,12 +10,53 @@ ENTRIES = 256
 EMULATOR = ['qemu-x86_64', '-cpu', 'max,-erms']
 
 
-def chunk(text, added):
-    """A spelled chunk (C.15.3): its length in C.24."""
-    n, head = len(text), 0x90 if added else 0x80
-    if n <= 2:
-        return bytes([head | n - 1]) + text
-    return (bytes([head | 2, n - 3]) if n <= 258 else bytes([head | 3]) + (n - 259).to_bytes(4, 'big')) + text
+# The forms of a stretch by tag, with the two format bits; the alphabets by tag.
+UTF_8, UTF_16, NUMERIC, DATES = 2, 5, 6, 7
+FORMATS = {UTF_8: 0, UTF_16: 1, NUMERIC: 2, DATES: 2}
+ALPHABETS = {NUMERIC: '0123456789-+.e ', DATES: '0123456789-:TZ '}
+
+
+def packed(text, form):
+    """The octets of a string in a form."""
+    if form not in ALPHABETS:
+        return text.encode('utf-16-be' if form == UTF_16 else 'utf-8')
+    places = [ALPHABETS[form].index(c) for c in text] + [15] * (len(text) % 2)
+    return bytes(16 * a + b for a, b in zip(places[::2], places[1::2]))
+
+
+def said(octets, form):
+    """The string that they are, in UTF-8."""
+    if form not in ALPHABETS:
+        return octets.decode('utf-16-be').encode() if form == UTF_16 else octets
+    places = [half for octet in octets for half in divmod(octet, 16)]
+    return ''.join(ALPHABETS[form][k] for k in places if k < 15).encode()
+
+
+def length(n, bit, lead):
+    """C.23, C.24: a length from a bit on."""
+    shorter = 1 << 8 - bit
+    if n <= shorter:
+        return bytes([lead | n - 1])
+    return bytes([lead | shorter, n - shorter - 1]) if n <= shorter + 256 else bytes([lead | shorter | shorter >> 1]) + (n - shorter - 257).to_bytes(4, 'big')
+
+
+def in_form(text, bit, lead, form):
+    """C.19, C.20: the format, in an alphabet its number, the length and the octets."""
+    unit = 1 << 9 - bit
+    lead |= FORMATS[form] * unit
+    if form in ALPHABETS:
+        return bytes([lead]) + length(len(text), bit, (form == DATES) * unit) + text
+    return length(len(text), bit, lead) + text
+
+
+def chunk(text, added, form=UTF_8):
+    """A spelled chunk (C.15.3)."""
+    return in_form(text, 7, 0x90 if added else 0x80, form)
+
+
+def value(text, form=UTF_8):
+    """A spelled value that is not added (C.14.3)."""
+    return in_form(text, 5, 0, form)
 
 
 def numbered_chunk(n):
@@ -106,6 +147,35 @@ def full_head(size):
         body, j = body + item + b'\xf0', j + 1
 
 
+def records_of(size, form, fields):
+    """Elements with an attribute and a chunk, none added, as templates have them: serial numbers, counters, times. Element and attribute by number; `fields` gives the two strings of element k."""
+    text = lambda k: [packed(field, form) for field in fields(k)]
+    first = OPEN[:5] + bytes([0x3C, 0]) + b'a' + bytes([0x7C, 0]) + b'b' + bytes([0x78, 0]) + b'c'
+    body, k = first + value(text(0)[0], form) + b'\xf0' + chunk(text(0)[1], False, form), 1
+    while True:
+        v, c = text(k)
+        # The element b with its attribute c.
+        item = b'\xf0' + bytes([0x41, 0]) + value(v, form) + b'\xf0' + chunk(c, False, form)
+        if len(body + item) + 2 > size:
+            return body + ENDS
+        body, k = body + item, k + 1
+
+
+def digits(size):
+    """A serial number of twelve digits and a measure of fifteen characters, in alphabet 1."""
+    return records_of(size, NUMERIC, lambda k: ('%012d' % (k * 7919 % 10**12), '-%d.%03de+%02d %04d' % (k % 10, k % 1000, k % 100, k % 10000)))
+
+
+def dates(size):
+    """A time of the day and a date with one, in alphabet 2."""
+    return records_of(size, DATES, lambda k: ('%02d:%02d:%02d' % (k % 24, k % 60, k * 7 % 60), '2026-%02d-%02dT%02d:%02d:00Z' % (1 + k % 12, 1 + k % 28, k % 24, k % 60)))
+
+
+def utf_16(size):
+    """Names of places: a value of six characters and a chunk of twenty, in utf-16. It is read; our writer is given these and writes utf-8."""
+    return records_of(size, UTF_16, lambda k: ('门%04d号' % (k % 10000), '航站楼端口 %04d à l’étage' % (k % 10000)))
+
+
 # Names that are unlike in the last octets cost most where octets are compared from the first on. Those that are unlike in the middle tell whether another order only
 # moves the cost.
 SHAPES = [
@@ -114,6 +184,7 @@ SHAPES = [
     ('long texts, not ASCII', lambda size: long_texts(size, '机场端口')),
     ('new names', new_names), ('repeated names', repeated_names), ('full head', full_head),
     ('new names, middle', lambda size: new_names(size, True)), ('repeated names, middle', lambda size: repeated_names(size, True)),
+    ('digits', digits), ('dates', dates), ('utf-16', utf_16),
 ]
 SIZES = [1024, 4096, 16384]
 
@@ -130,7 +201,7 @@ def events(document, words):
     marks = {1: b'', 3: b'xml', 4: b'http://www.w3.org/XML/1998/namespace'}
     for record in struct.iter_unpack('<13I', words):
         strings = [record[i:i + 3] for i in (1, 4, 7, 10)]
-        yield record[0], [document[place:place + n] if tag == 2 else marks.get(tag) for tag, place, n in strings]
+        yield record[0], [said(document[place:place + n], tag) if tag in FORMATS else marks.get(tag) for tag, place, n in strings]
 
 
 def lines(rows):

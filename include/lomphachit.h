@@ -4,13 +4,15 @@
 
        static uint32_t records[LOMPHACHIT_EVENTS * LOMPHACHIT_RECORD];
        static uint32_t tables[LOMPHACHIT_TABLES], counts[LOMPHACHIT_COUNTS];
+       static uint8_t utf_8[LOMPHACHIT_SAID * LOMPHACHIT_OCTETS];
        uint64_t answer = lomphachit_read(octets, octets_len, records, sizeof records / 4,
                                          tables, LOMPHACHIT_TABLES, counts, LOMPHACHIT_COUNTS);
        if (lomphachit_refusal_of(answer) != LOMPHACHIT_ACCEPTED) return 1;
        for (uint32_t i = 0; i < lomphachit_count_of(answer); i++) {
            const uint32_t *record = records + i * LOMPHACHIT_RECORD;
            const uint32_t *value = record + LOMPHACHIT_AT_VALUE;
-           if (record[0] == LOMPHACHIT_KIND_TEXT) fwrite(octets + value[1], 1, value[2], stdout);
+           if (record[0] != LOMPHACHIT_KIND_TEXT) continue;
+           fwrite(utf_8, 1, lomphachit_say(octets, value, utf_8), stdout);
        }
 
    Writing its events again, without a head: measure first, lend that much, then write.
@@ -72,6 +74,7 @@ extern "C" {
 #define LOMPHACHIT_COUNTS 10    /* words of the counts, one for each table */
 #define LOMPHACHIT_ROWS 256     /* rows of a table, which are the most entries it can have */
 #define LOMPHACHIT_ROW 3        /* words of a row */
+#define LOMPHACHIT_SAID 2       /* the most octets of UTF-8 that one octet of a string stands for */
 
 /* An event record: word 0 is its kind, then come four strings of three words each: a tag, a place
    and a length. The strings that a kind does not have are absent. */
@@ -92,23 +95,34 @@ enum lomphachit_kind {
 #define LOMPHACHIT_AT_NAME 7
 #define LOMPHACHIT_AT_VALUE 10
 
-/* What a string is. Place and length are 0 beside every tag but that of a stretch. */
+/* What a string is. A stretch is so many octets from that place on, never 0, in the document read
+   or in the writer's text area, and its tag says the form in which they stand. Place and length are
+   0 beside the other tags. Only a value can be a stretch in another form than utf-8: prefix,
+   namespace and name cannot. Strings are the same that have the same characters, whatever their
+   forms. */
 enum lomphachit_tag {
     LOMPHACHIT_TAG_ABSENT = 0,
     LOMPHACHIT_TAG_EMPTY = 1,
-    /* So many octets from that place on, never 0, in the document read or in the writer's text
-       area. */
+    /* A stretch in utf-8. */
     LOMPHACHIT_TAG_STRETCH = 2,
     /* The built-in prefix, "xml". */
     LOMPHACHIT_TAG_XML_PREFIX = 3,
     /* The built-in namespace, "http://www.w3.org/XML/1998/namespace". */
-    LOMPHACHIT_TAG_XML_NAMESPACE = 4
+    LOMPHACHIT_TAG_XML_NAMESPACE = 4,
+    /* A stretch in utf-16, the higher octet first. */
+    LOMPHACHIT_TAG_UTF_16 = 5,
+    /* Stretches in the restricted alphabets 1, "0123456789-+.e ", and 2, "0123456789-:TZ ": two
+       characters in an octet, the first in the higher half, each by its place in the alphabet, from
+       0. A lower half of 15 in the last octet is no character. */
+    LOMPHACHIT_TAG_ALPHABET_1 = 6,
+    LOMPHACHIT_TAG_ALPHABET_2 = 7
 };
 
 /* The ten tables in the order of their counts. Entry number n (from 1) of table t has the three
-   words from lomphachit_row(t, n) on. In the first eight tables they are place, length and 0, all 0
-   for a built-in entry; in the last two the numbers of a name's prefix, namespace and local name,
-   0 for none. */
+   words from lomphachit_row(t, n) on. In the first eight tables they are place, length and form,
+   all 0 for a built-in entry. The form is that in which the entry came: 0 utf-8, 1 utf-16, 2 and 3
+   the alphabets 1 and 2; lomphachit_tag_of gives the tag. It is 0 in the first five. In the last
+   two tables the words are the numbers of a name's prefix, namespace and local name, 0 for none. */
 enum lomphachit_table {
     LOMPHACHIT_TABLE_PREFIX = 0,
     LOMPHACHIT_TABLE_NAMESPACE_NAME = 1,
@@ -140,9 +154,12 @@ enum lomphachit_refusal {
     LOMPHACHIT_REFUSED_PADDING = 6,
     /* Number, or count of listed entries, over 1,048,576. */
     LOMPHACHIT_REFUSED_RANGE = 7,
-    /* Other string format than utf-8, entity reference, type declaration. */
+    /* A string in an encoding algorithm or in another alphabet than 1 and 2, entity reference, type
+       declaration. */
     LOMPHACHIT_REFUSED_FORMAT = 8,
-    /* Not well-formed UTF-8, or a character that XML 1.0 does not have, such as a null. */
+    /* Octets that are no text in their form: not well-formed UTF-8 or utf-16, a half of 15 that
+       does not fill up the last octet of a string in an alphabet, or a character that XML 1.0 does
+       not have, such as a null. */
     LOMPHACHIT_REFUSED_TEXT = 9,
     /* Number beyond its table. */
     LOMPHACHIT_REFUSED_INDEX = 10,
@@ -185,8 +202,9 @@ uint32_t lomphachit_check(const uint8_t *octets, size_t octets_len);
      counts, and 0 in every word beyond the part used. On a refusal: 0 in all records_len,
      tables_len and counts_len words.
    - Nothing that stood there before is read, and nothing of it is left.
-   - Stretches are places in the document, which the caller keeps as long as the records. A string
-     that the head lists has its place there, and is in the tables from the start.
+   - Stretches are places in the document, which the caller keeps as long as the records, in the
+     form in which they stand there; lomphachit_say gives their characters. A string that the head
+     lists has its place there, and is in the tables from the start.
 
    Refusals: 1 to 15. */
 uint64_t lomphachit_read(const uint8_t *octets, size_t octets_len,
@@ -233,15 +251,22 @@ uint64_t lomphachit_measure(const uint32_t *given, size_t given_len,
    The words `given` are the tables that the document's head lists. No words, or ten that are 0, are
    none, and the document has no head. Otherwise they are ten counts in the order of the tables, and
    then three words for each entry, table by table, as lomphachit_given_words counts them: tag,
-   place and length of a string, which is a stretch of the text area; or the numbers of a name's
-   prefix, namespace and local name, 0 for none. The built-in entries are not among them, but the
+   place and length of a string, which is a stretch of the text area, in utf-8 but for values,
+   chunks and other strings; or the numbers of a name's prefix, namespace and local name, 0 for
+   none. The built-in entries are not among them, but the
    numbers count them. What is wrong with the given tables is refused at place 0, before event 0:
    EVENT, TEXT, REPEAT, FULL, ROOM, the first of these that is due for any of them.
+
+   A value may be given in any form; how it is written does not depend on that. It is written in
+   alphabet 1 if that has all its characters and takes fewer octets than utf-8, length and all; else
+   in alphabet 2, if so; else in utf-8, and never in utf-16. One that no number names is added to
+   its table if it has 5 octets or fewer in UTF-8. A row of a table has the form in which the string
+   was given.
 
    Promised:
    - It accepts every list that none of the refusals below is due for: those that lomphachit_measure
      accepts, where as many octets are lent as it says. X.891's rules write these octets from these
-     events, and lomphachit_read gives back the same events and tables.
+     events, and lomphachit_read gives back the same events and tables, by characters.
    - Every octet and word lent is determined. On acceptance: the document, the tables' rows (places
      in the text area) and their counts, and 0 beyond the part used. On a refusal: 0 in all out_len
      octets and all tables_len and counts_len words.
@@ -275,9 +300,49 @@ static inline size_t lomphachit_row(size_t table, size_t number) {
     return LOMPHACHIT_ROW * (LOMPHACHIT_ROWS * table + number - 1);
 }
 
+/* The tag of a stretch in the form that the third word of a row says. */
+static inline uint32_t lomphachit_tag_of(uint32_t form) {
+    return form ? form + (uint32_t)LOMPHACHIT_TAG_XML_NAMESPACE : (uint32_t)LOMPHACHIT_TAG_STRETCH;
+}
+
 /* How many words give a head that lists so many entries in all. */
 static inline size_t lomphachit_given_words(size_t entries) {
     return LOMPHACHIT_COUNTS + LOMPHACHIT_ROW * entries;
+}
+
+/* Puts a character in UTF-8: one to four octets, and how many. */
+static inline size_t lomphachit_put_character(uint8_t *out, uint32_t character) {
+    size_t more = (size_t)((character > 0x7F) + (character > 0x7FF) + (character > 0xFFFF));
+    for (size_t i = more; i > 0; i--, character >>= 6) out[i] = (uint8_t)(0x80 | character % 64);
+    out[0] = (uint8_t)((more ? 0xFF00 >> (more + 1) & 0xFF : 0) | character);
+    return more + 1;
+}
+
+/* Puts the characters of a stretch that was read, in UTF-8, and says how many octets that are:
+   LOMPHACHIT_SAID times its length at most, and 0 where the string is no stretch. `octets` is the
+   document, and `string` the three words of the string in a record. It is plain C of this header,
+   and nothing is proved of it. */
+static inline size_t lomphachit_say(const uint8_t *octets, const uint32_t *string, uint8_t *out) {
+    const char *numeric = "0123456789-+.e ", *dates = "0123456789-:TZ ";
+    const char *letters = string[0] == LOMPHACHIT_TAG_ALPHABET_1 ? numeric : dates;
+    const uint8_t *at = octets + string[1], *end = at + string[2];
+    size_t n = 0;
+    for (; at < end; at++) {
+        if (string[0] == LOMPHACHIT_TAG_STRETCH) out[n++] = *at;
+        else if (string[0] == LOMPHACHIT_TAG_UTF_16) {
+            uint32_t unit = (uint32_t)(at[0] << 8 | at[1]);
+            at++;
+            if (unit >> 11 == 27) { /* the first of two units */
+                unit = 0x10000 + (unit % 1024 << 10) + (uint32_t)(at[1] % 4 << 8 | at[2]);
+                at += 2;
+            }
+            n += lomphachit_put_character(out + n, unit);
+        } else {
+            out[n++] = (uint8_t)letters[*at / 16];
+            if (*at % 16 < 15) out[n++] = (uint8_t)letters[*at % 16];
+        }
+    }
+    return n;
 }
 
 /* The name of a refusal as people know it, "accepted" for 0; "unknown" for a number that no

@@ -1,4 +1,6 @@
 import com.sun.xml.fastinfoset.sax.SAXDocumentSerializer;
+import org.jvnet.fastinfoset.RestrictedAlphabet;
+import org.jvnet.fastinfoset.sax.helpers.EncodingAlgorithmAttributesImpl;
 import org.xml.sax.Attributes;
 import org.xml.sax.SAXException;
 import org.xml.sax.ext.DefaultHandler2;
@@ -8,11 +10,35 @@ final class SaxTee extends DefaultHandler2 {
     final SaxEvents events = new SaxEvents();
     private final SAXDocumentSerializer serializer;
     private final boolean marks;
+    private final boolean packs;
 
-    /** With `marks` the serializer is also told where CDATA sections and the type declaration are, which no event of the link has. */
-    SaxTee(SAXDocumentSerializer serializer, boolean marks) {
+    /**
+     * With `marks` the serializer is also told where CDATA sections and the type declaration are, which no event of the link has. With `packs` it is told to write chunks and
+     * values in an alphabet that has all their characters.
+     */
+    SaxTee(SAXDocumentSerializer serializer, boolean marks, boolean packs) {
         this.serializer = serializer;
         this.marks = marks;
+        this.packs = packs;
+    }
+
+    /** The lower of the two that are built in, by the library's own characters; null where neither has all. */
+    private static String alphabet(String text) {
+        for (String letters : new String[] {RestrictedAlphabet.NUMERIC_CHARACTERS, RestrictedAlphabet.DATE_TIME_CHARACTERS}) {
+            if (!text.isEmpty() && text.chars().allMatch(c -> letters.indexOf(c) >= 0)) {
+                return letters;
+            }
+        }
+        return null;
+    }
+
+    private static Attributes packed(Attributes attributes) {
+        EncodingAlgorithmAttributesImpl packed = new EncodingAlgorithmAttributesImpl();
+        for (int i = 0; i < attributes.getLength(); i++) {
+            String value = attributes.getValue(i);
+            packed.addAttribute(attributes.getURI(i), attributes.getLocalName(i), attributes.getQName(i), attributes.getType(i), value, false, alphabet(value));
+        }
+        return packed;
     }
 
     @Override
@@ -34,7 +60,7 @@ final class SaxTee extends DefaultHandler2 {
     @Override
     public void startElement(String namespace, String local, String qualified, Attributes attributes) throws SAXException {
         events.startElement(namespace, local, qualified, attributes);
-        serializer.startElement(namespace, local, qualified, attributes);
+        serializer.startElement(namespace, local, qualified, packs ? packed(attributes) : attributes);
     }
 
     @Override
@@ -46,7 +72,14 @@ final class SaxTee extends DefaultHandler2 {
     @Override
     public void characters(char[] characters, int start, int length) throws SAXException {
         events.characters(characters, start, length);
-        serializer.characters(characters, start, length);
+        String letters = packs ? alphabet(new String(characters, start, length)) : null;
+        if (letters == null) {
+            serializer.characters(characters, start, length);
+        } else if (letters.equals(RestrictedAlphabet.NUMERIC_CHARACTERS)) {
+            serializer.numericCharacters(characters, start, length);
+        } else {
+            serializer.dateTimeCharacters(characters, start, length);
+        }
     }
 
     @Override

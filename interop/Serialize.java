@@ -8,6 +8,7 @@ import java.nio.file.Path;
 import java.util.HexFormat;
 import javax.xml.parsers.SAXParserFactory;
 import javax.xml.stream.XMLInputFactory;
+import org.jvnet.fastinfoset.FastInfosetSerializer;
 import org.xml.sax.InputSource;
 import org.xml.sax.XMLReader;
 
@@ -18,9 +19,12 @@ import org.xml.sax.XMLReader;
  * usage: java Serialize FILE..          a line for each document: file, serializer, setting, octets, event lines; tabs between
  */
 final class Serialize {
-    /** What the serializer adds to its tables, and whether it is told of CDATA sections and the type declaration. */
+    /**
+     * What the serializer adds to its tables; whether it is told of CDATA sections and the type declaration, to write utf-16, and, by SAX calls alone, to write what an alphabet
+     * has in that alphabet.
+     */
     private enum Setting {
-        DEFAULTS(32, false), ADDS_ALL(Integer.MAX_VALUE, false), ADDS_NONE(0, false), MARKS(32, true);
+        DEFAULTS(32, false), ADDS_ALL(Integer.MAX_VALUE, false), ADDS_NONE(0, false), MARKS(32, true), UTF_16(32, false), ALPHABETS(32, false);
 
         final int most;
         final boolean marks;
@@ -32,6 +36,9 @@ final class Serialize {
 
         /** The library adds what has fewer characters than `most`; 32 is its own choice, and then nothing is set. */
         void apply(Encoder encoder) {
+            if (this == UTF_16) {
+                encoder.setCharacterEncodingScheme(FastInfosetSerializer.UTF_16BE);
+            }
             if (most == 32) {
                 return;
             }
@@ -49,7 +56,7 @@ final class Serialize {
         setting.apply(serializer);
         ByteArrayOutputStream octets = new ByteArrayOutputStream();
         serializer.setOutputStream(octets);
-        SaxTee tee = new SaxTee(serializer, setting.marks);
+        SaxTee tee = new SaxTee(serializer, setting.marks, setting == Setting.ALPHABETS);
         XMLReader reader = SAXParserFactory.newDefaultNSInstance().newSAXParser().getXMLReader();
         reader.setContentHandler(tee);
         reader.setProperty("http://xml.org/sax/properties/lexical-handler", tee);
@@ -75,7 +82,9 @@ final class Serialize {
         for (String file : files) {
             for (Setting setting : Setting.values()) {
                 bySax(Path.of(file), setting);
-                byStax(Path.of(file), setting);
+                if (setting != Setting.ALPHABETS) {
+                    byStax(Path.of(file), setting);
+                }
             }
         }
     }

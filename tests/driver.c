@@ -1,18 +1,19 @@
 /* Reads documents in hex, one to a line, and prints for each what the archive answers: the check's number, and the listing of what lomphachit_read left in
    lent room that was full of other things. Each document is read twice on the same room, and once more in another place: all that is lent starts, and then ends,
-   at a page that may not be touched. Any difference, and any word that is not blank behind the part used, is printed as a fault and ends with status 1.
+   at a page that may not be touched. Any difference, any word that is not blank behind the part used, and any form that a string cannot have, is printed as a fault and ends
+   with status 1.
 
-   usage: driver RECORDS < lines          a line of output for each line of input: NUMBER, a tab, the listing with ';' for line ends */
+   usage: driver RECORDS [whole] < lines  a line of output for each line of input: NUMBER, a tab, the listing with ';' for line ends; what strings say is shown in UTF-8.
+                                          Whole: a tab, the events and a tab, the tables, as vectors/README.md writes them */
 #define _GNU_SOURCE
 #include "fenced.h"
-#include <string.h>
+#include "forms.h"
 
 uint32_t lomphachit_check(const uint8_t *octets, size_t n);
 uint64_t lomphachit_read(const uint8_t *octets, size_t n, uint32_t *records, size_t r, uint32_t *tables, size_t t, uint32_t *counts, size_t c);
 
-enum { RECORD = 13, TABLES = 7680, COUNTS = 10, ROWS = 256, MOST = 1 << 16 };
+enum { RECORD = 13, TABLES = 7680, COUNTS = 10, ROWS = 256, MOST = 1 << 16, IDENTIFYING = 5, NAMES = 8, FORMS = 4 };
 static const char *const KINDS = ".NSATCPE";
-static const char *const XML = "xml", *const XMLNS = "http://www.w3.org/XML/1998/namespace";
 
 static int faults;
 
@@ -32,14 +33,30 @@ static void hex(const uint8_t *x, size_t n) {
 
 /* One string of a record: a tag, a place and a length. */
 static void string(const uint8_t *s, const uint32_t *w) {
+    static uint8_t utf_8[LONGER * MOST];
     putchar(' ');
-    switch (w[0]) {
-    case 0: putchar('-'); break;
-    case 1: putchar('='); break;
-    case 2: hex(s + w[1], w[2]); break;
-    case 3: hex((const uint8_t *)XML, strlen(XML)); break;
-    default: hex((const uint8_t *)XMLNS, strlen(XMLNS));
-    }
+    if (w[0] > TAG_ALPHABET_2) fault("a string has a tag that none has");
+    if (w[0]) hex(utf_8, said(s, w, utf_8));
+    else putchar('-');
+}
+
+/* The same as vectors/README.md writes it, with place, length and form. */
+static void stretch(const uint32_t *w) {
+    static const char *const marks[] = {"-", "0", "", "X", "U", "/u", "/1", "/2"};
+    if (w[0] == TAG_UTF_8 || w[0] >= TAG_UTF_16) printf("%u+%u", w[1], w[2]);
+    printf("%s", w[0] <= TAG_ALPHABET_2 ? marks[w[0]] : "?");
+}
+
+static void whole_event(const uint32_t *r) {
+    putchar(KINDS[r[0] & 7]);
+    for (int i = 0; i < 4; i++) putchar(','), stretch(r + 1 + 3 * i);
+}
+
+/* A row is a string's place, length and form, all 0 for a built-in one, or the three numbers of a name. */
+static void row(int table, const uint32_t *w) {
+    const uint32_t string[] = {w[1] ? tag_of_row(w[2]) : table ? TAG_XMLNS : TAG_XML, w[0], w[1]};
+    if (table < NAMES) stretch(string);
+    else printf("%u.%u.%u", w[0], w[1], w[2]);
 }
 
 /* Which of the four strings a kind has: prefix, namespace, name, value. */
@@ -90,6 +107,19 @@ static void judge(const struct lent *l, size_t words, uint64_t a) {
     if (!all_zero(l->r, events * RECORD, words)) fault("a record behind the events is not blank");
     for (int k = 0; k < COUNTS; k++)
         if (l->c[k] > ROWS || !all_zero(l->t, (ROWS * k + l->c[k]) * 3, ROWS * (k + 1) * 3)) fault("a row behind a table's entries is not blank");
+    for (uint32_t k = 0; k < NAMES * ROWS; k++)
+        if (l->t[3 * k + 2] >= (k < IDENTIFYING * ROWS ? 1 : FORMS)) fault("a row has a form that its string cannot have");
+}
+
+static void print_whole(const struct lent *l, uint32_t number, uint64_t a) {
+    printf("%u\t", number);
+    for (size_t i = 0; i < a >> 32; i++) fputs(i ? " " : "", stdout), whole_event(l->r + i * RECORD);
+    putchar('\t');
+    for (int k = 0; k < COUNTS; k++) {
+        fputs(k ? "|" : "", stdout);
+        for (uint32_t i = 0; i < l->c[k]; i++) fputs(i ? " " : "", stdout), row(k, l->t + (ROWS * k + i) * 3);
+    }
+    putchar('\n');
 }
 
 static void print(const struct lent *l, uint32_t number, uint64_t a) {
@@ -127,7 +157,7 @@ int main(int argc, char **argv) {
         dirty_all(&last, words, &seed);
         if (a != read_into(&last, n, words) || !same(&last, &kept, words)) fault("the reading in another place differs");
         judge(&last, words, a);
-        print(&last, number, a);
+        (argc > 2 ? print_whole : print)(&last, number, a);
     }
     return faults != 0;
 }

@@ -61,6 +61,29 @@ static void rest(void) {
     is("the count of NAMESPACE NAME", counts[LOMPHACHIT_TABLE_NAMESPACE_NAME], 1), is("the count of ATTRIBUTE VALUE", counts[LOMPHACHIT_TABLE_ATTRIBUTE_VALUE], 0);
 }
 
+/* <a>1234<!--T-->&#x1F600;</a>: a chunk in alphabet 1, a comment in alphabet 2 and a chunk in utf-16, each added to its table. */
+static const uint8_t FORMS[] = {0xE0, 0, 0, 1, 0, 0x3C, 0, 'a', 0x98, 1, 0x12, 0x34, 0xE2, 0x60, 0x10, 0xCF, 0x96, 1, 0xD8, 0x3D, 0xDE, 0, 0xFF};
+
+static void said(const uint32_t *record, const char *wanted) {
+    uint8_t utf_8[LOMPHACHIT_SAID * sizeof FORMS];
+    size_t n = lomphachit_say(FORMS, record + LOMPHACHIT_AT_VALUE, utf_8);
+    is("octets said", n, strlen(wanted)), is("a difference of what is said", (uint64_t)!!memcmp(utf_8, wanted, n < strlen(wanted) ? n : strlen(wanted)), 0);
+}
+
+static void forms(void) {
+    static uint32_t row[5 * LOMPHACHIT_RECORD];
+    uint64_t a = lomphachit_read(FORMS, sizeof FORMS, row, 5 * LOMPHACHIT_RECORD, tables, LOMPHACHIT_TABLES, counts, LOMPHACHIT_COUNTS);
+    const uint32_t *in_2 = tables + lomphachit_row(LOMPHACHIT_TABLE_OTHER_STRING, 1), *in_utf_16 = tables + lomphachit_row(LOMPHACHIT_TABLE_CONTENT_CHARACTER_CHUNK, 2);
+    is("the answer of forms", lomphachit_refusal_of(a), LOMPHACHIT_ACCEPTED), is("its count", lomphachit_count_of(a), 5);
+    string("the chunk in alphabet 1", row + LOMPHACHIT_RECORD + LOMPHACHIT_AT_VALUE, LOMPHACHIT_TAG_ALPHABET_1, 10, 2);
+    string("the comment in alphabet 2", row + 2 * LOMPHACHIT_RECORD + LOMPHACHIT_AT_VALUE, LOMPHACHIT_TAG_ALPHABET_2, 15, 1);
+    string("the chunk in utf-16", row + 3 * LOMPHACHIT_RECORD + LOMPHACHIT_AT_VALUE, LOMPHACHIT_TAG_UTF_16, 18, 4);
+    string("OTHER STRING 1 in alphabet 2", in_2, 15, 1, 3), string("CONTENT CHARACTER CHUNK 2 in utf-16", in_utf_16, 18, 4, 1);
+    is("the tag of form 0", lomphachit_tag_of(0), LOMPHACHIT_TAG_STRETCH), is("the tag of form 2", lomphachit_tag_of(2), LOMPHACHIT_TAG_ALPHABET_1);
+    is("the tag of a row", lomphachit_tag_of(in_2[2]), LOMPHACHIT_TAG_ALPHABET_2), is("the tag of another", lomphachit_tag_of(in_utf_16[2]), LOMPHACHIT_TAG_UTF_16);
+    said(row + LOMPHACHIT_RECORD, "1234"), said(row + 2 * LOMPHACHIT_RECORD, "T"), said(row + 3 * LOMPHACHIT_RECORD, "\xF0\x9F\x98\x80"), said(row, "");
+}
+
 /* A pointer is never null, even where nothing is given. */
 static const uint32_t NONE[1] = {0};
 
@@ -116,6 +139,7 @@ static void checking(void) {
 
 int main(void) {
     rest();
+    forms();
     reading();
     writing();
     listing();

@@ -11,15 +11,14 @@
    octets in place of the octets. */
 #define _GNU_SOURCE
 #include "fenced.h"
-#include <string.h>
+#include "forms.h"
 
 uint64_t lomphachit_read(const uint8_t *octets, size_t n, uint32_t *records, size_t r, uint32_t *tables, size_t t, uint32_t *counts, size_t c);
 uint64_t lomphachit_write(const uint32_t *given, size_t g, const uint32_t *records, size_t r, const uint8_t *text, size_t n, uint8_t *out, size_t o, uint32_t *tables,
                           size_t t, uint32_t *counts, size_t c);
 uint64_t lomphachit_measure(const uint32_t *given, size_t g, const uint32_t *records, size_t r, const uint8_t *text, size_t n, uint32_t *tables, size_t t, uint32_t *counts, size_t c);
 
-enum { RECORD = 13, STRINGS = 4, TABLES = 7680, COUNTS = 10, ROWS = 256, NAMES = 8, EVENTS = 1 << 15, GIVEN = 1 << 14, OCTETS = 1 << 16, FENCE = 16, LONGEST = 16384, ROOM = 14 };
-static const char *const XML = "xml", *const XMLNS = "http://www.w3.org/XML/1998/namespace";
+enum { RECORD = 13, STRINGS = 4, TABLES = 7680, COUNTS = 10, ROWS = 256, NAMES = 8, IDENTIFYING = 5, UTF_16_ROW = 1, EVENTS = 1 << 15, GIVEN = 1 << 14, OCTETS = 1 << 16, FENCE = 16, LONGEST = 16384, ROOM = 14 };
 
 /* What one call is lent, and what it is lent to read only. Behind each lent part stands a fence that no call may change. */
 struct room {
@@ -52,29 +51,35 @@ static int all_zero(const void *room, size_t from, size_t to) {
     return 1;
 }
 
-static int same(const uint8_t *a, size_t n, const uint8_t *b, size_t m) { return n == m && !memcmp(a, b, n); }
+/* Whether some event or given entry is the string of these three words: the writer's tables point to what was given, in the form in which it was. */
+static int given_so(const uint32_t *w) {
+    for (size_t i = 0; i < list.r / RECORD * STRINGS; i++)
+        if (!memcmp(list.records + i / STRINGS * RECORD + 1 + i % STRINGS * 3, w, 3 * sizeof *w)) return 1;
+    for (size_t i = COUNTS; i + 2 < list.g; i += 3)
+        if (!memcmp(list.given + i, w, 3 * sizeof *w)) return 1;
+    return 0;
+}
 
-/* The octets of a string of a record, by its three words. */
-static const uint8_t *string(const uint8_t *s, const uint32_t *w, size_t *n) {
-    const char *built_in = w[0] == 3 ? XML : w[0] == 4 ? XMLNS : "";
-    *n = w[0] == 2 ? w[2] : strlen(built_in);
-    return w[0] == 2 ? s + w[1] : (const uint8_t *)built_in;
+/* Whether two strings, each by its three words in its own octets, say the same. */
+static int same_string(const uint8_t *s, const uint32_t *a, const uint8_t *d, const uint32_t *b) {
+    static uint8_t x[LONGER * OCTETS], y[LONGER * OCTETS];
+    size_t n = said(s, a, x), m = said(d, b, y);
+    return !a[0] == !b[0] && n == m && !memcmp(x, y, n);
 }
 
 static int same_event(const uint8_t *s, const uint32_t *a, const uint8_t *d, const uint32_t *b) {
-    for (int k = 0; k < STRINGS; k++) {
-        size_t n, m;
-        const uint8_t *x = string(s, a + 1 + 3 * k, &n), *y = string(d, b + 1 + 3 * k, &m);
-        if (!a[1 + 3 * k] != !b[1 + 3 * k] || !same(x, n, y, m)) return 0;
-    }
+    for (int k = 0; k < STRINGS; k++)
+        if (!same_string(s, a + 1 + 3 * k, d, b + 1 + 3 * k)) return 0;
     return a[0] == b[0];
 }
 
-/* Entry i of a table, as the writer and as the reader left it: a triple or a built-in entry has the same words in both, a string the same octets. */
+/* Entry i of a table, as the writer and as the reader left it: a triple or a built-in entry has the same words in both, a string says the same in both. */
 static int same_entry(int table, uint32_t i) {
     const uint32_t *a = first.tables + (ROWS * table + i) * 3, *b = back_tables + (ROWS * table + i) * 3;
     if (table >= NAMES || !a[1] || !b[1]) return !memcmp(a, b, 3 * sizeof *a);
-    return !a[2] && !b[2] && same(list.text + a[0], a[1], first.out + b[0], b[1]);
+    if (table < IDENTIFYING && (a[2] || b[2])) return 0;
+    const uint32_t given[] = {tag_of_row(a[2]), a[0], a[1]}, read[] = {tag_of_row(b[2]), b[0], b[1]};
+    return given_so(given) && b[2] != UTF_16_ROW && same_string(list.text, given, first.out, read);
 }
 
 static int same_tables(void) {

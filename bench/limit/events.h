@@ -1,31 +1,34 @@
-/* The run of the limit over events: once for the write, and once for measuring, which counts octets and puts none (KEEP). A string is looked for by its place and length
-   first, in a memo, and then by a hash of its octets; a name by the words of its record first. */
+/* The run of the limit over events: once for the write, and once for measuring, which counts octets and puts none (KEEP). A string is looked for by its place, length and form
+   first, in a memo, and then by a hash of its octets in UTF-8; a name by the words of its record first. */
 #ifndef LIMIT_EVENTS_H
 #define LIMIT_EVENTS_H
 
 #include "tables.h"
 
 enum {
-    ADDED = 5,   /* octets of the longest value or chunk that its table gets */
+    ADDED = 5,   /* octets in UTF-8 of the longest value or chunk that its table gets */
     BESIDE = 64, /* octets of an item beside its strings, and those that a store of sixteen may pass its end by */
     MEMO = 256
 };
 /* What may come: content, behind attributes, behind declarations, or the first attribute of a list. */
 enum { CONTENT, LISTED, DECLARING, LISTING };
 
-struct seen { uint32_t place, length_and_table, number; };
+struct seen { uint32_t place, kind, number; };
 struct run {
     struct strings strings[OTHER + 1];
+    uint8_t forms[OTHER + 1][ROWS + 1]; /* of values and the like, once one is not in utf-8 */
+    int formed;                         /* one is not */
     struct names names[2];
-    uint32_t counts[LOMPHACHIT_COUNTS], longest[OTHER + 1]; /* octets of a string that a table may have */
-    struct seen seen[MEMO];     /* strings that have a number, by place, length and table */
+    uint32_t counts[LOMPHACHIT_COUNTS], longest[OTHER + 1]; /* octets in UTF-8 of a string that a table may have */
+    struct seen seen[MEMO];     /* strings that have a number, by place, and by length, form and table */
     uint16_t named[2][MEMO];    /* numbers of names, by the place of the local name; 0 for none */
     uint32_t words[2][MEMO][9]; /* and the words of their strings */
     const uint8_t *text, *end;  /* the text area */
     uint32_t *tables;
     uint8_t *out;
     size_t most;                                   /* octets of it that may be used */
-    uint8_t aside[4 * LOMPHACHIT_OCTETS + BESIDE]; /* for an item that may have no room; the places of octets that are only counted */
+    uint8_t aside[5 * LOMPHACHIT_OCTETS + BESIDE]; /* for an item that may have no room; the places of octets that are only counted */
+    uint8_t said[SAID], entry[SAID];               /* what a string in another form says, and what an entry does */
 };
 
 /* What is at hand. Everything that has it is inlined, so that it stands in registers. */
@@ -36,36 +39,94 @@ struct hand {
     uint32_t lists; /* the bit of an element that has attributes */
 };
 
-struct string { uint32_t tag, place, length, number, hash; };
+/* A string: its three words, its octets in UTF-8 where it is spelled, its number and its hash. */
+struct string { uint32_t tag, place, length, octets, number, hash; };
 
-ALWAYS struct seen *seen_at(struct run *run, uint32_t table, uint32_t place, uint32_t length) { return &run->seen[(place * 5 + length + table * 37) % MEMO]; }
-ALWAYS void see(struct run *run, uint32_t table, uint32_t place, uint32_t length, uint32_t number) {
-    *seen_at(run, table, place, length) = (struct seen){place, length | table << 28, number};
+/* Identifying strings have no form. */
+ALWAYS uint32_t form_in(uint32_t table, const struct string *x) { return table < VALUE ? 0 : form_of(x->tag); }
+ALWAYS uint32_t kind_of(uint32_t table, const struct string *x) { return x->length | form_in(table, x) << 20 | table << 28; }
+ALWAYS struct seen *seen_at(struct run *run, uint32_t table, const struct string *x) { return &run->seen[(x->place * 5 + x->length + table * 37) % MEMO]; }
+ALWAYS void see(struct run *run, uint32_t table, const struct string *x, uint32_t number) { *seen_at(run, table, x) = (struct seen){x->place, kind_of(table, x), number}; }
+
+/* A string in another form, put in UTF-8. */
+NEVER uint32_t say(const struct run *run, const struct string *x, uint8_t *out) {
+    const uint32_t words[] = {x->tag, x->place, x->length};
+    return (uint32_t)lomphachit_say(run->text, words, out);
 }
 
-/* The number of a stretch that is text, 0 for none, and its hash. */
+/* Where a string's octets in UTF-8 stand, which was put there if it is in another form, and where loads of them must end. */
+ALWAYS const uint8_t *octets_of(const struct run *run, const struct string *x) { return unlikely(is_formed(x->tag)) ? run->said : run->text + x->place; }
+ALWAYS const uint8_t *end_of(const struct run *run, const struct string *x) { return unlikely(is_formed(x->tag)) ? run->said + SAID : run->end; }
+
+/* The number of a string, where it or an entry is in another form; 0 for none. */
+NEVER uint32_t find_formed(struct run *run, uint32_t table, const uint8_t *at, size_t n, uint32_t hash) {
+    const struct strings *x = &run->strings[table];
+    uint32_t i = x->first[hash % HASHES];
+    for (; i; i = x->next[i]) {
+        if (x->hash[i] != hash || x->length[i] != n) continue;
+        const uint32_t *row = run->tables + lomphachit_row(table, i);
+        const struct string entry = {lomphachit_tag_of(run->formed ? run->forms[table][i] : 0), row[0], row[1], 0, 0, 0};
+        const uint8_t *from = run->text + entry.place;
+        if (is_formed(entry.tag)) say(run, &entry, run->entry), from = run->entry;
+        if (!memcmp(from, at, n)) break;
+    }
+    return i;
+}
+
+/* The number of a stretch in utf-8 that is text, 0 for none, and its hash. */
 NEVER uint32_t search(struct run *run, uint32_t table, uint32_t place, uint32_t length, uint32_t *hash) {
     const uint8_t *at = run->text + place;
+    const struct string x = {TAG(STRETCH), place, length, length, 0, 0};
     uint64_t other;
     if (built_in(table, at, length)) return 1;
     *hash = hash_of(at, length, run->end, &other);
-    uint32_t number = find_string(&run->strings[table], untouched(table, run->counts[table]), run->text, at, length, run->end, *hash);
-    if (number) see(run, table, place, length, number);
+    int empty = untouched(table, run->counts[table]);
+    uint32_t number = unlikely(run->formed) && !empty && table >= VALUE ? find_formed(run, table, at, length, *hash)
+                                                      : find_string(&run->strings[table], empty, run->text, at, length, run->end, *hash);
+    if (number) see(run, table, &x, number);
     return number;
+}
+
+/* The same of one in another form, whose octets in UTF-8 stand in run->said. */
+NEVER uint32_t search_said(struct run *run, uint32_t table, struct string *x) {
+    uint64_t other;
+    x->hash = hash_of(run->said, x->octets, run->said + SAID, &other);
+    if (untouched(table, run->counts[table])) memset(run->strings[table].first, 0, sizeof run->strings[table].first);
+    uint32_t number = find_formed(run, table, run->said, x->octets, x->hash);
+    if (number) see(run, table, x, number);
+    return number;
+}
+
+/* A row, and in another form the form beside it. */
+ALWAYS void put_string_row(struct run *run, uint32_t table, uint32_t number, const struct string *x) {
+    uint32_t form = form_in(table, x);
+    put_row(run->tables, table, number, x->place, x->length, form);
+    if (table < VALUE) return;
+    if (unlikely(form) && !run->formed) memset(run->forms, 0, sizeof run->forms), run->formed = 1;
+    if (unlikely(run->formed)) run->forms[table][number] = (uint8_t)form;
 }
 
 ALWAYS void add(struct run *run, uint32_t table, struct string *x) {
     x->number = ++run->counts[table];
-    put_row(run->tables, table, x->number, x->place, x->length, 0);
-    add_string(&run->strings[table], x->number, x->place, x->length, x->hash);
-    see(run, table, x->place, x->length, x->number);
+    put_string_row(run, table, x->number, x);
+    add_string(&run->strings[table], x->number, x->place, x->octets, x->hash);
+    see(run, table, x, x->number);
 }
 
-/* Three words of a record as a string: 0 where they are none, or the stretch is not in the text area. */
+ALWAYS int in_text(const struct run *run, const struct string *x) { return x->length != 0 && (uint64_t)x->place + x->length <= (uint64_t)(run->end - run->text); }
+
+/* Three words of a record as a string in utf-8: 0 where they are none, or the stretch is not in the text area. */
 ALWAYS int take(const struct run *run, const uint32_t *words, struct string *x) {
-    x->tag = words[0], x->place = words[1], x->length = words[2];
-    if (likely(x->tag == TAG(STRETCH))) return x->length != 0 && (uint64_t)x->place + x->length <= (uint64_t)(run->end - run->text);
+    x->tag = words[0], x->place = words[1], x->length = x->octets = words[2];
+    if (likely(x->tag == TAG(STRETCH))) return in_text(run, x);
     return x->tag <= TAG(XML_NAMESPACE) && (x->place | x->length) == 0;
+}
+
+/* A value: a stretch in any form or, if it may be, empty. */
+ALWAYS int take_value(const struct run *run, const uint32_t *words, int may_be_empty, struct string *x) {
+    x->tag = words[0], x->place = words[1], x->length = x->octets = words[2];
+    if (likely(x->tag == TAG(STRETCH)) || is_formed(x->tag)) return in_text(run, x);
+    return may_be_empty && x->tag == TAG(EMPTY) && (x->place | x->length) == 0;
 }
 
 ALWAYS int absent(const uint32_t *words) { return (words[0] | words[1] | words[2]) == 0; }
@@ -83,20 +144,40 @@ ALWAYS int take_name(const struct run *run, const uint32_t *record, struct tripl
     return x->local.tag == TAG(STRETCH) && (x->prefix.tag == TAG(ABSENT) || x->namespace.tag != TAG(ABSENT));
 }
 
+ALWAYS int is_seen(struct run *run, uint32_t table, struct string *x) {
+    const struct seen *seen = seen_at(run, table, x);
+    x->number = seen->number;
+    return seen->place == x->place && seen->kind == kind_of(table, x);
+}
+
 /* Finds a string's number, 0 for none; itself it is 0 where the string is not text. */
 ALWAYS int look(struct run *run, uint32_t table, struct string *x) {
     if (x->tag != TAG(STRETCH)) {
         x->number = x->tag >= TAG(XML_PREFIX);
         return 1;
     }
-    const struct seen *seen = seen_at(run, table, x->place, x->length);
-    if (seen->place == x->place && seen->length_and_table == (x->length | table << 28)) {
-        x->number = seen->number;
-        return 1;
-    }
+    if (is_seen(run, table, x)) return 1;
     if (!is_text(run->text + x->place, x->length, run->end)) return 0;
     x->number = table < VALUE || x->length <= run->longest[table] ? search(run, table, x->place, x->length, &x->hash) : 0;
     return 1;
+}
+
+/* The same of one in another form. Its octets in UTF-8 stay in run->said, where it must be spelled. */
+NEVER int look_formed(struct run *run, uint32_t table, struct string *x) {
+    if (is_seen(run, table, x)) return 1;
+    if (!is_text_in(x->tag, run->text + x->place, x->length)) return 0;
+    x->octets = say(run, x, run->said);
+    x->number = x->octets <= run->longest[table] ? search_said(run, table, x) : 0;
+    return 1;
+}
+
+/* What a call is lent does not stand in registers, so that it is another string. */
+ALWAYS int look_value(struct run *run, uint32_t table, struct string *x) {
+    if (likely(!is_formed(x->tag))) return look(run, table, x);
+    struct string y = *x;
+    int is_text = look_formed(run, table, &y);
+    *x = y;
+    return is_text;
 }
 
 ALWAYS int look_name(struct run *run, struct triple *x) {
@@ -116,35 +197,55 @@ ALWAYS uint8_t *put_number(uint8_t *to, uint32_t first, uint32_t bit, uint32_t n
     return likely(number < shorter) ? put(to, first | number) : put(put(to, first | shorter), number - shorter);
 }
 
-/* A length and the string. Sixteen octets at once are copied, where the text area has them. */
-ALWAYS uint8_t *spell(const struct run *run, uint8_t *to, uint32_t first, uint32_t bit, const struct string *x) {
-    uint32_t shorter = 1u << (8 - bit), n = x->length - 1;
-    const uint8_t *from = run->text + x->place;
-    if (!KEEP) return to + x->length + (likely(n < shorter) ? 1 : n - shorter < 256 ? 2 : 5);
-    if (likely(n < shorter)) to = put(to, first | n);
-    else if (n - shorter < 256) to = put(put(to, first | shorter), n - shorter);
-    else {
-        n = __builtin_bswap32(n - shorter - 256);
-        to = put(to, first | shorter | shorter >> 1), memcpy(to, &n, sizeof n), to += sizeof n;
-    }
-    if (x->length <= 16 && run->end - from >= 16) _mm_storeu_si128((void *)to, block(from));
-    else memcpy(to, from, x->length);
-    return to + x->length;
+/* A length. */
+ALWAYS uint8_t *put_length(uint8_t *to, uint32_t first, uint32_t bit, uint32_t length) {
+    uint32_t shorter = 1u << (8 - bit), n = length - 1;
+    if (!KEEP) return to + (likely(n < shorter) ? 1 : n - shorter < 256 ? 2 : 5);
+    if (likely(n < shorter)) return put(to, first | n);
+    if (n - shorter < 256) return put(put(to, first | shorter), n - shorter);
+    n = __builtin_bswap32(n - shorter - 256);
+    to = put(to, first | shorter | shorter >> 1), memcpy(to, &n, sizeof n);
+    return to + sizeof n;
+}
+
+/* A length and the octets, in UTF-8. Sixteen at once are copied, where they are there. */
+ALWAYS uint8_t *spell(uint8_t *to, uint32_t first, uint32_t bit, const uint8_t *from, uint32_t n, const uint8_t *end) {
+    to = put_length(to, first, bit, n);
+    if (!KEEP) return to + n;
+    if (n <= 16 && end - from >= 16) _mm_storeu_si128((void *)to, block(from));
+    else memcpy(to, from, n);
+    return to + n;
+}
+
+ALWAYS uint8_t *spell_identifying(const struct run *run, uint8_t *to, const struct string *x) { return spell(to, 0, 2, run->text + x->place, x->length, run->end); }
+
+/* In the first alphabet of these. */
+NEVER uint8_t *spell_packed(uint8_t *to, uint32_t first, uint32_t bit, const uint8_t *octets, uint32_t n, uint32_t some) {
+    uint32_t unit = 1u << (9 - bit), length = (n + 1) / 2;
+    to = put_length(put(to, first | 2 * unit), some & NUMERIC ? 0 : unit, bit, length);
+    return KEEP ? pack(to, octets, n) : to + length;
+}
+
+/* In the form that takes the fewest octets: an alphabet saves some from the fourth character on; from the third, where the length starts at bit 7. */
+ALWAYS uint8_t *spell_shortest(const struct run *run, uint8_t *to, uint32_t first, uint32_t bit, const struct string *x) {
+    const uint8_t *from = octets_of(run, x);
+    uint32_t some = x->octets > (bit == 7 ? 2 : 3) ? alphabets(from, x->octets) : 0;
+    return unlikely(some) ? spell_packed(to, first, bit, from, x->octets, some) : spell(to, first, bit, from, x->octets, end_of(run, x));
 }
 
 /* C.13; null where the table is full. */
 ALWAYS uint8_t *put_identifying(struct run *run, uint8_t *to, uint32_t table, struct string *x) {
     if (x->number) return put_number(to, 0x80, 2, x->number);
     if (unlikely(run->counts[table] >= ROWS)) return NULL;
-    to = spell(run, to, 0, 2, x);
+    to = spell_identifying(run, to, x);
     add(run, table, x);
     return to;
 }
 
 /* A string that its table gets where it is short and there is a row for it. */
 ALWAYS uint8_t *put_spelled(struct run *run, uint8_t *to, uint32_t table, uint32_t first, uint32_t adds, uint32_t bit, struct string *x) {
-    if (x->length > ADDED || run->counts[table] >= ROWS) return spell(run, to, first, bit, x);
-    to = spell(run, to, first | adds, bit, x);
+    if (x->octets > ADDED || run->counts[table] >= ROWS) return spell_shortest(run, to, first, bit, x);
+    to = spell_shortest(run, to, first | adds, bit, x);
     add(run, table, x);
     return to;
 }
@@ -290,10 +391,10 @@ ALWAYS uint32_t attribute(struct run *run, struct hand *h, const uint32_t *recor
     struct string value;
     uint32_t number = known(run, ATTRIBUTE, record);
     if (!number && !take_name(run, record, &x)) return REFUSED(EVENT);
-    if (!take(run, record + LOMPHACHIT_AT_VALUE, &value) || (value.tag != TAG(STRETCH) && value.tag != TAG(EMPTY))) return REFUSED(EVENT);
+    if (!take_value(run, record + LOMPHACHIT_AT_VALUE, 1, &value)) return REFUSED(EVENT);
     if (h->mode != LISTING && h->mode != LISTED) return REFUSED(EVENT);
-    if ((!number && !look_name(run, &x)) || !look(run, VALUE, &value)) return REFUSED(TEXT);
-    uint8_t *from = room_for(run, h, (size_t)x.prefix.length + x.namespace.length + x.local.length + value.length), *to = from;
+    if ((!number && !look_name(run, &x)) || !look_value(run, VALUE, &value)) return REFUSED(TEXT);
+    uint8_t *from = room_for(run, h, (size_t)x.prefix.length + x.namespace.length + x.local.length + value.octets), *to = from;
     if (number) to = put_number(to, 0, 2, number);
     else if (!(to = put_name(run, to, ATTRIBUTE, 0, record, &x, slot_of(record)))) return REFUSED(FULL);
     to = put_value(run, to, VALUE, &value);
@@ -306,13 +407,13 @@ ALWAYS uint32_t other(struct run *run, struct hand *h, const uint32_t *record, u
     struct string target = {0}, x;
     if (!absent(record + LOMPHACHIT_AT_PREFIX) || !absent(record + LOMPHACHIT_AT_NAMESPACE)) return REFUSED(EVENT);
     if (kind != KIND(INSTRUCTION) ? !absent(record + LOMPHACHIT_AT_NAME) : !take(run, record + LOMPHACHIT_AT_NAME, &target) || target.tag != TAG(STRETCH)) return REFUSED(EVENT);
-    if (!take(run, record + LOMPHACHIT_AT_VALUE, &x) || (x.tag != TAG(STRETCH) && (x.tag != TAG(EMPTY) || kind == KIND(TEXT)))) return REFUSED(EVENT);
+    if (!take_value(run, record + LOMPHACHIT_AT_VALUE, kind != KIND(TEXT), &x)) return REFUSED(EVENT);
     if (h->mode > LISTED || (kind == KIND(TEXT) && h->level == 0)) return REFUSED(EVENT);
     if (kind == KIND(INSTRUCTION) && !look(run, TARGET, &target)) return REFUSED(TEXT);
-    if (!look(run, kind == KIND(TEXT) ? CHUNK : OTHER, &x)) return REFUSED(TEXT);
+    if (!look_value(run, kind == KIND(TEXT) ? CHUNK : OTHER, &x)) return REFUSED(TEXT);
     close_list(run, h);
     h->half = 0;
-    uint8_t *from = room_for(run, h, (size_t)x.length + target.length), *to = from;
+    uint8_t *from = room_for(run, h, (size_t)x.octets + target.length), *to = from;
     if (kind == KIND(TEXT)) to = put_chunk(run, to, &x);
     else {
         to = put(to, kind == KIND(INSTRUCTION) ? 0xE1 : 0xE2);
@@ -368,6 +469,7 @@ ALWAYS void begin(struct run *run) {
     start_rows(run->tables);
     memset(run->seen, 0, sizeof run->seen);
     memset(run->named, 0, sizeof run->named);
+    run->formed = 0;
     run->longest[VALUE] = run->longest[CHUNK] = run->longest[OTHER] = ADDED;
     if (KEEP && run->most >= sizeof opening) memcpy(run->out, opening, sizeof opening);
 }

@@ -103,7 +103,8 @@ ALWAYS uint32_t numbered(const struct run *run, uint32_t table, uint32_t number,
         x->tag = table == PREFIX ? TAG(XML_PREFIX) : TAG(XML_NAMESPACE), x->stretch = 0;
         return 0;
     }
-    x->tag = TAG(STRETCH), memcpy(&x->stretch, run->tables + lomphachit_row(table, number), sizeof x->stretch);
+    const uint32_t *row = run->tables + lomphachit_row(table, number);
+    x->tag = table < VALUE ? TAG(STRETCH) : lomphachit_tag_of(row[2]), memcpy(&x->stretch, row, sizeof x->stretch);
     return 0;
 }
 
@@ -117,13 +118,13 @@ ALWAYS uint32_t numbered_from_2(const struct run *run, const uint8_t **at, const
 }
 
 /* A table gets a stretch. */
-ALWAYS uint32_t add(struct run *run, uint32_t table, uint64_t stretch) {
+ALWAYS uint32_t add(struct run *run, uint32_t table, uint64_t stretch, uint32_t form) {
     uint32_t number = run->counts[table] + 1;
     if (unlikely(number > ROWS)) return REFUSED(FULL);
     run->counts[table] = number;
     if (!KEEP) return 0;
     uint32_t *row = run->tables + lomphachit_row(table, number);
-    memcpy(row, &stretch, sizeof stretch), row[2] = 0;
+    memcpy(row, &stretch, sizeof stretch), row[2] = form;
     return 0;
 }
 
@@ -143,9 +144,40 @@ ALWAYS uint32_t identifying(struct run *run, const uint8_t **at, const uint8_t *
     if (unlikely(other) && !is_utf8(text, text + n)) return REFUSED(TEXT);
     if (built_in(table, text, n) || find_string(strings, untouched(table, count), run->document, text, n, end, hash)) return REFUSED(REPEAT);
     x->tag = TAG(STRETCH), x->number = count + 1, x->fresh = 1, x->stretch = stretch_of(run, text, n);
-    refusal = add(run, table, x->stretch);
+    refusal = add(run, table, x->stretch, 0);
     if (unlikely(refusal)) return refusal;
     add_string(strings, count + 1, (uint32_t)(text - run->document), n, hash);
+    *at = text + n;
+    return 0;
+}
+
+/* The length behind the number of an alphabet, whose octets are all there before the number is looked at. */
+ALWAYS uint32_t alphabet_from(const uint8_t *at, const uint8_t *end, uint32_t bit, const uint8_t **text, size_t *length, uint32_t *tag) {
+    if (end - at < 2) return REFUSED(TRUNCATED);
+    uint32_t octet = at[1], shorter = 1u << (8 - bit), number = (uint32_t)(at[0] & (2 * shorter - 1)) << (bit - 1) | octet >> (9 - bit), padding = 0;
+    if (!(octet & shorter)) *length = (octet & (shorter - 1)) + 1, *text = at + 2;
+    else {
+        padding = octet & ((shorter >> 1) - 1);
+        *text = at + (octet & shorter >> 1 ? 6 : 3);
+        if (end < *text) return REFUSED(TRUNCATED);
+        *length = octet & shorter >> 1 ? (size_t)shorter + 257 + __builtin_bswap32(four(at + 2)) : shorter + 1 + at[2];
+    }
+    if ((size_t)(end - *text) < *length) return REFUSED(TRUNCATED);
+    *tag = TAG(ALPHABET_1) + number;
+    return number > 1 ? REFUSED(FORMAT) : padding ? REFUSED(PADDING) : 0;
+}
+
+/* One in another form than utf-8. */
+NEVER uint32_t formed(struct run *run, const uint8_t **at, const uint8_t *end, uint32_t table, uint32_t bit, int adds, struct string *x) {
+    uint32_t format = **at >> (9 - bit) & 3, refusal;
+    const uint8_t *text;
+    size_t n;
+    if (format == 3) return REFUSED(FORMAT);
+    x->tag = TAG(UTF_16);
+    if ((refusal = format == 1 ? length_from(*at, end, bit, &text, &n) : alphabet_from(*at, end, bit, &text, &n, &x->tag))) return refusal;
+    if (!is_text_in(x->tag, text, n)) return REFUSED(TEXT);
+    x->stretch = stretch_of(run, text, n), x->number = 0, x->fresh = 0;
+    if (adds && unlikely(refusal = add(run, table, x->stretch, form_of(x->tag)))) return refusal;
     *at = text + n;
     return 0;
 }
@@ -154,11 +186,19 @@ ALWAYS uint32_t identifying(struct run *run, const uint8_t **at, const uint8_t *
 ALWAYS uint32_t spelled(struct run *run, const uint8_t **at, const uint8_t *end, uint32_t table, uint32_t bit, int adds, struct string *x) {
     const uint8_t *text;
     size_t n;
+    if (unlikely(**at >> (9 - bit) & 3)) {
+        /* What a call is lent does not stand in registers, so these are others. */
+        const uint8_t *there = *at;
+        struct string y;
+        uint32_t refusal = formed(run, &there, end, table, bit, adds, &y);
+        if (likely(!refusal)) *at = there, *x = y;
+        return refusal;
+    }
     uint32_t refusal = length_from(*at, end, bit, &text, &n);
     if (unlikely(refusal)) return refusal;
     if (!is_text(text, n, end)) return REFUSED(TEXT);
     x->tag = TAG(STRETCH), x->stretch = stretch_of(run, text, n);
-    if (adds && unlikely(refusal = add(run, table, x->stretch))) return refusal;
+    if (adds && unlikely(refusal = add(run, table, x->stretch, 0))) return refusal;
     *at = text + n;
     return 0;
 }
@@ -172,7 +212,6 @@ ALWAYS uint32_t value(struct run *run, const uint8_t **at, const uint8_t *end, u
         x->tag = TAG(EMPTY), x->stretch = 0, ++*at;
         return 0;
     }
-    if (octet & 0x30) return REFUSED(FORMAT);
     return spelled(run, at, end, table, 5, octet & 0x40, x);
 }
 

@@ -20,7 +20,7 @@ ALWAYS int well_given(const struct run *run, const uint32_t *given) {
     const uint32_t *entry = given + COUNTS;
     for (uint32_t table = 0; table < ELEMENT; table++)
         for (uint32_t i = 0; i < given[table]; i++, entry += ROW)
-            if (entry[0] != TAG(STRETCH) || !entry[2] || (uint64_t)entry[1] + entry[2] > (uint64_t)(run->end - run->text)) return 0;
+            if ((entry[0] != TAG(STRETCH) && (table <= URI || !is_formed(entry[0]))) || !entry[2] || (uint64_t)entry[1] + entry[2] > (uint64_t)(run->end - run->text)) return 0;
     for (uint32_t i = 0; i < given[ELEMENT] + given[ATTRIBUTE]; i++, entry += ROW)
         if (!entry[2] || (entry[0] && !entry[1]) || entry[0] > entries_of(given, PREFIX) || entry[1] > entries_of(given, NAMESPACE) || entry[2] > given[LOCAL]) return 0;
     return 1;
@@ -30,7 +30,7 @@ ALWAYS int text_given(const struct run *run, const uint32_t *given) {
     const uint32_t *entry = given + COUNTS;
     for (uint32_t table = 0; table < ELEMENT; table++)
         for (uint32_t i = 0; i < given[table]; i++, entry += ROW)
-            if (!is_text(run->text + entry[1], entry[2], run->end)) return 0;
+            if (unlikely(is_formed(entry[0])) ? !is_text_in(entry[0], run->text + entry[1], entry[2]) : !is_text(run->text + entry[1], entry[2], run->end)) return 0;
     return 1;
 }
 
@@ -45,15 +45,22 @@ NEVER int repeated(const struct run *run, uint32_t table, const uint32_t *entry,
     return 0;
 }
 
+/* A listed string; one in another form is put in UTF-8. */
+ALWAYS struct string listed_string(struct run *run, const uint32_t *entry) {
+    struct string x = {entry[0], entry[1], entry[2], entry[2], 0, 0};
+    if (unlikely(is_formed(x.tag))) x.octets = say(run, &x, run->said);
+    return x;
+}
+
 /* A table gets the strings; 0 where one may not be listed again. Of values that are, the lowest number is found. */
 ALWAYS int add_strings(struct run *run, uint32_t table, const uint32_t *entry, size_t n) {
     for (size_t i = 0; i < n; i++, entry += ROW) {
-        struct string x = {TAG(STRETCH), entry[1], entry[2], 0, 0};
-        uint32_t found = search(run, table, x.place, x.length, &x.hash);
+        struct string x = listed_string(run, entry);
+        uint32_t found = likely(!is_formed(x.tag)) ? search(run, table, x.place, x.length, &x.hash) : search_said(run, table, &x);
         if (found && table <= URI) return 0;
-        if (found) put_row(run->tables, table, ++run->counts[table], x.place, x.length, 0);
+        if (found) put_string_row(run, table, ++run->counts[table], &x);
         else add(run, table, &x);
-        if (table > URI && x.length > run->longest[table]) run->longest[table] = x.length;
+        if (table > URI && x.octets > run->longest[table]) run->longest[table] = x.octets;
     }
     return 1;
 }
@@ -88,10 +95,10 @@ ALWAYS uint8_t *put_count(uint8_t *to, uint32_t n) {
     return n <= 128 ? put(to, n - 1) : put(put(put(to, 0x80), 0), n - 129);
 }
 
-ALWAYS uint8_t *put_listed(const struct run *run, uint8_t *to, uint32_t table, const uint32_t *entry) {
+ALWAYS uint8_t *put_listed(struct run *run, uint8_t *to, uint32_t table, const uint32_t *entry) {
     if (table < ELEMENT) {
-        struct string x = {TAG(STRETCH), entry[1], entry[2], 0, 0};
-        return spell(run, to, 0, table <= URI ? 2 : 5, &x);
+        struct string x = listed_string(run, entry);
+        return table <= URI ? spell_identifying(run, to, &x) : spell_shortest(run, to, 0, 5, &x);
     }
     to = put(to, (entry[0] > 0) << 1 | (entry[1] > 0));
     for (int i = 0; i < ROW; i++)
@@ -114,7 +121,7 @@ ALWAYS uint32_t put_head(struct run *run, struct hand *h, const uint32_t *given)
         from = room_for(run, h, 0);
         if ((refusal = keep(run, h, from, put_count(from, given[table])))) return refusal;
         for (uint32_t i = 0; i < given[table]; i++, entry += ROW) {
-            from = room_for(run, h, table < ELEMENT ? entry[2] : 0);
+            from = room_for(run, h, table < ELEMENT ? (size_t)LOMPHACHIT_SAID * entry[2] : 0);
             if ((refusal = keep(run, h, from, put_listed(run, from, table, entry)))) return refusal;
         }
     }

@@ -26,7 +26,7 @@ ALWAYS uint32_t listed_string(struct run *run, const uint8_t **at, const uint8_t
     if (unlikely(*at >= end)) return REFUSED(TRUNCATED);
     if (**at & (table <= URI ? 0x80 : 0xC0)) return REFUSED(PADDING);
     if (table <= URI) return identifying(run, at, end, table, &x);
-    return **at & 0x30 ? REFUSED(FORMAT) : spelled(run, at, end, table, 5, 1, &x);
+    return spelled(run, at, end, table, 5, 1, &x);
 }
 
 /* The number of a name's part. */

@@ -153,7 +153,6 @@ ALWAYS uint32_t attributes(struct run *run, struct hand *h) {
 ALWAYS uint32_t chunk(struct run *run, struct hand *h) {
     const uint8_t *place = h->at;
     struct string x;
-    if (*place & 0xC) return REFUSED(FORMAT);
     uint32_t refusal = spelled(run, &h->at, h->end, CHUNK, 7, *place & 0x10, &x);
     if (unlikely(refusal)) return refusal;
     if (no_room(run, h)) return back(h, place, REFUSED(ROOM));

@@ -2,8 +2,7 @@
 #ifndef LIMIT_TABLES_H
 #define LIMIT_TABLES_H
 
-#include "../../include/lomphachit.h"
-#include "text.h"
+#include "forms.h"
 
 enum {
     RECORD = LOMPHACHIT_RECORD,
@@ -14,7 +13,6 @@ enum {
 };
 
 /* The words of include/lomphachit.h, without the project's name in front. */
-#define TAG(x) LOMPHACHIT_TAG_##x
 #define KIND(x) LOMPHACHIT_KIND_##x
 #define REFUSED(x) LOMPHACHIT_REFUSED_##x
 enum {
@@ -32,7 +30,7 @@ enum {
 
 static const char XML[] = "xml", XML_NAMESPACE[] = "http://www.w3.org/XML/1998/namespace";
 
-/* Entries of one hash are a chain by number, 0 at its end. A string has its place and length beside it, since a check is lent no rows. */
+/* Entries of one hash are a chain by number, 0 at its end. A string has its place and its octets in UTF-8 beside it, since a check is lent no rows. */
 struct strings { uint16_t first[HASHES], next[ROWS + 1]; uint32_t hash[ROWS + 1], place[ROWS + 1], length[ROWS + 1]; };
 struct names { uint16_t first[HASHES], next[ROWS + 1]; uint32_t key[ROWS + 1]; };
 

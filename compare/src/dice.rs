@@ -1,4 +1,5 @@
 //! Seeded choices (splitmix64): the same seed and number give the same input on every machine.
+use crate::text::StringForm;
 
 pub struct Dice(u64);
 
@@ -48,6 +49,47 @@ impl Dice {
             out.push(if out.len() + c.len_utf8() <= length { c } else { 'z' });
         }
         out.into_bytes()
+    }
+
+    /// Text of so many octets that an alphabet has, or both, or none by one character.
+    pub fn packable(&mut self, length: usize) -> Vec<u8> {
+        let letters: &[u8] = self.pick(&[b"0123456789-+.e ", b"0123456789-:TZ ", b"0123456789", b"0123456789- "]);
+        let mut text: Vec<u8> = (0..length).map(|_| self.pick(letters)).collect();
+        if self.percent(10) {
+            let i = self.below(length);
+            text[i] = self.pick(b"+:/;eETtZz,~");
+        }
+        text
+    }
+
+    /// A text, and a form in which it can be said.
+    pub fn formed(&mut self, length: usize) -> (Vec<u8>, StringForm) {
+        let text = if self.percent(40) { self.packable(length) } else { self.text(length) };
+        (text.clone(), self.form_for(&text))
+    }
+
+    pub fn form_for(&mut self, text: &[u8]) -> StringForm {
+        let form = self.pick(&[StringForm::Utf8, StringForm::Utf8, StringForm::Utf16, StringForm::Numeric, StringForm::Dates]);
+        let says = std::str::from_utf8(text).map_or(false, |text| form.spelled(text).is_some());
+        if says {
+            form
+        } else {
+            self.pick(&[StringForm::Utf8, StringForm::Utf8, StringForm::Utf16])
+        }
+    }
+
+    /// Octets of a form that are to say nothing: a surrogate alone, half a unit, a character that XML does not have, fill that is not at the end.
+    pub fn spoil(&mut self, octets: &mut Vec<u8>, form: StringForm) {
+        let i = self.below(octets.len());
+        match form {
+            StringForm::Utf8 => self.bar(octets),
+            StringForm::Utf16 if self.percent(20) => drop(octets.pop()),
+            StringForm::Utf16 => octets[i & !1] = self.pick(&[0xD8, 0xDB, 0xDC, 0xDF, 0xFF, 0]),
+            StringForm::Numeric | StringForm::Dates => octets[i] |= self.pick(&[0xF0, 0x0F, 0xFF]),
+        }
+        if octets.is_empty() {
+            octets.push(0);
+        }
     }
 
     /// One octet, or three in a row, to be of a character that XML does not have, if they are of characters at all.

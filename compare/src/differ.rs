@@ -77,7 +77,7 @@ pub fn document(octets: &[u8], lent: &Lent) -> Compared {
 /// What our own writer writes, our own reader reads back as the same events: a fault in both alike would have to be a pair.
 fn reads_back(l: &List, wanted: &Outcome) -> Result<(), String> {
     let done = reader::read(&wanted.out, l.records.len()).map_err(|r| format!("the other program's own writing is refused, {} at {}", r.number, r.place))?;
-    let plain = |e: &Event, from: &[u8]| (e.kind, e.strings.map(|s| s.octets(from).map(|o| o.to_vec())));
+    let plain = |e: &Event, from: &[u8]| (e.kind, e.strings.map(|s| s.said(from).map(|o| o.to_vec())));
     let same = done.events.iter().map(|e| plain(e, &wanted.out)).eq(l.records.iter().map(|r| plain(&Event::from_record(r).unwrap(), &l.text)));
     if same && done.tables.counts() == wanted.counts {
         Ok(())

@@ -5,7 +5,7 @@ use compare::{heads, inputs, kept, tails};
 use std::process::exit;
 
 const USAGE: &str = "usage: compare inputs SEED FIRST COUNT     inputs FIRST and up, COUNT of them, each made from SEED and its number
-       compare tails START                   all tails of one and two octets behind a start (0 to 21)
+       compare tails START                   all tails of one and two octets behind a start (0 to 34)
        compare heads DOCUMENT                 a document with a head, cut before every octet and with every octet of its head replaced (0 to 23)
        compare files FILE..                  inputs that the fuzzer kept";
 
@@ -22,7 +22,7 @@ fn same(args: &[&str], tally: &mut Tally) -> Result<bool, String> {
         }
         ["tails", start] => {
             let start = number(start)? as usize;
-            tails::starts().get(start).map(|s| tails::compare(s, tally)).ok_or_else(|| format!("no start {start}"))
+            tails::starts().get(start).map(|(s, behind)| tails::compare(s, behind, tally)).ok_or_else(|| format!("no start {start}"))
         }
         ["heads", document] => match number(document)? as usize {
             i if i < heads::DOCUMENTS => Ok(heads::compare(i, tally)),

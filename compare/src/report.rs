@@ -5,7 +5,7 @@ use crate::lists::given::Given;
 use crate::lists::List;
 use crate::shrink;
 use crate::tails::starts;
-use crate::words::Record;
+use crate::words::{Record, TAGS};
 
 pub fn hex(octets: &[u8]) -> String {
     octets.iter().map(|o| format!("{o:02x}")).collect()
@@ -13,7 +13,8 @@ pub fn hex(octets: &[u8]) -> String {
 
 pub fn read(octets: &[u8], lent: &Lent, message: &str, compare: fn(&[u8], &Lent) -> Compared) {
     println!("DIFFERENCE {message}");
-    let short = shrink::octets(octets, &starts(), &|o| compare(o, lent).0.is_err());
+    let starts: Vec<Vec<u8>> = starts().into_iter().map(|(start, _)| start).collect();
+    let short = shrink::octets(octets, &starts, &|o| compare(o, lent).0.is_err());
     println!("shortest: {}", hex(&short));
     println!("lent words: records {}, tables {}, counts {}", lent.records, lent.tables, lent.counts);
     println!("there: {}", compare(&short, lent).0.unwrap_err());
@@ -51,7 +52,7 @@ fn packed(l: &List) -> List {
     let mut less = List { text: Vec::new(), ..l.clone() };
     let listed = less.given.tables[..8].iter_mut().flatten().map(|e| &mut e[..]);
     let strings = less.records.iter_mut().flat_map(|r| r[1..].chunks_exact_mut(3));
-    for string in listed.chain(strings).filter(|s| s[0] == 2) {
+    for string in listed.chain(strings).filter(|s| TAGS.contains(&s[0])) {
         let (place, length) = (string[1] as usize, string[2] as usize);
         if let Some(octets) = l.text.get(place..place + length) {
             string[1] = less.text.len() as u32;

@@ -2,7 +2,7 @@
 use crate::words::{Text, ROWS, TABLES, XML, XML_NAMESPACE};
 use std::collections::HashMap;
 
-/// A table of strings: entries in order, and the lowest number of each string.
+/// A table of strings: entries in order, and the lowest number of each string, which is what it says in UTF-8.
 #[derive(Default)]
 pub struct Strings {
     pub rows: Vec<Text>,
@@ -10,8 +10,8 @@ pub struct Strings {
 }
 
 impl Strings {
-    pub fn number_of(&self, octets: &[u8]) -> Option<usize> {
-        self.held.get(octets).copied()
+    pub fn number_of(&self, said: &[u8]) -> Option<usize> {
+        self.held.get(said).copied()
     }
 
     pub fn full(&self) -> bool {
@@ -19,10 +19,10 @@ impl Strings {
     }
 
     /// Adds an entry and gives its number.
-    pub fn add(&mut self, text: Text, octets: &[u8]) -> usize {
+    pub fn add(&mut self, text: Text, said: &[u8]) -> usize {
         self.rows.push(text);
         let number = self.rows.len();
-        self.held.entry(octets.to_vec()).or_insert(number);
+        self.held.entry(said.to_vec()).or_insert(number);
         number
     }
 
@@ -95,9 +95,8 @@ impl Tables {
         let mut w = vec![0; TABLES];
         for (t, table) in self.strings.iter().enumerate() {
             for (i, row) in table.rows.iter().enumerate() {
-                if let Text::Stretch(place, length) = *row {
-                    w[(t * ROWS + i) * 3] = place as u32;
-                    w[(t * ROWS + i) * 3 + 1] = length as u32;
+                if let Text::Stretch(place, length, form) = *row {
+                    w[(t * ROWS + i) * 3..][..3].copy_from_slice(&[place as u32, length as u32, form as u32]);
                 }
             }
         }

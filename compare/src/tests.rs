@@ -17,32 +17,48 @@ const BOUNDARY: &str = include_str!("../../vectors/boundary.tsv");
 const CHARACTERS: &str = include_str!("../../vectors/characters_read.tsv");
 const READ_1: &str = include_str!("../../vectors/items/read_1.tsv");
 const READ_2: &str = include_str!("../../vectors/items/read_2.tsv");
+const READ_4: &str = include_str!("../../vectors/items/read_4.tsv");
+const FORMS: &str = include_str!("../../vectors/forms_read.tsv");
 const WRITE_1: &str = include_str!("../../vectors/items/write_1.tsv");
 const WRITE_2: &str = include_str!("../../vectors/items/write_2.tsv");
+const WRITE_4: &str = include_str!("../../vectors/items/write_4.tsv");
+const FORMS_WRITE: &str = include_str!("../../vectors/forms_write.tsv");
 const CHARACTERS_WRITE: &str = include_str!("../../vectors/characters_write.tsv");
 const EVENTS: &str = include_str!("../../vectors/events.tsv");
 
-fn string(s: &str) -> Text {
-    match s {
+/// What stands behind a stretch, by its form, and behind those of the algorithms, which no string has.
+const MARKS: [&str; 7] = ["", "/u", "/1", "/2", "/3", "/4", "/5"];
+const MARKED: [u32; 7] = [2, 5, 6, 7, 8, 9, 10];
+
+/// The three words of a string.
+fn words_of(s: &str) -> [u32; 3] {
+    let mark = match s {
         "-" => Text::Absent,
         "0" => Text::Empty,
         "X" => Text::XmlPrefix,
         "U" => Text::XmlNamespace,
         _ => {
-            let (place, length) = s.split_once('+').unwrap();
-            Text::Stretch(place.parse().unwrap(), length.parse().unwrap())
+            let (stretch, form) = s.split_at(s.find('/').unwrap_or(s.len()));
+            let (place, length) = stretch.split_once('+').unwrap();
+            let tag = MARKED[MARKS.iter().position(|m| *m == form).unwrap()];
+            return [tag, place.parse().unwrap(), length.parse().unwrap()];
         }
-    }
+    };
+    mark.words()
 }
 
-fn events(s: &str) -> Vec<Option<Event>> {
-    s.split_whitespace()
-        .map(|e| {
-            let parts: Vec<&str> = e.split(',').collect();
-            let kind = *KINDS.get("NSATCPE".find(parts[0])?)?;
-            Some(Event { kind, strings: [string(parts[1]), string(parts[2]), string(parts[3]), string(parts[4])] })
-        })
-        .collect()
+/// The words of a list's records.
+fn records_of(list: &str) -> Vec<u32> {
+    let record = |e: &str| {
+        let (kind, strings) = e.split_once(',').unwrap();
+        let kind = [".", "N", "S", "A", "T", "C", "P", "E"].iter().position(|k| *k == kind).unwrap();
+        [kind as u32].into_iter().chain(strings.split(',').flat_map(words_of)).collect::<Vec<_>>()
+    };
+    list.split_whitespace().flat_map(record).collect()
+}
+
+fn events(list: &str) -> Vec<Option<Event>> {
+    records_of(list).chunks_exact(RECORD).map(Event::from_record).collect()
 }
 
 fn line(octets: &[u8], e: &Event) -> String {
@@ -56,9 +72,9 @@ fn line(octets: &[u8], e: &Event) -> String {
     };
     let mut out = "NSATCPE"[e.kind as usize - 1..e.kind as usize].to_string();
     for i in has {
-        match e.strings[*i].octets(octets) {
+        match e.strings[*i].said(octets) {
             None => out += " -",
-            Some(s) => out += &format!(" ={}", crate::report::hex(s)),
+            Some(s) => out += &format!(" ={}", crate::report::hex(&s)),
         }
     }
     out + "\n"
@@ -112,7 +128,7 @@ fn check(octets: &[u8]) -> u64 {
 }
 
 fn read_rows() -> Vec<Vec<&'static str>> {
-    [READ, READ_1, READ_2].into_iter().flat_map(rows).collect()
+    [READ, READ_1, READ_2, READ_4, FORMS].into_iter().flat_map(rows).collect()
 }
 
 #[test]
@@ -146,7 +162,7 @@ fn documents_of_adversarial_tsv() {
 
 fn entry(t: &Text) -> String {
     match t {
-        Text::Stretch(place, length) => format!("{place}+{length}"),
+        Text::Stretch(place, length, form) => format!("{place}+{length}{}", MARKS[*form as usize]),
         Text::XmlPrefix => "X".to_string(),
         _ => "U".to_string(),
     }
@@ -175,13 +191,9 @@ fn given(s: &str) -> Vec<u32> {
         return Vec::new();
     }
     let tables: Vec<Vec<&str>> = s.split(';').map(|t| t.split(',').filter(|e| !e.is_empty()).collect()).collect();
-    let entry = |e: &str| if e.contains('.') { e.split('.').map(|n| n.parse().unwrap()).collect() } else { string(e).words().to_vec() };
+    let entry = |e: &str| if e.contains('.') { e.split('.').map(|n| n.parse().unwrap()).collect() } else { words_of(e).to_vec() };
     let counts = tables.iter().map(|t| t.len() as u32);
     counts.chain(tables.iter().flatten().flat_map(|e| entry(e))).collect()
-}
-
-fn records_of(list: &str) -> Vec<u32> {
-    events(list).iter().flat_map(|e| e.map_or([0; RECORD], |e| e.record())).collect()
 }
 
 /// Measuring is writing with room for the longest document, but for the octets.
@@ -209,7 +221,7 @@ fn lists_of_write_tsv() {
     for (i, r) in rows(WRITE).iter().enumerate() {
         assert_eq!(written(&[], r[1], r[2], r[3]), r[4], "line {}, {}", i + 1, r[0]);
     }
-    for r in [WRITE_1, WRITE_2, CHARACTERS_WRITE].into_iter().flat_map(rows) {
+    for r in [WRITE_1, WRITE_2, WRITE_4, CHARACTERS_WRITE, FORMS_WRITE].into_iter().flat_map(rows) {
         assert_eq!(written(&given(r[4]), r[1], r[2], r[5]), r[6], "{}, {}", r[0], r[5]);
     }
 }
@@ -220,7 +232,19 @@ fn the_order_document_of_annex_d() {
     assert_eq!(listing(&octets), include_str!("../../vectors/d5_listing.txt"));
     let done = reader::read(&octets, 512).unwrap();
     let events: Vec<_> = done.events.into_iter().map(Some).collect();
-    assert_eq!(writer::write(&[], &events, &octets, MOST).ok().unwrap().octets, octets);
+    assert_eq!(writer::write(&[], &events, &octets, MOST).ok().unwrap().octets, with_dates(&octets));
+}
+
+/// The order document with its two dates in the alphabets, as the writer has them.
+fn with_dates(octets: &[u8]) -> Vec<u8> {
+    let date: &[u8] = &[0x88, 2, 2, 0x20, 0x03, 0xA0, 0x2A, 0x03];
+    let time: &[u8] = &[0x88, 6, 7, 0x20, 0x03, 0xA0, 0x2A, 0x24, 0xC0, 0x0B, 0x00, 0xB0, 0x0F];
+    let mut changed = octets.to_vec();
+    for (old, new) in [(&b"\x82\x072003-02-03"[..], date), (b"\x82\x102003-02-24T00:00:00", time)] {
+        let at = changed.windows(old.len()).position(|w| w == old).unwrap();
+        changed.splice(at..at + old.len(), new.iter().copied());
+    }
+    changed
 }
 
 #[test]

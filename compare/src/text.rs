@@ -1,4 +1,5 @@
-//! Text: which characters there are, by their numbers.
+//! Text: which characters there are, by their numbers, and the forms in which octets say them.
+use std::borrow::Cow;
 
 /// XML 1.0, clause 2.2: from which to which.
 const CHARACTERS: &[(u32, u32)] = &[(0x9, 0xA), (0xD, 0xD), (0x20, 0xD7FF), (0xE000, 0xFFFD), (0x1_0000, 0x10_FFFF)];
@@ -7,6 +8,70 @@ fn is_character(c: char) -> bool {
     CHARACTERS.iter().any(|(first, last)| (*first..=*last).contains(&u32::from(c)))
 }
 
-pub fn is_text(octets: &[u8]) -> bool {
+/// The form of a string's octets (C.19, C.20): utf-8, utf-16 with the higher octet first, or one of the two alphabets that are built in (clause 9).
+#[derive(Clone, Copy, PartialEq, Eq, Debug)]
+pub enum StringForm {
+    Utf8,
+    Utf16,
+    Numeric,
+    Dates,
+}
+
+/// In the order of their numbers at the C boundary.
+pub const STRING_FORMS: [StringForm; 4] = [StringForm::Utf8, StringForm::Utf16, StringForm::Numeric, StringForm::Dates];
+
+/// The four bits that are no character of an alphabet: they fill up the last octet.
+const FILL: u8 = 15;
+
+impl StringForm {
+    /// The characters of an alphabet, by their codes.
+    pub fn letters(self) -> Option<&'static [u8; 15]> {
+        match self {
+            StringForm::Utf8 | StringForm::Utf16 => None,
+            StringForm::Numeric => Some(b"0123456789-+.e "),
+            StringForm::Dates => Some(b"0123456789-:TZ "),
+        }
+    }
+
+    /// The octets in UTF-8 of what octets in this form say; None where they are not well formed, or say a character that XML does not have.
+    pub fn said(self, octets: &[u8]) -> Option<Cow<'_, [u8]>> {
+        match self.letters() {
+            Some(letters) => unpacked(letters, octets).map(Cow::from),
+            None if self == StringForm::Utf8 => is_text(octets).then_some(Cow::from(octets)),
+            None => from_units(octets).filter(|s| s.chars().all(is_character)).map(|s| Cow::from(s.into_bytes())),
+        }
+    }
+
+    /// The octets in this form that say a text; None where an alphabet does not have one of its characters.
+    pub fn spelled(self, text: &str) -> Option<Vec<u8>> {
+        match self.letters() {
+            Some(letters) => packed(letters, text.as_bytes()),
+            None if self == StringForm::Utf8 => Some(text.as_bytes().to_vec()),
+            None => Some(text.encode_utf16().flat_map(u16::to_be_bytes).collect()),
+        }
+    }
+}
+
+fn is_text(octets: &[u8]) -> bool {
     std::str::from_utf8(octets).map_or(false, |s| s.chars().all(is_character))
+}
+
+/// Pairs of octets as units of UTF-16; an odd octet and a surrogate without its other half are none.
+fn from_units(octets: &[u8]) -> Option<String> {
+    let units: Vec<u16> = octets.chunks(2).map(|pair| Some(u16::from_be_bytes([pair[0], *pair.get(1)?]))).collect::<Option<_>>()?;
+    String::from_utf16(&units).ok()
+}
+
+/// Four bits for each character, the higher first; the last four may fill up.
+fn unpacked(letters: &[u8; 15], octets: &[u8]) -> Option<Vec<u8>> {
+    let mut codes: Vec<u8> = octets.iter().flat_map(|o| [o >> 4, o & 15]).collect();
+    if codes.last() == Some(&FILL) {
+        codes.pop();
+    }
+    codes.iter().map(|code| letters.get(usize::from(*code)).copied()).collect()
+}
+
+fn packed(letters: &[u8; 15], text: &[u8]) -> Option<Vec<u8>> {
+    let codes: Vec<u8> = text.iter().map(|c| letters.iter().position(|l| l == c).map(|code| code as u8)).collect::<Option<_>>()?;
+    Some(codes.chunks(2).map(|pair| pair[0] << 4 | pair.get(1).copied().unwrap_or(FILL)).collect())
 }

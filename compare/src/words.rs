@@ -1,5 +1,7 @@
 //! Events and answers, and how they stand in the words of the C boundary.
 pub use crate::tables::*;
+pub use crate::text::{StringForm, STRING_FORMS};
+use std::borrow::Cow;
 
 pub const RECORD: usize = 13;
 pub const ROWS: usize = 256;
@@ -9,11 +11,12 @@ pub const DEEPEST: usize = 32;
 pub const XML: &[u8] = b"xml";
 pub const XML_NAMESPACE: &[u8] = b"http://www.w3.org/XML/1998/namespace";
 
+/// A string; a stretch is a place, a length and the form of its octets.
 #[derive(Clone, Copy, PartialEq, Eq, Debug)]
 pub enum Text {
     Absent,
     Empty,
-    Stretch(usize, usize),
+    Stretch(usize, usize, StringForm),
     XmlPrefix,
     XmlNamespace,
 }
@@ -54,12 +57,15 @@ impl Refusal {
 
 pub type Record = [u32; RECORD];
 
+/// The tags of stretches, by their forms.
+pub const TAGS: [u32; 4] = [2, 5, 6, 7];
+
 impl Text {
     pub fn words(self) -> [u32; 3] {
         match self {
             Text::Absent => [0, 0, 0],
             Text::Empty => [1, 0, 0],
-            Text::Stretch(place, length) => [2, place as u32, length as u32],
+            Text::Stretch(place, length, form) => [TAGS[form as usize], place as u32, length as u32],
             Text::XmlPrefix => [3, 0, 0],
             Text::XmlNamespace => [4, 0, 0],
         }
@@ -69,21 +75,31 @@ impl Text {
         match (w[0], w[1], w[2]) {
             (0, 0, 0) => Some(Text::Absent),
             (1, 0, 0) => Some(Text::Empty),
-            (2, place, length) => Some(Text::Stretch(place as usize, length as usize)),
             (3, 0, 0) => Some(Text::XmlPrefix),
             (4, 0, 0) => Some(Text::XmlNamespace),
-            _ => None,
+            (tag, place, length) => {
+                let form = TAGS.iter().position(|t| *t == tag)?;
+                Some(Text::Stretch(place as usize, length as usize, STRING_FORMS[form]))
+            }
         }
     }
 
-    /// The octets that the string stands for, in the octets that it was read from.
-    pub fn octets(self, from: &[u8]) -> Option<&[u8]> {
+    /// What the string says, in UTF-8, by the octets that it was read from; None for an absent one, and where those are no string in its form.
+    pub fn said(self, from: &[u8]) -> Option<Cow<'_, [u8]>> {
         match self {
             Text::Absent => None,
-            Text::Empty => Some(&[]),
-            Text::Stretch(place, length) => from.get(place..place.checked_add(length)?),
-            Text::XmlPrefix => Some(XML),
-            Text::XmlNamespace => Some(XML_NAMESPACE),
+            Text::Empty => Some(Cow::from(&[][..])),
+            Text::Stretch(place, length, form) => form.said(from.get(place..place.checked_add(length)?)?),
+            Text::XmlPrefix => Some(Cow::from(XML)),
+            Text::XmlNamespace => Some(Cow::from(XML_NAMESPACE)),
+        }
+    }
+
+    /// The form of its octets; what is no stretch counts as utf-8.
+    pub fn form(self) -> StringForm {
+        match self {
+            Text::Stretch(_, _, form) => form,
+            _ => StringForm::Utf8,
         }
     }
 }

@@ -1,7 +1,7 @@
 //! Damage to event lists, in a record or in the text.
 use super::List;
 use crate::dice::Dice;
-use crate::words::RECORD;
+use crate::words::{RECORD, TAGS};
 
 /// One or two faults in the list.
 pub fn damage(dice: &mut Dice, l: &mut List) {
@@ -10,18 +10,19 @@ pub fn damage(dice: &mut Dice, l: &mut List) {
             return;
         }
         let (i, j) = (dice.below(l.records.len()), dice.below(l.records.len()));
-        match dice.below(14) {
+        match dice.below(17) {
             0 => drop(l.records.remove(i)),
             1 => l.records.insert(j, l.records[i]),
             2 => l.records.swap(i, j),
             3 => l.records.truncate(i),
             4 => l.records[i][0] = dice.pick(&[0, 1, 2, 3, 4, 5, 6, 7, 8, 9, 0xFFFF_FFFF]),
-            5 => l.records[i][1 + 3 * dice.below(4)] = dice.pick(&[0, 1, 2, 3, 4, 5, 0x8000_0002]),
+            5 => l.records[i][1 + 3 * dice.below(4)] = dice.pick(&[0, 1, 2, 3, 4, 5, 5, 6, 7, 8, 9, 10, 11, 0x8000_0002]),
             6 => bend(dice, l, i),
             7 => l.records[i][1 + dice.below(12)] = dice.next() as u32 >> dice.below(32),
             8 => l.records.push(dice.pick(&[[0; RECORD], l.records[i]])),
             9 => cut_text(dice, l),
             10..=11 => dice.bar(&mut l.text),
+            12..=14 => reform(dice, l, i),
             _ => spoil_text(dice, l),
         }
     }
@@ -30,7 +31,7 @@ pub fn damage(dice: &mut Dice, l: &mut List) {
 /// A string that ends at the end of the text, behind it, or wraps around.
 fn bend(dice: &mut Dice, l: &mut List, i: usize) {
     let n = l.text.len() as u32;
-    let strings: Vec<usize> = (0..4).filter(|s| l.records[i][1 + 3 * s] == 2).collect();
+    let strings: Vec<usize> = (0..4).filter(|s| TAGS.contains(&l.records[i][1 + 3 * s])).collect();
     if strings.is_empty() {
         return;
     }
@@ -50,6 +51,14 @@ fn bend(dice: &mut Dice, l: &mut List, i: usize) {
     ]);
     l.records[i][at + 1] = bent.0;
     l.records[i][at + 2] = bent.1;
+}
+
+/// The value of a record, from i on, in another form: its octets say something else, or nothing.
+fn reform(dice: &mut Dice, l: &mut List, i: usize) {
+    if let Some(r) = l.records[i..].iter_mut().find(|r| TAGS.contains(&r[10])) {
+        r[10] = dice.pick(&TAGS);
+        r[12] = if dice.percent(50) { r[12] } else { r[12].max(2) & !1 };
+    }
 }
 
 fn cut_text(dice: &mut Dice, l: &mut List) {

@@ -71,13 +71,18 @@ fn fill_strings(dice: &mut Dice, l: &mut List, table: usize, count: usize) {
     if count > MANY {
         return fill_with_words(l, table, count);
     }
-    let used: Vec<[u32; 3]> = l.records.iter().flat_map(|r| r[1..].chunks_exact(3)).filter(|s| s[0] == 2).map(|s| [2, s[1], s[2]]).collect();
+    // What identifies is in utf-8; a value may be in any form.
+    let tags = if Tables::identifies(table) { &TAGS[..1] } else { &TAGS };
+    let used: Vec<[u32; 3]> = l.records.iter().flat_map(|r| r[1..].chunks_exact(3)).filter(|s| tags.contains(&s[0])).map(|s| [s[0], s[1], s[2]]).collect();
     let mut held: HashSet<Vec<u8>> = HashSet::from([XML.to_vec(), XML_NAMESPACE.to_vec()]);
     for _ in 0..count {
         let old = if used.is_empty() || dice.percent(30) { None } else { Some(dice.pick(&used)) };
         let length = dice.length();
-        let new = old.or_else(|| append(l, &dice.text(length)));
-        let octets = new.and_then(|s| Text::from_words(&s)?.octets(&l.text).map(|o| o.to_vec()));
+        let new = old.or_else(|| {
+            let (text, form) = dice.formed(length);
+            append_in(l, &text, if Tables::identifies(table) { StringForm::Utf8 } else { form })
+        });
+        let octets = new.and_then(|s| Text::from_words(&s)?.said(&l.text).map(|o| o.to_vec()));
         if let (Some(new), Some(octets)) = (new, octets) {
             // Values, chunks and other strings may be listed again.
             if held.insert(octets) || (table > URI && dice.percent(50)) {
@@ -99,13 +104,21 @@ fn fill_with_words(l: &mut List, table: usize, count: usize) {
 }
 
 /// A new string in the text area; None where that is full.
-fn append(l: &mut List, string: &[u8]) -> Option<[u32; 3]> {
+fn append(l: &mut List, octets: &[u8]) -> Option<[u32; 3]> {
+    append_as(l, octets, StringForm::Utf8)
+}
+
+fn append_as(l: &mut List, octets: &[u8], form: StringForm) -> Option<[u32; 3]> {
     let place = l.text.len();
-    if place + string.len() > MOST {
+    if place + octets.len() > MOST {
         return None;
     }
-    l.text.extend_from_slice(string);
-    Some([2, place as u32, string.len() as u32])
+    l.text.extend_from_slice(octets);
+    Some(Text::Stretch(place, octets.len(), form).words())
+}
+
+fn append_in(l: &mut List, text: &[u8], form: StringForm) -> Option<[u32; 3]> {
+    append_as(l, &form.spelled(std::str::from_utf8(text).ok()?)?, form)
 }
 
 /// How many entries a table of strings has then, with the built-in one.
@@ -134,7 +147,7 @@ fn fill_names(dice: &mut Dice, l: &mut List, table: usize, count: usize) {
 /// One fault of those that are judged, or words of a wrong length.
 fn fault(dice: &mut Dice, l: &mut List) {
     match dice.below(14) {
-        0 => bad_string(dice, l, &[[0, 0, 0], [1, 0, 0], [3, 0, 0], [4, 0, 0], [5, 0, 1], [0x8000_0002, 0, 1], [3, 1, 0], [0, 0, 1], [0xFFFF_FFFF, 0, 0]]),
+        0 => bad_string(dice, l, &[[0, 0, 0], [1, 0, 0], [3, 0, 0], [4, 0, 0], [5, 0, 2], [6, 0, 1], [7, 0, 1], [8, 0, 2], [9, 0, 4], [10, 0, 8], [11, 0, 1], [0x8000_0002, 0, 1], [0x8000_0005, 0, 2], [3, 1, 0], [0, 0, 1], [0xFFFF_FFFF, 0, 0]]),
         1 => bad_stretch(dice, l),
         2 => bad_triple(dice, l),
         3 => number_beyond(dice, l),
@@ -167,7 +180,8 @@ fn bad_string(dice: &mut Dice, l: &mut List, from: &[[u32; 3]]) {
 
 fn bad_stretch(dice: &mut Dice, l: &mut List) {
     let n = l.text.len() as u32;
-    bad_string(dice, l, &[[2, 0, 0], [2, n, 1], [2, n, 0], [2, 0, n + 1], [2, 1, 0xFFFF_FFFF], [2, 0xFFFF_FFFF, 2], [2, 0x8000_0000, 0x8000_0001]]);
+    let tag = dice.pick(&[2, 2, 5, 6, 7]);
+    bad_string(dice, l, &[[tag, 0, 0], [tag, n, 1], [tag, n, 0], [tag, 0, n + 1], [tag, 1, 0xFFFF_FFFF], [tag, 0xFFFF_FFFF, 2], [tag, 0x8000_0000, 0x8000_0001]]);
 }
 
 fn bad_triple(dice: &mut Dice, l: &mut List) {
@@ -184,9 +198,16 @@ fn number_beyond(dice: &mut Dice, l: &mut List) {
 
 /// A listed string, the last of the text area, that is no text.
 fn bad_text(dice: &mut Dice, l: &mut List) {
-    let bad: &[u8] = dice.pick(&[&[0x80], &[0xC3], &[0x61, 0xFF], &[0xED, 0xA0, 0x80], &[0xF4, 0x90, 0x80, 0x80], &[0xC0, 0x80]]);
-    let table = dice.below(8);
-    if let Some(entry) = append(l, bad) {
+    let (table, form) = match dice.below(16) {
+        t @ 0..=7 => (t, StringForm::Utf8),
+        t => (VALUE + t % 3, dice.pick(&STRING_FORMS[1..])),
+    };
+    let bad: &[u8] = match form {
+        StringForm::Utf8 => dice.pick(&[&[0x80], &[0xC3], &[0x61, 0xFF], &[0xED, 0xA0, 0x80], &[0xF4, 0x90, 0x80, 0x80], &[0xC0, 0x80]]),
+        StringForm::Utf16 => dice.pick(&[&[0], &[0, 0x61, 0], &[0xD8, 0], &[0xDC, 0], &[0xDB, 0xFF, 0, 0x61], &[0xDC, 0, 0xD8, 0], &[0xFF, 0xFE], &[0, 0], &[0, 0x1F, 0, 0x61]]),
+        StringForm::Numeric | StringForm::Dates => dice.pick(&[&[0xFF], &[0xF1], &[0x1F, 0x11], &[0x11, 0xFF], &[0x11, 0xF1], &[0x1F, 0x1F]]),
+    };
+    if let Some(entry) = append_as(l, bad, form) {
         put(dice, l, table, entry);
     }
 }
@@ -198,8 +219,8 @@ fn repeat(dice: &mut Dice, l: &mut List) {
         Some(_) => dice.pick(&l.given.tables[table]),
         None => return,
     };
-    let octets = Text::from_words(&old).and_then(|s| s.octets(&l.text)).unwrap_or(&[]).to_vec();
-    let elsewhere = if dice.percent(50) { append(l, &octets) } else { None };
+    let said = Text::from_words(&old).and_then(|s| s.said(&l.text)).unwrap_or_default().to_vec();
+    let elsewhere = if dice.percent(50) { append(l, &said) } else { None };
     l.given.tables[table].push(elsewhere.unwrap_or(old));
 }
 

@@ -13,15 +13,23 @@ enum Where {
     Listed(bool),
 }
 
-fn with(l: &List, at: &Where, octets: &[u8]) -> List {
+fn with(l: &List, at: &Where, octets: &[u8], form: StringForm) -> List {
     let (mut longer, place) = (l.clone(), l.text.len());
-    let string = Text::Stretch(place, octets.len());
+    let string = Text::Stretch(place, octets.len(), form);
     match at {
         Where::Chunk(i) => longer.records.insert(*i, Event { kind: Kind::Chunk, strings: [Text::Absent, Text::Absent, Text::Absent, string] }.record()),
         Where::Listed(_) => longer.given.tables[VALUE].extend([string.words(); 2]),
     }
     longer.text.extend_from_slice(octets);
     longer
+}
+
+fn octets(dice: &mut Dice, n: usize, form: StringForm) -> Vec<u8> {
+    if form == StringForm::Utf8 {
+        dice.text(n)
+    } else {
+        (0..n).map(|_| dice.pick(&[0x12, 0x90, 0xDB])).collect()
+    }
 }
 
 /// The octets that are to be so many; None for a list that is refused.
@@ -39,10 +47,12 @@ pub fn lengthen(dice: &mut Dice, l: &mut List) {
     }
     let at = if dice.percent(75) { Where::Chunk(dice.pick(&ends)) } else { Where::Listed(dice.percent(50)) };
     let wanted = MOST + 3 - dice.below(7);
-    let short = with(l, &at, &dice.text(FIRST));
+    // In these forms a string is written in as many octets as it is given.
+    let form = dice.pick(&[StringForm::Utf8, StringForm::Numeric]);
+    let short = with(l, &at, &octets(dice, FIRST, form), form);
     let times = if let Where::Listed(_) = at { 2 } else { 1 };
     let more = octets_of(&short, &at).and_then(|octets| wanted.checked_sub(octets)).map(|octets| FIRST + octets / times);
     if let Some(n) = more.filter(|n| l.text.len() + n <= MOST) {
-        *l = with(l, &at, &dice.text(n));
+        *l = with(l, &at, &octets(dice, n, form), form);
     }
 }

@@ -10,6 +10,8 @@ struct Pool<'d> {
     dice: &'d mut Dice,
     text: Vec<u8>,
     stretches: Vec<Text>,
+    /// The same strings and others, some in two forms.
+    values: Vec<Text>,
     events: Vec<Event>,
     items: usize,
     /// How often the root goes on with another child, and how often a child is an element, in percent.
@@ -27,7 +29,7 @@ pub fn from_pool(dice: &mut Dice) -> List {
         4..=6 => (60, 8, 100, 99),
         _ => (2 + dice.below(25), 2 + dice.below(12), 92, 40),
     };
-    let mut p = Pool { text: Vec::new(), stretches: Vec::new(), events: Vec::new(), items, on, down, deepest: DEEPEST + 1, slant: 0, dice };
+    let mut p = Pool { text: Vec::new(), stretches: Vec::new(), values: Vec::new(), events: Vec::new(), items, on, down, deepest: DEEPEST + 1, slant: 0, dice };
     if strings == MANY {
         p.deepest = 8;
         p.slant = p.dice.below(4);
@@ -41,18 +43,30 @@ pub fn from_pool(dice: &mut Dice) -> List {
 
 impl<'d> Pool<'d> {
     fn fill(&mut self, strings: usize, short: bool) {
-        self.text.extend_from_slice(XML);
-        self.text.extend_from_slice(XML_NAMESPACE);
-        self.stretches.push(Text::Stretch(0, XML.len()));
-        self.stretches.push(Text::Stretch(XML.len(), XML_NAMESPACE.len()));
+        for built_in in [XML, XML_NAMESPACE] {
+            let s = self.put(built_in, StringForm::Utf8);
+            self.stretches.extend(s);
+            self.values.extend(s);
+        }
         for _ in 0..strings {
             let length = if short { 1 + self.dice.below(5) } else { self.dice.length() };
-            let s = self.dice.text(length);
-            if self.text.len() + length <= MOST {
-                self.stretches.push(Text::Stretch(self.text.len(), length));
-                self.text.extend(s);
-            }
+            let (s, form) = self.dice.formed(length);
+            let (one, other) = (self.put(&s, StringForm::Utf8), if short { None } else { self.put(&s, form) });
+            self.stretches.extend(one);
+            self.values.extend(one.filter(|_| short || self.dice.percent(50)));
+            self.values.extend(other);
         }
+    }
+
+    /// A string in the text area, in a form; None where there is no room.
+    fn put(&mut self, s: &[u8], form: StringForm) -> Option<Text> {
+        let octets = form.spelled(std::str::from_utf8(s).ok()?)?;
+        if self.text.len() + octets.len() > MOST {
+            return None;
+        }
+        let place = self.text.len();
+        self.text.extend_from_slice(&octets);
+        Some(Text::Stretch(place, octets.len(), form))
     }
 
     fn stretch(&mut self) -> Text {
@@ -69,7 +83,7 @@ impl<'d> Pool<'d> {
         if self.dice.percent(20) {
             Text::Empty
         } else {
-            self.stretch()
+            self.dice.pick(&self.values)
         }
     }
 
@@ -110,11 +124,11 @@ impl<'d> Pool<'d> {
     }
 
     fn leaf(&mut self, inside: bool) {
-        let (none, v, s) = (Text::Absent, self.value(), self.stretch());
+        let (none, v, s, chunk) = (Text::Absent, self.value(), self.stretch(), self.dice.pick(&self.values));
         match self.dice.below(if inside { 4 } else { 2 }) {
             0 => self.push(Kind::Comment, [none, none, none, v]),
             1 => self.push(Kind::Instruction, [none, none, s, v]),
-            _ => self.push(Kind::Chunk, [none, none, none, s]),
+            _ => self.push(Kind::Chunk, [none, none, none, chunk]),
         }
     }
 

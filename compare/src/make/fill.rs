@@ -89,10 +89,9 @@ impl<'d> Maker<'d> {
     }
 
     fn added(&mut self, table: usize, lengths: &[Form]) {
+        self.bits.code("01");
         let s = self.dice.text(1);
-        self.bits.code("0100");
-        self.bits.number(1, lengths);
-        self.bits.text(&s);
+        let s = self.formed(Some(s), lengths);
         self.strings[table].push(s);
     }
 }

@@ -32,7 +32,7 @@ impl<'d> Maker<'d> {
                 *size = self.dice.pick(&[1, 1, 2, 2, 3, 5]);
             }
             if head.large == Some(table) {
-                *size = self.dice.pick(&COUNTS);
+                *size = self.dice.pick(if self.style.entries > ROWS { &COUNTS[7..] } else { &COUNTS });
             }
             let built_in = usize::from(table <= NAMESPACE);
             *size = (*size).min(self.style.entries - built_in);
@@ -56,19 +56,13 @@ impl<'d> Maker<'d> {
             }
             5..=7 => {
                 let count = self.strings[table].len();
-                let s = if count > 0 && self.dice.percent(20) { self.strings[table][self.dice.below(count)].clone() } else { self.text() };
-                self.bits.code("0000");
-                self.bits.number(s.len() as u64, C23);
-                self.bits.text(&s);
+                let old = if count > 0 && self.dice.percent(20) { Some(self.strings[table][self.dice.below(count)].clone()) } else { None };
+                self.bits.code("00");
+                let s = self.formed(old, C23);
                 self.strings[table].push(s);
             }
             _ => self.surrogate(table - 8),
         }
-    }
-
-    fn text(&mut self) -> Vec<u8> {
-        let length = self.length();
-        self.dice.text(length)
     }
 
     /// A name that is not listed yet, unless it is to be wrong.

@@ -98,22 +98,24 @@ pub fn long_document(dice: &mut Dice) -> Vec<u8> {
     let wanted = MOST + 2 - dice.below(5);
     let mut bits = BitRow::default();
     bits.text(&[0xE0, 0, 0, 1, 0]);
-    let (before, forms, behind): (&[u8], &[Form], &[u8]) = match dice.below(3) {
-        0 => (&[0x3C, 0, b'a'], C24, &[0xFF]),
-        1 => (&[0xE2], C23, &[0x3C, 0, b'a', 0xFF]),
-        _ => (&[0x3C], C22, &[0xFF]),
+    let (before, code, forms, behind): (&[u8], &str, &[Form], &[u8]) = match dice.below(3) {
+        0 => (&[0x3C, 0, b'a'], "1000", C24, &[0xFF]),
+        1 => (&[0xE2], "00", C23, &[0x3C, 0, b'a', 0xFF]),
+        _ => (&[0x3C], "0", C22, &[0xFF]),
     };
     bits.text(before);
-    bits.code(if before.len() == 3 {
-        "100000"
-    } else if before[0] == 0xE2 {
-        "0000"
-    } else {
-        "0"
-    });
-    let length = wanted - 5 - before.len() - 5 - behind.len();
+    bits.code(code);
+    let form = if code == "0" { "" } else { dice.pick(&["00", "00", "01", "1000000000", "1000000001"]) };
+    bits.code(form);
+    // The field's octets before the text: those of the length, and one more for an alphabet's number.
+    let lead = if form.len() > 2 { 6 } else { 5 };
+    let length = wanted - 5 - before.len() - lead - behind.len();
     bits.number(length as u64, forms);
-    bits.text(&dice.text(length));
+    bits.text(&match form.len() {
+        10 => (0..length).map(|_| dice.pick(&[0x12, 0xEE, 0x40])).collect(),
+        2 if form == "01" => dice.pick(&[&b"\0a"[..], &[0xD7, 0xFF]]).iter().cycle().take(length).copied().collect(),
+        _ => dice.text(length),
+    });
     bits.text(behind);
     bits.octets
 }

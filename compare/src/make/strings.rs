@@ -1,7 +1,7 @@
 //! Strings and names of a document that is made: by a number or spelled, added or not.
 use super::Maker;
 use crate::forms::{Form, C22, C23, C25};
-use crate::words::{LOCAL, NAMESPACE, PREFIX};
+use crate::words::{StringForm, LOCAL, NAMESPACE, PREFIX};
 
 impl<'d> Maker<'d> {
     pub(super) fn wrong(&mut self) -> bool {
@@ -126,22 +126,45 @@ impl<'d> Maker<'d> {
             return self.bits.number(number as u64, numbers);
         }
         let adds = count < self.style.entries && self.dice.percent(70);
-        let mut s = if count > 0 && self.dice.percent(10) {
-            // Spelled though it is held: allowed here, and added under a new number.
-            let i = self.dice.below(count);
-            self.strings[table][i].clone()
-        } else {
-            let length = self.length();
-            self.dice.text(length)
-        };
-        if self.wrong() {
-            self.dice.bar(&mut s);
-        }
-        self.bits.code(if adds { "0100" } else { "0000" });
-        self.bits.number(s.len() as u64, lengths);
-        self.bits.text(&s);
+        self.bits.code(if adds { "01" } else { "00" });
+        // Spelled though it is held: allowed here, and added under a new number.
+        let held = if count > 0 && self.dice.percent(10) { Some(self.dice.below(count)) } else { None };
+        let s = self.formed(held.map(|i| self.strings[table][i].clone()), lengths);
         if adds {
             self.strings[table].push(s);
         }
+    }
+
+    /// A string in a form, this one or a new one: format, length and octets, which may be wrong. What it says is given back.
+    pub(super) fn formed(&mut self, old: Option<Vec<u8>>, lengths: &[Form]) -> Vec<u8> {
+        let length = self.length();
+        let (s, form) = match old {
+            Some(s) => (s.clone(), self.dice.form_for(&s)),
+            None => self.dice.formed(length),
+        };
+        let mut octets = std::str::from_utf8(&s).ok().and_then(|s| form.spelled(s)).unwrap_or(s.clone());
+        let number = self.alphabet(form);
+        if self.wrong() {
+            self.dice.spoil(&mut octets, form);
+        }
+        self.bits.code(match form {
+            StringForm::Utf8 => "00",
+            StringForm::Utf16 => "01",
+            StringForm::Numeric | StringForm::Dates => "10",
+        });
+        number.map(|n| self.bits.put(n - 1, 8));
+        self.bits.number(octets.len() as u64, lengths);
+        self.bits.text(&octets);
+        s
+    }
+
+    /// The number of an alphabet, now and then of one that is not read.
+    fn alphabet(&mut self, form: StringForm) -> Option<u64> {
+        let number = match form {
+            StringForm::Utf8 | StringForm::Utf16 => return None,
+            StringForm::Numeric => 1,
+            StringForm::Dates => 2,
+        };
+        Some(if self.wrong() { 3 + self.dice.below(254) as u64 } else { number })
     }
 }

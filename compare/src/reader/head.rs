@@ -1,6 +1,6 @@
 //! The head of a document (C.2.5): the tables that it lists, each with a length and its entries.
 use super::{Got, Reader};
-use crate::forms::{bits, C21, C22, C23, C25, TOP};
+use crate::forms::{C21, C22, C23, C25, TOP};
 use crate::judge::{Fault, Field};
 use crate::words::*;
 
@@ -48,8 +48,8 @@ impl<'a> Reader<'a> {
     fn listed_identifying(&mut self, table: usize) -> Got<()> {
         let mut f = self.field(STRINGS[table])?;
         f.fault_if(self.first() & 0x80 != 0, Fault::Padding);
-        let text = self.spelled(&mut f, 2, C22);
-        let held = text.octets(self.octets).map_or(false, |octets| self.done.tables.strings[table].number_of(octets).is_some());
+        let text = self.spelled(&mut f, self.at, 2, C22, StringForm::Utf8);
+        let held = text.said(self.octets).map_or(false, |said| self.done.tables.strings[table].number_of(&said).is_some());
         f.fault_if(held, Fault::Repeat);
         self.list(f, table, text)
     }
@@ -58,11 +58,7 @@ impl<'a> Reader<'a> {
     fn listed_literal(&mut self, table: usize) -> Got<()> {
         let mut f = self.field(STRINGS[table])?;
         f.fault_if(self.first() & 0xC0 != 0, Fault::Padding);
-        if bits(self.octets, self.at * 8 + 2, 2) != 0 {
-            f.fault_if(true, Fault::Format);
-            f.judge()?;
-        }
-        let text = self.spelled(&mut f, 5, C23);
+        let text = self.formed(&mut f, 3, C23);
         self.list(f, table, text)
     }
 
@@ -70,7 +66,7 @@ impl<'a> Reader<'a> {
     fn list(&mut self, mut f: Field, table: usize, text: Text) -> Got<()> {
         f.fault_if(self.done.tables.strings[table].full(), Fault::Full);
         self.close_behind(f, text)?;
-        self.done.tables.strings[table].add(text, text.octets(self.octets).unwrap_or(&[]));
+        self.done.tables.strings[table].add(text, &text.said(self.octets).unwrap_or_default());
         Ok(())
     }
 

@@ -2,13 +2,17 @@
 use super::{Got, Reader};
 use crate::forms::{bits, form_at, Form, C22, C23, C25, TOP};
 use crate::judge::{Fault, Field};
-use crate::text::is_text;
 use crate::words::*;
 
 impl<'a> Reader<'a> {
     /// A number or length from a bit of the field's first octet; None where a fault leaves no value. Second is the octet behind.
     pub(super) fn number(&self, f: &mut Field, start: usize, forms: &'static [Form]) -> Option<(u64, usize)> {
-        let from = f.place * 8 + start - 1;
+        self.number_at(f, f.place, start, forms)
+    }
+
+    /// The same from a bit of an octet that is there.
+    fn number_at(&self, f: &mut Field, at: usize, start: usize, forms: &'static [Form]) -> Option<(u64, usize)> {
+        let from = at * 8 + start - 1;
         let form = match form_at(self.octets, from, forms) {
             Some(form) => form,
             None => {
@@ -17,9 +21,9 @@ impl<'a> Reader<'a> {
             }
         };
         let zeros = from + form.code.len();
-        let split = (zeros + form.zeros).min(f.place * 8 + 8);
-        f.fault_if(bits(self.octets, zeros, split - zeros) != 0, Fault::Padding);
-        let behind = f.place + form.octets(start);
+        let split = (zeros + form.zeros).min(at * 8 + 8);
+        f.fault_if(bits(self.octets, zeros, split - zeros) != 0, if at == f.place { Fault::Padding } else { Fault::LatePadding });
+        let behind = at + form.octets(start);
         if behind > self.octets.len() {
             f.fault_if(true, Fault::Missing);
             return None;
@@ -87,17 +91,17 @@ impl<'a> Reader<'a> {
             self.close(f, behind)?;
             return Ok((self.done.tables.strings[table].get(number).unwrap(), number));
         }
-        let text = self.spelled(&mut f, 2, C22);
-        let octets = text.octets(self.octets).unwrap_or(&[]);
-        f.fault_if(self.done.tables.strings[table].number_of(octets).is_some(), Fault::Repeat);
+        let text = self.spelled(&mut f, self.at, 2, C22, StringForm::Utf8);
+        let said = text.said(self.octets).unwrap_or_default();
+        f.fault_if(self.done.tables.strings[table].number_of(&said).is_some(), Fault::Repeat);
         f.fault_if(count >= ROWS, Fault::Full);
         self.close_behind(f, text)?;
-        Ok((text, self.done.tables.strings[table].add(text, octets)))
+        Ok((text, self.done.tables.strings[table].add(text, &said)))
     }
 
-    /// A length and its text; Absent where a fault leaves none.
-    pub(super) fn spelled(&self, f: &mut Field, start: usize, forms: &'static [Form]) -> Text {
-        let (length, from) = match self.number(f, start, forms) {
+    /// A length from a bit of an octet that is there, and its text; Absent where a fault leaves none.
+    pub(super) fn spelled(&self, f: &mut Field, at: usize, start: usize, lengths: &'static [Form], form: StringForm) -> Text {
+        let (length, from) = match self.number_at(f, at, start, lengths) {
             Some(got) => got,
             None => return Text::Absent,
         };
@@ -105,13 +109,42 @@ impl<'a> Reader<'a> {
             f.fault_if(true, Fault::Missing);
             return Text::Absent;
         }
-        f.fault_if(!is_text(&self.octets[from..from + length as usize]), Fault::Text);
-        Text::Stretch(from, length as usize)
+        let text = Text::Stretch(from, length as usize, form);
+        f.fault_if(text.said(self.octets).is_none(), Fault::Text);
+        text
+    }
+
+    /// C.19 and C.20 from the format's first bit of the field's octet. The field is of a kind of its own in each format.
+    pub(super) fn formed(&self, f: &mut Field, start: usize, lengths: &'static [Form]) -> Text {
+        let format = bits(self.octets, f.place * 8 + start - 1, 2) as usize;
+        f.kind = in_format(f.kind, format);
+        match format {
+            0 => self.spelled(f, f.place, start + 2, lengths, StringForm::Utf8),
+            1 => self.spelled(f, f.place, start + 2, lengths, StringForm::Utf16),
+            2 => self.by_alphabet(f, start + 2, lengths),
+            _ => {
+                f.fault_if(true, Fault::Format);
+                Text::Absent
+            }
+        }
+    }
+
+    /// C.29 from this bit on, eight bits, so that the length starts at the same bit of the next octet.
+    fn by_alphabet(&self, f: &mut Field, start: usize, lengths: &'static [Form]) -> Text {
+        let second = f.place + 1;
+        if second >= self.octets.len() {
+            f.fault_if(true, Fault::Missing);
+            return Text::Absent;
+        }
+        let number = 1 + bits(self.octets, f.place * 8 + start - 1, 8);
+        let form = if number == 2 { StringForm::Dates } else { StringForm::Numeric };
+        f.fault_if(number > 2, Fault::LateFormat);
+        self.spelled(f, second, start, lengths, form)
     }
 
     pub(super) fn close_behind(&mut self, f: Field, text: Text) -> Got<()> {
         match text {
-            Text::Stretch(place, length) => self.close(f, place + length),
+            Text::Stretch(place, length, _) => self.close(f, place + length),
             _ => f.judge(),
         }
     }
@@ -136,16 +169,27 @@ impl<'a> Reader<'a> {
             return Ok(self.done.tables.strings[table].get(number).unwrap());
         }
         let adds = bits(self.octets, from + 1, 1) == 1;
-        if bits(self.octets, from + 2, 2) != 0 {
-            f.fault_if(true, Fault::Format);
-            f.judge()?;
-        }
-        let text = self.spelled(&mut f, start + 4, lengths);
+        let text = self.formed(&mut f, start + 2, lengths);
         f.fault_if(adds && self.done.tables.strings[table].full(), Fault::Full);
         self.close_behind(f, text)?;
         if adds {
-            self.done.tables.strings[table].add(text, text.octets(self.octets).unwrap());
+            self.done.tables.strings[table].add(text, &text.said(self.octets).unwrap());
         }
         Ok(text)
     }
+}
+
+/// A kind of field in each format, for the counts that are printed.
+const IN_FORMATS: [[&str; 4]; 7] = [
+    ["value", "value, utf-16", "value, alphabet", "value, algorithm"],
+    ["comment", "comment, utf-16", "comment, alphabet", "comment, algorithm"],
+    ["content", "content, utf-16", "content, alphabet", "content, algorithm"],
+    ["chunk", "chunk, utf-16", "chunk, alphabet", "chunk, algorithm"],
+    ["listed value", "listed value, utf-16", "listed value, alphabet", "listed value, algorithm"],
+    ["listed chunk", "listed chunk, utf-16", "listed chunk, alphabet", "listed chunk, algorithm"],
+    ["listed other string", "listed other string, utf-16", "listed other string, alphabet", "listed other string, algorithm"],
+];
+
+fn in_format(kind: &'static str, format: usize) -> &'static str {
+    IN_FORMATS.iter().find(|k| k[0] == kind).map_or(kind, |k| k[format])
 }

@@ -1,10 +1,12 @@
 //! The given tables: one judgement over all of them, all at place 0, and their octets.
 use super::{Row, Writer};
 use crate::forms::{C21, C22, C23, C25};
-use crate::text::is_text;
 use crate::words::*;
 
 type Listed = [Vec<[u32; 3]>; 10];
+
+/// What a given string at fault is called, by its form.
+const GIVEN: [&str; 4] = ["given string", "given string, utf-16", "given string, alphabet 1", "given string, alphabet 2"];
 
 /// The entries of each table; None where there are not ten counts and so many entries. No words at all are ten empty tables.
 fn listed(words: &[u32]) -> Option<Listed> {
@@ -29,9 +31,9 @@ fn filled(given: &Listed, text: &[u8]) -> (Tables, bool) {
     let (mut tables, mut repeats) = (Tables::start(), false);
     for (t, entries) in given[..8].iter().enumerate() {
         for string in entries.iter().filter_map(|e| Text::from_words(e)) {
-            let octets = string.octets(text).unwrap_or(&[]);
-            repeats |= Tables::identifies(t) && tables.strings[t].number_of(octets).is_some();
-            tables.strings[t].add(string, octets);
+            let said = string.said(text).unwrap_or_default();
+            repeats |= Tables::identifies(t) && tables.strings[t].number_of(&said).is_some();
+            tables.strings[t].add(string, &said);
         }
     }
     for (t, entries) in given[8..].iter().enumerate() {
@@ -48,17 +50,18 @@ impl<'a, R: Row> Writer<'a, R> {
     pub(super) fn head(&mut self, words: &[u32], room: usize) -> Result<(), Refusal> {
         let refused = |number, field| Refusal { number, place: 0, field };
         let given = listed(words).ok_or(refused(16, "given words"))?;
-        let strings = || given[..8].iter().flatten().map(|e| Text::from_words(e));
-        if !strings().all(|s| s.map_or(false, |s| self.stretch(s))) {
-            return Err(refused(16, "given string"));
+        let strings = || given[..8].iter().enumerate().flat_map(|(t, entries)| entries.iter().map(move |e| (t, Text::from_words(e))));
+        let right = |t: usize, s: Text| if Tables::identifies(t) { self.identifying(s) } else { self.stretch(s) };
+        if let Some((_, s)) = strings().find(|(t, s)| !s.map_or(false, |s| right(*t, s))) {
+            return Err(refused(16, GIVEN[s.map_or(StringForm::Utf8, Text::form) as usize]));
         }
         let (tables, repeats) = filled(&given, self.text);
         let most = [0, 1, 2].map(|t| tables.strings[t].rows.len());
         if !given[8..].iter().flatten().all(|triple| names_entries(triple, most)) {
             return Err(refused(16, "given triple"));
         }
-        if !strings().flatten().all(|s| s.octets(self.text).map_or(false, is_text)) {
-            return Err(refused(9, "given string"));
+        if let Some(s) = strings().filter_map(|(_, s)| s).find(|s| s.said(self.text).is_none()) {
+            return Err(refused(9, GIVEN[s.form() as usize]));
         }
         if repeats {
             return Err(refused(11, "given tables"));
@@ -86,19 +89,18 @@ impl<'a, R: Row> Writer<'a, R> {
     }
 
     fn put_entry(&mut self, table: usize, entry: &[u32; 3]) {
-        let (place, length) = (entry[1] as usize, entry[2] as usize);
-        match table {
-            0..=4 => {
-                self.bits.code("0");
-                self.bits.number(length as u64, C22);
-            }
-            5..=7 => {
-                self.bits.code("0000");
-                self.bits.number(length as u64, C23);
-            }
-            _ => return self.put_surrogate(entry),
+        if table > OTHER {
+            return self.put_surrogate(entry);
         }
-        self.bits.text(&self.text[place..place + length]);
+        let said = Text::from_words(entry).and_then(|s| s.said(self.text)).expect("judged to be a string");
+        if Tables::identifies(table) {
+            self.bits.code("0");
+            self.bits.number(said.len() as u64, C22);
+            self.bits.text(&said);
+        } else {
+            self.bits.code("00");
+            self.formed(&said, C23);
+        }
     }
 
     fn put_surrogate(&mut self, triple: &[u32; 3]) {

@@ -1,6 +1,5 @@
 //! What the writer judges of an event before it writes: whether it may come, its strings, its text.
 use super::{Mode, Writer};
-use crate::text::is_text;
 use crate::words::*;
 
 impl<'a, R> Writer<'a, R> {
@@ -21,33 +20,37 @@ impl<'a, R> Writer<'a, R> {
     /// Whether this is a stretch of the text area, of an octet at least.
     pub(super) fn stretch(&self, s: Text) -> bool {
         match s {
-            Text::Stretch(place, length) => length > 0 && place as u64 + length as u64 <= self.text.len() as u64,
+            Text::Stretch(place, length, _) => length > 0 && place as u64 + length as u64 <= self.text.len() as u64,
             _ => false,
         }
+    }
+
+    /// The same of a string that identifies, which has one form alone.
+    pub(super) fn identifying(&self, s: Text) -> bool {
+        self.stretch(s) && s.form() == StringForm::Utf8
     }
 
     pub(super) fn strings_right(&self, e: &Event) -> bool {
         let [p, n, l, v] = e.strings;
         let none = |s: Text| s == Text::Absent;
-        let stretch = |s: Text| self.stretch(s);
-        let prefix = none(p) || p == Text::XmlPrefix || stretch(p);
-        let namespace = none(n) || n == Text::XmlNamespace || stretch(n);
+        let identifying = |s: Text| self.identifying(s);
+        let prefix = none(p) || p == Text::XmlPrefix || identifying(p);
+        let namespace = none(n) || n == Text::XmlNamespace || identifying(n);
         let pair = prefix && namespace;
-        let named = pair && (none(p) || !none(n)) && stretch(l);
-        let value = v == Text::Empty || stretch(v);
+        let named = pair && (none(p) || !none(n)) && identifying(l);
+        let value = v == Text::Empty || self.stretch(v);
         match e.kind {
             Kind::Namespace => pair && none(l) && none(v),
             Kind::Start => named && none(v),
             Kind::Attribute => named && value,
-            Kind::Chunk => none(p) && none(n) && none(l) && stretch(v),
+            Kind::Chunk => none(p) && none(n) && none(l) && self.stretch(v),
             Kind::Comment => none(p) && none(n) && none(l) && value,
-            Kind::Instruction => none(p) && none(n) && stretch(l) && value,
+            Kind::Instruction => none(p) && none(n) && identifying(l) && value,
             Kind::End => none(p) && none(n) && none(l) && none(v),
         }
     }
 
     pub(super) fn has_text(&self, e: &Event) -> bool {
-        let mut octets = e.strings.iter().filter_map(|s| s.octets(self.text));
-        octets.all(is_text)
+        e.strings.iter().all(|s| *s == Text::Absent || s.said(self.text).is_some())
     }
 }

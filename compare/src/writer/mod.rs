@@ -92,8 +92,10 @@ pub fn measured(given: &[u32], records: &[u32], text: &[u8], [tables, counts]: [
     left(got.map(|(n, tables)| (n, Vec::new(), tables)))
 }
 
-fn kind_name(kind: Kind) -> &'static str {
-    ["Namespace", "Start", "Attribute", "Text", "Comment", "Instruction", "End"][kind as usize - 1]
+/// What an event at fault is called: its kind, and whether one of its strings is in another form than utf-8.
+fn event_name(e: &Event) -> &'static str {
+    let names = [["Namespace", "Start", "Attribute", "Text", "Comment", "Instruction", "End"], ["Namespace, form", "Start, form", "Attribute, form", "Text, form", "Comment, form", "Instruction, form", "End, form"]];
+    names[usize::from(e.strings.iter().any(|s| s.form() != StringForm::Utf8))][e.kind as usize - 1]
 }
 
 /// Whether the element that starts with the first of these events has attributes: its first octet says so before they come.
@@ -111,7 +113,7 @@ impl<'a, R: Row> Writer<'a, R> {
     fn all(&mut self, given: &[u32], events: &[Option<Event>], room: usize) -> Result<(), Refusal> {
         self.head(given, room)?;
         for (place, event) in events.iter().enumerate() {
-            let field = event.map_or("blank record", |e| kind_name(e.kind));
+            let field = event.map_or("blank record", |e| event_name(&e));
             self.first(&events[place..], room).map_err(|number| Refusal { number, place, field })?;
             self.right = self.bits.len();
         }

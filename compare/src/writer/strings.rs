@@ -1,14 +1,24 @@
-//! Strings and names with the required choices: the lowest number that fits, else spelled.
+//! Strings and names with the required choices: the lowest number that fits, else spelled, a value in the form that makes its field shortest.
 use super::{Row, Writer};
 use crate::forms::{Form, C22, C23, C25};
 use crate::words::*;
+use std::borrow::Cow;
+
+/// The forms that are written, the first of them where two make a field equally short, with what is between the add bit and the length.
+const WRITTEN: [(StringForm, &str); 3] = [(StringForm::Utf8, "00"), (StringForm::Numeric, "1000000000"), (StringForm::Dates, "1000000001")];
+
+/// Bits of a length.
+fn bits_of(length: usize, lengths: &[Form]) -> usize {
+    let f = lengths.iter().find(|f| f.low <= length as u64 && length as u64 <= f.high()).expect("a length within the forms");
+    f.code.len() + f.zeros + f.bits
+}
 
 impl<'a, R: Row> Writer<'a, R> {
     /// The number of a string in a table: 0 where it is absent, None where it is not held.
     fn held(&self, table: usize, s: Text) -> Option<usize> {
-        match s.octets(self.text) {
+        match s.said(self.text) {
             None => Some(0),
-            Some(octets) => self.tables.strings[table].number_of(octets),
+            Some(said) => self.tables.strings[table].number_of(&said),
         }
     }
 
@@ -39,11 +49,11 @@ impl<'a, R: Row> Writer<'a, R> {
     /// C.13, or nothing for an absent string; gives its number.
     pub(super) fn part(&mut self, table: usize, s: Text) -> Option<usize> {
         let text = self.text;
-        let octets = match s.octets(text) {
+        let octets = match s.said(text) {
             None => return Some(0),
             Some(octets) => octets,
         };
-        if let Some(number) = self.tables.strings[table].number_of(octets) {
+        if let Some(number) = self.tables.strings[table].number_of(&octets) {
             self.bits.code("1");
             self.bits.number(number as u64, C25);
             return Some(number);
@@ -53,8 +63,8 @@ impl<'a, R: Row> Writer<'a, R> {
         }
         self.bits.code("0");
         self.bits.number(octets.len() as u64, C22);
-        self.bits.text(octets);
-        Some(self.tables.strings[table].add(s, octets))
+        self.bits.text(&octets);
+        Some(self.tables.strings[table].add(s, &octets))
     }
 
     /// C.14: the empty string is the number 0.
@@ -68,19 +78,31 @@ impl<'a, R: Row> Writer<'a, R> {
 
     pub(super) fn literal(&mut self, s: Text, table: usize, lengths: &[Form], numbers: &[Form]) {
         let text = self.text;
-        let octets = s.octets(text).expect("judged to be a stretch");
+        let said = s.said(text).expect("judged to be a string");
         let strings = &mut self.tables.strings[table];
-        if let Some(number) = strings.number_of(octets) {
+        if let Some(number) = strings.number_of(&said) {
             self.bits.code("1");
             self.bits.number(number as u64, numbers);
             return;
         }
-        let adds = octets.len() <= 5 && !strings.full();
+        let adds = said.len() <= 5 && !strings.full();
         if adds {
-            strings.add(s, octets);
+            strings.add(s, &said);
         }
-        self.bits.code(if adds { "0100" } else { "0000" });
+        self.bits.code(if adds { "01" } else { "00" });
+        self.formed(&said, lengths);
+    }
+
+    /// C.19 and C.20: format, length and octets of what a string says.
+    pub(super) fn formed(&mut self, said: &[u8], lengths: &[Form]) {
+        let text = std::str::from_utf8(said).expect("judged to be text");
+        let ways = WRITTEN.iter().filter_map(|(form, code)| {
+            let octets = if *form == StringForm::Utf8 { Cow::from(said) } else { Cow::from(form.spelled(text)?) };
+            Some((code.len() + bits_of(octets.len(), lengths) + 8 * octets.len(), code, octets))
+        });
+        let (_, code, octets) = ways.min_by_key(|way| way.0).expect("utf-8 is one of them");
+        self.bits.code(code);
         self.bits.number(octets.len() as u64, lengths);
-        self.bits.text(octets);
+        self.bits.text(&octets);
     }
 }

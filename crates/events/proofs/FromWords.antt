@@ -9,6 +9,8 @@ use native.Mathlib.Nat.{add-assoc}
 use lib.Dec.{leb}
 use lib.ListN.{length, getD, drop, length-append}
 use lib.Seq.{drop-cons, getD-append-add}
+use Rattle.format.specs.declared.StringForm.the-variants.{Utf8, Utf16, Numeric, Dates}
+use Rattle.format.specs.Forms.{formOf}
 use Rattle.events.specs.declared.EventString.{EventString}
 use Rattle.events.specs.declared.EventString.the-variants.{Absent, Empty, Stretch, XmlPrefix, XmlNamespace}
 use Rattle.events.specs.declared.Kind.{Kind}
@@ -55,10 +57,13 @@ from-past xs w at (suc n) = ap₂ _∷_ (record-past xs w at) (rw add-assoc (fro
 
 -- ---- the round trip
 pub text-back : (t : EventString) → toldBy (stringTag t) (stringPlace t) (stringSize t) ≡ Said t
-unfolding toldBy toldByTag
+unfolding toldBy toldByTag formOf
 text-back Absent = refl
 text-back Empty = refl
-text-back (Stretch place size) = refl
+text-back (Stretch Utf8 place size) = refl
+text-back (Stretch Utf16 place size) = refl
+text-back (Stretch Numeric place size) = refl
+text-back (Stretch Dates place size) = refl
 text-back XmlPrefix = refl
 text-back XmlNamespace = refl
 

@@ -1,12 +1,14 @@
 -- Event records read back from words: which record 13 words stand for, and the records of a list of words.
 use mathlib.Core.Path.{_≡_}
-use Prim.Native.Nat.{ℕ, zero, suc, _+_, _/_}
+use Prim.Native.Nat.{ℕ, zero, suc, _+_, _-_, _/_}
 use mathlib.Core.Bool.{Bool, true, false, _&&_}
 use mathlib.Core.List.{List, [], _∷_}
 use lib.Dec.{leb, eqb}
 use lib.ListN.{length, getD}
 use Rattle.format.specs.Octets.{Words}
 use Rattle.format.specs.Numbers.{pick}
+use Rattle.format.specs.declared.StringForm.the-variants.{Utf8}
+use Rattle.format.specs.Forms.{formOf}
 use Rattle.events.specs.declared.EventString.{EventString}
 use Rattle.events.specs.declared.EventString.the-variants.{Absent, Empty, Stretch, XmlPrefix, XmlNamespace}
 use Rattle.events.specs.declared.Kind.{Kind}
@@ -32,9 +34,12 @@ tags = Said Absent ∷ Said Empty ∷ Not ∷ Said XmlPrefix ∷ Said XmlNamespa
 unfoldable pub toldByTag : ℕ → Told
 toldByTag tag = getD tags tag Not
 
--- Only a stretch has a place and a length: beside another tag both are 0.
+-- Only a stretch has a place and a length: beside another tag both are 0. 2 is utf-8; 5, 6 and 7 are the forms 1, 2 and 3.
 unfoldable pub toldBy : (tag place size : ℕ) → Told
-toldBy tag place size = pick (eqb tag 2) (Said (Stretch place size)) (pick (eqb place 0 && eqb size 0) (toldByTag tag) Not)
+toldBy tag place size =
+    pick (eqb tag 2) (Said (Stretch Utf8 place size))
+    (pick (leb 5 tag && leb tag 7) (Said (Stretch (formOf (tag - 4)) place size))
+    (pick (eqb place 0 && eqb size 0) (toldByTag tag) Not))
 
 -- The string of the three words from `at` on.
 abbrev pub toldAt : Words → (at : ℕ) → Told

@@ -36,7 +36,7 @@ endRecord = record { kind = End; prefix = Absent; namespace = Absent; name = Abs
 
 abbrev pub eventString : Located → EventString
 eventString empty = Empty
-eventString (stretch place size) = Stretch place size
+eventString (stretch form place size) = Stretch form place size
 eventString builtInPrefix = XmlPrefix
 eventString builtInNamespace = XmlNamespace
 
@@ -48,14 +48,14 @@ optionalEventString (some x) = eventString x
 abbrev pub locatedOf : EventString → Located
 locatedOf Absent = empty
 locatedOf Empty = empty
-locatedOf (Stretch p n) = stretch p n
+locatedOf (Stretch form p n) = stretch form p n
 locatedOf XmlPrefix = builtInPrefix
 locatedOf XmlNamespace = builtInNamespace
 
 abbrev pub optionalOf : EventString → Option Located
 optionalOf Absent = none
 optionalOf Empty = some empty
-optionalOf (Stretch p n) = some (stretch p n)
+optionalOf (Stretch form p n) = some (stretch form p n)
 optionalOf XmlPrefix = some builtInPrefix
 optionalOf XmlNamespace = some builtInNamespace
 

@@ -5,22 +5,38 @@ use mathlib.Core.Bool.{Bool, false, _&&_}
 use lib.ListN.{length}
 use lib.Dec.{ltb, leb}
 use Rattle.format.specs.Octets.{Octets}
+use Rattle.format.specs.declared.StringForm.{StringForm}
+use Rattle.format.specs.declared.StringForm.the-variants.{Utf8, Utf16, Numeric, Dates}
 use Rattle.events.specs.declared.EventString.{EventString}
 use Rattle.events.specs.declared.EventString.the-variants.{Absent, Empty, Stretch, XmlPrefix, XmlNamespace}
 use Rattle.events.specs.declared.Event.{Event}
 use Rattle.events.specs.Records.{namespaceRecord, startRecord, attributeRecord, chunkRecord, commentRecord, instructionRecord, endRecord}
 
--- A stretch: its length is never 0, and it ends within the octets.
+-- A stretch in utf-8, as all identifying strings are: its length is never 0, and it ends within the octets.
 pub data IsStretch (s : Octets) : EventString → Type 0 where
-  inside : {place size : ℕ} → 0 < size → place + size ≤ length s → IsStretch s (Stretch place size)
+  inside-utf8 : {place size : ℕ} → 0 < size → place + size ≤ length s → IsStretch s (Stretch Utf8 place size)
 
 -- And as a test.
 abbrev pub isStretch : Octets → EventString → Bool
 isStretch s Absent = false
 isStretch s Empty = false
-isStretch s (Stretch place size) = ltb 0 size && leb (place + size) (length s)
+isStretch s (Stretch Utf8 place size) = ltb 0 size && leb (place + size) (length s)
+isStretch s (Stretch Utf16 place size) = false
+isStretch s (Stretch Numeric place size) = false
+isStretch s (Stretch Dates place size) = false
 isStretch s XmlPrefix = false
 isStretch s XmlNamespace = false
+
+-- The same in any form.
+pub data IsString (s : Octets) : EventString → Type 0 where
+  inside : {form : StringForm} {place size : ℕ} → 0 < size → place + size ≤ length s → IsString s (Stretch form place size)
+
+abbrev pub isString : Octets → EventString → Bool
+isString s Absent = false
+isString s Empty = false
+isString s (Stretch form place size) = ltb 0 size && leb (place + size) (length s)
+isString s XmlPrefix = false
+isString s XmlNamespace = false
 
 -- A prefix: absent, built in, or a stretch; a namespace likewise.
 pub data IsPrefix (s : Octets) : EventString → Type 0 where
@@ -33,10 +49,10 @@ pub data IsNamespace (s : Octets) : EventString → Type 0 where
   xml-namespace : IsNamespace s XmlNamespace
   a-namespace : {x : EventString} → IsStretch s x → IsNamespace s x
 
--- A value, comment or content: empty, or a stretch.
+-- A value, comment or content: empty, or octets in any form.
 pub data IsValue (s : Octets) : EventString → Type 0 where
   no-octets : IsValue s Empty
-  some-octets : {x : EventString} → IsStretch s x → IsValue s x
+  some-octets : {x : EventString} → IsString s x → IsValue s x
 
 -- The strings of a name: a prefix only with a namespace.
 pub record IsName (s : Octets) (prefix namespace local : EventString) : Type 0 where
@@ -50,7 +66,7 @@ pub data WellMade (s : Octets) : Event → Type 0 where
   a-declaration : {p n : EventString} → IsPrefix s p → IsNamespace s n → WellMade s (namespaceRecord p n)
   a-start : {p n l : EventString} → IsName s p n l → WellMade s (startRecord p n l)
   an-attribute : {p n l v : EventString} → IsName s p n l → IsValue s v → WellMade s (attributeRecord p n l v)
-  a-chunk : {v : EventString} → IsStretch s v → WellMade s (chunkRecord v)
+  a-chunk : {v : EventString} → IsString s v → WellMade s (chunkRecord v)
   a-comment : {v : EventString} → IsValue s v → WellMade s (commentRecord v)
   an-instruction : {t v : EventString} → IsStretch s t → IsValue s v → WellMade s (instructionRecord t v)
   an-end : WellMade s endRecord

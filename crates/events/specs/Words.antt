@@ -2,6 +2,8 @@
 use Prim.Native.Nat.{ℕ}
 use mathlib.Core.List.{List, [], _∷_, _++_}
 use Rattle.format.specs.Octets.{Words}
+use Rattle.format.specs.declared.StringForm.{StringForm}
+use Rattle.format.specs.declared.StringForm.the-variants.{Utf8, Utf16, Numeric, Dates}
 use Rattle.events.specs.declared.EventString.{EventString}
 use Rattle.events.specs.declared.EventString.the-variants.{Absent, Empty, Stretch, XmlPrefix, XmlNamespace}
 use Rattle.events.specs.declared.Kind.{Kind}
@@ -18,25 +20,38 @@ kindNumber Comment = 5
 kindNumber Instruction = 6
 kindNumber End = 7
 
--- Which of the five a string is; its place and its length are 0 unless it is a stretch.
+-- Which of the five a string is, and a stretch's form; its place and its length are 0 unless it is a stretch.
+abbrev pub formTag : StringForm → ℕ
+formTag Utf8 = 2
+formTag Utf16 = 5
+formTag Numeric = 6
+formTag Dates = 7
+
 abbrev pub stringTag : EventString → ℕ
 stringTag Absent = 0
 stringTag Empty = 1
-stringTag (Stretch place size) = 2
+stringTag (Stretch form place size) = formTag form
 stringTag XmlPrefix = 3
 stringTag XmlNamespace = 4
+
+abbrev pub stringForm : EventString → StringForm
+stringForm Absent = Utf8
+stringForm Empty = Utf8
+stringForm (Stretch form place size) = form
+stringForm XmlPrefix = Utf8
+stringForm XmlNamespace = Utf8
 
 abbrev pub stringPlace : EventString → ℕ
 stringPlace Absent = 0
 stringPlace Empty = 0
-stringPlace (Stretch place size) = place
+stringPlace (Stretch form place size) = place
 stringPlace XmlPrefix = 0
 stringPlace XmlNamespace = 0
 
 abbrev pub stringSize : EventString → ℕ
 stringSize Absent = 0
 stringSize Empty = 0
-stringSize (Stretch place size) = size
+stringSize (Stretch form place size) = size
 stringSize XmlPrefix = 0
 stringSize XmlNamespace = 0
 

@@ -12,7 +12,8 @@ ghost use mathlib.Core.List.{_++_};
 ghost use lib.Dec.{ltb, leb};
 ghost use lib.ListN.{length, set, getD, take, replicate};
 ghost use Rattle.events.specs.Records.{blank, namespaceRecord, startRecord, attributeRecord, chunkRecord, commentRecord, instructionRecord, endRecord};
-ghost use Rattle.events.specs.Words.{kindNumber, stringTag, stringPlace, stringSize};
+ghost use Rattle.events.specs.Words.{kindNumber, stringTag, stringForm, stringPlace, stringSize};
+use format::StringForm;
 pub use words::from_words;
 pub use words::has_record;
 pub use words::is_kind;
@@ -21,11 +22,11 @@ pub use words::keep;
 // Words of a record: one for the kind, and three for each of the four strings.
 pub const RECORD: usize = 13;
 
-// A string of an event: none; the empty one; octets of the document or text area by place and length; one of the two built-in strings.
+// A string of an event: none; the empty one; octets of the document or text area by form, place and length; one of the two built-in strings.
 pub enum EventString {
     Absent,
     Empty,
-    Stretch(u32, u32),
+    Stretch(StringForm, u32, u32),
     XmlPrefix,
     XmlNamespace,
 }
@@ -69,16 +70,34 @@ impl Kind {
 }
 
 impl EventString {
-    // Which of the five the string is.
+    // Which of the five the string is, and a stretch's form. The form is asked first, so that the rest is the variant's own number and costs nothing.
     pub fn tag(self) -> u32
         ensures { λ r. ⌜ r ≡ stringTag self ⌝ }
     {
+        let form = self.form();
+        let other = form.number();
+        if other != 0 {
+            return other + tags::BEFORE_FORMS;
+        }
         match self {
             EventString::Absent => tags::ABSENT,
             EventString::Empty => tags::EMPTY,
-            EventString::Stretch(_, _) => tags::STRETCH,
+            EventString::Stretch(_, _, _) => tags::STRETCH,
             EventString::XmlPrefix => tags::XML_PREFIX,
             EventString::XmlNamespace => tags::XML_NAMESPACE,
+        }
+    }
+
+    // utf-8 unless the string is a stretch.
+    pub fn form(self) -> StringForm
+        ensures { λ r. ⌜ r ≡ stringForm self ⌝ }
+    {
+        match self {
+            EventString::Absent => StringForm::Utf8,
+            EventString::Empty => StringForm::Utf8,
+            EventString::Stretch(form, _, _) => form,
+            EventString::XmlPrefix => StringForm::Utf8,
+            EventString::XmlNamespace => StringForm::Utf8,
         }
     }
 
@@ -89,7 +108,7 @@ impl EventString {
         match self {
             EventString::Absent => 0,
             EventString::Empty => 0,
-            EventString::Stretch(place, _) => place,
+            EventString::Stretch(_, place, _) => place,
             EventString::XmlPrefix => 0,
             EventString::XmlNamespace => 0,
         }
@@ -102,7 +121,7 @@ impl EventString {
         match self {
             EventString::Absent => 0,
             EventString::Empty => 0,
-            EventString::Stretch(_, size) => size,
+            EventString::Stretch(_, _, size) => size,
             EventString::XmlPrefix => 0,
             EventString::XmlNamespace => 0,
         }

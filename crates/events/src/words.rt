@@ -14,6 +14,7 @@ use crate::RECORD;
 use crate::kinds;
 use crate::strings;
 use crate::tags;
+use format::StringForm;
 
 // What three words say: a string, or none where they are not well formed.
 enum Told {
@@ -56,7 +57,14 @@ fn told_by(tag: u32, place: u32, size: u32) -> Told
     ensures { λ r. ⌜ r ≡ toldBy tag place size ⌝ }
 {
     if tag == tags::STRETCH {
-        return Told::Said(EventString::Stretch(place, size));
+        return Told::Said(EventString::Stretch(StringForm::Utf8, place, size));
+    }
+    if tags::UTF16 <= tag && tag <= tags::DATES {
+        return Told::Said(EventString::Stretch(
+            StringForm::of(tag - tags::BEFORE_FORMS),
+            place,
+            size,
+        ));
     }
     if place != 0 || size != 0 {
         return Told::Not;

@@ -18,29 +18,29 @@ use Rattle.fields.proofs.Utf8.{told, never, both, alike, started, some-
 
 -- what holds of each of a list, one after the other
 infixr 20 _also_
-_also_ : {A B : Type 0} → A → B → A × B
+pub _also_ : {A B : Type 0} → A → B → A × B
 a also b = (a, b)
 
 -- ---- ranges
 
-abbrev In : Range → ℕ → Type 0
+abbrev pub In : Range → ℕ → Type 0
 In (a ‥ z) n = (a ≤ n) × (n ≤ z)
 
-in-range : (a z n : ℕ) → (leb a n && leb n z) ≡ true → In (a ‥ z) n
+pub in-range : (a z n : ℕ) → (leb a n && leb n z) ≡ true → In (a ‥ z) n
 in-range a z n e = let p = both (leb a n) (leb n z) e in (leb-true _ _ (p .0), leb-true _ _ (p .1))
 
-range-in : (a z n : ℕ) → In (a ‥ z) n → (leb a n && leb n z) ≡ true
+pub range-in : (a z n : ℕ) → In (a ‥ z) n → (leb a n && leb n z) ≡ true
 range-in a z n h = rw (le-leb _ _ (h .0), le-leb _ _ (h .1))
 
 -- a number in the range at place i is among them; a number among them is in one of them
-in-among : (rs : List Range) (i n : ℕ) → In (getD rs i (1 ‥ 0)) n → among rs n ≡ true
+pub in-among : (rs : List Range) (i n : ℕ) → In (getD rs i (1 ‥ 0)) n → among rs n ≡ true
 unfolding among
 in-among [] zero n h = absurd (omega arith)
 in-among [] (suc i) n h = absurd (omega arith)
 in-among (a ‥ z ∷ rs) zero n h = rw (range-in a z n h)
 in-among (a ‥ z ∷ rs) (suc i) n h = told (leb a n && leb n z) (λ e. rw e) (λ e. rw e (in-among rs i n h))
 
-among-in : {X : Type 0} (rs : List Range) (n : ℕ) → among rs n ≡ true → All (λ r. In r n → X) rs → X
+pub among-in : {X : Type 0} (rs : List Range) (n : ℕ) → among rs n ≡ true → All (λ r. In r n → X) rs → X
 unfolding among
 among-in [] n e fs = never e
 among-in (a ‥ z ∷ rs) n e fs = told (leb a n && leb n z) (λ t. fs .0 (in-range a z n t)) (λ t. among-in rs n (rw t at e) (fs .1))
@@ -49,20 +49,20 @@ abbrev InNth : ℕ → ℕ → Type 0
 InNth i n = In (getD characters i (1 ‥ 0)) n
 
 -- one octet for each range, in it
-abbrev Fits : List Range → List ℕ → Type 0
+abbrev pub Fits : List Range → List ℕ → Type 0
 Fits [] [] = Unit {0}
 Fits [] (b ∷ q) = ⊥
 Fits (r ∷ rs) [] = ⊥
 Fits (r ∷ rs) (b ∷ q) = In r b × Fits rs q
 
-fit : (r : List Range) (q y : List ℕ) → Fits r q → (fits r (q ++ y) ≡ true) × (length r ≡ length q)
+pub fit : (r : List Range) (q y : List ℕ) → Fits r q → (fits r (q ++ y) ≡ true) × (length r ≡ length q)
 unfolding fits
 fit [] [] y f = (refl, refl)
 fit [] (b ∷ q) y f = absurd f
 fit (r ∷ rs) [] y f = absurd f
 fit (a ‥ z ∷ rs) (b ∷ q) y f = let p = fit rs q y (f .1) in (rw (range-in a z b (f .0)) (p .0), ap suc (p .1))
 
-fit-back : (r : List Range) (x : List ℕ) → fits r x ≡ true → Fits r (take (length r) x)
+pub fit-back : (r : List Range) (x : List ℕ) → fits r x ≡ true → Fits r (take (length r) x)
 unfolding fits
 fit-back [] x e = tt
 fit-back (r ∷ rs) [] e = never e
@@ -71,24 +71,24 @@ fit-back (a ‥ z ∷ rs) (b ∷ x) e = let p = both (leb a b && leb b z) (fits 
 -- ---- by the number of octets
 
 module _ (n : ℕ) where
-  one : n < 0x80 → utf8 n ≡ n ∷ []
+  pub one : n < 0x80 → utf8 n ≡ n ∷ []
   unfolding utf8
   one h = rw (lt-ltb _ _ h)
 
-  two : 0x80 ≤ n → n < 0x800 → utf8 n ≡ (0xC0 + n / 64) ∷ (0x80 + n % 64) ∷ []
+  pub two : 0x80 ≤ n → n < 0x800 → utf8 n ≡ (0xC0 + n / 64) ∷ (0x80 + n % 64) ∷ []
   unfolding utf8 tail
   two h k = rw (le-ltb _ _ h, lt-ltb _ _ k)
 
-  three : 0x800 ≤ n → n < 0x10000 → utf8 n ≡ (0xE0 + n / 4096) ∷ (0x80 + n / 64 % 64) ∷ (0x80 + n % 64) ∷ []
+  pub three : 0x800 ≤ n → n < 0x10000 → utf8 n ≡ (0xE0 + n / 4096) ∷ (0x80 + n / 64 % 64) ∷ (0x80 + n % 64) ∷ []
   unfolding utf8 tail
   three h k = rw (le-ltb n 0x80 (omega arith), le-ltb _ _ h, lt-ltb _ _ k)
 
-  four : 0x10000 ≤ n → utf8 n ≡ (0xF0 + n / 262144) ∷ (0x80 + n / 4096 % 64) ∷ (0x80 + n / 64 % 64) ∷ (0x80 + n % 64) ∷ []
+  pub four : 0x10000 ≤ n → utf8 n ≡ (0xF0 + n / 262144) ∷ (0x80 + n / 4096 % 64) ∷ (0x80 + n / 64 % 64) ∷ (0x80 + n % 64) ∷ []
   unfolding utf8 tail
   four h = rw (le-ltb n 0x80 (omega arith), le-ltb n 0x800 (omega arith), le-ltb _ _ h)
 
 -- what holds of the octets of each number
-sized : (P : ℕ → List ℕ → Type 0)
+pub sized : (P : ℕ → List ℕ → Type 0)
     → ((n : ℕ) → n < 0x80 → P n (n ∷ []))
     → ((n : ℕ) → 0x80 ≤ n → n < 0x800 → P n ((0xC0 + n / 64) ∷ (0x80 + n % 64) ∷ []))
     → ((n : ℕ) → 0x800 ≤ n → n < 0x10000 → P n ((0xE0 + n / 4096) ∷ (0x80 + n / 64 % 64) ∷ (0x80 + n % 64) ∷ []))
@@ -98,7 +98,7 @@ sized P a b c d n =
     case n 0x80 (λ h. rw (one n h) (a n h)) (λ h. case n 0x800 (λ k. rw (two n h k) (b n h k))
     (λ k. case n 0x10000 (λ l. rw (three n k l) (c n k l)) (λ l. rw (four n l) (d n l))))
 
-long : (n : ℕ) → 0 < length (utf8 n)
+pub long : (n : ℕ) → 0 < length (utf8 n)
 long = sized (λ n o. 0 < length o) (λ n h. omega arith) (λ n h k. omega arith) (λ n h k. omega arith) (λ n h. omega arith)
 
 -- two and three groups of six bits

@@ -202,7 +202,7 @@ no-character b x e = rw (← e)
 
 -- ---- the octets of a part
 
-drop-take : (n m : ℕ) (l : List ℕ) → drop n (take m l) ≡ take (m - n) (drop n l)
+pub drop-take : (n m : ℕ) (l : List ℕ) → drop n (take m l) ≡ take (m - n) (drop n l)
 drop-take zero m l = let e : m - 0 ≡ m = omega arith in rw e
 drop-take (suc n) zero l = let e : 0 - suc n ≡ 0 = omega arith in rw e
 drop-take (suc n) (suc m) [] = sym (take-nil (suc m - suc n))

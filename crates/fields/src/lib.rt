@@ -70,7 +70,7 @@ fn wide(x: u8) -> u64
 }
 
 // The value that x and then the `more` octets from `at` spell, the higher first.
-fn value_from(s: &[u8], at: usize, x: u8, more: usize) -> u64
+pub fn value_from(s: &[u8], at: usize, x: u8, more: usize) -> u64
     requires { ⌜ (more ≤ 4) × (at + more ≤ length (now s)) ⌝ }
     ensures { λ r. ⌜ (r ≡ valueFrom (now (s .entry)) at x more) × (r < 2 ^ 40) ⌝ }
 {

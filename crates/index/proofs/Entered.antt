@@ -10,9 +10,10 @@ use borrow.Author.Tests.{eq-eqb, ne-eqb}
 use lib.ListN.{length, getD, set, replicate, length-set, length-replicate, getD-replicate}
 use lib.Seq.{getD-set-other}
 use Rattle.format.specs.Tables.{Triple, same}
+use Rattle.format.specs.declared.StringForm.{StringForm}
 use Rattle.tables.specs.Located.{stretch, octetsOf}
 use Rattle.tables.specs.Counts.{tableWords}
-use Rattle.tables.specs.Rows.{tableOf, builtIn, stringAt, tripleAt, entries}
+use Rattle.tables.specs.Rows.{tableOf, builtIn, formIn, stringAt, tripleAt, entries}
 use Rattle.tables.specs.Search.{numberIn, numberOfTriple}
 use Rattle.tables.specs.Kept.{stored}
 use Rattle.tables.proofs.Entries.{stored-other, stored-0, stored-1, stored-2}
@@ -62,7 +63,7 @@ module _ (s t : List ℕ) (table n a b c : ℕ) where
 
     string-kept : stringsAt s (stored t table n a b c) k (768 * k + 3 * j) ≡ stringsAt s t k (768 * k + 3 * j)
     unfolding stringsAt stringAt
-    string-kept = rw (word-kept, row-kept k j l u r e 1 (omega arith))
+    string-kept = rw (word-kept, row-kept k j l u r e 1 (omega arith), row-kept k j l u r e 2 (omega arith))
 
     name-kept : tripleAt (stored t table n a b c) (768 * k + 3 * j) ≡ tripleAt t (768 * k + 3 * j)
     unfolding tripleAt
@@ -70,11 +71,11 @@ module _ (s t : List ℕ) (table n a b c : ℕ) where
 
   -- the row itself
   module _ (l : table < 10) (r : n < 256) (size : length t ≡ tableWords) where
-    string-here : a + b ≤ length s → 1 ≤ b → stringsAt s (stored t table n a b c) table (768 * table + 3 * n) ≡ octetsOf s (stretch a b)
+    string-here : 1 ≤ b → (f : StringForm) → formIn (tableOf table) c ≡ f → stringsAt s (stored t table n a b c) table (768 * table + 3 * n) ≡ octetsOf s (stretch f a b)
     unfolding stringsAt stringAt
-    string-here h g =
+    string-here g f is =
         let y = stored-1 t table n a b c (omega arith) in
-        rw (y, stored-0 t table n a b c (omega arith), ne-eqb b 0 (omega arith))
+        rw (y, stored-0 t table n a b c (omega arith), stored-2 t table n a b c (omega arith), ne-eqb b 0 (omega arith), is)
 
     name-here : tripleAt (stored t table n a b c) (768 * table + 3 * n) ≡ record { prefix = a; namespace = b; local = c }
     unfolding tripleAt
@@ -134,49 +135,50 @@ module _ (s t : List ℕ) (table n a b c : ℕ) (index other : List ℕ) (r : n 
         };
       }
 
--- ---- a string more
-module _ (s t : List ℕ) (table n a b : ℕ) (index : List ℕ) (l : table < 8) (r : n < 256) (size : length t ≡ tableWords) (h : a + b ≤ length s) (g : 1 ≤ b) where
-  rows : (j : ℕ) → j < n → stringsAt s (stored t table n a b 0) table (768 * table + 3 * j) ≡ stringsAt s t table (768 * table + 3 * j)
-  rows j u = string-kept s t table n a b 0 table j (omega arith) (omega arith) r (λ z y. omega arith)
+-- ---- a string more, in the form f, which the word c says in its table
+module _ (s t : List ℕ) (table n a b c : ℕ) (f : StringForm) (index : List ℕ) (l : table < 8) (r : n < 256) (size : length t ≡ tableWords) (g : 1 ≤ b) (is : formIn (tableOf table) c ≡ f) where
+  rows : (j : ℕ) → j < n → stringsAt s (stored t table n a b c) table (768 * table + 3 * j) ≡ stringsAt s t table (768 * table + 3 * j)
+  rows j u = string-kept s t table n a b c table j (omega arith) (omega arith) r (λ z y. omega arith)
 
   -- where the row is put in no chain, the index stays
-  string-stays : (StringsIndexed s t index table n → StringsIndexed s (stored t table n a b 0) index table (n + 1)) → Keeps s table n t index (stored t table n a b 0) index
-  string-stays f = keeps s t table n a b 0 index index r (λ k i ne u. refl) refl (λ z v x. f x) (λ z u v x. absurd (omega arith))
+  string-stays : (StringsIndexed s t index table n → StringsIndexed s (stored t table n a b c) index table (n + 1)) → Keeps s table n t index (stored t table n a b c) index
+  string-stays f = keeps s t table n a b c index index r (λ k i ne u. refl) refl (λ z v x. f x) (λ z u v x. absurd (omega arith))
 
-  pub string-known : (numberIn (map (octetsOf s) (entries (stringAt (tableOf table) t) (768 * table) n)) (octetsOf s (stretch a b)) ≡ 0 → ⊥)
-      → Keeps s table n t index (stored t table n a b 0) index
+  pub string-known : (numberIn (map (octetsOf s) (entries (stringAt (tableOf table) t) (768 * table) n)) (octetsOf s (stretch f a b)) ≡ 0 → ⊥)
+      → Keeps s table n t index (stored t table n a b c) index
   unfolding StringsIndexed
   string-known old =
       string-stays
-      (λ x. entered-known (strings s table) (stringsAt s t table) (stringsAt s (stored t table n a b 0) table) (768 * table) n (384 * table) index (octetsOf s (stretch a b)) r x rows
-      (string-here s t table n a b 0 (omega arith) r size h g) (λ e. old (sym (number-string s t table n (octetsOf s (stretch a b))) ∙ e)))
+      (λ x. entered-known (strings s table) (stringsAt s t table) (stringsAt s (stored t table n a b c) table) (768 * table) n (384 * table) index (octetsOf s (stretch f a b)) r x rows
+      (string-here s t table n a b c (omega arith) r size g f is) (λ e. old (sym (number-string s t table n (octetsOf s (stretch f a b))) ∙ e)))
 
-  pub string-apart : same (octetsOf s (builtIn (tableOf table))) (octetsOf s (stretch a b)) ≡ true → Keeps s table n t index (stored t table n a b 0) index
+  pub string-apart : same (octetsOf s (builtIn (tableOf table))) (octetsOf s (stretch f a b)) ≡ true → Keeps s table n t index (stored t table n a b c) index
   unfolding StringsIndexed strings
   string-apart e =
       string-stays
-      (λ x. entered-apart (strings s table) (stringsAt s t table) (stringsAt s (stored t table n a b 0) table) (768 * table) n (384 * table) index (octetsOf s (stretch a b)) r x rows
-      (string-here s t table n a b 0 (omega arith) r size h g) (rw e))
+      (λ x. entered-apart (strings s table) (stringsAt s t table) (stringsAt s (stored t table n a b c) table) (768 * table) n (384 * table) index (octetsOf s (stretch f a b)) r x rows
+      (string-here s t table n a b c (omega arith) r size g f is) (rw e))
 
-  pub string-last : 255 ≤ n → Keeps s table n t index (stored t table n a b 0) index
+  pub string-last : 255 ≤ n → Keeps s table n t index (stored t table n a b c) index
   unfolding StringsIndexed
   string-last u =
       string-stays
-      (λ x. entered-last (strings s table) (stringsAt s t table) (stringsAt s (stored t table n a b 0) table) (768 * table) n (384 * table) index (octetsOf s (stretch a b)) r x rows
-      (string-here s t table n a b 0 (omega arith) r size h g) u)
+      (λ x. entered-last (strings s table) (stringsAt s t table) (stringsAt s (stored t table n a b c) table) (768 * table) n (384 * table) index (octetsOf s (stretch f a b)) r x rows
+      (string-here s t table n a b c (omega arith) r size g f is) u)
 
-  pub string-entered : n < 255 → numberIn (map (octetsOf s) (entries (stringAt (tableOf table) t) (768 * table) n)) (octetsOf s (stretch a b)) ≡ 0
-      → same (octetsOf s (builtIn (tableOf table))) (octetsOf s (stretch a b)) ≡ false
-      → Keeps s table n t index (stored t table n a b 0) (pushed index (384 * table) (bucket (octetsOf s (stretch a b))) n)
+  pub string-entered : n < 255 → numberIn (map (octetsOf s) (entries (stringAt (tableOf table) t) (768 * table) n)) (octetsOf s (stretch f a b)) ≡ 0
+      → same (octetsOf s (builtIn (tableOf table))) (octetsOf s (stretch f a b)) ≡ false
+      → Keeps s table n t index (stored t table n a b c) (pushed index (384 * table) (bucket (octetsOf s (stretch f a b))) n)
   unfolding StringsIndexed strings
   string-entered u new e =
-      let y = octetsOf s (stretch a b) in
-      keeps s t table n a b 0 index (pushed index (384 * table) (bucket y) n) r (apart-pushed table (bucket y) n index (bucket-lt y) r) (length-pushed (384 * table) (bucket y) n index)
-      (λ z v x. entered (strings s table) (stringsAt s t table) (stringsAt s (stored t table n a b 0) table) (768 * table) n (384 * table) index y r x rows
-      (string-here s t table n a b 0 (omega arith) r size h g) u (rw e) (number-string s t table n y ∙ new) (bucket-lt y) (omega arith))
+      let y = octetsOf s (stretch f a b) in
+      keeps s t table n a b c index (pushed index (384 * table) (bucket y) n) r (apart-pushed table (bucket y) n index (bucket-lt y) r) (length-pushed (384 * table) (bucket y) n index)
+      (λ z v x. entered (strings s table) (stringsAt s t table) (stringsAt s (stored t table n a b c) table) (768 * table) n (384 * table) index y r x rows
+      (string-here s t table n a b c (omega arith) r size g f is) u (rw e) (number-string s t table n y ∙ new) (bucket-lt y) (omega arith))
       (λ z v w x. absurd (omega arith))
 
-  pub string-added : (u other : List ℕ) → u ≡ stored t table n a b 0 → Keeps s table n t index (stored t table n a b 0) other → StringEntered s table n a b t index u other
+  pub string-added : (u other : List ℕ) → u ≡ stored t table n a b c → Keeps s table n t index (stored t table n a b c) other
+      → StringEntered s table n (record { a = a; b = b; c = c }) t index u other
   string-added u other e kept = rw e (record { words = refl; keeps = kept })
 
 -- ---- a name more

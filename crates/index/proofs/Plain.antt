@@ -13,6 +13,7 @@ use Rattle.fields.specs.WeightContracts.{weight, Small, highBits, notPlain, Pla
 use Rattle.fields.proofs.Plain.{Eight, neither, three-plain, eight-plain, fours-plain}
 use Rattle.fields.proofs.Utf8.{plain-text}
 use Rattle.tables.specs.Located.{stretch, octetsOf}
+use Rattle.format.specs.declared.StringForm.the-variants.{Utf8}
 
 module _ (s : List ℕ) (place len : ℕ) where
   pub few-plain : (a b c : ℕ) → a ≡ getD s place 0 → b ≡ getD s (place + len / 2) 0 → c ≡ getD s (place + (len - 1)) 0 → a < 256 → b < 256 → c < 256
@@ -57,6 +58,6 @@ module _ (s : List ℕ) (place len : ℕ) where
       let p = seen z in
       elim (decLt j (place + i)) [ yes b ↦ p .0 j l b | no b ↦ p .1 j (omega arith) u ]
 
-  pub plain-string : place + len ≤ length s → Plain s place (place + len) → true ≡ isText (octetsOf s (stretch place len))
+  pub plain-string : place + len ≤ length s → Plain s place (place + len) → true ≡ isText (octetsOf s (stretch Utf8 place len))
   unfolding octetsOf
   plain-string h p = let z : place + len - place ≡ len = omega arith in rw z at (plain-text s place (place + len) h p)

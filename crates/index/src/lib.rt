@@ -1,22 +1,27 @@
 // A hash index over the tables, local to a run: the lowest number of a string or a name, in a few comparisons.
-// May depend on format, fields and tables.
+// May depend on format, fields, forms and tables.
 ghost use mathlib.Core.Path.{_≡_};
 ghost use mathlib.Core.Bool.{true};
 ghost use mathlib.Core.List.{List, map};
 ghost use Prim.Native.Nat.{ℕ, _+_, _-_, _*_, _/_, _<_, _≤_};
 ghost use lib.ListN.{length};
 ghost use Rattle.format.specs.Tables.{same};
+ghost use Rattle.format.specs.declared.StringForm.the-variants.{Utf8};
 ghost use Rattle.fields.specs.WeightContracts.{Plain};
 ghost use Rattle.fields.specs.Utf8.{isText};
 ghost use Rattle.tables.specs.Located.{stretch, octetsOf};
 ghost use Rattle.tables.specs.Counts.{tableWords};
 ghost use Rattle.tables.specs.Rows.{tableOf, builtIn, stringAt, tripleAt, entries};
 ghost use Rattle.tables.specs.Search.{numberIn, numberOfTriple};
-ghost use Rattle.tables.specs.Kept.{Inside};
+ghost use Rattle.format.specs.Characters.{All};
+ghost use Rattle.format.specs.Forms.{formOf};
+ghost use Rattle.tables.specs.Kept.{Inside, IsSound};
 ghost use Rattle.index.specs.Hash.{summed, blended, spread, bucket, nameBucket, Takes};
 ghost use Rattle.index.specs.Chain.{lastRow, pushed};
-ghost use Rattle.index.specs.Indexed.{slots, strings, stringsAt, names, StringsIndexed, NamesIndexed, StringEntered, NameEntered, listed, NewString, Sought, SoughtInChain, SoughtToAdd};
+ghost use Rattle.index.specs.Indexed.{slots, strings, stringsAt, names, StringsIndexed, NamesIndexed, StringEntered, NameEntered, listed, NewString, Sought, SoughtInChain, SoughtToAdd, SoughtSaid};
+use format::StringForm;
 use tables::Counts;
+use tables::Row;
 
 // Octets of the index: PART for each table.
 pub const SLOTS: usize = 3840;
@@ -29,7 +34,7 @@ const HEADS: usize = 128;
 // The row whose number does not fit an octet: it is in no chain, and is looked at apart.
 const LAST: u32 = 255;
 
-// Of a longer string the first 64 octets, which `eights` takes of so many, and the last eight count: a long chunk is not looked through.
+// Of a longer string so many octets count: a long chunk is not looked through, and of a string in another form no more are put in UTF-8.
 const COUNTED: usize = 65;
 
 // Five spaces above three octets: with them a number of eight octets that is plain where these are.
@@ -83,7 +88,7 @@ fn spread(h: u64, x: u64) -> usize
     (sum(h, x) / 0x100_0000 % 128) as usize
 }
 
-// How many octets of so long a string count beside the last eight.
+// How many octets of so long a string count.
 fn counting(len: usize) -> usize
     requires { ⌜ 9 ≤ len ⌝ }
     ensures { λ r. ⌜ (9 ≤ r) × (r ≤ len) × (len ≤ 65 → r ≡ len) × (65 < len → r ≡ 65) ⌝ }
@@ -135,8 +140,8 @@ fn eights(s: &[u8], place: usize, len: usize) -> Taken
     requires { ⌜ (9 ≤ len) × (place + len ≤ length (now s)) ⌝ }
     ensures { λ r. ⌜ Takes (now (s .entry)) place len (r .number) (r .last) (r .other) ⌝ }
 {
-    let last = fields::eight(s, place + (len - 8));
     let n = counting(len);
+    let last = fields::eight(s, place + (n - 8));
     let mut number = 0;
     let mut other = fields::not_plain(last);
     let mut i = 0;
@@ -176,7 +181,7 @@ struct Seen {
 // The string of s at place.
 fn look(s: &[u8], place: usize, len: usize) -> Seen
     requires { ⌜ (1 ≤ len) × (place + len ≤ length (now s)) ⌝ }
-    ensures { λ r. ⌜ (r .bucket ≡ bucket (octetsOf (now (s .entry)) (stretch place len))) × (r .bucket < 128) × (r .plain ≡ true → Plain (now (s .entry)) place (place + len)) ⌝ }
+    ensures { λ r. ⌜ (r .bucket ≡ bucket (octetsOf (now (s .entry)) (stretch Utf8 place len))) × (r .bucket < 128) × (r .plain ≡ true → Plain (now (s .entry)) place (place + len)) ⌝ }
 {
     let x = take(s, place, len);
     Seen {
@@ -188,7 +193,7 @@ fn look(s: &[u8], place: usize, len: usize) -> Seen
 // The bucket of the string of s at place.
 pub fn bucket_of(s: &[u8], place: usize, len: usize) -> usize
     requires { ⌜ (1 ≤ len) × (place + len ≤ length (now s)) ⌝ }
-    ensures { λ r. ⌜ (r ≡ bucket (octetsOf (now (s .entry)) (stretch place len))) × (r < 128) ⌝ }
+    ensures { λ r. ⌜ (r ≡ bucket (octetsOf (now (s .entry)) (stretch Utf8 place len))) × (r < 128) ⌝ }
 {
     let x = look(s, place, len);
     x.bucket
@@ -203,7 +208,7 @@ pub struct Marked {
 // The string of s at place. One look tells both of most strings.
 pub fn mark(s: &[u8], place: usize, len: usize) -> Marked
     requires { ⌜ (1 ≤ len) × (place + len ≤ length (now s)) ⌝ }
-    ensures { λ r. ⌜ (r .bucket ≡ bucket (octetsOf (now (s .entry)) (stretch place len))) × (r .bucket < 128) × (r .text ≡ isText (octetsOf (now (s .entry)) (stretch place len))) ⌝ }
+    ensures { λ r. ⌜ (r .bucket ≡ bucket (octetsOf (now (s .entry)) (stretch Utf8 place len))) × (r .bucket < 128) × (r .text ≡ isText (octetsOf (now (s .entry)) (stretch Utf8 place len))) ⌝ }
 {
     let x = look(s, place, len);
     if x.plain {
@@ -220,8 +225,8 @@ pub fn mark(s: &[u8], place: usize, len: usize) -> Marked
 
 // The number of the string of s at place in row 255 of a full table, 0 elsewhere: what is left where a chain ends.
 fn find_last(s: &[u8], t: &[u32], table: usize, n: u32, place: usize, len: usize) -> u32
-    requires { ⌜ (length (now t) ≡ tableWords) × (table < 8) × (n ≤ 256) × (place + len ≤ length (now s)) × Inside (now s) (entries (stringAt (tableOf table) (now t)) (768 * table) n) ⌝ }
-    ensures { λ r. ⌜ r ≡ lastRow (strings (now (s .entry)) table) (stringsAt (now (s .entry)) (now (t .entry)) table) (768 * table) n (octetsOf (now (s .entry)) (stretch place len)) ⌝ }
+    requires { ⌜ (length (now t) ≡ tableWords) × (table < 5) × (n ≤ 256) × (place + len ≤ length (now s)) × Inside (now s) (entries (stringAt (tableOf table) (now t)) (768 * table) n) ⌝ }
+    ensures { λ r. ⌜ r ≡ lastRow (strings (now (s .entry)) table) (stringsAt (now (s .entry)) (now (t .entry)) table) (768 * table) n (octetsOf (now (s .entry)) (stretch Utf8 place len)) ⌝ }
 {
     if n <= LAST {
         return 0;
@@ -244,7 +249,7 @@ fn find_chained(
     h: usize,
 ) -> u32
     requires { ⌜ SoughtInChain (now s) (now t) (now index) table n place len h ⌝ }
-    ensures { λ r. ⌜ r ≡ numberIn (map (octetsOf (now (s .entry))) (entries (stringAt (tableOf table) (now (t .entry))) (768 * table) n)) (octetsOf (now (s .entry)) (stretch place len)) ⌝ }
+    ensures { λ r. ⌜ r ≡ numberIn (map (octetsOf (now (s .entry))) (entries (stringAt (tableOf table) (now (t .entry))) (768 * table) n)) (octetsOf (now (s .entry)) (stretch Utf8 place len)) ⌝ }
 {
     let last = s[place + (len - 1)];
     let head = PART * table + h;
@@ -271,7 +276,7 @@ pub fn find_in(
     h: usize,
 ) -> u32
     requires { ⌜ Sought (now s) (now t) (now index) table n place len h ⌝ }
-    ensures { λ r. ⌜ r ≡ numberIn (map (octetsOf (now (s .entry))) (entries (stringAt (tableOf table) (now (t .entry))) (768 * table) n)) (octetsOf (now (s .entry)) (stretch place len)) ⌝ }
+    ensures { λ r. ⌜ r ≡ numberIn (map (octetsOf (now (s .entry))) (entries (stringAt (tableOf table) (now (t .entry))) (768 * table) n)) (octetsOf (now (s .entry)) (stretch Utf8 place len)) ⌝ }
 {
     if tables::is_built_in(s, table, place, len) {
         return tables::find_any(s, t, table, n, place, len);
@@ -289,8 +294,8 @@ pub fn find(
     place: usize,
     len: usize,
 ) -> u32
-    requires { ⌜ (length (now t) ≡ tableWords) × (length (now index) ≡ slots) × (table < 8) × (n ≤ 256) × (place + len ≤ length (now s)) × Inside (now s) (entries (stringAt (tableOf table) (now t)) (768 * table) n) × StringsIndexed (now s) (now t) (now index) table n ⌝ }
-    ensures { λ r. ⌜ r ≡ numberIn (map (octetsOf (now (s .entry))) (entries (stringAt (tableOf table) (now (t .entry))) (768 * table) n)) (octetsOf (now (s .entry)) (stretch place len)) ⌝ }
+    requires { ⌜ (length (now t) ≡ tableWords) × (length (now index) ≡ slots) × (table < 5) × (n ≤ 256) × (place + len ≤ length (now s)) × Inside (now s) (entries (stringAt (tableOf table) (now t)) (768 * table) n) × StringsIndexed (now s) (now t) (now index) table n ⌝ }
+    ensures { λ r. ⌜ r ≡ numberIn (map (octetsOf (now (s .entry))) (entries (stringAt (tableOf table) (now (t .entry))) (768 * table) n)) (octetsOf (now (s .entry)) (stretch Utf8 place len)) ⌝ }
 {
     if len == 0 {
         return tables::find_any(s, t, table, n, place, len);
@@ -309,7 +314,7 @@ fn push(index: &mut [u8], table: usize, h: usize, n: u32)
     index[front] = (n + 1) as u8;
 }
 
-// The string of s at place, whose bucket is h, becomes an entry behind a table's n. `known` is the number that it has there already: the index keeps the
+// The string of s in a row's words, whose bucket is h, becomes an entry behind a table's n. `known` is the number that it has there already: the index keeps the
 // lowest, so it is put in its chain only where it has none.
 pub fn enter_in(
     s: &[u8],
@@ -317,25 +322,87 @@ pub fn enter_in(
     index: &mut [u8],
     table: usize,
     n: u32,
-    place: u32,
-    len: u32,
+    x: Row,
     known: u32,
     h: usize,
 )
-    requires { ⌜ (length (now t) ≡ tableWords) × (length (now index) ≡ slots) × (table < 8) × (n < 256) × (1 ≤ len) × (place + len ≤ length (now s)) × (known ≡ numberIn (map (octetsOf (now s)) (entries (stringAt (tableOf table) (now t)) (768 * table) n)) (octetsOf (now s) (stretch place len))) × (h ≡ bucket (octetsOf (now s) (stretch place len))) × (h < 128) ⌝ }
-    ensures { λ _. ⌜ StringEntered (now (s .entry)) table n place len (now (t .entry)) (now (index .entry)) (now (t .exit)) (now (index .exit)) ⌝ }
+    requires { ⌜ (length (now t) ≡ tableWords) × (length (now index) ≡ slots) × (table < 8) × (n < 256) × (1 ≤ x .b) × (x .a + x .b ≤ length (now s)) × (table < 5 → x .c ≡ 0) × (known ≡ numberIn (map (octetsOf (now s)) (entries (stringAt (tableOf table) (now t)) (768 * table) n)) (octetsOf (now s) (stretch (formOf (x .c)) (x .a) (x .b)))) × (h ≡ bucket (octetsOf (now s) (stretch (formOf (x .c)) (x .a) (x .b)))) × (h < 128) ⌝ }
+    ensures { λ _. ⌜ StringEntered (now (s .entry)) table n x (now (t .entry)) (now (index .entry)) (now (t .exit)) (now (index .exit)) ⌝ }
 {
-    tables::add(t, table, n, place, len, 0);
+    tables::add(t, table, n, x.a, x.b, x.c);
     if known != 0 {
         return;
     }
     if LAST <= n {
         return;
     }
-    if tables::is_built_in(s, table, wide(place), wide(len)) {
+    if tables::is_built_in(s, table, wide(x.a), wide(x.b)) {
         return;
     }
     push(index, table, h, n);
+}
+
+// The bucket of what the octets of s at place say in their form. A string in another form is put in UTF-8 as far as it counts.
+pub fn bucket_said(s: &[u8], form: StringForm, place: usize, len: usize) -> usize
+    requires { ⌜ (1 ≤ len) × (place + len ≤ length (now s)) × (length (now s) ≤ 16384) × IsSound (now s) (stretch form place len) ⌝ }
+    ensures { λ r. ⌜ (r ≡ bucket (octetsOf (now (s .entry)) (stretch form place len))) × (r < 128) ⌝ }
+{
+    if form.number() == 0 {
+        return bucket_of(s, place, len);
+    }
+    let mut first = [0; COUNTED];
+    let n = forms::put_said(&mut first, 0, s, form, place, place + len);
+    if n < COUNTED {
+        return bucket_of(&first, 0, n);
+    }
+    bucket_of(&first, 0, COUNTED)
+}
+
+// The number of what a string says in row 255 of a full table of other strings, 0 elsewhere.
+fn find_last_said(
+    s: &[u8],
+    t: &[u32],
+    table: usize,
+    n: u32,
+    form: StringForm,
+    place: usize,
+    len: usize,
+) -> u32
+    requires { ⌜ (length (now t) ≡ tableWords) × (5 ≤ table) × (table < 8) × (n ≤ 256) × (1 ≤ len) × (place + len ≤ length (now s)) × IsSound (now s) (stretch form place len) × Inside (now s) (entries (stringAt (tableOf table) (now t)) (768 * table) n) × All (IsSound (now s)) (entries (stringAt (tableOf table) (now t)) (768 * table) n) ⌝ }
+    ensures { λ r. ⌜ r ≡ lastRow (strings (now (s .entry)) table) (stringsAt (now (s .entry)) (now (t .entry)) table) (768 * table) n (octetsOf (now (s .entry)) (stretch form place len)) ⌝ }
+{
+    if n <= LAST {
+        return 0;
+    }
+    if tables::is_said(s, t, 768 * table + 765, form, place, len) {
+        return n;
+    }
+    0
+}
+
+// The lowest number of the first n entries of a table of other strings that say what the octets of s at place say in their form; 0 if none does.
+pub fn find_said(
+    s: &[u8],
+    t: &[u32],
+    index: &[u8],
+    table: usize,
+    n: u32,
+    form: StringForm,
+    place: usize,
+    len: usize,
+) -> u32
+    requires { ⌜ SoughtSaid (now s) (now t) (now index) table n form place len ⌝ }
+    ensures { λ r. ⌜ r ≡ numberIn (map (octetsOf (now (s .entry))) (entries (stringAt (tableOf table) (now (t .entry))) (768 * table) n)) (octetsOf (now (s .entry)) (stretch form place len)) ⌝ }
+{
+    let head = PART * table + bucket_said(s, form, place, len);
+    let mut i = number(index[head]);
+    while 0 < i {
+        if tables::is_said(s, t, 768 * table + 3 * (i - 1), form, place, len) {
+            return i as u32;
+        }
+        i = number(index[PART * table + HEADS + (i - 1)]);
+    }
+    find_last_said(s, t, table, n, form, place, len)
 }
 
 // Whether the string of s at place, which is not built in, is an entry, by its chain, that of bucket h. The walk of `find_chained` a second time: with one place
@@ -381,7 +448,7 @@ fn narrow(x: usize) -> u32
 
 // The built-in string, which is in no chain, becomes an entry behind a table's n where it is none yet.
 fn add_built_in(s: &[u8], t: &mut [u32], table: usize, n: u32, place: usize, len: usize) -> Added
-    requires { ⌜ (length (now t) ≡ tableWords) × (table < 8) × (n ≤ 256) × (1 ≤ len) × (place + len ≤ length (now s)) × (length (now s) < 0x1_0000_0000) × Inside (now s) (entries (stringAt (tableOf table) (now t)) (768 * table) n) × (same (octetsOf (now s) (builtIn (tableOf table))) (octetsOf (now s) (stretch place len)) ≡ true) ⌝ }
+    requires { ⌜ (length (now t) ≡ tableWords) × (table < 5) × (n ≤ 256) × (1 ≤ len) × (place + len ≤ length (now s)) × (length (now s) < 0x1_0000_0000) × Inside (now s) (entries (stringAt (tableOf table) (now t)) (768 * table) n) × (same (octetsOf (now s) (builtIn (tableOf table))) (octetsOf (now s) (stretch Utf8 place len)) ≡ true) ⌝ }
     ensures { λ r. ⌜ ((index : List ℕ) → NewString (now (s .entry)) table n place len (now (t .entry)) index r (now (t .exit)) index) ⌝ }
 {
     if tables::find_any(s, t, table, n, place, len) != 0 {

@@ -4,10 +4,14 @@ use events::RECORD;
 use events::kinds;
 use events::strings;
 use events::tags;
+use format::StringForm;
+use forms::Next;
+use forms::Said;
 use libc::STDIN_FILENO;
 use libc::STDOUT_FILENO;
 use tables::Counts;
 ghost use Prim.Native.Nat.{_≤_};
+ghost use Rattle.forms.specs.Streams.{Fine};
 
 // Output goes through a block, which is written when it is full. Answers where the next octet goes.
 fn put(out: &mut [u8], n: usize, b: u8) -> usize {
@@ -55,20 +59,49 @@ fn digit(x: u8) -> u8 {
     b'a' - 10 + d
 }
 
-fn put_hex(out: &mut [u8], n: usize, text: &[u8]) -> usize {
+fn put_hex(out: &mut [u8], n: usize, b: u8) -> usize {
+    let at = put(out, n, digit(b / 16));
+    put(out, at, digit(b))
+}
+
+fn put_octets(out: &mut [u8], n: usize, text: &[u8]) -> usize {
     let mut at = n;
     let mut i = 0;
     while i < text.len() {
-        let b = text[i];
-        at = put(out, at, digit(b / 16));
-        at = put(out, at, digit(b));
+        at = put_hex(out, at, text[i]);
         i += 1;
     }
     at
 }
 
-// The octets of a stretch. The reader hands out none that reaches beyond s; the tests stand in for a contract that says so.
-fn put_stretch(out: &mut [u8], n: usize, s: &[u8], place: usize, size: usize) -> usize {
+// The octets in UTF-8 of a string in any form, those that are still to come.
+fn put_said(out: &mut [u8], n: usize, s: &[u8], x: Said) -> usize
+    requires { ⌜ Fine (now s) x ⌝ }
+{
+    let mut at = n;
+    let mut u = x;
+    loop {
+        match u.next(s) {
+            Next::Done => {
+                return at;
+            }
+            Next::Octet(o, v) => {
+                at = put_hex(out, at, o);
+                u = v;
+            }
+        }
+    }
+}
+
+// A stretch by its octets in UTF-8. The reader hands out none that reaches beyond s or is no text in its form; the tests stand in for a contract that says so.
+fn put_stretch(
+    out: &mut [u8],
+    n: usize,
+    s: &[u8],
+    form: StringForm,
+    place: usize,
+    size: usize,
+) -> usize {
     if s.len() < place {
         return n;
     }
@@ -76,10 +109,24 @@ fn put_stretch(out: &mut [u8], n: usize, s: &[u8], place: usize, size: usize) ->
         return n;
     }
     let end = place + size;
-    put_hex(out, n, &s[place..end])
+    if !forms::is_text(s, form, place, end) {
+        return n;
+    }
+    let x = Said::over(s, form, place, end);
+    put_said(out, n, s, x)
 }
 
-// One string of an event from its three words: "-" for absent, else "=" and its octets.
+// The form of a stretch by its tag.
+fn form_of(tag: u32) -> StringForm {
+    match tag {
+        tags::UTF16 => StringForm::Utf16,
+        tags::NUMERIC => StringForm::Numeric,
+        tags::DATES => StringForm::Dates,
+        _ => StringForm::Utf8,
+    }
+}
+
+// One string of an event from its three words: "-" for absent, else "=" and its octets in UTF-8.
 fn put_string(out: &mut [u8], n: usize, s: &[u8], tag: u32, place: u32, size: u32) -> usize {
     let at = put(out, n, b' ');
     if tag == tags::ABSENT {
@@ -87,10 +134,10 @@ fn put_string(out: &mut [u8], n: usize, s: &[u8], tag: u32, place: u32, size: u3
     }
     let at = put(out, at, b'=');
     match tag {
-        tags::STRETCH => put_stretch(out, at, s, place as usize, size as usize),
-        tags::XML_PREFIX => put_hex(out, at, b"xml"),
-        tags::XML_NAMESPACE => put_hex(out, at, b"http://www.w3.org/XML/1998/namespace"),
-        _ => at,
+        tags::EMPTY => at,
+        tags::XML_PREFIX => put_octets(out, at, b"xml"),
+        tags::XML_NAMESPACE => put_octets(out, at, b"http://www.w3.org/XML/1998/namespace"),
+        _ => put_stretch(out, at, s, form_of(tag), place as usize, size as usize),
     }
 }
 

@@ -30,7 +30,7 @@ use Rattle.read_names.specs.Strings as S
 use Rattle.read_names.specs.Strings.{IdRead, StringRead, got, refused, then, idAt, spelledAt}
 use Rattle.read_names.specs.Names.{namespaceBit}
 use Rattle.read_names.specs.Contracts.{Ranged, Left, seenId, IdLeft, idSeen, seenField, FieldLeft, stringSeen, ReadsId}
-use Rattle.read_names.specs.StringContracts.{heldOf, lengthFrom}
+use Rattle.read_names.specs.StringContracts.{heldOf}
 use Rattle.read_names.specs.NameContracts.{newName, seenNumber}
 use Rattle.read_names.proofs.Places.{Within}
 use Rattle.read_head.specs.declared.Passed as C
@@ -105,18 +105,12 @@ module _ (s c w : List ℕ) (t k : ℕ) (within : k ≤ length s) (o : ℕ) (is 
   unfolding anotherAt
   another-padded x h = rw (le-ltb (getD s k 0) 0x40 (omega arith)) (refl, (omega arith, within))
 
-  pub another-format : (x : List ℕ) → o < 0x40 → 0x10 ≤ o → Answers s c w (Refused 8 k) c w x (anotherAt link (tableOf t) s k here)
-  unfolding anotherAt
-  another-format x h l = rw (lt-ltb (getD s k 0) 0x40 (omega arith), le-ltb (getD s k 0) 0x10 (omega arith)) (refl, (omega arith, within))
-
-  another-seen : o < 0x10 → (a : Field) (d v : List ℕ) → seenField a d v ≡ stringSeen (spelledAt link (lengthFrom 5) s (tableOf t) k true here) → seenPassed (behindField a) d v ≡ anotherAt link (tableOf t) s k here
+  another-seen : o < 0x40 → (a : Field) (d v : List ℕ) → seenField a d v ≡ stringSeen (spelledAt link 5 s (tableOf t) k true here) → seenPassed (behindField a) d v ≡ anotherAt link (tableOf t) s k here
   unfolding anotherAt c19
-  another-seen h a d v e =
-      rw (lt-ltb (getD s k 0) 0x40 (omega arith), lt-ltb (getD s k 0) 0x10 (omega arith))
-      (passed-field d v a ∙ ap passing e ∙ passing-string (spelledAt link (lengthFrom 5) s (tableOf t) k true here))
+  another-seen h a d v e = rw (lt-ltb (getD s k 0) 0x40 (omega arith)) (passed-field d v a ∙ ap passing e ∙ passing-string (spelledAt link 5 s (tableOf t) k true here))
 
-  pub another-read : o < 0x10 → (a : Field) (d v x : List ℕ)
-      → (seenField a d v ≡ stringSeen (spelledAt link (lengthFrom 5) s (tableOf t) k true here)) × FieldLeft s c w a d v x → (r : C.Passed) → r ≡ behindField a
+  pub another-read : o < 0x40 → (a : Field) (d v x : List ℕ)
+      → (seenField a d v ≡ stringSeen (spelledAt link 5 s (tableOf t) k true here)) × FieldLeft s c w a d v x → (r : C.Passed) → r ≡ behindField a
       → Answers s c w r d v x (anotherAt link (tableOf t) s k here)
   another-read h a d v x reads r e =
       rw e (settled s c w d v x (behindField a) _ (another-seen h a d v (reads .0)) (another-within s link (tableOf t) k here within) (field-goes s c w d v x a (reads .1)))

@@ -43,6 +43,4 @@ module _ (s : List ℕ) where
     pub another-within : (t : StringTable) (k : ℕ) (v : Vocabulary Located) → k ≤ length s → Within s (anotherAt ver t s k v)
     unfolding anotherAt
     another-within t k v h =
-        tests (Within s) (ltb (getD s k 0) 0x40) _ _
-        (λ _. tests (Within s) (ltb (getD s k 0) 0x10) _ _ (λ _. passing-within (spelledAt ver c19 s t k true v) (spelled-within s ver c19 t k true v h)) (λ _. omega arith))
-        (λ _. omega arith)
+        tests (Within s) (ltb (getD s k 0) 0x40) _ _ (λ _. passing-within (spelledAt ver (c19 .lengthBit) s t k true v) (spelled-within s ver (c19 .lengthBit) t k true v h)) (λ _. omega arith)

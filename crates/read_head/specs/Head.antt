@@ -8,7 +8,7 @@ use Rattle.format.specs.Octets.{Octets}
 use Rattle.format.specs.Numbers.{pick, c21, c25, top}
 use Rattle.format.specs.Tables.{StringTable, NameTable, Triple, Vocabulary, names, addingName, holdsName, Version}
 use Rattle.format.specs.Head.{Table, ofStrings, ofNames, tenTables, isIdentifying, c19}
-use Rattle.format.specs.Refusals.{TRUNCATED, OPTIONAL-PART, CODE, PADDING, FORMAT, INDEX, REPEAT, FULL, STRUCTURE}
+use Rattle.format.specs.Refusals.{TRUNCATED, OPTIONAL-PART, CODE, PADDING, INDEX, REPEAT, FULL, STRUCTURE}
 use Rattle.fields.specs.Fields.{fieldAt}
 use Rattle.tables.specs.Located.{Located}
 use Rattle.read_names.specs.Strings.{Got, got, refused, then, number, idAt, spelledAt}
@@ -37,9 +37,9 @@ module _ (ver : Version) where
   unfoldable pub identifyingAt : StringTable → Octets → ℕ → Vocabulary Located → Passed
   identifyingAt t s k v = pick (ltb (getD s k 0) 0x80) (passing (idAt ver s t k v)) (refused PADDING k)
 
-  -- C.2.5.4: an entry of another table of strings. Missing (2), bits 1 and 2 (6), another format (8); then as a value that is spelled and added in the body, chunks too.
+  -- C.2.5.4: an entry of another table of strings. Missing (2), bits 1 and 2 (6); then as a value that is spelled and added in the body, chunks too.
   unfoldable pub anotherAt : StringTable → Octets → ℕ → Vocabulary Located → Passed
-  anotherAt t s k v = pick (ltb (getD s k 0) 0x40) (pick (ltb (getD s k 0) 0x10) (passing (spelledAt ver c19 s t k true v)) (refused FORMAT k)) (refused PADDING k)
+  anotherAt t s k v = pick (ltb (getD s k 0) 0x40) (passing (spelledAt ver (c19 .lengthBit) s t k true v)) (refused PADDING k)
 
   -- C.2.5.5, C.16: a name. Missing (2), bits 1 to 6 (6), p without n (15); the parts; then the triple is there already (11), no room in the table (12).
   unfoldable pub surrogateAt : NameTable → Octets → ℕ → Vocabulary Located → Passed

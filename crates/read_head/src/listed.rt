@@ -13,8 +13,8 @@ ghost use Rattle.read_head.specs.Contracts.{Passes, PassesBeside, ReadsP
 use crate::Passed;
 use fields::Cursor;
 use fields::bits;
+use format::StringForm;
 use format::refusals::CODE;
-use format::refusals::FORMAT;
 use format::refusals::FULL;
 use format::refusals::PADDING;
 use format::refusals::REPEAT;
@@ -76,11 +76,12 @@ fn another(s: &[u8], t: &mut [u32], counts: &mut [u32], table: usize, at: usize)
     if 0x40 <= o {
         return Passed::Refused(PADDING, at);
     }
-    if 0x10 <= o {
-        return Passed::Refused(FORMAT, at);
+    if bits(o, 3, 4) != 0 {
+        return behind_field(read_names::in_form(s, t, counts, table, at, 5, true));
     }
     let c = Cursor { at };
-    behind_field(read_names::spelled(s, t, counts, table, at, c.length(s, 5), true))
+    let r = c.length(s, 5);
+    behind_field(read_names::formed(s, t, counts, table, at, StringForm::Utf8, r, true))
 }
 
 // C.16: a part of a name, by its number, if its presence bit says that it is there; else its number is 0.

@@ -71,7 +71,8 @@ unfolding stringAt rowAt
 string-of-row t w v at e =
     let a : getD v at 0 ≡ getD w at 0 = ap (λ r. r .a) e in
     let b : getD v (at + 1) 0 ≡ getD w (at + 1) 0 = ap (λ r. r .b) e in
-    rw (a, b)
+    let c : getD v (at + 2) 0 ≡ getD w (at + 2) 0 = ap (λ r. r .c) e in
+    rw (a, b, c)
 
 triple-of-row : (w v : List ℕ) (at : ℕ) → rowAt v at ≡ rowAt w at → tripleAt v at ≡ tripleAt w at
 unfolding tripleAt rowAt

@@ -17,6 +17,7 @@ use Rattle.format.specs.Tables.{NameTable, ELEMENT-NAME, ATTRIBUTE-NAME, Triple
 use Rattle.format.specs.Tables.{holds, holdsName, sameTriple, link}
 use Rattle.format.specs.Names.{NameLayout, ofElement, ofAttribute}
 use Rattle.format.specs.Events.{byNumber}
+use Rattle.format.specs.declared.StringForm.the-variants.{Utf8}
 use Rattle.fields.specs.declared.Cursor.{Cursor}
 use Rattle.fields.specs.declared.Number.{Number}
 use Rattle.fields.specs.declared.Number.the-variants.{Got as Num, Refused as NoNum}
@@ -258,9 +259,9 @@ same-names s t k v =
     tests P (ltb (getD s k 0) 0x80) _ _
     (λ o. numbered P (fieldAt (lengths 2) noTop 2 s k) _
     (λ n c. tests P (leb (c .at + n) (length s)) _ _
-    (λ a. tests P (isText (octetsOf s (stretch (c .at) n))) _ _
-    (λ b. tests P (holds (map (octetsOf s) (strings v t)) (octetsOf s (stretch (c .at) n))) _ _ (λ h. tt)
-    (λ h. tests P (ltb (length (strings v t)) (link .entries)) _ _ (λ r. names-adding v t (stretch (c .at) n)) (λ r. tt)))
+    (λ a. tests P (isText (octetsOf s (stretch Utf8 (c .at) n))) _ _
+    (λ b. tests P (holds (map (octetsOf s) (strings v t)) (octetsOf s (stretch Utf8 (c .at) n))) _ _ (λ h. tt)
+    (λ h. tests P (ltb (length (strings v t)) (link .entries)) _ _ (λ r. names-adding v t (stretch Utf8 (c .at) n)) (λ r. tt)))
     (λ b. tt))
     (λ a. tt))
     (λ n p. tt))

@@ -3,7 +3,7 @@
 use mathlib.Core.Path.{_≡_, refl}
 use mathlib.Core.Bool.{Bool, true, false, not, _||_}
 use mathlib.Core.List.{List, map}
-use Prim.Native.Nat.{ℕ, suc, _+_, _-_, _^_, _≤_, _<_}
+use Prim.Native.Nat.{ℕ, suc, _+_, _-_, _*_, _/_, _%_, _^_, _≤_, _<_}
 use native.Mathlib.Omega.{arith}
 use borrow.Author.Tests.{ltb-true, leb-true, eqb-true}
 use lib.Dec.{eqb, ltb, leb}
@@ -13,12 +13,15 @@ use Rattle.fields.specs.Utf8.{isText}
 use Rattle.format.specs.Tables.{StringTable, PREFIX, NAMESPACE-NAME, LOCAL-NAME, Vocabulary, strings, holds, names, holdsName, Version}
 use Rattle.format.specs.Strings.{Layout, c14}
 use Rattle.format.specs.Names.{NameLayout}
+use Rattle.format.specs.Forms.{formOf}
+use Rattle.format.specs.declared.StringForm.{StringForm}
+use Rattle.format.specs.declared.StringForm.the-variants.{Utf8, Utf16}
 use Rattle.fields.specs.declared.Number.{Number}
 use Rattle.fields.specs.declared.Number.the-variants.{Got as Num, Refused as NoNum}
 use Rattle.fields.specs.Fields.{fieldAt, noTop}
 use Rattle.fields.proofs.Bounds.{field-got, field-refused}
 use Rattle.tables.specs.Located.{Located, stretch, octetsOf}
-use Rattle.read_names.specs.Strings.{Got, got, refused, then, number, spelling, idAt, optionalAt, numberBit, spelledAt, literalAt, valueAt}
+use Rattle.read_names.specs.Strings.{Got, got, refused, then, number, spelling, alphabetAt, alphabetBehind, alphabetLength, idAt, optionalAt, numberBit, formedAt, spelledAt, literalAt, valueAt}
 use Rattle.read_names.specs.Names.{prefixBit, namespaceBit, lonePrefix, nameBit, partsAt, numberedAt, nameAt, declaredAt}
 use Rattle.read_names.proofs.StringLaws.{tests, there-is}
 
@@ -45,18 +48,43 @@ module _ (s : List ℕ) where
       go (NoNum n p) e = let b = field-refused max s k fs bit e in omega arith
 
   -- ---- strings
-  spelling-within : {C : Type 0} (k next n : ℕ) (a : Got C) → k ≤ length s → (next + n ≤ length s → Within a) → Within (spelling s k next n a)
+  spelling-within : {C : Type 0} (form : StringForm) (k next n : ℕ) (a : Got C) → k ≤ length s → (next + n ≤ length s → Within a) → Within (spelling form s k next n a)
   unfolding spelling
-  spelling-within k next n a h f =
-      tests Within (leb (next + n) (length s)) _ _ (λ e. tests Within (isText (octetsOf s (stretch next n))) _ _ (λ _. f (leb-true _ _ e)) (λ _. omega arith)) (λ _. omega arith)
+  spelling-within form k next n a h f =
+      tests Within (leb (next + n) (length s)) _ _ (λ e. tests Within (isText (octetsOf s (stretch form next n))) _ _ (λ _. f (leb-true _ _ e)) (λ _. omega arith)) (λ _. omega arith)
+
+  -- a length, where it is refused
+  abbrev Judged : Number → Type 0
+  Judged (Num n c) = Unit {0}
+  Judged (NoNum n p) = Fault n p
+
+  field-judged : (bit k : ℕ) → k ≤ length s → Judged (fieldAt (lengths bit) noTop bit s k)
+  field-judged bit k h = go (fieldAt (lengths bit) noTop bit s k) refl
+    where
+      go : (a : Number) → fieldAt (lengths bit) noTop bit s k ≡ a → Judged a
+      go (Num n c) e = tt
+      go (NoNum n p) e = let b = field-refused noTop s k (lengths bit) bit e in omega arith
+
+  behind-judged : (bit k more n : ℕ) (clean : Bool) → k ≤ length s → Judged (alphabetBehind bit s k more n clean)
+  unfolding alphabetBehind
+  behind-judged bit k more n clean h =
+      tests Judged (leb (k + 2 + more + n) (length s)) _ _
+      (λ _. tests Judged (ltb (alphabetAt bit s k) 2) _ _ (λ _. tests Judged clean _ _ (λ _. tt) (λ _. omega arith)) (λ _. omega arith))
+      (λ _. omega arith)
+
+  alphabet-judged : (bit k b : ℕ) → k ≤ length s → Judged (alphabetLength bit s k b)
+  unfolding alphabetLength
+  alphabet-judged bit k b h =
+      tests Judged (ltb b (2 ^ (8 - bit))) _ _ (λ _. behind-judged bit k 0 _ _ h)
+      λ _. tests Judged (ltb b (3 * 2 ^ (7 - bit))) _ _ (λ _. behind-judged bit k 1 _ _ h) (λ _. behind-judged bit k 4 _ _ h)
 
   module _ (ver : Version) where
     pub id-within : (t : StringTable) (k : ℕ) (v : Vocabulary Located) → k ≤ length s → Within (idAt ver s t k v)
     unfolding idAt
     id-within t k v h =
         tests Within (ltb (getD s k 0) 0x80) _ _
-        (λ _. number-within (lengths 2) noTop 2 k _ h λ n next l. spelling-within k next n _ h λ e.
-        tests Within (holds (map (octetsOf s) (strings v t)) (octetsOf s (stretch next n))) _ _ (λ _. omega arith)
+        (λ _. number-within (lengths 2) noTop 2 k _ h λ n next l. spelling-within Utf8 k next n _ h λ e.
+        tests Within (holds (map (octetsOf s) (strings v t)) (octetsOf s (stretch Utf8 next n))) _ _ (λ _. omega arith)
         λ _. tests Within (ltb (length (strings v t)) (ver .entries)) _ _ (λ _. e) (λ _. omega arith))
         (λ _. number-within c25 top 2 k _ h λ n next l. tests Within (leb n (length (strings v t))) _ _ (λ _. l) (λ _. omega arith))
 
@@ -65,19 +93,26 @@ module _ (s : List ℕ) where
     optional-within true t k v h = then-within (idAt ver s t k v) _ (id-within t k v h) λ i next w l. l
     optional-within false t k v h = h
 
-    pub spelled-within : (q : Layout) (t : StringTable) (k : ℕ) (added : Bool) (v : Vocabulary Located) → k ≤ length s → Within (spelledAt ver q s t k added v)
+    formed-within : (form : StringForm) (t : StringTable) (k : ℕ) (added : Bool) (r : Number) (v : Vocabulary Located) → k ≤ length s → Judged r → Within (formedAt ver form s t k added r v)
+    unfolding formedAt
+    formed-within form t k added (Num n c) v h j =
+        spelling-within form k (c .at) n _ h λ e. tests Within (not added || ltb (length (strings v t)) (ver .entries)) _ _ (λ _. e) (λ _. omega arith)
+    formed-within form t k added (NoNum n p) v h j = j
+
+    pub spelled-within : (bit : ℕ) (t : StringTable) (k : ℕ) (added : Bool) (v : Vocabulary Located) → k ≤ length s → Within (spelledAt ver bit s t k added v)
     unfolding spelledAt
-    spelled-within q t k added v h =
-        number-within (lengths (q .lengthBit)) noTop (q .lengthBit) k _ h λ n next l. spelling-within k next n _ h λ e.
-        tests Within (not added || ltb (length (strings v t)) (ver .entries)) _ _ (λ _. e) (λ _. omega arith)
+    spelled-within bit t k added v h =
+        tests Within (eqb (getD s k 0 / 2 ^ (9 - bit) % 4) 0) _ _ (λ _. formed-within Utf8 t k added (fieldAt (lengths bit) noTop bit s k) v h (field-judged bit k h))
+        λ _. tests Within (eqb (getD s k 0 / 2 ^ (9 - bit) % 4) 1) _ _ (λ _. formed-within Utf16 t k added (fieldAt (lengths bit) noTop bit s k) v h (field-judged bit k h))
+        λ _. tests Within (eqb (getD s k 0 / 2 ^ (9 - bit) % 4) 2) _ _
+        (λ _. formed-within (formOf (2 + alphabetAt bit s k)) t k added (alphabetLength bit s k (getD s (suc k) 0 % 2 ^ (9 - bit))) v h (alphabet-judged bit k _ h))
+        (λ _. omega arith)
 
     pub literal-within : (q : Layout) (t : StringTable) (k : ℕ) (v : Vocabulary Located) → k ≤ length s → Within (literalAt ver q s t k v)
     unfolding literalAt
     literal-within q t k v h =
-        tests Within (ltb (getD s k 0) (q .spelledBits + 2 ^ (9 - q .lengthBit))) _ _ (λ _. spelled-within q t k false v h)
-        λ _. tests Within (ltb (getD s k 0) (q .spelledBits + q .addBit)) _ _ (λ _. omega arith)
-        λ _. tests Within (ltb (getD s k 0) (q .spelledBits + q .addBit + 2 ^ (9 - q .lengthBit))) _ _ (λ _. spelled-within q t k true v h)
-        λ _. tests Within (ltb (getD s k 0) (q .numberedBits)) _ _ (λ _. omega arith)
+        tests Within (ltb (getD s k 0) (q .spelledBits + q .addBit)) _ _ (λ _. spelled-within (q .lengthBit) t k false v h)
+        λ _. tests Within (ltb (getD s k 0) (q .numberedBits)) _ _ (λ _. spelled-within (q .lengthBit) t k true v h)
         λ _. number-within (q .numberForms) top (numberBit q) k _ h λ n next l. tests Within (leb n (length (strings v t))) _ _ (λ _. l) (λ _. omega arith)
 
     pub value-within : (t : StringTable) (k : ℕ) (v : Vocabulary Located) → k ≤ length s → Within (valueAt ver s t k v)

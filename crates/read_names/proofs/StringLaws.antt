@@ -15,21 +15,26 @@ use Rattle.fields.specs.Utf8.{isText}
 use Rattle.format.specs.Events.{spelled, numbered}
 use Rattle.format.specs.Tables.{Triple, Vocabulary, strings, names, adding, holds, link}
 use Rattle.format.specs.Strings.{Layout, c14, c15, keeping}
+use Rattle.format.specs.Forms.{formNumber, formOf}
+use Rattle.format.specs.declared.StringForm.{StringForm}
+use Rattle.format.specs.declared.StringForm.the-variants.{Utf8, Utf16}
 use Rattle.fields.specs.declared.Cursor.{Cursor}
 use Rattle.fields.specs.declared.Number.{Number}
 use Rattle.fields.specs.declared.Number.the-variants.{Got as Num, Refused as NoNum}
-use Rattle.fields.specs.Fields.{fieldAt, noTop}
+use Rattle.fields.specs.Fields.{bitsOf, fieldAt, noTop}
+use Rattle.forms.specs.Reading.{said}
 use Rattle.fields.proofs.Laws.{case}
 use Rattle.fields.proofs.Bounds.{field-got}
 use Rattle.tables.specs.declared.Counts.{Counts}
 use Rattle.tables.specs.declared.Row.{Row}
 use Rattle.tables.specs.Located.{Located, empty, stretch, octetsOf}
-use Rattle.tables.specs.Rows.{tableOf, builtIn, stringAt, entries, vocabulary}
-use Rattle.tables.specs.Kept.{unlisted, countOf, stored, rowAt, Inside}
+use Rattle.tables.specs.Rows.{tableOf, builtIn, formIn, stringAt, entries, vocabulary}
+use Rattle.tables.specs.Kept.{unlisted, countOf, stored, rowAt, Ends, Inside}
 use Rattle.tables.proofs.Search.{octets-stretch}
+use Rattle.tables.proofs.FormLaws.{MayHold, holds-any, form-identifying, form-in, form-held}
 use Rattle.tables.proofs.Adding.{names-adding}
-use Rattle.tables.proofs.Entries.{stored-0, stored-1}
-use Rattle.tables.proofs.Laws.{strings-are, length-strings, string-nth, holds-number, inside-table}
+use Rattle.tables.proofs.Entries.{stored-0, stored-1, stored-2}
+use Rattle.tables.proofs.Laws.{strings-are, length-strings, string-nth, holds-number, all-table}
 use Rattle.index.specs.declared.Added.the-variants.{Done, Known, Full}
 use Rattle.index.specs.Indexed.{listed, NewString, Indexed, StringsIndexed, StringEntered}
 use Rattle.index.proofs.Entered.{keeps-elsewhere}
@@ -41,9 +46,9 @@ use Rattle.read_names.specs.declared.Entry.the-variants.{Got as Numbered
 use Rattle.read_names.specs.declared.Field.{Field}
 use Rattle.read_names.specs.declared.Field.the-variants.{Got, Refused}
 use Rattle.read_names.specs.Strings as S
-use Rattle.read_names.specs.Strings.{got, refused, then, number, spelling, IdRead, StringRead, idAt, optionalAt, numberBit, spelledAt, literalAt, valueAt}
+use Rattle.read_names.specs.Strings.{got, refused, then, number, spelling, IdRead, StringRead, idAt, optionalAt, numberBit, alphabetAt, alphabetLength, formedAt, spelledAt, literalAt, valueAt}
 use Rattle.read_names.specs.Contracts.{Ranged, searched, Tidy, Left, eventStringAt, Seen, seenId, IdLeft, Positive, seenField, FieldLeft, idSeen, optionalSeen, stringSeen}
-use Rattle.read_names.specs.StringContracts.{BehindWithin, stretchOf, NumberPositive, heldOf, saidOf, addedOf, addedCounts, addedWords, lengthFrom}
+use Rattle.read_names.specs.StringContracts.{LengthRead, stretchOf, NumberPositive, heldOf, saidOf, addedOf, addedCounts, addedWords}
 use Rattle.index.proofs.Counted.{count-at, one-more-words}
 use Rattle.index.proofs.Ordered.{string-more, ordered-string}
 use Rattle.read_names.proofs.Grown.{searched-string, searched-not, grown-none, grown-stored}
@@ -54,53 +59,57 @@ tests P true a b f g = f refl
 tests P false a b f g = g refl
 
 -- ---- a spelled string's octets: r is the length that was read at k
-pub behind-within : (most : ℕ) (s : List ℕ) (k : ℕ) (fs : List Form) (bit : ℕ) (r : Number) → r ≡ fieldAt fs most bit s k → BehindWithin s r
-behind-within most s k fs bit (NoNum n p) e = tt
-behind-within most s k fs bit (Num n c) e = field-got most s k fs bit (sym e) .3
+pub length-read : (s : List ℕ) (k bit : ℕ) (r : Number) → r ≡ fieldAt (lengths bit) noTop bit s k → LengthRead s r
+length-read s k bit (NoNum n p) e = tt
+length-read s k bit (Num n c) e = let g = field-got noTop s k (lengths bit) bit (sym e) in (g .0, g .3)
 
-pub begins : (s : List ℕ) (k : ℕ) (r : Number) (bit n : ℕ) (c : Cursor) → r ≡ fieldAt (lengths bit) noTop bit s k → r ≡ Num n c → (1 ≤ n) × (c .at ≤ length s)
-begins s k r bit n c read e = let g = field-got noTop s k (lengths bit) bit (sym read ∙ e) in (g .0, g .3)
+pub begins : (s : List ℕ) (r : Number) (n : ℕ) (c : Cursor) → r ≡ Num n c → LengthRead s r → (1 ≤ n) × (c .at ≤ length s)
+begins s r n c e read = rw e at read
 
-pub starts-within : (s : List ℕ) (r : Number) (n : ℕ) (c : Cursor) → r ≡ Num n c → BehindWithin s r → c .at ≤ length s
-starts-within s r n c e w = rw e at w
-
-module _ (s : List ℕ) (k : ℕ) (r : Number) where
-  pub stretch-not : (n p : ℕ) → r ≡ NoNum n p → r ≡ stretchOf s k r
+module _ (form : StringForm) (s : List ℕ) (k : ℕ) (r : Number) where
+  pub stretch-not : (n p : ℕ) → r ≡ NoNum n p → r ≡ stretchOf form s k r
   unfolding stretchOf
   stretch-not n p e = rw e
 
   module _ (n : ℕ) (c : Cursor) (e : r ≡ Num n c) where
-    pub stretch-past : length s < c .at + n → NoNum 2 k ≡ stretchOf s k r
+    pub stretch-past : length s < c .at + n → NoNum 2 k ≡ stretchOf form s k r
     unfolding stretchOf
     stretch-past h = rw (e, lt-leb _ _ h)
 
-    module _ (b : Bool) (h : c .at + n ≤ length s) (q : b ≡ isText (octetsOf s (stretch (c .at) n))) where
-      pub judged-bad : b ≡ false → NoNum 9 k ≡ stretchOf s k r
+    module _ (b : Bool) (h : c .at + n ≤ length s) (q : b ≡ isText (octetsOf s (stretch form (c .at) n))) where
+      pub judged-bad : b ≡ false → NoNum 9 k ≡ stretchOf form s k r
       unfolding stretchOf
       judged-bad t = rw (e, le-leb _ _ h, ← q, t)
 
-      pub judged-text : b ≡ true → Num n c ≡ stretchOf s k r
+      pub judged-text : b ≡ true → Num n c ≡ stretchOf form s k r
       unfolding stretchOf
       judged-text t = rw (e, le-leb _ _ h, ← q, t)
 
-    module _ (b : Bool) (to : ℕ) (h : c .at + n ≤ length s) (is-to : to ≡ c .at + n) (q : b ≡ isText (take (to - c .at) (drop (c .at) s))) where
-      tested : b ≡ isText (octetsOf s (stretch (c .at) n))
-      tested = let z : to - c .at ≡ n = omega arith in rw (octets-stretch s (c .at) n, ← z) q
+    module _ (b : Bool) (to : ℕ) (h : c .at + n ≤ length s) (is-to : to ≡ c .at + n) (q : b ≡ isText (said form (take (to - c .at) (drop (c .at) s)))) where
+      tested : b ≡ isText (octetsOf s (stretch form (c .at) n))
+      tested = let z : to - c .at ≡ n = omega arith in rw (octets-stretch s form (c .at) n, ← z) q
 
-      pub stretch-bad : b ≡ false → NoNum 9 k ≡ stretchOf s k r
+      pub stretch-bad : b ≡ false → NoNum 9 k ≡ stretchOf form s k r
       stretch-bad = judged-bad b h tested
 
-      pub stretch-text : b ≡ true → Num n c ≡ stretchOf s k r
+      pub stretch-text : b ≡ true → Num n c ≡ stretchOf form s k r
       stretch-text = judged-text b h tested
 
 -- ---- an entry as a string of an event
 module _ (t at : ℕ) (w : List ℕ) (e : Row) (is : e ≡ rowAt w at) where
-  pub entry-octets : (e .b ≡ 0 → ⊥) → Stretch (e .a) (e .b) ≡ eventString (stringAt (tableOf t) w at)
+  entry-stretch : (f : StringForm) → (e .b ≡ 0 → ⊥) → formIn (tableOf t) (e .c) ≡ f → Stretch f (e .a) (e .b) ≡ eventString (stringAt (tableOf t) w at)
   unfolding stringAt rowAt
-  entry-octets h =
+  entry-stretch f h q =
       let a : getD w at 0 ≡ e .a = ap (λ (r : Row). r .a) (sym is) in
       let b : getD w (at + 1) 0 ≡ e .b = ap (λ (r : Row). r .b) (sym is) in
-      rw (a, b, ne-eqb _ _ h)
+      let c : getD w (at + 2) 0 ≡ e .c = ap (λ (r : Row). r .c) (sym is) in
+      rw (a, b, c, ne-eqb _ _ h, q)
+
+  pub entry-octets : t < 5 → (e .b ≡ 0 → ⊥) → Stretch Utf8 (e .a) (e .b) ≡ eventString (stringAt (tableOf t) w at)
+  entry-octets l h = entry-stretch Utf8 h (form-identifying t (e .c) l)
+
+  pub entry-formed : (f : StringForm) → f ≡ formOf (e .c) → 5 ≤ t → t < 8 → (e .b ≡ 0 → ⊥) → Stretch f (e .a) (e .b) ≡ eventString (stringAt (tableOf t) w at)
+  entry-formed f q l u h = entry-stretch f h (form-in t (e .c) u (λ z. absurd (omega arith)) ∙ sym q)
 
   pub entry-built-in : (x : EventString) → e .b ≡ 0 → x ≡ eventString (builtIn (tableOf t)) → x ≡ eventString (stringAt (tableOf t) w at)
   unfolding stringAt rowAt
@@ -177,19 +186,22 @@ module _ (w : List ℕ) (t : ℕ) (r : Entry) where
   said-entry n at x e q = rw (e, q)
 
 -- ---- one entry more, where its add bit says so
-module _ (c w : List ℕ) (t k place size : ℕ) (add : Bool) (a b : ℕ) (ea : a ≡ place) (eb : b ≡ size) where
-  pub added-not : add ≡ false → (Got (Stretch a b) (place + size) ≡ addedOf c t k place size add) × (c ≡ addedCounts c t add) × (w ≡ addedWords c w t place size add)
+module _ (c w : List ℕ) (t k : ℕ) (form : StringForm) (place size : ℕ) (add : Bool) (a b : ℕ) (ea : a ≡ place) (eb : b ≡ size) where
+  pub added-not : add ≡ false
+      → (Got (Stretch form a b) (place + size) ≡ addedOf c t k form place size add) × (c ≡ addedCounts c t add) × (w ≡ addedWords c w t form place size add)
   unfolding addedOf addedCounts addedWords
   added-not z = rw (z, ea, eb) (refl, refl, refl)
 
-  pub added-full : add ≡ true → 256 ≤ getD c t 0 → (Refused 12 k ≡ addedOf c t k place size add) × (c ≡ addedCounts c t add) × (w ≡ addedWords c w t place size add)
+  pub added-full : add ≡ true → 256 ≤ getD c t 0
+      → (Refused 12 k ≡ addedOf c t k form place size add) × (c ≡ addedCounts c t add) × (w ≡ addedWords c w t form place size add)
   unfolding addedOf addedCounts addedWords
   added-full z l = rw (z, le-ltb _ _ l) (refl, refl, refl)
 
-  pub added-more : add ≡ true → getD c t 0 < 256 → (v : List ℕ) → v ≡ stored w t (getD c t 0) a b 0
-      → (Got (Stretch a b) (place + size) ≡ addedOf c t k place size add) × (set c t (getD c t 0 + 1) ≡ addedCounts c t add) × (v ≡ addedWords c w t place size add)
+  pub added-more : add ≡ true → getD c t 0 < 256 → (n : ℕ) → n ≡ formNumber form → (v : List ℕ) → v ≡ stored w t (getD c t 0) a b n
+      → (Got (Stretch form a b) (place + size) ≡ addedOf c t k form place size add) × (set c t (getD c t 0 + 1) ≡ addedCounts c t add)
+      × (v ≡ addedWords c w t form place size add)
   unfolding addedOf addedCounts addedWords
-  added-more z l v ev = rw (z, lt-ltb _ _ l, ev, ea, eb) (refl, refl, refl)
+  added-more z l n en v ev = rw (z, lt-ltb _ _ l, ev, ea, eb, en) (refl, refl, refl)
 
 -- ---- tables in order stay so
 growing : (l : List ℕ) (t k : ℕ) → getD l k 0 ≤ getD (set l t (getD l t 0 + 1)) k 0
@@ -204,44 +216,45 @@ ranged-kept c d p n k [] r = tt
 ranged-kept c d p n k (x ∷ l) r = (omega arith, omega arith, omega arith, omega arith, ranged-kept c d p n k l (r .4))
 
 -- a string more in table t, and the index y that is kept with it
-module _ (s c w x : List ℕ) (t place size : ℕ) (tidy : Tidy s c w x) (h : t < 8) (room : getD c t 0 < 256) (ends : place + size ≤ length s) (some : 0 < size) where
+module _ (s c w x : List ℕ) (t : ℕ) (form : StringForm) (place size : ℕ) (tidy : Tidy s c w x) (h : t < 8) (may : MayHold t form) (room : getD c t 0 < 256) (ends : place + size ≤ length s) (some : 0 < size) where
   abbrev then-counts : List ℕ
   then-counts = set c t (getD c t 0 + 1)
 
   abbrev then-words : List ℕ
-  then-words = stored w t (getD c t 0) place size 0
+  then-words = stored w t (getD c t 0) place size (formNumber form)
 
-  is-added : vocabulary (unlisted then-counts) then-words ≡ adding (vocabulary (unlisted c) w) (tableOf t) (stretch place size)
-  is-added = string-more tidy t room place size h some
+  is-added : vocabulary (unlisted then-counts) then-words ≡ adding (vocabulary (unlisted c) w) (tableOf t) (stretch form place size)
+  is-added = string-more tidy t room form place size h may some
 
   left-more : (y : List ℕ) → Indexed searched s (countOf (unlisted then-counts)) then-words y → Left s c w (place + size) then-counts then-words y
   left-more y keeps =
       record {
         tidy =
-            ordered-string tidy t room place size h some ends then-words y refl keeps
-            (λ k. rw (is-added, names-adding (vocabulary (unlisted c) w) (tableOf t) (stretch place size) k)
+            ordered-string tidy t room form place size h may some ends then-words y refl keeps
+            (λ k. rw (is-added, names-adding (vocabulary (unlisted c) w) (tableOf t) (stretch form place size) k)
             (ranged-kept (unlisted c) (unlisted then-counts) (growing c t 0) (growing c t 1) (growing c t 2) (names (vocabulary (unlisted c) w) k) (tidy .more k)));
         within = ends;
-        grown = grown-stored c w t place size 0 (tidy .ten) (omega arith) room (tidy .counted);
+        grown = grown-stored c w t place size (formNumber form) (tidy .ten) (omega arith) room (tidy .counted);
       }
 
   -- of a table that is searched, and of one that is not
-  left-entered : (y : List ℕ) → StringEntered s t (getD c t 0) place size w x then-words y → Left s c w (place + size) then-counts then-words y
+  left-entered : (y : List ℕ) → StringEntered s t (getD c t 0) (record { a = place; b = size; c = formNumber form }) w x then-words y → Left s c w (place + size) then-counts then-words y
   left-entered y e = left-more y (e .keeps .still searched (countOf (unlisted c)) (countOf (unlisted then-counts)) (one-more-words c (tidy .ten) t (omega arith)) (tidy .indexed))
 
   left-elsewhere : 5 ≤ t → Left s c w (place + size) then-counts then-words x
   left-elsewhere l =
       left-more x
-      (keeps-elsewhere searched s w x t (getD c t 0) place size 0 (countOf (unlisted c)) (countOf (unlisted then-counts)) room (searched-not t l h)
+      (keeps-elsewhere searched s w x t (getD c t 0) place size (formNumber form) (countOf (unlisted c)) (countOf (unlisted then-counts)) room (searched-not t l h)
       (one-more-words c (tidy .ten) t (omega arith)) (tidy .indexed))
 
   -- the string behind its number
-  new-string : Stretch place size ≡ eventStringAt then-words t (getD c t 0 + 1)
+  new-string : Stretch form place size ≡ eventStringAt then-words t (getD c t 0 + 1)
   unfolding eventStringAt stringAt
   new-string =
       let n = count-at c (tidy .ten) t in
-      let one = stored-1 w t (getD c t 0) place size 0 (let r = tidy .room in omega arith) in
-      rw (add-one (getD c t 0), one, stored-0 w t (getD c t 0) place size 0 (let r = tidy .room in omega arith), ne-eqb size 0 (omega arith))
+      let fits : 768 * t + 3 * getD c t 0 + 3 ≤ length w = (let r = tidy .room in omega arith) in
+      let one = stored-1 w t (getD c t 0) place size (formNumber form) fits in
+      rw (add-one (getD c t 0), one, stored-0 w t (getD c t 0) place size (formNumber form) fits, stored-2 w t (getD c t 0) place size (formNumber form) fits, ne-eqb size 0 (omega arith), form-held t form h may)
 
 -- ---- what an answer stands for
 abbrev pub IdAnswers : (s c w : List ℕ) → ℕ → Entry → (d v x : List ℕ) → S.Got Seen → Type 0
@@ -256,10 +269,10 @@ under f true x y = refl
 under f false x y = refl
 
 -- the octets of a spelled string are judged in `stretchOf`
-judged : {C : Type 0} (s : List ℕ) (k : ℕ) (a : ℕ → ℕ → S.Got C) (f : Number) → number f (λ n next. spelling s k next n (a n next)) ≡ number (stretchOf s k f) a
+judged : {C : Type 0} (form : StringForm) (s : List ℕ) (k : ℕ) (a : ℕ → ℕ → S.Got C) (f : Number) → number f (λ n next. spelling form s k next n (a n next)) ≡ number (stretchOf form s k f) a
 unfolding spelling stretchOf
-judged s k a (NoNum n p) = refl
-judged s k a (Num n c) = by (leb (c .at + n) (length s)) (isText (octetsOf s (stretch (c .at) n)))
+judged form s k a (NoNum n p) = refl
+judged form s k a (Num n c) = by (leb (c .at + n) (length s)) (isText (octetsOf s (stretch form (c .at) n)))
   where
     by : (t u : Bool) → pick t (pick u (a n (c .at)) (refused 9 k)) (refused 2 k) ≡ number (pick t (pick u (Num n c) (NoNum 9 k)) (NoNum 2 k)) a
     by true true = refl
@@ -267,25 +280,25 @@ judged s k a (Num n c) = by (leb (c .at + n) (length s)) (isText (octetsOf s (st
     by false u = refl
 
 -- they are the ones that were read, and lie in the document
-module _ (s : List ℕ) (k : ℕ) where
+module _ (form : StringForm) (s : List ℕ) (k : ℕ) where
   abbrev Lies : Number → Number → Type 0
   Lies r (Num n c) = (r ≡ Num n c) × (c .at + n ≤ length s)
   Lies r (NoNum n p) = Unit {0}
 
-  lies : (r : Number) → Lies r (stretchOf s k r)
+  lies : (r : Number) → Lies r (stretchOf form s k r)
   unfolding stretchOf
   lies (NoNum n p) = tt
   lies (Num n c) =
       tests (Lies (Num n c)) (leb (c .at + n) (length s)) _ _
-      (λ t. tests (Lies (Num n c)) (isText (octetsOf s (stretch (c .at) n))) _ _ (λ u. (refl, leb-true _ _ t)) (λ u. tt))
+      (λ t. tests (Lies (Num n c)) (isText (octetsOf s (stretch form (c .at) n))) _ _ (λ u. (refl, leb-true _ _ t)) (λ u. tt))
       (λ t. tt)
 
-  module _ (r : Number) (n : ℕ) (c : Cursor) (e : Num n c ≡ stretchOf s k r) where
+  module _ (r : Number) (n : ℕ) (c : Cursor) (e : Num n c ≡ stretchOf form s k r) where
     pub stretch-within : (r ≡ Num n c) × (c .at + n ≤ length s)
     stretch-within = rw (← e) at (lies r)
 
-    pub stretch-lies : (bit : ℕ) → r ≡ fieldAt (lengths bit) noTop bit s k → (1 ≤ n) × (c .at + n ≤ length s)
-    stretch-lies bit read = (field-got noTop s k (lengths bit) bit (sym read ∙ stretch-within .0) .0, stretch-within .1)
+    stretch-lies : LengthRead s r → (1 ≤ n) × (c .at + n ≤ length s)
+    stretch-lies read = (begins s r n c (stretch-within .0) read .0, stretch-within .1)
 
 -- an octet that is not 0 is one of the document's
 pub there-is : (s : List ℕ) (k : ℕ) → 0 < getD s k 0 → k < length s
@@ -297,7 +310,7 @@ module _ (s c w x : List ℕ) (t : ℕ) (tidy : Tidy s c w x) where
   table-small = rw (← count-at c (tidy .ten) t) (tidy .counted t)
 
   pub table-inside : t < 8 → Inside s (entries (stringAt (tableOf t) w) (768 * t) (getD c t 0))
-  table-inside l = rw (← count-at c (tidy .ten) t) (inside-table s (unlisted c) w t l (tidy .inside))
+  table-inside l = rw (← count-at c (tidy .ten) t) (all-table (Ends s) (unlisted c) w t l (tidy .inside))
 
   pub table-indexed : t < 5 → StringsIndexed s w x t (getD c t 0)
   table-indexed l = rw (← count-at c (tidy .ten) t) (tidy .indexed .ofStrings t (omega arith) (searched-string t l))
@@ -353,25 +366,25 @@ module _ (s c w x : List ℕ) (t k : ℕ) (tidy : Tidy s c w x) (small : t < 8) 
   -- ---- C.13
   abbrev asId : ℕ → ℕ → S.Got IdRead
   asId n next =
-      pick (holds (map (octetsOf s) table) (octetsOf s (stretch next n))) (refused 11 k)
+      pick (holds (map (octetsOf s) table) (octetsOf s (stretch Utf8 next n))) (refused 11 k)
       (pick (ltb (length table) (link .entries))
-      (got (record { string = stretch next n; how = spelled true; number = suc (length table) }) (next + n) (adding here (tableOf t) (stretch next n)))
+      (got (record { string = stretch Utf8 next n; how = spelled Utf8 true; number = suc (length table) }) (next + n) (adding here (tableOf t) (stretch Utf8 next n)))
       (refused 12 k))
 
   abbrev pub byId : S.Got Seen
   byId = idSeen (idAt link s (tableOf t) k here)
 
   -- its length was read, m, and its octets judged, r
-  module _ (low : getD s k 0 < 0x80) (m : Number) (read : m ≡ fieldAt (lengths 2) noTop 2 s k) (r : Number) (is : r ≡ stretchOf s k m) where
+  module _ (low : getD s k 0 < 0x80) (m : Number) (read : m ≡ fieldAt (lengths 2) noTop 2 s k) (r : Number) (is : r ≡ stretchOf Utf8 s k m) where
     id-spelled : idAt link s (tableOf t) k here ≡ number r asId
     unfolding idAt
-    id-spelled = rw (lt-ltb _ _ low, is, read) (judged s k asId (fieldAt (lengths 2) noTop 2 s k))
+    id-spelled = rw (lt-ltb _ _ low, is, read) (judged Utf8 s k asId (fieldAt (lengths 2) noTop 2 s k))
 
     fresh-not : (n p : ℕ) → r ≡ NoNum n p → IdAnswers s c w t (NotNumbered n p) c w x byId
     fresh-not n p e = rw (id-spelled, e) (refl, rooms, tt)
 
     module _ (n : ℕ) (i : Cursor) (e : r ≡ Num n i) where
-      there : holds (map (octetsOf s) table) (octetsOf s (stretch (i .at) n)) ≡ listed s w t (getD c t 0) (i .at) n
+      there : holds (map (octetsOf s) table) (octetsOf s (stretch Utf8 (i .at) n)) ≡ listed s w t (getD c t 0) (i .at) n
       there = rw (strings-are (unlisted c) w t small, count-at c (tidy .ten) t) (holds-number _ _)
 
       fresh-known : listed s w t (getD c t 0) (i .at) n ≡ true → IdAnswers s c w t (NotNumbered 11 k) c w x byId
@@ -382,46 +395,46 @@ module _ (s c w x : List ℕ) (t k : ℕ) (tidy : Tidy s c w x) (small : t < 8) 
         unfolding link
         fresh-full l = rw (id-spelled, e, there, new, length-strings (unlisted c) w t small, count-at c (tidy .ten) t, le-ltb _ _ l) (refl, rooms, tt)
 
-        fresh-stored : (l : getD c t 0 < 256) (y : List ℕ) → StringEntered s t (getD c t 0) (i .at) n w x (stored w t (getD c t 0) (i .at) n 0) y
+        fresh-stored : (l : getD c t 0 < 256) (y : List ℕ) → StringEntered s t (getD c t 0) (record { a = i .at; b = n; c = 0 }) w x (stored w t (getD c t 0) (i .at) n 0) y
             → IdAnswers s c w t (Numbered (getD c t 0 + 1) (i .at + n)) (set c t (getD c t 0 + 1)) (stored w t (getD c t 0) (i .at) n 0) y byId
         unfolding link
         fresh-stored l y q =
-            let b = stretch-lies s k m n i (sym e ∙ is) 2 read in
+            let b = stretch-lies Utf8 s k m n i (sym e ∙ is) (length-read s k 2 m read) in
             let more = one-more-words c (tidy .ten) t (omega arith) .here in
             rw (id-spelled, e, there, new, length-strings (unlisted c) w t small, count-at c (tidy .ten) t, lt-ltb _ _ l, ← add-one (getD c t 0)) (
-              rw (← new-string s c w x t (i .at) n tidy small l (b .1) (b .0), ← is-added s c w x t (i .at) n tidy small l (b .1) (b .0)) refl,
-              (left-entered s c w x t (i .at) n tidy small l (b .1) (b .0) y q, omega arith),
+              rw (← new-string s c w x t Utf8 (i .at) n tidy small (λ _. refl) l (b .1) (b .0), ← is-added s c w x t Utf8 (i .at) n tidy small (λ _. refl) l (b .1) (b .0)) refl,
+              (left-entered s c w x t Utf8 (i .at) n tidy small (λ _. refl) l (b .1) (b .0) y q, omega arith),
               omega arith,
             )
 
-        fresh-added : getD c t 0 < 256 → (v y : List ℕ) → StringEntered s t (getD c t 0) (i .at) n w x v y
+        fresh-added : getD c t 0 < 256 → (v y : List ℕ) → StringEntered s t (getD c t 0) (record { a = i .at; b = n; c = 0 }) w x v y
             → IdAnswers s c w t (Numbered (getD c t 0 + 1) (i .at + n)) (set c t (getD c t 0 + 1)) v y byId
         fresh-added l v y q = rw (q .words) (fresh-stored l y (rw (q .words) at q))
 
   -- its length was read, m: n octets from a place on; and what became of them
   module _ (low : getD s k 0 < 0x80) (m : Number) (read : m ≡ fieldAt (lengths 2) noTop 2 s k) where
     pub fresh-refused : (n p : ℕ) → m ≡ NoNum n p → IdAnswers s c w t (NotNumbered n p) c w x byId
-    fresh-refused n p e = fresh-not low m read m (stretch-not s k m n p e) n p e
+    fresh-refused n p e = fresh-not low m read m (stretch-not Utf8 s k m n p e) n p e
 
     module _ (n : ℕ) (i : Cursor) (e : m ≡ Num n i) where
       pub fresh-past : length s < i .at + n → IdAnswers s c w t (NotNumbered 2 k) c w x byId
-      fresh-past h = fresh-not low m read (NoNum 2 k) (stretch-past s k m n i e h) 2 k refl
+      fresh-past h = fresh-not low m read (NoNum 2 k) (stretch-past Utf8 s k m n i e h) 2 k refl
 
-      module _ (b : Bool) (h : i .at + n ≤ length s) (q : b ≡ isText (octetsOf s (stretch (i .at) n))) where
+      module _ (b : Bool) (h : i .at + n ≤ length s) (q : b ≡ isText (octetsOf s (stretch Utf8 (i .at) n))) where
         pub fresh-bad : b ≡ false → IdAnswers s c w t (NotNumbered 9 k) c w x byId
-        fresh-bad z = fresh-not low m read (NoNum 9 k) (judged-bad s k m n i e b h q z) 9 k refl
+        fresh-bad z = fresh-not low m read (NoNum 9 k) (judged-bad Utf8 s k m n i e b h q z) 9 k refl
 
         -- they are text, and v and y are the words of the tables and the index then
         module _ (text : b ≡ true) (v y : List ℕ) where
           pub new-known : NewString s t (getD c t 0) (i .at) n w x Known v y → IdAnswers s c w t (NotNumbered 11 k) c v y byId
-          new-known a = rw (a .1) (fresh-known low m read (Num n i) (judged-text s k m n i e b h q text) n i refl (a .0))
+          new-known a = rw (a .1) (fresh-known low m read (Num n i) (judged-text Utf8 s k m n i e b h q text) n i refl (a .0))
 
           pub new-full : NewString s t (getD c t 0) (i .at) n w x Full v y → IdAnswers s c w t (NotNumbered 12 k) c v y byId
-          new-full a = rw (a .2) (fresh-full low m read (Num n i) (judged-text s k m n i e b h q text) n i refl (a .0) (a .1))
+          new-full a = rw (a .2) (fresh-full low m read (Num n i) (judged-text Utf8 s k m n i e b h q text) n i refl (a .0) (a .1))
 
           pub new-done : NewString s t (getD c t 0) (i .at) n w x Done v y
               → IdAnswers s c w t (Numbered (getD c t 0 + 1) (i .at + n)) (set c t (getD c t 0 + 1)) v y byId
-          new-done a = fresh-added low m read (Num n i) (judged-text s k m n i e b h q text) n i refl (a .0) (a .1) v y (a .2)
+          new-done a = fresh-added low m read (Num n i) (judged-text Utf8 s k m n i e b h q text) n i refl (a .0) (a .1) v y (a .2)
 
   module _ (high : 0x80 ≤ getD s k 0) (r : Number) (is : r ≡ fieldAt c25 top 2 s k) where
     pub id-held : (a : Entry) → a ≡ heldOf (countOf (unlisted c) t) k r → IdAnswers s c w t a c w x byId
@@ -451,37 +464,70 @@ module _ (s c w x : List ℕ) (t k : ℕ) (tidy : Tidy s c w x) (small : t < 8) 
     optional-absent z l = rw z (refl, (stays k l, omega arith))
 
   -- ---- C.14, C.15
-  -- a spelled one, whose length was read from a bit, m, and whose octets were judged, r
-  module _ (bit : ℕ) (add : Bool) (m : Number) (read : m ≡ fieldAt (lengths bit) noTop bit s k) (r : Number) (is : r ≡ stretchOf s k m) where
+  -- a spelled one in a form, whose length was read, m, and whose octets were judged, r
+  module _ (form : StringForm) (add : Bool) (m : Number) (read : LengthRead s m) (r : Number) (is : r ≡ stretchOf form s k m) where
     abbrev asString : Bool → ℕ → ℕ → S.Got StringRead
     asString add n next =
         pick (not add || ltb (length table) (link .entries))
-        (got (record { string = stretch next n; how = spelled add }) (next + n) (keeping add here (tableOf t) (stretch next n)))
+        (got (record { string = stretch form next n; how = spelled form add }) (next + n) (keeping add here (tableOf t) (stretch form next n)))
         (refused 12 k)
 
-    abbrev pub bySpelled : S.Got EventString
-    bySpelled = stringSeen (spelledAt link (lengthFrom bit) s (tableOf t) k add here)
+    abbrev pub byFormed : S.Got EventString
+    byFormed = stringSeen (formedAt link form s (tableOf t) k add m here)
 
-    string-spelled : spelledAt link (lengthFrom bit) s (tableOf t) k add here ≡ number r (asString add)
-    unfolding spelledAt
-    string-spelled = rw (is, read) (judged s k (asString add) (fieldAt (lengths bit) noTop bit s k))
+    string-formed : formedAt link form s (tableOf t) k add m here ≡ number r (asString add)
+    unfolding formedAt
+    string-formed = rw is (judged form s k (asString add) m)
 
-    pub spelled-not : (n p : ℕ) → r ≡ NoNum n p → FieldAnswers s c w (Refused n p) c w x bySpelled
-    spelled-not n p e = rw (string-spelled, e) (refl, rooms)
+    pub formed-not : (n p : ℕ) → r ≡ NoNum n p → FieldAnswers s c w (Refused n p) c w x byFormed
+    formed-not n p e = rw (string-formed, e) (refl, rooms)
 
-    pub spelled-added : 5 ≤ t → (n : ℕ) (i : Cursor) → r ≡ Num n i → (a : Field) (d v : List ℕ)
-        → (a ≡ addedOf c t k (i .at) n add) × (d ≡ addedCounts c t add) × (v ≡ addedWords c w t (i .at) n add) → FieldAnswers s c w a d v x bySpelled
+    pub formed-added : 5 ≤ t → (n : ℕ) (i : Cursor) → r ≡ Num n i → (a : Field) (d v : List ℕ)
+        → (a ≡ addedOf c t k form (i .at) n add) × (d ≡ addedCounts c t add) × (v ≡ addedWords c w t form (i .at) n add) → FieldAnswers s c w a d v x byFormed
     unfolding addedOf addedCounts addedWords link
-    spelled-added l n i e a d v q = rw (q .0, q .1, q .2, string-spelled, e) (by add)
+    formed-added l n i e a d v q = rw (q .0, q .1, q .2, string-formed, e) (by add)
       where
-        by : (b : Bool) → FieldAnswers s c w (addedOf c t k (i .at) n b) (addedCounts c t b) (addedWords c w t (i .at) n b) x (stringSeen (asString b n (i .at)))
-        by false = let h = stretch-lies s k m n i (sym e ∙ is) bit read in (refl, stays (i .at + n) (h .1))
+        by : (b : Bool) → FieldAnswers s c w (addedOf c t k form (i .at) n b) (addedCounts c t b) (addedWords c w t form (i .at) n b) x (stringSeen (asString b n (i .at)))
+        by false = let h = stretch-lies form s k m n i (sym e ∙ is) read in (refl, stays (i .at + n) (h .1))
         by true =
-            let h = stretch-lies s k m n i (sym e ∙ is) bit read in
+            let h = stretch-lies form s k m n i (sym e ∙ is) read in
+            let may = holds-any t form l in
             rw (length-strings (unlisted c) w t small, count-at c (tidy .ten) t)
             (case (getD c t 0) 256
-            (λ u. rw (lt-ltb _ _ u, ← is-added s c w x t (i .at) n tidy small u (h .1) (h .0)) (refl, left-elsewhere s c w x t (i .at) n tidy small u (h .1) (h .0) l))
+            (λ u. rw (lt-ltb _ _ u, ← is-added s c w x t form (i .at) n tidy small may u (h .1) (h .0)) (refl, left-elsewhere s c w x t form (i .at) n tidy small may u (h .1) (h .0) l))
             (λ u. rw (le-ltb _ _ u) (refl, rooms)))
+
+  -- by its format f, the two bits before the length's in the first octet o
+  module _ (bit : ℕ) (add : Bool) where
+    abbrev pub bySpelled : S.Got EventString
+    bySpelled = stringSeen (spelledAt link bit s (tableOf t) k add here)
+
+    module _ (from : 2 ≤ bit) (o f : ℕ) (is : o ≡ getD s k 0) (ef : f ≡ bitsOf o (bit - 2) (bit - 1)) where
+      format-is : getD s k 0 / 2 ^ (9 - bit) % 4 ≡ f
+      format-is =
+          let low : 8 - (bit - 1) ≡ 9 - bit = omega arith in
+          let two : bit - 1 + 1 - (bit - 2) ≡ 2 = omega arith in
+          rw (← is, ef, low, two)
+
+      module _ (m : Number) (a : Field) (d v : List ℕ) where
+        pub spelled-utf8 : f ≡ 0 → m ≡ fieldAt (lengths bit) noTop bit s k → FieldAnswers s c w a d v x (stringSeen (formedAt link Utf8 s (tableOf t) k add m here))
+            → FieldAnswers s c w a d v x bySpelled
+        unfolding spelledAt
+        spelled-utf8 e q p = rw (format-is, e, ← q) p
+
+        pub spelled-utf16 : f ≡ 1 → m ≡ fieldAt (lengths bit) noTop bit s k → FieldAnswers s c w a d v x (stringSeen (formedAt link Utf16 s (tableOf t) k add m here))
+            → FieldAnswers s c w a d v x bySpelled
+        unfolding spelledAt
+        spelled-utf16 e q p = rw (format-is, e, ← q) p
+
+        pub spelled-alphabet : (form : StringForm) → f ≡ 2 → form ≡ formOf (2 + alphabetAt bit s k) → m ≡ alphabetLength bit s k (getD s (suc k) 0 % 2 ^ (9 - bit))
+            → FieldAnswers s c w a d v x (stringSeen (formedAt link form s (tableOf t) k add m here)) → FieldAnswers s c w a d v x bySpelled
+        unfolding spelledAt
+        spelled-alphabet form e ef q p = rw (format-is, e, ← ef, ← q) p
+
+      pub spelled-other : (f ≡ 0 → ⊥) → (f ≡ 1 → ⊥) → (f ≡ 2 → ⊥) → FieldAnswers s c w (Refused 8 k) c w x bySpelled
+      unfolding spelledAt
+      spelled-other a b d = rw (format-is, ne-eqb _ _ a, ne-eqb _ _ b, ne-eqb _ _ d) (refl, rooms)
 
   -- which string the first octet says
   module _ (q : Layout) where
@@ -494,35 +540,25 @@ module _ (s c w x : List ℕ) (t k : ℕ) (tidy : Tidy s c w x) (small : t < 8) 
     abbrev octet : ℕ
     octet = getD s k 0
 
-    literal-plain : octet < q .spelledBits + 2 ^ (9 - q .lengthBit) → literal ≡ spelledAt link q s (tableOf t) k false here
+    literal-plain : octet < q .spelledBits + q .addBit → literal ≡ spelledAt link (q .lengthBit) s (tableOf t) k false here
     unfolding literalAt
     literal-plain l = rw (lt-ltb _ _ l)
 
-    module _ (p : q .spelledBits + 2 ^ (9 - q .lengthBit) ≤ octet) where
-      literal-other : octet < q .spelledBits + q .addBit → literal ≡ refused 8 k
+    module _ (p : q .spelledBits + q .addBit ≤ octet) where
+      literal-added : octet < q .numberedBits → literal ≡ spelledAt link (q .lengthBit) s (tableOf t) k true here
       unfolding literalAt
-      literal-other l = rw (le-ltb _ _ p, lt-ltb _ _ l)
+      literal-added l = rw (le-ltb _ _ p, lt-ltb _ _ l)
 
-      module _ (b : q .spelledBits + q .addBit ≤ octet) where
-        literal-added : octet < q .spelledBits + q .addBit + 2 ^ (9 - q .lengthBit) → literal ≡ spelledAt link q s (tableOf t) k true here
-        unfolding literalAt
-        literal-added l = rw (le-ltb _ _ p, le-ltb _ _ b, lt-ltb _ _ l)
+      literal-held : q .numberedBits ≤ octet → (r : Number) → r ≡ fieldAt (q .numberForms) top (numberBit q) s k
+          → (a : Entry) (f : Field) → a ≡ heldOf (countOf (unlisted c) t) k r → f ≡ saidOf w t a → FieldAnswers s c w f c w x (stringSeen literal)
+      unfolding literalAt
+      literal-held l r is a f ea ef = rw (ef, ea, le-ltb _ _ p, le-ltb _ _ l, ← is, by r) (held-string (q .numberForms) (numberBit q) r is)
+        where
+          by : (r : Number) → stringSeen (number r asNumbered) ≡ number r entryOf
+          by (NoNum n p) = refl
+          by (Num n i) = under stringSeen (leb n (length table)) _ _
 
-        module _ (u : q .spelledBits + q .addBit + 2 ^ (9 - q .lengthBit) ≤ octet) where
-          literal-other-added : octet < q .numberedBits → literal ≡ refused 8 k
-          unfolding literalAt
-          literal-other-added l = rw (le-ltb _ _ p, le-ltb _ _ b, le-ltb _ _ u, lt-ltb _ _ l)
-
-          literal-held : q .numberedBits ≤ octet → (r : Number) → r ≡ fieldAt (q .numberForms) top (numberBit q) s k
-              → (a : Entry) (f : Field) → a ≡ heldOf (countOf (unlisted c) t) k r → f ≡ saidOf w t a → FieldAnswers s c w f c w x (stringSeen literal)
-          unfolding literalAt
-          literal-held l r is a f ea ef = rw (ef, ea, le-ltb _ _ p, le-ltb _ _ b, le-ltb _ _ u, le-ltb _ _ l, ← is, by r) (held-string (q .numberForms) (numberBit q) r is)
-            where
-              by : (r : Number) → stringSeen (number r asNumbered) ≡ number r entryOf
-              by (NoNum n p) = refl
-              by (Num n i) = under stringSeen (leb n (length table)) _ _
-
-  -- ---- C.14 from bit 1: o is the first octet, b its bit 1, f its bits 3 and 4
+  -- ---- C.14 from bit 1: o is the first octet, b its bit 1
   abbrev pub byValue : S.Got EventString
   byValue = stringSeen (valueAt link s (tableOf t) k here)
 
@@ -538,29 +574,19 @@ module _ (s c w x : List ℕ) (t k : ℕ) (tidy : Tidy s c w x) (small : t < 8) 
     module _ (b : ℕ) (eb : b ≡ o / 128 % 2) where
       pub value-held : (o ≡ 0xFF → ⊥) → b ≡ 1 → (r : Number) → r ≡ fieldAt c25 top 2 s k → (a : Entry) (f : Field) → a ≡ heldOf (countOf (unlisted c) t) k r → f ≡ saidOf w t a → FieldAnswers s c w f c w x byValue
       unfolding c14
-      value-held ne one r ir a f ea ef = rw (is-literal ne) (literal-held c14 (omega arith) (omega arith) (omega arith) (omega arith) r ir a f ea ef)
+      value-held ne one r ir a f ea ef = rw (is-literal ne) (literal-held c14 (omega arith) (omega arith) r ir a f ea ef)
 
-      module _ (fits : o < 256) (no : b ≡ 1 → ⊥) (f : ℕ) (ef : f ≡ o / 16 % 4) where
-        low : o < 0x80
-        low = omega arith
+      -- a is its add bit
+      pub value-spelled : o < 256 → (b ≡ 1 → ⊥) → (a : ℕ) → a ≡ o / 64 % 2 → (g : Field) (d v : List ℕ)
+          → FieldAnswers s c w g d v x (stringSeen (spelledAt link 5 s (tableOf t) k (eqb a 1) here)) → FieldAnswers s c w g d v x byValue
+      unfolding c14
+      value-spelled fits plain a ea g d v p =
+          let low : o < 0x80 = omega arith in
+          case o 0x40
+          (λ l. let e : o / 64 ≡ 0 = omega arith in rw (is-literal (omega arith), literal-plain c14 (omega arith)) (rw (ea, e) at p))
+          (λ l. let e : o / 64 ≡ 1 = omega arith in rw (is-literal (omega arith), literal-added c14 (omega arith) (omega arith)) (rw (ea, e) at p))
 
-        pub value-other : (f ≡ 0 → ⊥) → FieldAnswers s c w (Refused 8 k) c w x byValue
-        unfolding c14
-        value-other ne =
-            let e : literalAt link c14 s (tableOf t) k here ≡ refused 8 k =
-            case o 0x40 (λ l. literal-other c14 (omega arith) (omega arith)) (λ l. literal-other-added c14 (omega arith) (omega arith) (omega arith) (omega (arith, low))) in
-            rw (is-literal (omega (arith, low)), e) (refl, rooms)
-
-        pub value-spelled : f ≡ 0 → (a : ℕ) → a ≡ o / 64 % 2 → (g : Field) (d v : List ℕ)
-            → FieldAnswers s c w g d v x (stringSeen (spelledAt link (lengthFrom 5) s (tableOf t) k (eqb a 1) here)) → FieldAnswers s c w g d v x byValue
-        unfolding c14 spelledAt
-        value-spelled z a ea g d v p =
-            case o 0x40
-            (λ l. let e : o / 64 ≡ 0 = omega arith in rw (is-literal (omega (arith, low)), literal-plain c14 (omega arith)) (rw (ea, e) at p))
-            (λ l. let e : o / 64 ≡ 1 = omega (arith, low) in
-            rw (is-literal (omega (arith, low)), literal-added c14 (omega arith) (omega arith) (omega (arith, low))) (rw (ea, e) at p))
-
-  -- ---- C.15 from bit 3: o is the first octet, b its bit 3, f its bits 5 and 6
+  -- ---- C.15 from bit 3: o is the first octet, b its bit 3
   abbrev pub byChunk : S.Got EventString
   byChunk = stringSeen (literalAt link c15 s (tableOf t) k here)
 
@@ -569,23 +595,14 @@ module _ (s c w x : List ℕ) (t k : ℕ) (tidy : Tidy s c w x) (small : t < 8) 
     unfolding c15
     chunk-held one r ir a f ea ef =
         let l : 0xA0 ≤ o = omega arith in
-        literal-held c15 (omega arith) (omega arith) (omega arith) (omega arith) r ir a f ea ef
+        literal-held c15 (omega arith) (omega arith) r ir a f ea ef
 
-    module _ (no : b ≡ 1 → ⊥) (f : ℕ) (ef : f ≡ o / 4 % 4) where
-      below : o < 0xA0
-      below = omega arith
-
-      pub chunk-other : (f ≡ 0 → ⊥) → FieldAnswers s c w (Refused 8 k) c w x byChunk
-      unfolding c15
-      chunk-other ne =
-          let e : literalAt link c15 s (tableOf t) k here ≡ refused 8 k =
-          case o 0x90 (λ l. literal-other c15 (omega arith) (omega arith)) (λ l. literal-other-added c15 (omega arith) (omega arith) (omega arith) (omega (arith, below))) in
-          rw e (refl, rooms)
-
-      pub chunk-spelled : f ≡ 0 → (a : ℕ) → a ≡ o / 16 % 2 → (g : Field) (d v : List ℕ)
-          → FieldAnswers s c w g d v x (stringSeen (spelledAt link (lengthFrom 7) s (tableOf t) k (eqb a 1) here)) → FieldAnswers s c w g d v x byChunk
-      unfolding c15 spelledAt
-      chunk-spelled z a ea g d v p =
-          case o 0x90
-          (λ l. let e : o / 16 ≡ 8 = omega arith in rw (literal-plain c15 (omega arith)) (rw (ea, e) at p))
-          (λ l. let e : o / 16 ≡ 9 = omega (arith, below) in rw (literal-added c15 (omega arith) (omega arith) (omega (arith, below))) (rw (ea, e) at p))
+    -- a is its add bit
+    pub chunk-spelled : (b ≡ 1 → ⊥) → (a : ℕ) → a ≡ o / 16 % 2 → (g : Field) (d v : List ℕ)
+        → FieldAnswers s c w g d v x (stringSeen (spelledAt link 7 s (tableOf t) k (eqb a 1) here)) → FieldAnswers s c w g d v x byChunk
+    unfolding c15
+    chunk-spelled plain a ea g d v p =
+        let below : o < 0xA0 = omega arith in
+        case o 0x90
+        (λ l. let e : o / 16 ≡ 8 = omega arith in rw (literal-plain c15 (omega arith)) (rw (ea, e) at p))
+        (λ l. let e : o / 16 ≡ 9 = omega arith in rw (literal-added c15 (omega arith) (omega arith)) (rw (ea, e) at p))

@@ -2,16 +2,15 @@
 use Prim.Native.Nat.{ℕ, _+_, _-_, _*_, _≤_}
 use mathlib.Core.Path.{_≡_}
 use mathlib.Core.Bool.{Bool, true, false}
-use mathlib.Core.List.{[]}
 use lib.ListN.{length, getD, set}
 use lib.Dec.{ltb, leb}
 use Rattle.format.specs.Octets.{Octets, Words}
-use Rattle.format.specs.Numbers.{pick, lengths}
+use Rattle.format.specs.Numbers.{pick}
 use Rattle.format.specs.Tables.{link}
 use Rattle.fields.specs.Utf8.{isText}
-use Rattle.format.specs.Strings.{Layout}
 use Rattle.format.specs.Refusals.{TRUNCATED, TEXT, INDEX, FULL}
-use Rattle.fields.specs.Fields.{fieldAt, noTop}
+use Rattle.format.specs.declared.StringForm.{StringForm}
+use Rattle.format.specs.Forms.{formNumber}
 use Rattle.fields.specs.declared.Number.{Number}
 use Rattle.fields.specs.declared.Number.the-variants.{Got as Num, Refused as NoNum}
 use Rattle.tables.specs.Counts.{perTable}
@@ -24,18 +23,18 @@ use Rattle.read_names.specs.declared.Entry.{Entry}
 use Rattle.read_names.specs.declared.Entry.the-variants.{Got as Numbered, Refused as NotNumbered}
 use Rattle.read_names.specs.declared.Field.{Field}
 use Rattle.read_names.specs.declared.Field.the-variants.{Got, Refused}
-use Rattle.read_names.specs.Strings.{spelledAt}
+use Rattle.read_names.specs.Strings.{formedAt, spelledAt}
 use Rattle.read_names.specs.Contracts.{Tidy, seenField, stringSeen, FieldLeft}
 
--- Behind a number or a length that was read is a place of the document, or its end.
-abbrev pub BehindWithin : Octets → Number → Type 0
-BehindWithin s (Num n c) = c .at ≤ length s
-BehindWithin s (NoNum n p) = Unit {0}
+-- A length that was read is not 0, and behind it is a place of the document, or its end.
+abbrev pub LengthRead : Octets → Number → Type 0
+LengthRead s (Num n c) = (1 ≤ n) × (c .at ≤ length s)
+LengthRead s (NoNum n p) = Unit {0}
 
 -- A string's length that was read at k, where its octets are there (2) and are text (9).
-unfoldable pub stretchOf : Octets → ℕ → Number → Number
-stretchOf s k (Num n c) = pick (leb (c .at + n) (length s)) (pick (isText (octetsOf s (stretch (c .at) n))) (Num n c) (NoNum TEXT k)) (NoNum TRUNCATED k)
-stretchOf s k (NoNum n p) = NoNum n p
+unfoldable pub stretchOf : StringForm → Octets → ℕ → Number → Number
+stretchOf form s k (Num n c) = pick (leb (c .at + n) (length s)) (pick (isText (octetsOf s (stretch form (c .at) n))) (Num n c) (NoNum TEXT k)) (NoNum TRUNCATED k)
+stretchOf form s k (NoNum n p) = NoNum n p
 
 -- A number that was read at k, in a table of `count` entries, or one beyond them (10).
 unfoldable pub heldOf : (count k : ℕ) → Number → Entry
@@ -53,24 +52,25 @@ saidOf w table (Numbered n at) = Got (eventString (stringAt (tableOf table) w (7
 saidOf w table (NotNumbered n p) = Refused n p
 
 -- The octets at a place, one entry more where they are added; or no room in the table (12). And the words of the counts and of the tables then.
-unfoldable pub addedOf : Words → (table k place size : ℕ) → Bool → Field
-addedOf c table k place size true = pick (ltb (getD c table 0) perTable) (Got (Stretch place size) (place + size)) (Refused FULL k)
-addedOf c table k place size false = Got (Stretch place size) (place + size)
+unfoldable pub addedOf : Words → (table k : ℕ) → StringForm → (place size : ℕ) → Bool → Field
+addedOf c table k form place size true = pick (ltb (getD c table 0) perTable) (Got (Stretch form place size) (place + size)) (Refused FULL k)
+addedOf c table k form place size false = Got (Stretch form place size) (place + size)
 
 unfoldable pub addedCounts : Words → ℕ → Bool → Words
 addedCounts c table true = pick (ltb (getD c table 0) perTable) (set c table (getD c table 0 + 1)) c
 addedCounts c table false = c
 
-unfoldable pub addedWords : (c w : Words) → (table place size : ℕ) → Bool → Words
-addedWords c w table place size true = pick (ltb (getD c table 0) perTable) (stored w table (getD c table 0) place size 0) w
-addedWords c w table place size false = w
+unfoldable pub addedWords : (c w : Words) → (table : ℕ) → StringForm → (place size : ℕ) → Bool → Words
+addedWords c w table form place size true = pick (ltb (getD c table 0) perTable) (stored w table (getD c table 0) place size (formNumber form)) w
+addedWords c w table form place size false = w
 
--- Where a spelled string's length starts is all that reading it takes from its layout.
-abbrev pub lengthFrom : ℕ → Layout
-lengthFrom bit = record { spelledBits = 0; addBit = 0; lengthBit = bit; numberedBits = 0; numberForms = [] }
+-- A string of a table that the reader does not search, spelled: in a form, its length read as r; and by its format, its length from a bit on.
+abbrev pub ReadsFormed : Octets → (c w : Words) (table at : ℕ) → StringForm → Number → Bool → Field → (d v : Words) → Type 0
+ReadsFormed s c w table at form r add a d v =
+    (x : Octets) → Tidy s c w x → 5 ≤ table
+    → (seenField a d v ≡ stringSeen (formedAt link form s (tableOf table) at add r (vocabulary (unlisted c) w))) × FieldLeft s c w a d v x
 
--- A string of a table that the reader does not search, spelled behind a length that was read as r, from any bit on.
-abbrev pub ReadsSpelled : Octets → (c w : Words) (table at : ℕ) → Number → Bool → Field → (d v : Words) → Type 0
-ReadsSpelled s c w table at r add a d v =
-    (x : Octets) (bit : ℕ) → Tidy s c w x → 5 ≤ table → r ≡ fieldAt (lengths bit) noTop bit s at
-    → (seenField a d v ≡ stringSeen (spelledAt link (lengthFrom bit) s (tableOf table) at add (vocabulary (unlisted c) w))) × FieldLeft s c w a d v x
+abbrev pub ReadsSpelled : Octets → (c w : Words) (table at bit : ℕ) → Bool → Field → (d v : Words) → Type 0
+ReadsSpelled s c w table at bit add a d v =
+    (x : Octets) → Tidy s c w x → 5 ≤ table
+    → (seenField a d v ≡ stringSeen (spelledAt link bit s (tableOf table) at add (vocabulary (unlisted c) w))) × FieldLeft s c w a d v x

@@ -1,5 +1,5 @@
 // Strings and names read from a document: each function reads one field from an octet on, and the first refusal is handed on.
-// May depend on format, fields, tables, index and events.
+// May depend on format, fields, forms, tables, index and events.
 mod names;
 mod strings;
 
@@ -11,10 +11,11 @@ pub use names::numbered;
 pub use names::string_at;
 pub use names::strings_of;
 pub use strings::chunk;
+pub use strings::formed;
 pub use strings::held;
 pub use strings::id;
+pub use strings::in_form;
 pub use strings::octet;
-pub use strings::spelled;
 pub use strings::value;
 
 // The number of a string or a name in its table, and where the next field starts; or the refusal and its place.

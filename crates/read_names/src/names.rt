@@ -48,9 +48,9 @@ fn number(s: &[u8], at: usize, table: usize) -> Number
     cursor.number_at_bit_2(s)
 }
 
-// The string behind a number of a table; 0 is none.
+// The string behind a number of a table of identifying strings; 0 is none.
 pub fn string_at(t: &[u32], table: usize, number: u32) -> EventString
-    requires { ⌜ (length (now t) ≡ tableWords) × (table < 8) × (number ≤ 256) ⌝ }
+    requires { ⌜ (length (now t) ≡ tableWords) × (table < 5) × (number ≤ 256) ⌝ }
     ensures { λ r. ⌜ r ≡ eventStringAt (now (t .entry)) table number ⌝ }
 {
     if number == 0 {

@@ -13,6 +13,8 @@ use Rattle.format.specs.Octets.{Octets, Words}
 use Rattle.format.specs.Numbers.{lengths, numbers, top}
 use Rattle.format.specs.Tables.{Triple, link}
 use Rattle.format.specs.Strings.{c15}
+use Rattle.format.specs.Forms.{formOf}
+use Rattle.format.specs.declared.StringForm.the-variants.{Utf8}
 use Rattle.fields.specs.declared.Cursor.{Cursor}
 use Rattle.fields.specs.declared.Number.{Number}
 use Rattle.fields.specs.declared.Number.the-variants.{Got as Num}
@@ -43,7 +45,7 @@ use Rattle.read_names.specs.Names.{numberedAt}
 use Rattle.read_names.specs.Contracts.{Tidy, IdLeft, seenName, nameSeen, stringSeen, eventStringAt, nameStringsAt, NameThere}
 use Rattle.index.proofs.Counted.{count-at}
 use Rattle.read_names.proofs.Grown.{name-ranged}
-use Rattle.read_names.proofs.StringLaws.{stretch-text, entry-octets, string-none, string-there, held-entry, said-entry, FieldAnswers, table-small, spelled-added, chunk-held, chunk-spelled}
+use Rattle.read_names.proofs.StringLaws.{length-read, stretch-text, entry-octets, entry-formed, string-none, string-there, held-entry, said-entry, FieldAnswers, table-small, formed-added, spelled-utf8, chunk-held, chunk-spelled}
 use Rattle.read_names.proofs.NameLaws.{element-number, row-is, strings-are, number-held}
 use Rattle.read_items.specs.declared.Step.the-variants.{More}
 use Rattle.read_items.specs.Items as I
@@ -222,11 +224,12 @@ module _ (s c t : List ℕ) (at o : ℕ) (e : o ≡ getD s at 0) where
   -- b is its bits 5 and 6, a its add bit; its length is read, m, and its octets are text
   read-spelled : {c′ t′ : Words} → 0x80 ≤ o → o < 0xA0 → {b : ℕ} → b ≡ o / 4 % 4 → b ≡ 0 → {m : Number} → m ≡ fieldAt (lengths 7) noTop 7 s at → {n : ℕ} {i : Cursor} → m ≡ Num n i → i .at + n ≤ length s
       → true ≡ isText (take (i .at + n - i .at) (drop (i .at) s)) → {a : ℕ} → a ≡ o / 16 % 2 → AddsChunk true c t (i .at) n (eqb a 1) c′ t′ → (x : Octets) → Tidy s c t x
-      → ReadsText s c t at (Stretch (i .at) n) (i .at + n) c′ t′ x
+      → ReadsText s c t at (Stretch Utf8 (i .at) n) (i .at + n) c′ t′ x
   read-spelled {c′ = c′} {t′ = t′} l h {b = b} eb zb {m = m} em {n = n} {i = i} q to text {a = a} ea adds x tidy =
-      let got = Got (Stretch (i .at) n) (i .at + n) in
-      chunk-spelled s c t x 6 at tidy (omega arith) o e l (omega arith) (o / 32 % 2) refl (spelled-bit l h) b eb zb a ea got c′ t′
-      (spelled-added s c t x 6 at tidy (omega arith) 7 (eqb a 1) m em (Num n i) (stretch-text s at m n i q true (i .at + n) to refl text refl) (omega arith) n i refl got c′ t′ (adds at))
+      let got = Got (Stretch Utf8 (i .at) n) (i .at + n) in
+      chunk-spelled s c t x 6 at tidy (omega arith) o e l (omega arith) (o / 32 % 2) refl (spelled-bit l h) a ea got c′ t′
+      (spelled-utf8 s c t x 6 at tidy (omega arith) 7 (eqb a 1) (omega arith) o b e eb m got c′ t′ zb em
+      (formed-added s c t x 6 at tidy (omega arith) Utf8 (eqb a 1) m (length-read s at 7 m em) (Num n i) (stretch-text Utf8 s at m n i q true (i .at + n) to refl text refl) (omega arith) n i refl got c′ t′ (adds at)))
 
 -- ---- each item as a step; where it is not taken, nothing has changed
 module _ {s : Octets} {t c r : Words} {y : Lane} (w : Stands s c t y) where
@@ -284,7 +287,7 @@ module _ {s : Octets} {t c r : Words} {y : Lane} (w : Stands s c t y) where
 
     pub takes-spelled : {t′ c′ : Words} (o : ℕ) → o ≡ getD s (y .at) 0 → 0x80 ≤ o → o < 0xA0 → {b : ℕ} → b ≡ o / 4 % 4 → b ≡ 0 → {m : Number} → m ≡ fieldAt (lengths 7) noTop 7 s (y .at)
         → {n : ℕ} {i : Cursor} → m ≡ Num n i → i .at + n ≤ length s → true ≡ isText (take (i .at + n - i .at) (drop (i .at) s)) → {a : ℕ} → a ≡ o / 16 % 2 → AddsChunk true c t (i .at) n (eqb a 1) c′ t′
-        → {f : Event} → r′ ≡ kept r (y .n) f → f ≡ chunkRecord (Stretch (i .at) n) → Skims s (y .n + 1) y t c r (record { at = i .at + n; level = y .level; n = y .n + 1 }) t′ c′ r′
+        → {f : Event} → r′ ≡ kept r (y .n) f → f ≡ chunkRecord (Stretch Utf8 (i .at) n) → Skims s (y .n + 1) y t c r (record { at = i .at + n; level = y .level; n = y .n + 1 }) t′ c′ r′
     takes-spelled o e l h eb zb em q to text ea adds k z = takes-text (omega arith) (omega arith) (read-spelled s c t (y .at) o e l h eb zb em q to text ea adds) k z
 
     pub takes-end : {e : Event} → getD s (y .at) 0 ≡ 0xF0 → 2 ≤ y .level → getD s (y .at + 1) 0 < 0xF0 → r′ ≡ kept r (y .n) e → e ≡ endRecord
@@ -325,6 +328,10 @@ module _ (s : Octets) (from to : ℕ) (l : from < to) (h : to ≤ length s) (k :
 pub takes-full : {s : Octets} {t c t′ c′ r : Words} {y : Lane} → Stands s c t y → (c′ ≡ c) × (t′ ≡ t) → Skims s (y .n + 1) y t c r y t′ c′ r
 takes-full w q = rw (q .0, q .1) (takes-none w)
 
+-- it is left to the step
+pub takes-left : {s : Octets} {t c r r′ : Words} {y : Lane} → Stands s c t y → r′ ≡ r → Skims s (y .n + 1) y t c r y t c r′
+takes-left w q = rw q (takes-none w)
+
 pub skims-then : {s : Octets} {full : ℕ} {x y z : Lane} {t c r t₁ c₁ r₁ t₂ c₂ r₂ : Words} → Skims s full x t c r y t₁ c₁ r₁ → y .n < full → Skims s (y .n + 1) y t₁ c₁ r₁ z t₂ c₂ r₂ → Skims s full x t c r z t₂ c₂ r₂
 skims-then a h b = record { onward = onward-then (a .onward) h (b .onward); inside = b .inside; near = b .near }
 
@@ -338,10 +345,17 @@ module _ (t : Words) (i : ℕ) (x : Row) (e : x ≡ rowAt t (768 * 8 + 3 * i)) w
 
   -- a local name alone
   pub local-alone : (y : Row) → x .a ≡ 0 → x .b ≡ 0 → 1 ≤ x .c → y ≡ rowAt t (768 * 2 + 3 * (x .c - 1)) → (y .b ≡ 0 → ⊥)
-      → startRecord Absent Absent (Stretch (y .a) (y .b)) ≡ namedRecord Start (nameStringsAt t 8 (i + 1)) Absent
+      → startRecord Absent Absent (Stretch Utf8 (y .a) (y .b)) ≡ namedRecord Start (nameStringsAt t 8 (i + 1)) Absent
   local-alone y a b l q h =
       ap (λ (z : Parts). namedRecord Start z Absent)
-      (strings-are t 8 (i + 1) x there Absent Absent (Stretch (y .a) (y .b)) (string-none t 0 (x .a) a) (string-none t 1 (x .b) b) (string-there t 2 (x .c) _ l (entry-octets 2 (768 * 2 + 3 * (x .c - 1)) t y q h)))
+      (strings-are t 8 (i + 1) x there Absent Absent (Stretch Utf8 (y .a) (y .b)) (string-none t 0 (x .a) a) (string-none t 1 (x .b) b) (string-there t 2 (x .c) _ l (entry-octets 2 (768 * 2 + 3 * (x .c - 1)) t y q (omega arith) h)))
+
+-- a chunk in utf-8
+pub chunk-plain : (t : Words) (i : ℕ) (x : Row) → x ≡ rowAt t (768 * 6 + 3 * i) → x .c ≡ 0 → (x .b ≡ 0 → ⊥) → Stretch Utf8 (x .a) (x .b) ≡ eventStringAt t 6 (i + 1)
+unfolding formOf
+chunk-plain t i x e z h =
+    let k : i + 1 - 1 ≡ i = omega arith in
+    string-there t 6 (i + 1) _ (omega arith) (rw k (entry-formed 6 (768 * 6 + 3 * i) t x e Utf8 (rw z refl) (omega arith) (omega arith) h))
 
 module _ {s : Octets} {t c : Words} (d : Tidied s c t) where
   pub name-in-row : (i : ℕ) → i < getD c 8 0 → NameThere t 8 (i + 1) × (1 ≤ tripleAt t (768 * 8 + 3 * (i + 1 - 1)) .local)

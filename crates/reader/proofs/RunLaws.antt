@@ -15,8 +15,8 @@ use Rattle.format.specs.Document.{beginning}
 use Rattle.tables.specs.Located.{start}
 use Rattle.tables.specs.Counts.{tableWords, countsOf}
 use Rattle.tables.specs.Rows.{vocabulary}
-use Rattle.tables.specs.Kept.{listed, unlisted}
-use Rattle.tables.proofs.Laws.{vocabulary-start, counted-start, clean-start, inside-start}
+use Rattle.tables.specs.Kept.{listed, unlisted, Ends}
+use Rattle.tables.proofs.Laws.{vocabulary-start, counted-start, clean-start, all-start}
 use Rattle.tables.proofs.Found.{both-true}
 use Rattle.index.specs.Indexed.{slots}
 use Rattle.index.proofs.Counted.{indexed-start}
@@ -208,7 +208,7 @@ module _ (s : List ℕ) (t c x : List ℕ) (zeros : t ≡ replicate tableWords 0
         room = ap length zeros ∙ length-replicate {A = ℕ} tableWords 0;
         counted = counted-start;
         clean = rw zeros clean-start;
-        inside = rw start-is (inside-start s);
+        inside = rw start-is (all-start (Ends s) tt tt);
         more = rw start-is ranged-start;
         indexed = rw zeros (indexed-start searched s (replicate tableWords 0) x (getD-replicate {A = ℕ} tableWords 1 0 0 (lit< tt)) (getD-replicate {A = ℕ} tableWords 769 0 0 (lit< tt)) clear);
       })

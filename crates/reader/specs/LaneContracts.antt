@@ -7,12 +7,15 @@ use lib.Dec.{eqb, ltb}
 use Rattle.format.specs.Octets.{Octets, Words}
 use Rattle.format.specs.Numbers.{numbers, top}
 use Rattle.format.specs.Tables.{link}
+use Rattle.format.specs.declared.StringForm.the-variants.{Utf8}
 use Rattle.fields.specs.declared.Number.the-variants.{Got}
 use Rattle.fields.specs.Fields.{fieldAt}
 use Rattle.states.specs.declared.State.{State}
 use Rattle.events.specs.declared.EventString.the-variants.{Stretch}
+use Rattle.events.specs.Records.{chunkRecord}
+use Rattle.events.specs.Kept.{kept}
 use Rattle.read_names.specs.declared.Field.the-variants as F
-use Rattle.read_names.specs.Contracts.{Tidy}
+use Rattle.read_names.specs.Contracts.{Tidy, eventStringAt}
 use Rattle.read_names.specs.StringContracts.{addedOf, addedCounts, addedWords}
 use Rattle.read_items.specs.Items.{Stand}
 use Rattle.read_items.specs.Contracts.{Lent, lent, standOf, Good}
@@ -78,5 +81,10 @@ ReadsShort s at b ones r = (bit : ℕ) → 1 ≤ bit → bit ≤ 6 → ones ≡ 
 
 -- A row more of chunks, where one is to be added, as the reading of a string says it at any place k; or no room for it.
 abbrev pub AddsChunk : Bool → (c t : Words) → (place size : ℕ) → Bool → (c′ t′ : Words) → Type 0
-AddsChunk true c t place size add c′ t′ = (k : ℕ) → (F.Got (Stretch place size) (place + size) ≡ addedOf c 6 k place size add) × (c′ ≡ addedCounts c 6 add) × (t′ ≡ addedWords c t 6 place size add)
+AddsChunk true c t place size add c′ t′ = (k : ℕ) → (F.Got (Stretch Utf8 place size) (place + size) ≡ addedOf c 6 k Utf8 place size add) × (c′ ≡ addedCounts c 6 add) × (t′ ≡ addedWords c t 6 Utf8 place size add)
 AddsChunk false c t place size add c′ t′ = (c′ ≡ c) × (t′ ≡ t)
+
+-- The chunk in row i is in record n, where there is one; or nothing has changed.
+abbrev pub KeepsChunk : Bool → (t : Words) (i : ℕ) (r : Words) (n : ℕ) (r′ : Words) → Type 0
+KeepsChunk true t i r n r′ = r′ ≡ kept r n (chunkRecord (eventStringAt t 6 (i + 1)))
+KeepsChunk false t i r n r′ = r′ ≡ r

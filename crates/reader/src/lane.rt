@@ -1,5 +1,5 @@
 // A quick lane for what most of a document is: elements and chunks by number, spelled chunks, and ends. It takes as many of them as it can, each as a step
-// would, without a step's answer around it. All else is left to the step: other items, every fault, the root's end, and an event for which there is no record.
+// would, without a step's answer around it. All else is left to the step: other items, strings that are not in utf-8, every fault, the root's end, and an event for which there is no record.
 ghost use mathlib.Core.Path.{_≡_};
 ghost use Prim.Native.Nat.{ℕ, _+_, _-_, _*_, _/_, _<_, _≤_};
 ghost use mathlib.Core.Bool.{true};
@@ -10,14 +10,14 @@ ghost use Rattle.tables.specs.Rows.{tripleAt};
 ghost use Rattle.events.specs.declared.EventString.the-variants.{Absent};
 ghost use Rattle.events.specs.declared.Kind.the-variants.{Start};
 ghost use Rattle.events.specs.Kept.{kept};
-ghost use Rattle.events.specs.Records.{chunkRecord};
-ghost use Rattle.read_names.specs.Contracts.{eventStringAt, nameStringsAt, NameThere};
+ghost use Rattle.read_names.specs.Contracts.{nameStringsAt, NameThere};
 ghost use Rattle.read_items.specs.ItemContracts.{namedRecord};
-ghost use Rattle.reader.specs.LaneContracts.{Tidied, entersLane, Stands, Skims, Advances, ReadsShort, AddsChunk};
+ghost use Rattle.reader.specs.LaneContracts.{Tidied, entersLane, Stands, Skims, Advances, ReadsShort, AddsChunk, KeepsChunk};
 use events::EventString;
 use fields::Cursor;
 use fields::Number;
 use fields::bits;
+use format::StringForm;
 use format::table::CONTENT_CHARACTER_CHUNK;
 use format::table::ELEMENT_NAME;
 use format::table::LOCAL_NAME;
@@ -90,7 +90,7 @@ fn keep_start(t: &[u32], records: &mut [u32], n: usize, i: u32)
             let e = events::start(
                 EventString::Absent,
                 EventString::Absent,
-                EventString::Stretch(y.a, y.b),
+                EventString::Stretch(StringForm::Utf8, y.a, y.b),
             );
             events::keep(records, n, e);
             return;
@@ -104,16 +104,24 @@ fn keep_start(t: &[u32], records: &mut [u32], n: usize, i: u32)
     events::keep(records, n, e);
 }
 
-// The chunk in row i, where there is a record for it.
-fn keep_chunk(t: &[u32], records: &mut [u32], n: usize, i: u32)
+// The chunk in row i, where there is a record for it; false leaves one that is not in utf-8 to the step.
+fn keep_chunk(t: &[u32], records: &mut [u32], n: usize, i: u32) -> bool
     requires { ⌜ (length (now t) ≡ tableWords) × (i < 256) ⌝ }
-    ensures { λ _. ⌜ now (records .exit) ≡ kept (now (records .entry)) n (chunkRecord (eventStringAt (now (t .entry)) 6 (i + 1))) ⌝ }
+    ensures { λ r. ⌜ KeepsChunk r (now (t .entry)) i (now (records .entry)) n (now (records .exit)) ⌝ }
 {
     if !events::has_record(records, n) {
-        return;
+        return true;
     }
-    let e = events::chunk(read_names::string_at(t, CONTENT_CHARACTER_CHUNK, i + 1));
+    let x = tables::entry(t, CONTENT_CHARACTER_CHUNK, i);
+    if x.c != 0 {
+        return false;
+    }
+    if x.b == 0 {
+        return false;
+    }
+    let e = events::chunk(EventString::Stretch(StringForm::Utf8, x.a, x.b));
     events::keep(records, n, e);
+    true
 }
 
 // An element by a number of one octet or two, whose first is o.
@@ -145,7 +153,9 @@ fn chunk(s: &[u8], t: &[u32], counts: &[u32], records: &mut [u32], lane: Lane, o
     if counts[CONTENT_CHARACTER_CHUNK] <= x.row {
         return lane;
     }
-    keep_chunk(t, records, lane.n, x.row);
+    if !keep_chunk(t, records, lane.n, x.row) {
+        return lane;
+    }
     Lane {
         at: x.next,
         level: lane.level,
@@ -235,7 +245,7 @@ fn spelled(
     if !added(t, counts, place as u32, size as u32, bits(o, 4, 4) == 1) {
         return lane;
     }
-    let e = events::chunk(EventString::Stretch(place as u32, size as u32));
+    let e = events::chunk(EventString::Stretch(StringForm::Utf8, place as u32, size as u32));
     events::keep(records, lane.n, e);
     Lane {
         at: place + size,

@@ -94,11 +94,11 @@ module _ {A : Type 0} (f : List ℕ → ℕ → A) (by-row : ByRow f) where
         let kept = same-entries w v (getD cs t 0) (768 * t) (λ i l u. stored-other w t (getD cs t 0) a b c i (omega arith) (omega arith) (omega arith)) in
         rw (getD-set-same cs t (getD cs t 0 + 1) 0 h, entries-more (f v) (768 * t) (getD cs t 0), kept)
 
-    pub each-table : (x : A) (k : ℕ) → t < length cs → f (stored w t (getD cs t 0) a b c) (768 * t + 3 * getD cs t 0) ≡ x
+    pub each-table : (x : A) (k : ℕ) → t < length cs → (t ≡ k → f (stored w t (getD cs t 0) a b c) (768 * t + 3 * getD cs t 0) ≡ x)
         → entries (f (stored w t (getD cs t 0) a b c)) (768 * k) (getD (set cs t (getD cs t 0 + 1)) k 0)
         ≡ extended (eqb t k) (entries (f w) (768 * k) (getD cs k 0)) x
     each-table x k h e =
         elim (ℕ-discrete t k) [
-          | yes q ↦ rw (eq-eqb t k q, ← q, this-table h, e)
+          | yes q ↦ rw (eq-eqb t k q, ← q, this-table h, e q)
           | no q ↦ rw (ne-eqb t k q) (other-table k (λ z. q (sym z)))
         ]

@@ -1,15 +1,18 @@
 // The ten tables in lent room: how many entries each has, and what is found and added there.
-// May depend on format and fields.
+// May depend on format, fields and forms.
 ghost use mathlib.Core.Path.{_≡_};
 ghost use mathlib.Core.List.{map};
 ghost use Prim.Native.Nat.{_+_, _-_, _*_, _<_, _≤_};
 ghost use lib.ListN.{length, getD, replicate};
 ghost use Rattle.format.specs.Tables.{link, same, sameTriple};
+ghost use Rattle.format.specs.declared.StringForm.the-variants.{Utf8};
+ghost use Rattle.format.specs.Forms.{formOf};
 ghost use Rattle.tables.specs.Located.{stretch, octetsOf, start};
 ghost use Rattle.tables.specs.Counts.{countsOf, tableWords};
 ghost use Rattle.tables.specs.Rows.{tableOf, builtIn, stringAt, tripleAt, entries};
 ghost use Rattle.tables.specs.Search.{numberIn};
-ghost use Rattle.tables.specs.Kept.{listed, unlisted, countOf, oneMore, rowAt, stored, Ends, Inside, layoutOf};
+ghost use Rattle.tables.specs.Kept.{listed, unlisted, countOf, oneMore, rowAt, stored, Ends, Inside, IsSound, layoutOf};
+use format::StringForm;
 use format::table::ELEMENT_NAME;
 
 // How many entries each table has, in the required order.
@@ -124,7 +127,7 @@ pub fn counts_in(w: &[u32]) -> Counts
     }
 }
 
-// A row's words: a string's place, its length and 0, or the numbers of a name's prefix, namespace and local name.
+// A row's words: a string's place, its length and its form, or the numbers of a name's prefix, namespace and local name.
 pub struct Row {
     pub a: u32,
     pub b: u32,
@@ -184,7 +187,7 @@ pub fn clear(t: &mut [u32])
 // Whether n octets of x, from a on, are those of y, from b on: octet by octet, from the last one back, for strings that have no four.
 fn same_few(x: &[u8], a: usize, y: &[u8], b: usize, n: usize) -> bool
     requires { ⌜ (a + n ≤ length (now x)) × (b + n ≤ length (now y)) ⌝ }
-    ensures { λ r. ⌜ r ≡ same (octetsOf (now (x .entry)) (stretch a n)) (octetsOf (now (y .entry)) (stretch b n)) ⌝ }
+    ensures { λ r. ⌜ r ≡ same (octetsOf (now (x .entry)) (stretch Utf8 a n)) (octetsOf (now (y .entry)) (stretch Utf8 b n)) ⌝ }
 {
     let mut i = n;
     while 0 < i {
@@ -199,7 +202,7 @@ fn same_few(x: &[u8], a: usize, y: &[u8], b: usize, n: usize) -> bool
 // The same for strings that have no eight: the last four octets, then the first four, some of them a second time.
 fn same_short(x: &[u8], a: usize, y: &[u8], b: usize, n: usize) -> bool
     requires { ⌜ (a + n ≤ length (now x)) × (b + n ≤ length (now y)) × (n ≤ 8) ⌝ }
-    ensures { λ r. ⌜ r ≡ same (octetsOf (now (x .entry)) (stretch a n)) (octetsOf (now (y .entry)) (stretch b n)) ⌝ }
+    ensures { λ r. ⌜ r ≡ same (octetsOf (now (x .entry)) (stretch Utf8 a n)) (octetsOf (now (y .entry)) (stretch Utf8 b n)) ⌝ }
 {
     if n < 4 {
         return same_few(x, a, y, b, n);
@@ -215,7 +218,7 @@ fn same_short(x: &[u8], a: usize, y: &[u8], b: usize, n: usize) -> bool
 // no multiple of eight: that is cheaper than the few octet by octet.
 pub fn same_octets(x: &[u8], a: usize, m: usize, y: &[u8], b: usize, n: usize) -> bool
     requires { ⌜ (a + m ≤ length (now x)) × (b + n ≤ length (now y)) ⌝ }
-    ensures { λ r. ⌜ r ≡ same (octetsOf (now (x .entry)) (stretch a m)) (octetsOf (now (y .entry)) (stretch b n)) ⌝ }
+    ensures { λ r. ⌜ r ≡ same (octetsOf (now (x .entry)) (stretch Utf8 a m)) (octetsOf (now (y .entry)) (stretch Utf8 b n)) ⌝ }
 {
     if m != n {
         return false;
@@ -236,7 +239,7 @@ pub fn same_octets(x: &[u8], a: usize, m: usize, y: &[u8], b: usize, n: usize) -
 // Whether the string that is built into a table, empty where none is, is that of s at place.
 pub fn is_built_in(s: &[u8], table: usize, place: usize, len: usize) -> bool
     requires { ⌜ place + len ≤ length (now s) ⌝ }
-    ensures { λ r. ⌜ r ≡ same (octetsOf (now (s .entry)) (builtIn (tableOf table))) (octetsOf (now (s .entry)) (stretch place len)) ⌝ }
+    ensures { λ r. ⌜ r ≡ same (octetsOf (now (s .entry)) (builtIn (tableOf table))) (octetsOf (now (s .entry)) (stretch Utf8 place len)) ⌝ }
 {
     match table {
         0 => same_octets(b"xml", 0, 3, s, place, len),
@@ -252,10 +255,10 @@ pub fn is_built_in(s: &[u8], table: usize, place: usize, len: usize) -> bool
     }
 }
 
-// Whether entry i of a table, from 0, is the string of s at place. The length of a built-in entry is 0.
+// Whether entry i of a table of identifying strings, from 0, is the string of s at place. The length of a built-in entry is 0.
 pub fn is_string(s: &[u8], t: &[u32], table: usize, i: u32, place: usize, len: usize) -> bool
-    requires { ⌜ (length (now t) ≡ tableWords) × (table < 8) × (i < 256) × (place + len ≤ length (now s)) × Ends (now s) (stringAt (tableOf table) (now t) (768 * table + 3 * i)) ⌝ }
-    ensures { λ r. ⌜ r ≡ same (octetsOf (now (s .entry)) (stringAt (tableOf table) (now (t .entry)) (768 * table + 3 * i))) (octetsOf (now (s .entry)) (stretch place len)) ⌝ }
+    requires { ⌜ (length (now t) ≡ tableWords) × (table < 5) × (i < 256) × (place + len ≤ length (now s)) × Ends (now s) (stringAt (tableOf table) (now t) (768 * table + 3 * i)) ⌝ }
+    ensures { λ r. ⌜ r ≡ same (octetsOf (now (s .entry)) (stringAt (tableOf table) (now (t .entry)) (768 * table + 3 * i))) (octetsOf (now (s .entry)) (stretch Utf8 place len)) ⌝ }
 {
     let e = entry(t, table, i);
     if e.b == 0 {
@@ -264,10 +267,10 @@ pub fn is_string(s: &[u8], t: &[u32], table: usize, i: u32, place: usize, len: u
     same_octets(s, wide(e.a), wide(e.b), s, place, len)
 }
 
-// The lowest number of a table's first n entries that is the string of s at place, whatever an entry may be; 0 if none is.
+// The lowest number of the first n entries of such a table that is the string of s at place, whatever an entry may be; 0 if none is.
 pub fn find_any(s: &[u8], t: &[u32], table: usize, n: u32, place: usize, len: usize) -> u32
-    requires { ⌜ (length (now t) ≡ tableWords) × (table < 8) × (n ≤ 256) × (place + len ≤ length (now s)) × Inside (now s) (entries (stringAt (tableOf table) (now t)) (768 * table) n) ⌝ }
-    ensures { λ r. ⌜ r ≡ numberIn (map (octetsOf (now (s .entry))) (entries (stringAt (tableOf table) (now (t .entry))) (768 * table) n)) (octetsOf (now (s .entry)) (stretch place len)) ⌝ }
+    requires { ⌜ (length (now t) ≡ tableWords) × (table < 5) × (n ≤ 256) × (place + len ≤ length (now s)) × Inside (now s) (entries (stringAt (tableOf table) (now t)) (768 * table) n) ⌝ }
+    ensures { λ r. ⌜ r ≡ numberIn (map (octetsOf (now (s .entry))) (entries (stringAt (tableOf table) (now (t .entry))) (768 * table) n)) (octetsOf (now (s .entry)) (stretch Utf8 place len)) ⌝ }
 {
     let mut i = 0;
     while i < n {
@@ -282,7 +285,7 @@ pub fn find_any(s: &[u8], t: &[u32], table: usize, n: u32, place: usize, len: us
 // Whether the row at word j has the octets of s at place, of which `last` is the last. A built-in entry has no length, so it is none of these.
 pub fn is_spelled(s: &[u8], t: &[u32], j: usize, place: usize, len: usize, last: u8) -> bool
     requires { ⌜ (length (now t) ≡ tableWords) × (j + 3 ≤ tableWords) × (1 ≤ len) × (place + len ≤ length (now s)) × (last ≡ getD (now s) (place + (len - 1)) 0) × ((getD (now t) (j + 1) 0 ≡ 0 → ⊥) → getD (now t) j 0 + getD (now t) (j + 1) 0 ≤ length (now s)) ⌝ }
-    ensures { λ r. ⌜ r ≡ same (octetsOf (now (s .entry)) (stretch (getD (now (t .entry)) j 0) (getD (now (t .entry)) (j + 1) 0))) (octetsOf (now (s .entry)) (stretch place len)) ⌝ }
+    ensures { λ r. ⌜ r ≡ same (octetsOf (now (s .entry)) (stretch Utf8 (getD (now (t .entry)) j 0) (getD (now (t .entry)) (j + 1) 0))) (octetsOf (now (s .entry)) (stretch Utf8 place len)) ⌝ }
 {
     if wide(t[j + 1]) != len {
         return false;
@@ -292,6 +295,32 @@ pub fn is_spelled(s: &[u8], t: &[u32], j: usize, place: usize, len: usize, last:
         return false;
     }
     same_octets(s, at, len, s, place, len)
+}
+
+// Whether the row at word j, of a table of other strings, says what the octets of s at place say in their form. In one form equal strings have equal octets. A
+// row that has no length is none of these.
+pub fn is_said(s: &[u8], t: &[u32], j: usize, form: StringForm, place: usize, len: usize) -> bool
+    requires { ⌜ (length (now t) ≡ tableWords) × (j + 3 ≤ tableWords) × (1 ≤ len) × (place + len ≤ length (now s)) × IsSound (now s) (stretch form place len) × ((getD (now t) (j + 1) 0 ≡ 0 → ⊥) → (getD (now t) j 0 + getD (now t) (j + 1) 0 ≤ length (now s)) × IsSound (now s) (stretch (formOf (getD (now t) (j + 2) 0)) (getD (now t) j 0) (getD (now t) (j + 1) 0))) ⌝ }
+    ensures { λ r. ⌜ r ≡ same (octetsOf (now (s .entry)) (stretch (formOf (getD (now (t .entry)) (j + 2) 0)) (getD (now (t .entry)) j 0) (getD (now (t .entry)) (j + 1) 0))) (octetsOf (now (s .entry)) (stretch form place len)) ⌝ }
+{
+    let n = wide(t[j + 1]);
+    if n == 0 {
+        return false;
+    }
+    let a = wide(t[j]);
+    let number = t[j + 2];
+    if number == form.number() {
+        return same_octets(s, a, n, s, place, len);
+    }
+    forms::same(
+        s,
+        StringForm::of(number),
+        a,
+        a + n,
+        form,
+        place,
+        place + len,
+    )
 }
 
 // Whether the row at word j is the name with these numbers. Most names of a document have the same prefix and namespace.

@@ -10,6 +10,7 @@ use Rattle.format.specs.Tables.{StringTable, PREFIX, NAMESPACE-NAME, LOCAL-NAME
 use Rattle.format.specs.Items.{State}
 use Rattle.format.specs.Document.{Written, document-end, attributes-end, element-end, item, knownAfter, beginning, Document}
 use Rattle.format.specs.Uses.{Act, makes, uses, makesName, usesName, ofString, ofOption, ofName, ofItem, acts, Holds}
+use Rattle.format.specs.Head.{Head}
 use Rattle.theorems.specs.Heads.{headed}
 use Rattle.theorems.specs.Acts.{numberIn, numberIfAny, numbersInName, numbersIn, allNumbers, used, HoldAfter}
 use Rattle.theorems.proofs.Effects.{IdDone, id-made, id-used, PartDone, no-part, a-part, StringDone, string-made, string-used, ValueDone, empty-value, a-value, NameDone, name-made, name-used}
@@ -31,7 +32,7 @@ alone a p = ap used (append-nil a) ∙ p
 both : {S : Type 0} (a b : List (Act S)) {m n : List ℕ} → used a ≡ m → used b ≡ n → used (a ++ b) ≡ m ++ n
 both a b p q = used-append a b ∙ ap₂ (λ (x y : List ℕ). x ++ y) p q
 
-module _ {S : Type 0} {d : S} {Spelt : S → Type 0} where
+module _ {S : Type 0} {d : S} {Spelt : StringTable → S → Type 0} where
   id-numbers : {t : StringTable} {v w : Vocabulary S} {x : S} {h : How} {n : ℕ} → IdDone d Spelt t v x h n w → used (ofString t x h) ≡ numberIn h
   id-numbers (id-made sp) = refl
   id-numbers (id-used en) = refl
@@ -72,7 +73,7 @@ module _ {S : Type 0} {d : S} {Spelt : S → Type 0} where
   all-numbers no-item = refl
   all-numbers (an-item {i = i} {items = items} u r) = both (ofItem i) (acts items) (item-numbers u) (all-numbers r)
 
-pub every-number : (ver : Version) (h : Vocabulary Octets) (items : List (Item Octets)) (z : State Octets) (s : Octets) → Document ver h items z s → used (acts items) ≡ allNumbers items
+pub every-number : (ver : Version) (h : Head) (items : List (Item Octets)) (z : State Octets) (s : Octets) → Document ver h items z s → used (acts items) ≡ allNumbers items
 every-number ver h items z s w = all-numbers (document-done w)
 
 module _ (ver : Version) where
@@ -83,7 +84,7 @@ module _ (ver : Version) where
   hold-after (element-end md lv r) t h = (h, hold-after r t h)
   hold-after (item u r) t h = let g = item-does (octets-done u) .then t h in (g, hold-after r _ g)
 
-  pub tables-after : (h : Vocabulary Octets) (items : List (Item Octets)) (z : State Octets) (s : Octets) (w : Document ver h items z s) (begins : Tables Octets (Name Octets)) → Holds (headed ver h) begins
+  pub tables-after : (h : Head) (items : List (Item Octets)) (z : State Octets) (s : Octets) (w : Document ver h items z s) (begins : Tables Octets (Name Octets)) → Holds (headed ver h) begins
       → HoldAfter begins items (knownAfter ver (w .rule))
   unfolding beginning
   tables-after h items z s w begins a = hold-after (w .rule) begins (subst (λ (v : Vocabulary Octets). Holds v begins) (sym (opened-is (w .opens))) a)

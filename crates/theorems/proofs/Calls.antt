@@ -11,7 +11,8 @@ use lib.Dec.{eqb}
 use Rattle.format.specs.Octets.{Octets, Words, AreOctets}
 use Rattle.format.specs.Numbers.{pick}
 use Rattle.format.specs.Events.{Item}
-use Rattle.format.specs.Tables.{Vocabulary, Version}
+use Rattle.format.specs.Tables.{Version}
+use Rattle.format.specs.Head.{Head}
 use Rattle.format.specs.Items.{State}
 use Rattle.format.specs.Document.{Document}
 use Rattle.tables.specs.declared.Counts.{Counts}
@@ -29,14 +30,14 @@ use Rattle.theorems.proofs.Demands.{check-needs-none}
 
 -- The octets are what the rules write, from some head and items.
 pub record Written (ver : Version) (s : Octets) : Type 0 where
-  pub head : Vocabulary Octets
+  pub head : Head
   pub items : List (Item Octets)
   pub last : State Octets
   pub writes : Document ver head items last s
 
 -- A call with this room left the records of these events, blank records behind them, and these tables; and the rules write s from some head and the events.
 pub record Handed (ver : Version) (s : Octets) (room : ℕ) (o : Outcome) : Type 0 where
-  pub head : Vocabulary Octets
+  pub head : Head
   pub events : List EventRead
   pub last : State Located
   pub is : o ≡ accepting (map recordRead events) (last .tables) room
@@ -62,7 +63,7 @@ module _ (ver : Version) (ok : Bounded ver) (s : Octets) (bytes : AreOctets s) w
 
     --     And all that the rules write, if there is a record for each event and the table room is right; the events in the row are those of the items, and the
     --     tables in the words those that the rules know at the end.
-    pub written-is-read : (h : Vocabulary Octets) (items : List (Item Octets)) (z : State Octets) → Document ver h items z s → length items ≤ room
+    pub written-is-read : (h : Head) (items : List (Item Octets)) (z : State Octets) → Document ver h items z s → length items ≤ room
         → (r : Handed ver s room (readOf ver s room tableWords)) × (r .head ≡ h) × (map (plain s) (itemsRead (r .events)) ≡ items) × (plainState s (r .last) ≡ z)
     unfolding readOf
     written-is-read h items z w few =
@@ -89,7 +90,7 @@ module _ (ver : Version) (ok : Bounded ver) (s : Octets) (bytes : AreOctets s) w
   unfolding checkOf
   check-accepts e = from-number (reading ver s (2 * ver .octets)) (Whole.means ver ok s bytes (2 * ver .octets)) e
 
-  pub written-is-checked : (h : Vocabulary Octets) (items : List (Item Octets)) (z : State Octets) → Document ver h items z s → checkOf ver s ≡ 0
+  pub written-is-checked : (h : Head) (items : List (Item Octets)) (z : State Octets) → Document ver h items z s → checkOf ver s ≡ 0
   written-is-checked h items z w =
       let a = Whole.accepts ver s h items z w (2 * ver .octets + length items) (omega arith) in
       check-needs-none ver ok s bytes (2 * ver .octets + length items) (omega arith) ∙ ap numberOf (a .reads)
@@ -128,7 +129,7 @@ module _ (ver : Version) (ok : Bounded ver) (s : Octets) (bytes : AreOctets s) w
     words-accept c n e = by-words c n (sized ver s) (eqb c 10) e
 
   --     And all that the rules write is, if there are words for each event and the tables' room is right.
-  pub written-is-worded : (h : Vocabulary Octets) (items : List (Item Octets)) (z : State Octets) → Document ver h items z s → (r : ℕ) → length items ≤ r / 13
+  pub written-is-worded : (h : Head) (items : List (Item Octets)) (z : State Octets) → Document ver h items z s → (r : ℕ) → length items ≤ r / 13
       → Handed ver s (r / 13) (readOf ver s (r / 13) tableWords) × (readWords ver s r tableWords 10 ≡ inWords r (readOf ver s (r / 13) tableWords))
   unfolding readWords
   written-is-worded h items z w r few =

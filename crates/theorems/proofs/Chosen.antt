@@ -12,18 +12,20 @@ use Rattle.format.specs.Octets.{Octets}
 use Rattle.format.specs.Numbers.{pick, spell, sizes, lengths, c25, top}
 use Rattle.format.specs.Events.{Name, How, spelled, numbered, NameHow, inParts, byNumber}
 use Rattle.format.specs.Tables.{StringTable, PREFIX, NAMESPACE-NAME, LOCAL-NAME, NameTable, ELEMENT-NAME, ATTRIBUTE-NAME, Triple, Vocabulary, strings, names, adding, addingName, Entry, New, first, later, Behind, nothing, an-entry, Means, Version, InLimits}
-use Rattle.format.specs.Strings.{withLength, Spelling, bit, Layout, c14, keeping, Identifying, id-spelled, id-numbered, Optional, absent, present, Literal, literal-spelled, literal-numbered, Value, value-empty, value}
+use Rattle.format.specs.declared.StringForm.the-variants.{Utf8}
+use Rattle.format.specs.Strings.{withLength, Spelling, inFormat, bit, Layout, c14, keeping, Identifying, id-spelled, id-numbered, Optional, absent, present, Literal, literal-spelled, literal-numbered, Value, value-empty, value}
 use Rattle.format.specs.Names.{has, NameLayout, Named, in-parts, by-number}
 use Rattle.tables.specs.Search.{numberIn, numberOfTriple}
 use Rattle.tables.specs.Rows.{place}
 use Rattle.tables.proofs.EntryLaws.{entry-made}
 use Rattle.tables.proofs.Adding.{extended, sameNames, strings-adding, names-adding, strings-adding-name, names-adding-name}
 use Rattle.tables.proofs.Laws.{holds-number, number-entry, holds-name-number, name-number-entry}
-use Rattle.write_names.specs.Choices.{worthAdding}
+use Rattle.write_names.specs.Choices.{fieldIn, formFor, worthAdding}
 use Rattle.write_names.specs.Chosen.{Chose, chooseId, chooseOptional, chooseName, chooseLiteral, chooseValue}
 use Rattle.tables.proofs.Found.{clash, both-true}
 use Rattle.tables.proofs.NewLaws.{new-string, new-name}
 use Rattle.theorems.specs.Permitted.{PermitsId, id-new, id-entry, PermitsIfAny, not-there, there, PermitsString, string-spelled, string-entry, PermitsValue, value-none, value-spelled, value-entry, PermitsName, name-parts, name-entry}
+use Rattle.theorems.proofs.Forms.{has-form, has-spelling, chosen-spelling}
 
 -- ---- tables grow, and stay within the limits
 pub record Grows {S T : Type 0} (v : Vocabulary S) (w : Vocabulary T) : Type 0 where
@@ -90,11 +92,11 @@ optional-more (there c) = id-more c
 
 pub string-more : {t : StringTable} {v w : Vocabulary Octets} {x : Octets} {h : How} → PermitsString t v x h w → More t v w
 string-more (string-entry en) = as-was
-string-more {x = x} (string-spelled a) = keeping-more a x
+string-more {x = x} (string-spelled a y) = keeping-more a x
 
 pub value-more : {t : StringTable} {v w : Vocabulary Octets} {x : Octets} {h : How} → PermitsValue t v x h w → More t v w
 value-more value-none = as-was
-value-more {x = x} (value-spelled a long) = keeping-more a x
+value-more {x = x} (value-spelled a long y) = keeping-more a x
 value-more (value-entry en) = as-was
 
 pub more-grows : {t : StringTable} {v w : Vocabulary Octets} → More t v w → Grows v w
@@ -105,24 +107,15 @@ pub more-names : {t : StringTable} {v w : Vocabulary Octets} → More t v w → 
 more-names as-was u = refl
 more-names {t} {v} (one-more x) u = names-adding v t x u
 
--- ---- the octets of a string or a name, from how it is written
+-- ---- the octets of an identifying string or a name, from how it is written
 abbrev pub idOctets : Octets → How → Octets
-idOctets x (spelled added) = withLength (lengths 2) 0 x
+idOctets x (spelled form added) = withLength (lengths 2) 0 x
 idOctets x (numbered k) = spell c25 0x80 k
 
 abbrev pub optionalOctets : Option Octets → Option How → Octets
 optionalOctets none h = []
 optionalOctets (some x) none = []
 optionalOctets (some x) (some h) = idOctets x h
-
-abbrev pub literalOctets : Layout → Octets → How → Octets
-literalOctets q x (spelled added) = withLength (lengths (q .lengthBit)) (q .spelledBits + q .addBit * bit added) x
-literalOctets q x (numbered k) = spell (q .numberForms) (q .numberedBits) k
-
-abbrev pub valueOctets : Octets → How → Octets
-valueOctets x (spelled added) = literalOctets c14 x (spelled added)
-valueOctets x (numbered zero) = 0xFF ∷ []
-valueOctets x (numbered (suc k)) = literalOctets c14 x (numbered (suc k))
 
 abbrev pub nameOctets : NameLayout → ℕ → Name Octets → NameHow → Octets
 nameOctets q lead x (inParts hp hn hl) =
@@ -142,7 +135,7 @@ found t v x n e =
 
 module _ (t : StringTable) (v : Vocabulary Octets) (x : Octets) where
   id-from : (k : ℕ) → numberIn (strings v t) x ≡ k
-      → IdCase t v x (pick (eqb k 0) (record { how = spelled true; number = suc (length (strings v t)); tables = adding v t x }) (record { how = numbered k; number = k; tables = v }))
+      → IdCase t v x (pick (eqb k 0) (record { how = spelled Utf8 true; number = suc (length (strings v t)); tables = adding v t x }) (record { how = numbered k; number = k; tables = v }))
   id-from zero e = id-new (new-string (strings v t) x .0 (holds-number (strings v t) x ∙ ap (λ (k : ℕ). not (eqb k 0)) e))
   id-from (suc n) e = rw (ne-eqb (suc n) 0 (λ z. omega arith)) (id-entry {k = n} (found t v x n e))
 
@@ -151,7 +144,7 @@ module _ (t : StringTable) (v : Vocabulary Octets) (x : Octets) where
   id-case = id-from (numberIn (strings v t) x) refl
 
 module _ (ver : Version) (small : ver .entries ≤ top) where
-  pub id-rule : {t : StringTable} {v w : Vocabulary Octets} {x : Octets} {h : How} {n : ℕ} → Spelling x → InLimits ver w → PermitsId t v x h n w → Identifying ver t v x h n (idOctets x h) w
+  pub id-rule : {t : StringTable} {v w : Vocabulary Octets} {x : Octets} {h : How} {n : ℕ} → Spelling Utf8 x x → InLimits ver w → PermitsId t v x h n w → Identifying ver t v x h n (idOctets x h) w
   id-rule {t} {v} sp f (id-entry {k = j} en) = let a = f .few t in let h = entry-made en in id-numbered {k = j} (omega arith) en
   id-rule {t} {v} {x = x} sp f (id-new h) = let o = one-longer v t x in let a = f .few t in id-spelled sp h (omega arith)
 
@@ -167,7 +160,7 @@ optional-case t v (some x) = there (id-case t v x)
 -- what can be spelled, if it is there
 abbrev pub SpellingIfAny : Option Octets → Type 0
 SpellingIfAny none = Unit {0}
-SpellingIfAny (some x) = Spelling x
+SpellingIfAny (some x) = Spelling Utf8 x x
 
 module _ (ver : Version) (small : ver .entries ≤ top) where
   pub optional-rule : {t : StringTable} {v w : Vocabulary Octets} {x : Option Octets} {h : Option How} {n : ℕ} → SpellingIfAny x → InLimits ver w → PermitsIfAny t v x h n w
@@ -176,13 +169,24 @@ module _ (ver : Version) (small : ver .entries ≤ top) where
   optional-rule sp f (there c) = present (id-rule ver small sp f c)
 
 -- ---- C.14, C.15
-pub data LiteralCase (ver : Version) (t : StringTable) (v : Vocabulary Octets) (x : Octets) : Chose How → Type 0 where
-  lit-held : {j : ℕ} → Entry (strings v t) j x → LiteralCase ver t v x (record { how = numbered (suc j); number = suc j; tables = v })
-  lit-new : {added : Bool} → (added ≡ true → length (strings v t) < ver .entries) → LiteralCase ver t v x (record { how = spelled added; number = 0; tables = keeping added v t x })
+-- the octets of a string with a permitted choice
+abbrev pub stringOctets : (q : Layout) {t : StringTable} {v w : Vocabulary Octets} {x : Octets} {h : How} → PermitsString t v x h w → Octets
+stringOctets q (string-spelled {form = form} added y) = inFormat (q .lengthBit) form (q .spelledBits + q .addBit * bit added) (y .octets)
+stringOctets q (string-entry {k = k} en) = spell (q .numberForms) (q .numberedBits) (suc k)
 
-module _ (ver : Version) (t : StringTable) (v : Vocabulary Octets) (x : Octets) where
+-- with the required one
+abbrev pub literalOctets : Layout → Octets → How → Octets
+literalOctets q x (spelled form added) = fieldIn (q .lengthBit) form (q .spelledBits + q .addBit * bit added) x
+literalOctets q x (numbered k) = spell (q .numberForms) (q .numberedBits) k
+
+pub data LiteralCase (ver : Version) (q : Layout) (t : StringTable) (v : Vocabulary Octets) (x : Octets) : Chose How → Type 0 where
+  lit-held : {j : ℕ} → Entry (strings v t) j x → LiteralCase ver q t v x (record { how = numbered (suc j); number = suc j; tables = v })
+  lit-new : {added : Bool} → (added ≡ true → length (strings v t) < ver .entries)
+      → LiteralCase ver q t v x (record { how = spelled (formFor (q .lengthBit) x) added; number = 0; tables = keeping added v t x })
+
+module _ (ver : Version) (q : Layout) (t : StringTable) (v : Vocabulary Octets) (x : Octets) where
   literal-from : (k : ℕ) (added : Bool) → numberIn (strings v t) x ≡ k → (added ≡ true → length (strings v t) < ver .entries)
-      → LiteralCase ver t v x (pick (eqb k 0) (record { how = spelled added; number = 0; tables = keeping added v t x }) (record { how = numbered k; number = k; tables = v }))
+      → LiteralCase ver q t v x (pick (eqb k 0) (record { how = spelled (formFor (q .lengthBit) x) added; number = 0; tables = keeping added v t x }) (record { how = numbered k; number = k; tables = v }))
   literal-from zero added e r = lit-new r
   literal-from (suc n) added e r = rw (ne-eqb (suc n) 0 (λ z. omega arith)) (lit-held {j = n} (found t v x n e))
 
@@ -190,13 +194,20 @@ module _ (ver : Version) (t : StringTable) (v : Vocabulary Octets) (x : Octets) 
   unfolding worthAdding
   worth-room e = ltb-true (length (strings v t)) (ver .entries) (both-true (leb (length x) 5) (ltb (length (strings v t)) (ver .entries)) e .1)
 
-  pub literal-case : LiteralCase ver t v x (chooseLiteral ver t v x)
+  pub literal-case : LiteralCase ver q t v x (chooseLiteral ver q t v x)
   unfolding chooseLiteral
   literal-case = literal-from (numberIn (strings v t) x) (worthAdding ver (strings v t) x) refl worth-room
 
-pub literal-permits : {ver : Version} {t : StringTable} {v : Vocabulary Octets} {x : Octets} {c : Chose How} → LiteralCase ver t v x c → PermitsString t v x (c .how) (c .tables)
-literal-permits (lit-held en) = string-entry en
-literal-permits (lit-new {added = a} r) = string-spelled a
+module _ {ver : Version} {q : Layout} {t : StringTable} {v : Vocabulary Octets} {x : Octets} where
+  pub literal-more : {c : Chose How} → LiteralCase ver q t v x c → More t v (c .tables)
+  literal-more (lit-held en) = as-was
+  literal-more (lit-new {added = a} r) = keeping-more a x
+
+  -- the required choice is a permitted one, and its octets are those
+  pub literal-permits : {c : Chose How} → Spelling Utf8 x x → LiteralCase ver q t v x c → (p : PermitsString t v x (c .how) (c .tables)) × (stringOctets q p ≡ literalOctets q x (c .how))
+  unfolding fieldIn
+  literal-permits sp (lit-held en) = (string-entry en, refl)
+  literal-permits sp (lit-new {added = a} r) = (string-spelled a (has-form (chosen-spelling (q .lengthBit) x sp)), refl)
 
 module _ (ver : Version) (small : ver .entries ≤ top) where
   -- one that is added had room
@@ -204,43 +215,60 @@ module _ (ver : Version) (small : ver .entries ≤ top) where
   had-room true v t x f e = let o = one-longer v t x in let a = f .few t in omega arith
   had-room false v t x f e = clash e
 
-  pub literal-rule : {q : Layout} {t : StringTable} {v w : Vocabulary Octets} {x : Octets} {h : How} → top ≤ sizes (q .numberForms) → Spelling x → InLimits ver w
-      → PermitsString t v x h w → Literal ver q t v x h (literalOctets q x h) w
-  literal-rule {t = t} big sp f (string-entry {k = j} en) =
+  pub literal-rule : {q : Layout} {t : StringTable} {v w : Vocabulary Octets} {x : Octets} {h : How} → top ≤ sizes (q .numberForms) → 0 < length x → InLimits ver w
+      → (p : PermitsString t v x h w) → Literal ver q t v x h (stringOctets q p) w
+  literal-rule {t = t} big long f (string-entry {k = j} en) =
       let a = f .few t in
       let h = entry-made en in
       literal-numbered {k = j} (omega arith) (omega arith) en
-  literal-rule {t = t} {v = v} {x = x} big sp f (string-spelled added) = literal-spelled sp (had-room added v t x f)
+  literal-rule {t = t} {v = v} {x = x} big long f (string-spelled added y) = literal-spelled (has-spelling long y) (had-room added v t x f)
 
 -- ---- values
+abbrev pub valueOctets : {t : StringTable} {v w : Vocabulary Octets} {x : Octets} {h : How} → PermitsValue t v x h w → Octets
+valueOctets value-none = 0xFF ∷ []
+valueOctets {t} {v} (value-spelled added long y) = stringOctets c14 {t = t} {v = v} (string-spelled added y)
+valueOctets {t} {v} (value-entry en) = stringOctets c14 {t = t} {v = v} (string-entry en)
+
+-- with the required choice: the number 0 is that of the empty string
+abbrev pub valueBy : Octets → How → Octets
+valueBy x (spelled form added) = literalOctets c14 x (spelled form added)
+valueBy x (numbered zero) = 0xFF ∷ []
+valueBy x (numbered (suc k)) = literalOctets c14 x (numbered (suc k))
+
 pub data ValueCase (ver : Version) (t : StringTable) (v : Vocabulary Octets) (x : Octets) : Chose How → Type 0 where
   is-empty : x ≡ [] → ValueCase ver t v x (record { how = numbered 0; number = 0; tables = v })
-  is-literal : {c : Chose How} → 0 < length x → LiteralCase ver t v x c → ValueCase ver t v x c
+  is-literal : {c : Chose How} → 0 < length x → LiteralCase ver c14 t v x c → ValueCase ver t v x c
 
 pub value-case : (ver : Version) (t : StringTable) (v : Vocabulary Octets) (x : Octets) → ValueCase ver t v x (chooseValue ver t v x)
 unfolding chooseValue
 value-case ver t v [] = is-empty refl
-value-case ver t v (b ∷ x) = rw (ne-eqb (length (b ∷ x)) 0 (λ z. omega arith)) (is-literal (omega arith) (literal-case ver t v (b ∷ x)))
-
-pub value-permits : {ver : Version} {t : StringTable} {v : Vocabulary Octets} {x : Octets} {c : Chose How} → ValueCase ver t v x c → PermitsValue t v x (c .how) (c .tables)
-value-permits (is-empty e) = rw e value-none
-value-permits (is-literal h (lit-held en)) = value-entry en
-value-permits (is-literal h (lit-new {added = a} r)) = value-spelled a h
+value-case ver t v (b ∷ x) = rw (ne-eqb (length (b ∷ x)) 0 (λ z. omega arith)) (is-literal (omega arith) (literal-case ver c14 t v (b ∷ x)))
 
 -- A text that may be spelled, or be empty.
 abbrev pub SpellingIfSome : Octets → Type 0
-SpellingIfSome x = 0 < length x → Spelling x
+SpellingIfSome x = 0 < length x → Spelling Utf8 x x
 
-pub literal-value : {ver : Version} {t : StringTable} {v : Vocabulary Octets} {x : Octets} {c : Chose How} → LiteralCase ver t v x c → valueOctets x (c .how) ≡ literalOctets c14 x (c .how)
+module _ {ver : Version} {t : StringTable} {v : Vocabulary Octets} {x : Octets} where
+  pub value-adds : {c : Chose How} → ValueCase ver t v x c → More t v (c .tables)
+  value-adds (is-empty e) = as-was
+  value-adds (is-literal h l) = literal-more l
+
+  pub value-permits : {c : Chose How} → SpellingIfSome x → ValueCase ver t v x c → (p : PermitsValue t v x (c .how) (c .tables)) × (valueOctets p ≡ valueBy x (c .how))
+  unfolding fieldIn
+  value-permits sp (is-empty e) = rw e (value-none, refl)
+  value-permits sp (is-literal h (lit-held en)) = (value-entry en, refl)
+  value-permits sp (is-literal h (lit-new {added = a} r)) = (value-spelled a h (has-form (chosen-spelling (c14 .lengthBit) x (sp h))), refl)
+
+pub literal-value : {ver : Version} {t : StringTable} {v : Vocabulary Octets} {x : Octets} {c : Chose How} → LiteralCase ver c14 t v x c → valueBy x (c .how) ≡ literalOctets c14 x (c .how)
 literal-value (lit-held en) = refl
 literal-value (lit-new r) = refl
 
 module _ (ver : Version) (small : ver .entries ≤ top) where
-  pub value-rule : {t : StringTable} {v w : Vocabulary Octets} {x : Octets} {h : How} → SpellingIfSome x → InLimits ver w → PermitsValue t v x h w → Value ver t v x h (valueOctets x h) w
+  pub value-rule : {t : StringTable} {v w : Vocabulary Octets} {x : Octets} {h : How} → InLimits ver w → (p : PermitsValue t v x h w) → Value ver t v x h (valueOctets p) w
   unfolding c14 sizes c25
-  value-rule sp f value-none = value-empty
-  value-rule {t} {v} {x = x} sp f (value-spelled added long) = value (literal-spelled (sp long) (had-room ver small added v t x f))
-  value-rule {t} sp f (value-entry {k = j} en) =
+  value-rule f value-none = value-empty
+  value-rule {t} {v} {x = x} f (value-spelled added long y) = value (literal-spelled (has-spelling long y) (had-room ver small added v t x f))
+  value-rule {t} f (value-entry {k = j} en) =
       let a = f .few t in
       let h = entry-made en in
       value (literal-numbered {k = j} (omega arith) (omega arith) en)
@@ -393,7 +421,7 @@ name-ranged (name-entry en m) r = r
 pub record NameSaid (x : Name Octets) : Type 0 where
   pub prefix : SpellingIfAny (x .prefix)
   pub namespace : SpellingIfAny (x .namespace)
-  pub local : Spelling (x .local)
+  pub local : Spelling Utf8 (x .local) (x .local)
   pub pair : has (x .prefix) ≤ has (x .namespace)
 
 module _ (ver : Version) (small : ver .entries ≤ top) (q : NameLayout) (big : top ≤ sizes (q .numberForms)) (lead : ℕ) where

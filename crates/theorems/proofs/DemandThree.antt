@@ -11,6 +11,7 @@ use Rattle.format.specs.Octets.{Octets, AreOctets}
 use Rattle.format.specs.Numbers.{pick}
 use Rattle.format.specs.Events.{Name, Item}
 use Rattle.format.specs.Tables.{Tables, Vocabulary, Version}
+use Rattle.format.specs.Head.{Head}
 use Rattle.format.specs.Items.{State}
 use Rattle.format.specs.Document.{Document}
 use Rattle.format.specs.Uses.{Holds}
@@ -29,7 +30,7 @@ use Rattle.theorems.proofs.Fits.{accepted-fits, accepted-sized}
 use Rattle.theorems.proofs.Demands.{accepted-is-written, one-pair, refused, places-are, records-well-made, listed-places, made-earlier-places, spelled-places, tables-made-places}
 
 module _ (ver : Version) (s : Octets) (room table : ℕ) where
-  pub accepts : (h : Vocabulary Octets) (items : List (Item Octets)) (z : State Octets) (w : Document ver h items z s) → length items ≤ room → table ≡ tableWords
+  pub accepts : (h : Head) (items : List (Item Octets)) (z : State Octets) (w : Document ver h items z s) → length items ≤ room → table ≡ tableWords
       → HandsOut ver s room h items z w (readOf ver s room table)
   unfolding readOf
   accepts h items z w few right =
@@ -65,7 +66,7 @@ module _ (ver : Version) (s : Octets) (room table : ℕ) where
 
 module _ (ver : Version) (ok : Bounded ver) (s : Octets) (bytes : AreOctets s) (room table : ℕ) where
   abbrev Stands : Type 0
-  Stands = (h : Vocabulary Octets) × (items : List (Item Octets)) × (z : State Octets) × Document ver h items z s × (length items ≤ room) × (table ≡ tableWords)
+  Stands = (h : Head) × (items : List (Item Octets)) × (z : State Octets) × Document ver h items z s × (length items ≤ room) × (table ≡ tableWords)
 
   only-from : table ≡ tableWords → (r : Result) → reading ver s room ≡ r → outcome r room .told .number ≡ 0 → Stands
   only-from right (accepted es m) q e =

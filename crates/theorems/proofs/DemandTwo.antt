@@ -9,7 +9,8 @@ use borrow.Author.Tests.{le-leb, lt-leb, eq-eqb, ne-eqb}
 use lib.ListN.{length, replicate, length-map, length-append}
 use Rattle.format.specs.Octets.{Octets, Halves, Words}
 use Rattle.format.specs.Events.{Name, Item}
-use Rattle.format.specs.Tables.{Tables, Vocabulary, Version}
+use Rattle.format.specs.Tables.{Tables, Version}
+use Rattle.format.specs.Head.{Head}
 use Rattle.format.specs.Items.{State}
 use Rattle.format.specs.Uses.{Holds}
 use Rattle.format.specs.Allowed.{All}
@@ -47,7 +48,7 @@ all-from P [] f = tt
 all-from P (x ∷ l) f = (f [] x l refl, all-from P l (λ b y after e. f (x ∷ b) y after (ap (λ (k : List _). x ∷ k) e)))
 
 -- a refusal has a number
-event-some : {ver : Version} {h : Vocabulary Octets} {text : Octets} {room : ℕ} {before : List Event} {e : Event} {n : ℕ} → Fault ver h text room before e n → 0 < n
+event-some : {ver : Version} {h : Head} {text : Octets} {room : ℕ} {before : List Event} {e : Event} {n : ℕ} → Fault ver h text room before e n → 0 < n
 event-some (not-an-event a) = omega arith
 event-some (not-text i a) = omega arith
 event-some (too-deep i t a) = omega arith
@@ -64,7 +65,7 @@ module _ (ver : Version) (ok : Bounded ver) (given : Words) (es : List Event) (t
   abbrev g : Given
   g = givenOf given
 
-  abbrev head : Vocabulary Octets
+  abbrev head : Head
   head = headOf ver text g
 
   abbrev lead : Octets

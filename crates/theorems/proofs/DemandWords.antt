@@ -12,7 +12,8 @@ use lib.ListN.{length}
 use Rattle.format.specs.Octets.{Octets, Words, AreOctets}
 use Rattle.format.specs.Numbers.{pick}
 use Rattle.format.specs.Events.{Item}
-use Rattle.format.specs.Tables.{Vocabulary, Version}
+use Rattle.format.specs.Tables.{Version}
+use Rattle.format.specs.Head.{Head}
 use Rattle.format.specs.Items.{State}
 use Rattle.format.specs.Document.{Document}
 use Rattle.tables.specs.Counts.{tableWords}
@@ -33,7 +34,7 @@ use Rattle.theorems.proofs.DemandTwo.{write-exactly}
 
 -- ---- reading
 module _ (ver : Version) (ok : Bounded ver) (s : Octets) (bytes : AreOctets s) where
-  pub check-exactly : (Read.checkOf ver s ≡ 0) ↔ ((h : Vocabulary Octets) × (items : List (Item Octets)) × (z : State Octets) × Document ver h items z s)
+  pub check-exactly : (Read.checkOf ver s ≡ 0) ↔ ((h : Head) × (items : List (Item Octets)) × (z : State Octets) × Document ver h items z s)
   check-exactly = (λ e. let w = check-accepts ver ok s bytes e in (w .head, w .items, w .last, w .writes), λ w. written-is-checked ver ok s bytes (w .0) (w .1) (w .2) (w .3))
 
   -- The check answers as the reader with an event record for each half of the longest document: 32,768 on the link.
@@ -63,7 +64,7 @@ module _ (ver : Version) (ok : Bounded ver) (s : Octets) (bytes : AreOctets s) w
         ]
 
     read-words-only : (c : ℕ) → ReadWords.readWords ver s r t c .answer % 2 ^ 32 ≡ 0
-        → (h : Vocabulary Octets) × (items : List (Item Octets)) × (z : State Octets) × Document ver h items z s × (length items ≤ r / 13) × (t ≡ tableWords) × (c ≡ 10)
+        → (h : Head) × (items : List (Item Octets)) × (z : State Octets) × Document ver h items z s × (length items ≤ r / 13) × (t ≡ tableWords) × (c ≡ 10)
     read-words-only c e = let a = read-words-accepted c e in let b = read-exactly ver ok s bytes (r / 13) t .only (a .1) in (b .0, b .1, b .2, b .3, b .4, b .5, a .0)
 
     -- DEMAND 3 of `lomphachit_read`

@@ -12,6 +12,7 @@ use Rattle.format.specs.Characters.{IsText}
 use Rattle.format.specs.Events as E
 use Rattle.format.specs.Events.{Item, IsDocument, stringsOf, deepest}
 use Rattle.format.specs.Tables.{Tables, Vocabulary, noEntries, Version, link, standard, InLimits}
+use Rattle.format.specs.Head.{Head}
 use Rattle.format.specs.Items.{State}
 use Rattle.format.specs.Document.{beginning, knownAfter, Document, header}
 use Rattle.format.specs.Uses.{acts, after, Known, Holds}
@@ -49,26 +50,25 @@ use Rattle.theorems.proofs.ReadRecords as Records
 use Rattle.theorems.proofs.Every as Every
 use Rattle.theorems.proofs.Permitted as Permitted
 use Rattle.theorems.proofs.WriterDocument as Made
-use Rattle.theorems.proofs.HeadOctets.{opens-octets}
-use Rattle.theorems.proofs.GivenHeads.{tables-headed}
+use Rattle.theorems.proofs.GivenHeads.{tables-headed, given-octets}
 use Rattle.theorems.proofs.Given.{given-back}
 
 module _ (ver : Version) (ok : Bounded ver) (s : Octets) (bytes : AreOctets s) where
   -- 1. SOUND: octets that are accepted are what the rules write, from some head and the items handed out, and the tables at the end are the rules'.
-  pub accepted-is-written : (room : ℕ) (items : List (Item Octets)) (z : State Octets) → Accepts ver s room items z → (h : Vocabulary Octets) × Document ver h items z s
+  pub accepted-is-written : (room : ℕ) (items : List (Item Octets)) (z : State Octets) → Accepts ver s room items z → (h : Head) × Document ver h items z s
   accepted-is-written room items z a =
-      subst₂ (λ (l : List (Item Octets)) (y : State Octets). (h : Vocabulary Octets) × Document ver h l y s) (a .are) (a .end-is) (subst (Whole.Means ver ok s bytes) (a .reads) (Whole.means ver ok s bytes room))
+      subst₂ (λ (l : List (Item Octets)) (y : State Octets). (h : Head) × Document ver h l y s) (a .are) (a .end-is) (subst (Whole.Means ver ok s bytes) (a .reads) (Whole.means ver ok s bytes room))
 
   --    COMPLETE: what the rules write is accepted, with those items, if there is a record for each event.
-  pub written-is-accepted : (room : ℕ) (h : Vocabulary Octets) (items : List (Item Octets)) (z : State Octets) → Document ver h items z s → length items ≤ room → Accepts ver s room items z
+  pub written-is-accepted : (room : ℕ) (h : Head) (items : List (Item Octets)) (z : State Octets) → Document ver h items z s → length items ≤ room → Accepts ver s room items z
   written-is-accepted room h items z w few = Whole.accepts ver s h items z w room few
 
   --    EXACTLY: the octets are accepted with these events, choices and tables exactly when the rules write them so behind some head, within the limits and the room.
-  pub exactly : (room : ℕ) (items : List (Item Octets)) (z : State Octets) → Accepts ver s room items z ↔ (((h : Vocabulary Octets) × Document ver h items z s) × (length items ≤ room))
+  pub exactly : (room : ℕ) (items : List (Item Octets)) (z : State Octets) → Accepts ver s room items z ↔ (((h : Head) × Document ver h items z s) × (length items ≤ room))
   exactly room items z = (λ a. (accepted-is-written room items z a, accepted-fits ver s room items z a), λ w. written-is-accepted room (w .0 .0) items z (w .0 .1) (w .1))
 
   -- 2. UNIQUE: where the rules write two heads, each with events and choices, as the same octets, the heads are the same, and the events and choices too.
-  pub one-pair : (g h : Vocabulary Octets) (items others : List (Item Octets)) (y z : State Octets) → Document ver g items y s → Document ver h others z s → (g ≡ h) × (items ≡ others) × (y ≡ z)
+  pub one-pair : (g h : Head) (items others : List (Item Octets)) (y z : State Octets) → Document ver g items y s → Document ver h others z s → (g ≡ h) × (items ≡ others) × (y ≡ z)
   one-pair g h items others y z w u =
       let a = written-is-accepted (length items + length others) g items y w (omega arith) in
       let b = written-is-accepted (length items + length others) h others z u (omega arith) in
@@ -78,7 +78,7 @@ module _ (ver : Version) (ok : Bounded ver) (s : Octets) (bytes : AreOctets s) w
       (Whole.one-head-read ver s w u, sym (a .are) ∙ ap (λ (l : List EventRead). map (plain s) (itemsRead l)) p ∙ b .are, sym (a .end-is) ∙ ap (λ (m : Stand). plainState s (m .state)) q ∙ b .end-is)
 
 --    And one head with one pair is written as one run of octets only.
-pub one-document : (ver : Version) (h : Vocabulary Octets) (items : List (Item Octets)) (y z : State Octets) (s t : Octets) → Document ver h items y s → Document ver h items z t → (s ≡ t) × (y ≡ z)
+pub one-document : (ver : Version) (h : Head) (items : List (Item Octets)) (y z : State Octets) (s t : Octets) → Document ver h items y s → Document ver h items z t → (s ≡ t) × (y ≡ z)
 one-document ver h items y z s t w u = Headed.one-document w u
 
 -- 3. ROOM: with too few records the answer is 14, at the place of the first event that has none (`marks` ends at the first fault, so no field before it is
@@ -96,12 +96,12 @@ places-are ver s room events last e = Whole.places-are ver s room events last e
 
 -- 4. MADE EARLIER: every number, save the 0 of the empty string, is, when it is used, that of an entry made earlier in the document, listed in its head or built in; and the
 --    entry is the very string, or the whole name, that the event says.
-pub made-earlier : (ver : Version) (h : Vocabulary Octets) (items : List (Item Octets)) (z : State Octets) (s : Octets) → Document ver h items z s
+pub made-earlier : (ver : Version) (h : Head) (items : List (Item Octets)) (z : State Octets) (s : Octets) → Document ver h items z s
     → (begins : Tables Octets (E.Name Octets)) → Holds (headed ver h) begins → Known begins (acts items)
 made-earlier ver h items z s w begins a = Before.earlier (subst (λ (v : Vocabulary Octets). Holds v begins) (sym (opened-is (w .opens))) a) (document-done w)
 
 --    LISTED: where the reader's body begins it has the built-in entries, and behind them the head's, each string at the very place and of the length at which the rules list it.
-pub listed-places : (ver : Version) (h : Vocabulary Octets) (items : List (Item Octets)) (z : State Octets) (s : Octets) (w : Document ver h items z s) → OpensAt ver s (w .opens)
+pub listed-places : (ver : Version) (h : Head) (items : List (Item Octets)) (z : State Octets) (s : Octets) (w : Document ver h items z s) → OpensAt ver s (w .opens)
 listed-places ver h items z s w = Whole.opens ver s h items z w
 
 --    PLACES: in what the reader hands out, the string behind a number has the very place and length of the entry made earlier or listed, or is built in; so each part of a
@@ -116,17 +116,17 @@ module _ (ver : Version) (s : Octets) (room body : ℕ) (tables : Vocabulary Loc
   tables-made-places o a events last e = Before.made a (reading-done ver s room body tables o events last e)
 
 --    And so the rules' tables: the built-in entries, the listed ones, then what the choices of the items make, in order.
-pub tables-made : (ver : Version) (h : Vocabulary Octets) (items : List (Item Octets)) (z : State Octets) (s : Octets) → Document ver h items z s
+pub tables-made : (ver : Version) (h : Head) (items : List (Item Octets)) (z : State Octets) (s : Octets) → Document ver h items z s
     → (begins : Tables Octets (E.Name Octets)) → Holds (headed ver h) begins → Holds (z .tables) (after begins (acts items))
 tables-made ver h items z s w begins a = Before.made (subst (λ (v : Vocabulary Octets). Holds v begins) (sym (opened-is (w .opens))) a) (document-done w)
 
 --    SPELLED: the strings that the choices spell have, in order, the very places and lengths at which the rules write them.
-pub spelled-places : (ver : Version) (h : Vocabulary Octets) (items : List (Item Octets)) (z : State Octets) (s : Octets) (w : Document ver h items z s) (room : ℕ) → length items ≤ room
+pub spelled-places : (ver : Version) (h : Head) (items : List (Item Octets)) (z : State Octets) (s : Octets) (w : Document ver h items z s) (room : ℕ) → length items ≤ room
     → (events : List EventRead) (last : Stand) → reading ver s room ≡ accepted events last → allSpelled (itemsRead events) ≡ spelledIn (w .rule)
 spelled-places ver h items z s w room few events last e = Whole.spelled-is ver s h items z w room few events last e
 
 -- 5. TABLES: what the reader knows after each event is what the rules know then.
-pub tables : (ver : Version) (h : Vocabulary Octets) (items : List (Item Octets)) (z : State Octets) (s : Octets) (w : Document ver h items z s)
+pub tables : (ver : Version) (h : Head) (items : List (Item Octets)) (z : State Octets) (s : Octets) (w : Document ver h items z s)
     → map (λ (k : Mark). plainState s (k .stand .state)) (marks ver s) ≡ knownAfter ver (w .rule)
 tables ver h items z s w = Whole.known-is ver s h items z w
 
@@ -161,16 +161,16 @@ link-events-few s bytes = events-few link link-bounded s bytes
 -- 7. The limits of a version lie within the standard's: what the rules write within the first, they write within the second (2^20 entries; lengths to 2^32 are in the
 --    rules; no limit on octets and open elements). It says nothing of documents that X.891 allows and the rules do not write: those of the parts that the version does not
 --    carry, and those in which an identifying string or a name is spelled again that its table holds (the requirements' REPEAT is stricter than 7.13.7).
-pub within-standard-limits : (ver : Version) → Bounded ver → (h : Vocabulary Octets) (items : List (Item Octets)) (z : State Octets) (s : Octets) (depth octets : ℕ) → ver .octets ≤ octets → ver .depth ≤ depth
+pub within-standard-limits : (ver : Version) → Bounded ver → (h : Head) (items : List (Item Octets)) (z : State Octets) (s : Octets) (depth octets : ℕ) → ver .octets ≤ octets → ver .depth ≤ depth
     → Document ver h items z s → Document (standard ver depth octets) h items z s
 within-standard-limits ver ok h items z s depth octets long deep w = Headed.in-standard depth octets (ok .few-entries) long deep w
 
 -- 8. What the rules write are documents in the sense of the requirements: comments and instructions, one root element, comments and instructions.
-pub a-document : (ver : Version) (h : Vocabulary Octets) (items : List (Item Octets)) (z : State Octets) (s : Octets) → Document ver h items z s → IsDocument (map (λ (i : Item Octets). i .event) items)
+pub a-document : (ver : Version) (h : Head) (items : List (Item Octets)) (z : State Octets) (s : Octets) → Document ver h items z s → IsDocument (map (λ (i : Item Octets). i .event) items)
 a-document ver h items z s w = Tree.is-document w
 
 -- 9. Their strings are as the requirements allow: text; empty only where the requirements say so; a prefix only with a namespace.
-pub allowed : (ver : Version) (h : Vocabulary Octets) (items : List (Item Octets)) (z : State Octets) (s : Octets) → Document ver h items z s → All (λ (i : Item Octets). Allowed (i .event)) items
+pub allowed : (ver : Version) (h : Head) (items : List (Item Octets)) (z : State Octets) (s : Octets) → Document ver h items z s → All (λ (i : Item Octets). Allowed (i .event)) items
 allowed ver h items z s w = Plain.all-allowed w
 
 --    Text is the octets of one list of characters only.
@@ -178,7 +178,7 @@ pub text-says-one : (x : Octets) (s t : IsText x) → s .says ≡ t .says
 text-says-one x s t = one-list (s .says) (t .says) (s .are) (t .are) (sym (s .octets) ∙ t .octets)
 
 --    RECORDS: so is every record that the reader hands out; its stretches lie in the document, and what is built in stands only where it can.
-pub records-well-made : (ver : Version) (h : Vocabulary Octets) (items : List (Item Octets)) (z : State Octets) (s : Octets) → Document ver h items z s
+pub records-well-made : (ver : Version) (h : Head) (items : List (Item Octets)) (z : State Octets) (s : Octets) → Document ver h items z s
     → (room : ℕ) (events : List EventRead) (last : Stand) → reading ver s room ≡ accepted events last → All (WellMade s) (map recordRead events)
 records-well-made ver h items z s w room events last e =
     let l = ap length (Whole.whole ver s h items z w) ∙ length-append (w .before) _ in
@@ -186,7 +186,7 @@ records-well-made ver h items z s w room events last e =
 
 -- 10. THE RULES CAN WRITE EVERY DOCUMENT: a list that is a document, its events as the requirements allow them, no string over 2^32 octets, is written behind every allowed head with the required
 --     choices within wide enough limits, if the events and the entries of each table behind the head are no more than 2^20 together.
-module _ (ver : Version) (ok : Bounded ver) (h : Vocabulary Octets) (right : HeadAllowed ver h) (es : List (E.Event Octets)) (doc : IsDocument es) (may : All Allowed es)
+module _ (ver : Version) (ok : Bounded ver) (h : Head) (right : HeadAllowed ver h) (es : List (E.Event Octets)) (doc : IsDocument es) (may : All Allowed es)
     (short : All (λ (e : E.Event Octets). All (λ (x : Octets). length x ≤ longest) (stringsOf e)) es) where
   pub every-document : (n : ℕ) → AtMost n (headed ver h) → n + length es ≤ top → WrittenWidely ver h es
   every-document n most few = Every.every-document ver ok h right es doc may short most few
@@ -202,7 +202,7 @@ every-document-without-head ver ok es doc may short few = every-document ver ok 
 
 --     AND WITH EVERY CHOICE: not only the requirements' own. Whatever choices are permitted (specs/Permitted: a chunk or value spelled again, added or not; any number that names the
 --     string or name), the rules write these items behind every allowed head, and the tables behind them are those that the choices leave. So the rules, and the reader with them, are not narrowed to our writer.
-module _ (ver : Version) (ok : Bounded ver) (h : Vocabulary Octets) (items : List (Item Octets)) (w : Vocabulary Octets) (right : HeadAllowed ver h) where
+module _ (ver : Version) (ok : Bounded ver) (h : Head) (items : List (Item Octets)) (w : Vocabulary Octets) (right : HeadAllowed ver h) where
   abbrev es : List (E.Event Octets)
   es = map (λ (i : Item Octets). i .event) items
 
@@ -216,7 +216,7 @@ module _ (ver : Version) (ok : Bounded ver) (h : Vocabulary Octets) (items : Lis
   every-choice-within doc may short permits shallow i = Every.every-choice-within ver ok h right items doc may short permits shallow i
 
 --     And no other choices: what the rules write is permitted, and leaves those tables.
-pub permitted : (ver : Version) (h : Vocabulary Octets) (items : List (Item Octets)) (z : State Octets) (s : Octets) → Document ver h items z s → PermitsAll (headed ver h) items (z .tables)
+pub permitted : (ver : Version) (h : Head) (items : List (Item Octets)) (z : State Octets) (s : Octets) → Document ver h items z s → PermitsAll (headed ver h) items (z .tables)
 unfolding beginning
 permitted ver h items z s d = Permitted.permitted (Headed.rule-headed d)
 
@@ -226,10 +226,9 @@ BeginsAs ver s body v = (tables : Vocabulary Located) × (opening ver s ≡ onwa
 
 pub head-read-back : (ver : Version) (text : Octets) (g : Given) (items : List (Item Octets)) (z : State Octets) (s : Octets) → Document ver (headOf ver text g) items z s
     → BeginsAs ver s (length (headOctets ver text g)) (plainTables text (tablesOf ver g))
-unfolding headOctets
 head-read-back ver text g items z s w =
     let o = listed-places ver (headOf ver text g) items z s w in
-    (o .tables, o .answers ∙ ap (λ (l : Octets). onward (length l) (o .tables)) (opens-octets (w .opens)), o .are ∙ opened-is (w .opens) ∙ sym (tables-headed ver text g))
+    (o .tables, o .answers ∙ ap (λ (l : Octets). onward (length l) (o .tables)) (given-octets ver text g (w .opens)), o .are ∙ opened-is (w .opens) ∙ sym (tables-headed ver text g))
 
 -- DEMAND 2, of the definitions: the writer makes these items, halves and this last state of tables given for the head and of records, over a text area (no longer than a document).
 module _ (ver : Version) (text : Octets) (room : ℕ) (g : Given) (es : List Event) (items : List (Item Located)) (hs : Halves) (z : State Located) (e : writing ver g text room es ≡ written items hs z) where

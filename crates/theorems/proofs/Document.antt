@@ -7,17 +7,19 @@ use lib.ListN.{length, getD, drop, length-drop}
 use Rattle.format.specs.Octets.{Octets, AreOctets}
 use Rattle.format.specs.Numbers.{longest}
 use Rattle.format.specs.Events.{Item}
-use Rattle.format.specs.Tables.{Vocabulary, Version, link}
+use Rattle.format.specs.Tables.{Vocabulary, vocabularyMap, Version, link}
+use Rattle.format.specs.Head.{Head}
 use Rattle.format.specs.Items.{State}
 use Rattle.format.specs.Document.{halves, Written, knownAfter, beginning, header, Document}
-use Rattle.tables.specs.Located.{Located, plain, plainTables, plainState}
+use Rattle.tables.specs.Located.{Located, listedAs, plain, plainTables, plainState, start}
 use Rattle.read_items.specs.Items.{Stand}
 use Rattle.reader.specs.Reading.{EventRead, itemsRead, Result, accepted, refusal, Mark, run, Opening, onward, halt, opening, origin, fuelOf, resultFrom, reading, marksFrom, marks, numberOf, Accepts}
 use Rattle.theorems.specs.Bounded.{Bounded}
 use Rattle.theorems.specs.Places.{allSpelled, spelledIn}
 use Rattle.theorems.proofs.Lists.{Refusal, halves-append, halves-length, halves-drop, halves-complete, drop-past}
 use Rattle.theorems.proofs.Run.{Inside, Right, run-right, fuel-free, NotShort, run-not-short, trace-few, placesOf, AtMarks, ByRoom, by-room, Reads, run-complete}
-use Rattle.theorems.proofs.Heads.{opened-is, opened-ranged, headed-one}
+use Rattle.theorems.proofs.Heads.{opened-ranged}
+use Rattle.theorems.proofs.TenTables.{followed-one}
 use Rattle.theorems.proofs.Opening.{Begins, Opened, opening-sound, OpensAt, opening-complete}
 
 pub link-bounded : Bounded link
@@ -35,7 +37,7 @@ module _ (ver : Version) (ok : Bounded ver) (s : Octets) (bytes : AreOctets s) w
 
   -- what a result means
   abbrev pub Means : Result → Type 0
-  Means (accepted es m) = (h : Vocabulary Octets) × Document ver h (map (plain s) (itemsRead es)) (plainState s (m .state)) s
+  Means (accepted es m) = (h : Head) × Document ver h (map (plain s) (itemsRead es)) (plainState s (m .state)) s
   Means (refusal n p) = Refusal s n p
 
   from-run : {body : ℕ} {tables : Vocabulary Located} (b : Begins ver s body tables) (a : Result) → Right ver s bytes (brief (b .short)) (origin body tables) a → Means a
@@ -103,7 +105,7 @@ module _ (ver : Version) (ok : Bounded ver) (s : Octets) (bytes : AreOctets s) w
 
 module _ (ver : Version) (s : Octets) where
   -- what the rules write is read, with a record for every event; the tables after every event are theirs
-  module _ (h : Vocabulary Octets) (items : List (Item Octets)) (z : State Octets) (w : Document ver h items z s) where
+  module _ (h : Head) (items : List (Item Octets)) (z : State Octets) (w : Document ver h items z s) where
     abbrev pub from : ℕ
     from = length (w .before)
 
@@ -144,13 +146,14 @@ module _ (ver : Version) (s : Octets) where
     known-is = rw (opens .answers) (reads-all (length items) (omega arith) .known)
 
   -- what the rules write as the same octets has the same head
-  pub one-head-read : {g h : Vocabulary Octets} {items others : List (Item Octets)} {y z : State Octets} → Document ver g items y s → Document ver h others z s → g ≡ h
+  pub one-head-read : {g h : Head} {items others : List (Item Octets)} {y z : State Octets} → Document ver g items y s → Document ver h others z s → g ≡ h
   one-head-read {g} {h} {items} {others} {y} {z} w u =
       let a = opens g items y w in
       let b = opens h others z u in
       let e : onward (length (w .before)) (a .tables) ≡ onward (length (u .before)) (b .tables) = sym (a .answers) ∙ b .answers in
       let t : a .tables ≡ b .tables = cc in
-      headed-one ver (sym (opened-is (w .opens)) ∙ sym (a .are) ∙ ap (plainTables s) t ∙ b .are ∙ opened-is (u .opens))
+      let same : a .head ≡ b .head = followed-one (start ver) (sym (a .tables-are) ∙ t ∙ b .tables-are) in
+      sym (a .head-is) ∙ ap (vocabularyMap (listedAs s)) same ∙ b .head-is
 
   -- room
   from-by-room : (room : ℕ) (o : Opening) → ByRoom (marksFrom ver s o) (λ r. resultFrom ver s r o) room

@@ -6,7 +6,8 @@ use mathlib.Core.List.{List, _∷_, map}
 use borrow.Author.Tests.{lt-ltb}
 use Rattle.format.specs.Octets.{Octets, Halves}
 use Rattle.format.specs.Events.{Event, Namespace, Start, Attribute, Text, Comment, Instruction, End, Item, no-attribute, IsDocument}
-use Rattle.format.specs.Tables.{Vocabulary, Version}
+use Rattle.format.specs.Tables.{Version}
+use Rattle.format.specs.Head.{Head}
 use Rattle.format.specs.Items.{State, mayStart, ItemWrittenAs, o-start, o-first-namespace, o-namespace, o-named-start, o-attribute, o-text, o-comment, o-instruction}
 use Rattle.format.specs.Document.{Written, document-end, attributes-end, element-end, item, Document}
 use Rattle.write_items.specs.Events.{goesOn}
@@ -35,6 +36,6 @@ module _ {ver : Version} where
   left {v = v} (element-end {items = items} md lv w) = back false v End (events items) (rw md (lt-ltb 0 (v .level) lv)) (left w)
   left (item {items = items} u w) = fronts (events items) u (left w)
 
-  pub is-document : {h : Vocabulary Octets} {items : List (Item Octets)} {z : State Octets} {s : Octets}
+  pub is-document : {h : Head} {items : List (Item Octets)} {z : State Octets} {s : Octets}
       → Document ver h items z s → IsDocument (events items)
   is-document {items = items} d = all-left (d .listed) (events items) .1 (left (d .rule))

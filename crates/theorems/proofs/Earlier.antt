@@ -123,7 +123,7 @@ module _ {S : Type 0} where
             };
       }
 
-module _ {S : Type 0} {d : S} {Spelt : S → Type 0} where
+module _ {S : Type 0} {d : S} {Spelt : StringTable → S → Type 0} where
   id-does : {t : StringTable} {v w : Vocabulary S} {x : S} {h : How} {n : ℕ} → IdDone d Spelt t v x h n w → Does v (ofString t x h) w
   id-does {t} {v} (id-made {x = x} sp) = makes-string v t x
   id-does (id-used en) = uses-string en

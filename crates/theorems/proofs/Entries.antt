@@ -10,6 +10,7 @@ use Rattle.format.specs.Octets.{Octets}
 use Rattle.format.specs.Events.{Name, Event, NameHow, Choice, Item}
 use Rattle.format.specs.Tables.{StringTable, PREFIX, NAMESPACE-NAME, LOCAL-NAME, OTHER-NCNAME, OTHER-URI, ATTRIBUTE-VALUE, CONTENT-CHARACTER-CHUNK, OTHER-STRING, NameTable, ELEMENT-NAME, ATTRIBUTE-NAME, Vocabulary, strings, names, Version, InLimits}
 use Rattle.format.specs.Strings.{bit}
+use Rattle.format.specs.Allowed.{All}
 use Rattle.fields.proofs.Laws.{case}
 use Rattle.tables.specs.Rows.{place}
 use Rattle.tables.proofs.Adding.{extended, sameNames, strings-adding, strings-adding-name, names-adding-name}
@@ -19,7 +20,7 @@ use Rattle.theorems.specs.Permitted.{PermitsName, name-parts, name-entry
 use Rattle.theorems.proofs.Growing.{extended-few}
 use Rattle.theorems.proofs.Documents.{events}
 use Rattle.theorems.proofs.Chosen.{Grows, same-size, grows-on, More, as-was, one-more, id-more, optional-more, string-more, value-more, more-names, Ranged}
-use Rattle.theorems.proofs.Produced.{permits-for, permits-grows, ranged-for}
+use Rattle.theorems.proofs.Produced.{Said, permits-for, permits-grows, ranged-for}
 
 -- ---- one entry more, in one table
 extended-adds : {A : Type 0} (b : Bool) (l : List A) (x : A) → length (extended b l x) ≤ length l + bit b
@@ -89,10 +90,10 @@ all-add (an-item p ps) =
     }
 
 -- The required choices, along a list
-pub chosen-permitted : (C : Version) (v : Vocabulary Octets) (es : List (Event Octets)) → Ranged v → PermitsAll v (chosen C v es) (tablesAfter C v es)
+pub chosen-permitted : (C : Version) (v : Vocabulary Octets) (es : List (Event Octets)) → All Said es → Ranged v → PermitsAll v (chosen C v es) (tablesAfter C v es)
 unfolding chosen tablesAfter
-chosen-permitted C v [] r = no-item
-chosen-permitted C v (e ∷ es) r = an-item (permits-for C v e r) (chosen-permitted C (chooseFor C v e .tables) es (ranged-for C v e r))
+chosen-permitted C v [] s r = no-item
+chosen-permitted C v (e ∷ es) s r = an-item (permits-for C v e (s .0) r) (chosen-permitted C (chooseFor C v e .tables) es (s .1) (ranged-for C v e r))
 
 pub chosen-events : (C : Version) (v : Vocabulary Octets) (es : List (Event Octets)) → events (chosen C v es) ≡ es
 unfolding chosen

@@ -13,7 +13,7 @@ use Rattle.format.specs.Numbers.{top}
 use Rattle.format.specs.Events.{Event, Namespace, Start, Attribute, Text, Comment, Instruction, End, Item, IsDocument, openThen, deepest, stringsOf}
 use Rattle.format.specs.Tables.{Vocabulary, noEntries, Version, standard, InLimits, starting}
 use Rattle.format.specs.Items.{State, knowing}
-use Rattle.format.specs.Head.{Opens}
+use Rattle.format.specs.Head.{Head, Opens}
 use Rattle.format.specs.Document.{Written, document-end, beginning, Document}
 use Rattle.format.specs.Allowed.{All, Allowed}
 use Rattle.write_names.specs.Chosen.{tablesAfter}
@@ -92,7 +92,7 @@ sayable : (es : List (Event Octets)) → All Allowed es → All (λ e. All Short
 sayable [] a b = tt
 sayable (e ∷ es) a b = (said e (a .0) (by-kind Short e (b .0)), sayable es (a .1) (b .1))
 
-module _ (ver : Version) (ok : Bounded ver) (h : Vocabulary Octets) (right : HeadAllowed ver h) where
+module _ (ver : Version) (ok : Bounded ver) (h : Head) (right : HeadAllowed ver h) where
   -- what stands before the body
   abbrev lead : Octets
   lead = every-head ok right .0
@@ -132,7 +132,7 @@ module _ (ver : Version) (ok : Bounded ver) (h : Vocabulary Octets) (right : Hea
     same = chosen-events ver (headed ver h) es
 
     abbrev may : PermitsAll (headed ver h) (itemsOf ver h es) (tablesAfter ver (headed ver h) es)
-    may = chosen-permitted ver (headed ver h) es (opened-ranged opens-it)
+    may = chosen-permitted ver (headed ver h) es (sayable es allowed short) (opened-ranged opens-it)
 
     abbrev doc′ : IsDocument (events (itemsOf ver h es))
     doc′ = subst IsDocument (sym same) doc

@@ -4,24 +4,26 @@ use mathlib.Core.List.{List, _++_, append-assoc}
 use Prim.Native.Nat.{ℕ, _+_, _-_, _*_, _^_, _≤_, _<_}
 use native.Mathlib.Omega.{arith}
 use borrow.Author.Tests.{le-leb}
-use lib.ListN.{length, getD, drop, length-append}
+use lib.ListN.{length, getD, take, drop, length-append}
 use Rattle.format.specs.Octets.{Octets}
 use Rattle.format.specs.Numbers.{Form, spell, sizes, longest}
-use Rattle.format.specs.Characters.{IsText}
+use Rattle.format.specs.Forms.{Spelled}
 use Rattle.format.specs.Tables.{Vocabulary}
 use Rattle.format.specs.Strings.{withLength, Spelling}
+use Rattle.format.specs.declared.StringForm.{StringForm}
 use Rattle.fields.specs.declared.Number.{Number}
 use Rattle.fields.specs.declared.Number.the-variants.{Got as Num, Refused as NoNum}
 use Rattle.fields.specs.Fields.{fieldAt, noTop}
 use Rattle.fields.specs.Utf8.{isText}
-use Rattle.fields.proofs.Characters.{text-exact}
 use Rattle.fields.proofs.Forms.{rooms, Ordered}
+use Rattle.fields.proofs.Puts.{part-length}
+use Rattle.forms.proofs.Forms.{spelled-said, spelled-text, said-spelled}
 use Rattle.tables.specs.Located.{Located, stretch, octetsOf, plainTables}
-use Rattle.tables.proofs.Search.{length-octets}
+use Rattle.tables.proofs.Search.{octets-stretch}
 use Rattle.read_names.specs.Strings.{Got, got, refused, then, number, spelling}
 use Rattle.read_items.specs.Items.{Step, stop, into}
 use Rattle.theorems.proofs.Lists.{Fault, fault, test, test-le, stretch-sound, stretch-complete, drop-past}
-use Rattle.theorems.proofs.Numbers.{NumRead, NumOk, num-complete, num-first}
+use Rattle.theorems.proofs.Numbers.{NumRead, NumOk, Told, num-complete, num-first}
 
 -- ---- sound
 module _ (s : Octets) where
@@ -37,11 +39,15 @@ module _ (s : Octets) where
   Ok R k v (got b next w) = FieldRead R k v b next w
   Ok R k v (refused n p) = Fault s n p
 
-  -- a number, then the rest
+  -- a number of which Q is told, then the rest
+  pub on-told : {C : Type 0} (P : Got C → Type 0) → ((c p : ℕ) → Fault s c p → P (refused c p)) → (Q : ℕ → ℕ → Type 0) (a : Number) → Told s Q a
+      → (f : ℕ → ℕ → Got C) → ((n next : ℕ) → Q n next → P (f n next)) → P (number a f)
+  on-told P nay Q (Num n c) r f g = g n (c .at) r
+  on-told P nay Q (NoNum c p) r f g = nay c p r
+
   pub on-number : {C : Type 0} (P : Got C → Type 0) → ((c p : ℕ) → Fault s c p → P (refused c p)) → (fs : List Form) (top base k : ℕ) (a : Number) → NumOk s fs top base k a
       → (f : ℕ → ℕ → Got C) → ((n next : ℕ) → NumRead s fs top base k n next → P (f n next)) → P (number a f)
-  on-number P nay fs top base k (Num n c) r f g = g n (c .at) r
-  on-number P nay fs top base k (NoNum c p) r f g = nay c p r
+  on-number P nay fs top base k a r f g = on-told P nay (NumRead s fs top base k) a r f g
 
   -- a field, then the rest
   pub on-field : {B C : Type 0} (P : Got C → Type 0) → ((c p : ℕ) → Fault s c p → P (refused c p)) → (R : Vocabulary Octets → B → Octets → Vocabulary Octets → Type 0) (k : ℕ) (v : Vocabulary Located)
@@ -54,25 +60,38 @@ module _ (s : Octets) where
   in-step P nay R k v (got b next w) r f g = g b next w r
   in-step P nay R k v (refused c p) r f g = nay c p r
 
-  -- a length and a string: the length's octets and then the string's
-  pub spelling-sound : length s ≤ longest → {C : Type 0} (P : Got C → Type 0) → ((c p : ℕ) → Fault s c p → P (refused c p)) → (fs : List Form) (base k n next : ℕ) → k ≤ length s → NumRead s fs noTop base k n next → (a : Got C)
-      → (Spelling (octetsOf s (stretch next n)) → drop k s ≡ withLength fs base (octetsOf s (stretch next n)) ++ drop (next + n) s
-      → next + n ≡ k + length (withLength fs base (octetsOf s (stretch next n))) → next + n ≤ length s → P a)
-      → P (spelling s k next n a)
+  -- n octets from `place` on are a string in this form, and the end of a field at k, which is `field` of them
+  pub record Stands (form : StringForm) (field : Octets → Octets) (k place n : ℕ) : Type 0 where
+    pub spelling : Spelling form (octetsOf s (stretch form place n)) (take n (drop place s))
+    pub length-is : length (take n (drop place s)) ≡ n
+    pub here : drop k s ≡ field (take n (drop place s)) ++ drop (place + n) s
+    pub next-is : place + n ≡ k + length (field (take n (drop place s)))
+    pub inside : place + n ≤ length s
+
+  -- a length that stands at j and a string: the length's octets and then the string's. A refusal is at k
+  pub spelling-sound : length s ≤ longest → {C : Type 0} (P : Got C → Type 0) → ((c p : ℕ) → Fault s c p → P (refused c p)) → (form : StringForm) (fs : List Form) (base k j n place : ℕ) → k ≤ length s
+      → NumRead s fs noTop base j n place → (a : Got C) → (Stands form (withLength fs base) j place n → P a) → P (spelling form s k place n a)
   unfolding spelling
-  spelling-sound short P nay fs base k n next kl r a f =
-      test-le P (refused 2 k) (nay 2 k (fault s 2 k refl kl)) (next + n) (length s) _
-      λ t1. test P (refused 9 k) (nay 9 k (fault s 9 k refl kl)) (isText (octetsOf s (stretch next n))) _
+  spelling-sound short P nay form fs base k j n place kl r a f =
+      test-le P (refused 2 k) (nay 2 k (fault s 2 k refl kl)) (place + n) (length s) _
+      λ t1. test P (refused 9 k) (nay 9 k (fault s 9 k refl kl)) (isText (octetsOf s (stretch form place n))) _
       λ t2.
-      let x : Octets = octetsOf s (stretch next n) in
-      let l = length-octets s next n t1 in
-      let z : n ≡ length x = omega arith in
-      let h : drop k s ≡ (spell fs base (length x) ++ x) ++ drop (next + n) s =
-      r .here ∙ ap₂ (λ (u : ℕ) (y : Octets). spell fs base u ++ y) z (stretch-sound s next n)
-      ∙ sym (append-assoc (spell fs base (length x)) x (drop (next + n) s)) in
-      let zw = ap (λ (u : ℕ). length (spell fs base u)) z in
-      let la = length-append (spell fs base (length x)) x in
-      f (record { some = omega arith; fits = omega arith; formed = text-exact x .0 t2 }) h (omega arith) t1
+      let y : Octets = take n (drop place s) in
+      let l : length y ≡ n = part-length s place n t1 in
+      let e = octets-stretch s form place n in
+      let h : drop j s ≡ (spell fs base (length y) ++ y) ++ drop (place + n) s =
+      r .here ∙ ap₂ (λ (u : ℕ) (z : Octets). spell fs base u ++ z) (sym l) (stretch-sound s place n)
+      ∙ sym (append-assoc (spell fs base (length y)) y (drop (place + n) s)) in
+      let zw = ap (λ (u : ℕ). length (spell fs base u)) l in
+      let la = length-append (spell fs base (length y)) y in
+      f
+      (record {
+        spelling = record { some = omega arith; fits = omega arith; formed = rw e (said-spelled form y (rw e at t2)) };
+        length-is = l;
+        here = h;
+        next-is = omega arith;
+        inside = t1;
+      })
 
 -- ---- complete
 module _ (s : Octets) where
@@ -87,38 +106,43 @@ module _ (s : Octets) where
   pub hit-at : {B : Type 0} (Q : B → Type 0) (a b : ℕ) (w : Vocabulary Octets) (g : Got B) → a ≡ b → Hit Q a w g → Hit Q b w g
   hit-at Q a b w g p h = subst (λ (x : ℕ). Hit Q x w g) p h
 
-  -- a length and a string stand at k, behind the bits `base` of the first octet
-  pub record Spelt (fs : List Form) (bit base k : ℕ) (x : Octets) : Type 0 where
+  -- a length and the octets y stand at k, behind the bits `base` of the first octet
+  pub record Spelt (fs : List Form) (bit base k : ℕ) (y : Octets) : Type 0 where
     pub next : ℕ
-    pub num : fieldAt fs noTop bit s k ≡ Num (length x) (record { at = next })
-    pub text-is : octetsOf s (stretch next (length x)) ≡ x
-    pub room : next + length x ≤ length s
-    pub end-is : next + length x ≡ k + length (withLength fs base x)
+    pub num : fieldAt fs noTop bit s k ≡ Num (length y) (record { at = next })
+    pub octets-are : take (length y) (drop next s) ≡ y
+    pub room : next + length y ≤ length s
+    pub end-is : next + length y ≡ k + length (withLength fs base y)
     pub low : base ≤ getD s k 0
     pub high : getD s k 0 < base + rooms fs
     pub here : k < length s
 
-  pub spelt : (fs : List Form) (bit lead base k : ℕ) (x rest : Octets) → Ordered fs → rooms fs ≤ 2 ^ (9 - bit) → longest ≤ sizes fs → base ≡ lead * 2 ^ (9 - bit) → Spelling x
-      → drop k s ≡ withLength fs base x ++ rest → Spelt fs bit base k x
-  spelt fs bit lead base k x rest ok r sz bl sp d =
-      let w : Octets = spell fs base (length x) in
-      let d1 : drop k s ≡ w ++ (x ++ rest) = d ∙ append-assoc w x rest in
+  pub spelt : {form : StringForm} {x : Octets} (fs : List Form) (bit lead base k : ℕ) (y rest : Octets) → Ordered fs → rooms fs ≤ 2 ^ (9 - bit) → longest ≤ sizes fs → base ≡ lead * 2 ^ (9 - bit) → Spelling form x y
+      → drop k s ≡ withLength fs base y ++ rest → Spelt fs bit base k y
+  spelt fs bit lead base k y rest ok r sz bl sp d =
+      let w : Octets = spell fs base (length y) in
+      let d1 : drop k s ≡ w ++ (y ++ rest) = d ∙ append-assoc w y rest in
       let p = sp .some in
-      let n = num-complete s fs noTop bit lead base (length x) k (x ++ rest) ok r p (omega arith) (omega arith) bl d1 in
-      let o = num-first s fs base (length x) k (x ++ rest) ok p (omega arith) d1 in
-      let y = stretch-complete s (k + length w) (length x) x rest refl p (drop-past s k w (x ++ rest) d1) in
-      let la = length-append w x in
+      let n = num-complete s fs noTop bit lead base (length y) k (y ++ rest) ok r p (omega arith) (omega arith) bl d1 in
+      let o = num-first s fs base (length y) k (y ++ rest) ok p (omega arith) d1 in
+      let z = stretch-complete s (k + length w) (length y) y rest refl p (drop-past s k w (y ++ rest) d1) in
+      let la = length-append w y in
       record {
         next = k + length w;
         num = n;
-        text-is = y .0;
-        room = y .1;
+        octets-are = z .0;
+        room = z .1;
         end-is = omega arith;
         low = o .0;
         high = o .1;
         here = o .2;
       }
 
-  pub spelling-is : {C : Type 0} (fs : List Form) (bit base k : ℕ) (x : Octets) (e : Spelt fs bit base k x) (a : Got C) → IsText x → spelling s k (e .next) (length x) a ≡ a
-  unfolding spelling
-  spelling-is fs bit base k x e a t = rw (le-leb (e .next + length x) (length s) (e .room), e .text-is, text-exact x .1 t)
+  -- the octets y from `place` on spell x in this form
+  module _ (form : StringForm) (place : ℕ) (x y : Octets) (e : take (length y) (drop place s) ≡ y) (sp : Spelled form x y) where
+    pub says : octetsOf s (stretch form place (length y)) ≡ x
+    says = octets-stretch s form place (length y) ∙ rw e (spelled-said form x y sp)
+
+    pub spelling-is : {C : Type 0} (k : ℕ) (a : Got C) → place + length y ≤ length s → spelling form s k place (length y) a ≡ a
+    unfolding spelling
+    spelling-is k a r = rw (le-leb (place + length y) (length s) r, says, spelled-text form x y sp)

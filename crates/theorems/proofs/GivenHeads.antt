@@ -6,37 +6,45 @@ use mathlib.Core.Bool.{Bool, true, false, not, _||_}
 use mathlib.Core.List.{List, [], _∷_, _++_, map}
 use native.Mathlib.Omega.{arith}
 use borrow.Author.Tests.{leb-true, leb-false, le-leb, lt-leb}
-use lib.Dec.{leb}
+use lib.Dec.{ltb, leb}
 use lib.ListN.{length, length-map}
 use Rattle.format.specs.Octets.{Octets}
 use Rattle.format.specs.Numbers.{pick}
 use Rattle.format.specs.Refusals.{TEXT, REPEAT, FULL, ROOM, EVENT}
 use Rattle.format.specs.Characters.{IsText}
-use Rattle.format.specs.Tables.{StringTable, NameTable, Triple, Vocabulary, strings, names, noEntries, vocabularyMap, followedBy, Version}
+use Rattle.format.specs.Tables.{StringTable, PREFIX, NAMESPACE-NAME, LOCAL-NAME, OTHER-NCNAME, OTHER-URI, ATTRIBUTE-VALUE, CONTENT-CHARACTER-CHUNK, OTHER-STRING}
+use Rattle.format.specs.Tables.{NameTable, ELEMENT-NAME, ATTRIBUTE-NAME, Triple, Vocabulary, strings, names, noEntries, vocabularyMap, followedBy, Version}
 use Rattle.format.specs.Strings.{Spelling}
-use Rattle.format.specs.Head.{isIdentifying, Opens}
+use Rattle.format.specs.Forms.{formNumber, numeric, dates}
+use Rattle.format.specs.declared.StringForm.{StringForm}
+use Rattle.format.specs.declared.StringForm.the-variants.{Utf8, Utf16, Numeric, Dates}
+use Rattle.format.specs.Head.{Listed, Head, plainHead, isIdentifying, c19, started, Opens}
 use Rattle.format.specs.Allowed.{All}
 use Rattle.fields.specs.Utf8.{isText}
 use Rattle.fields.proofs.Characters.{text-exact}
+use Rattle.forms.specs.Packing.{allLetters, alphabetFor, inForm}
 use Rattle.tables.specs.Located.{Located, octetsOf, plainTables, start}
 use Rattle.tables.proofs.Found.{clash, both-true}
-use Rattle.tables.proofs.Search.{length-octets}
+use Rattle.tables.proofs.ByNumber.{by-table}
 use Rattle.events.specs.declared.EventString.{EventString}
 use Rattle.events.specs.Records.{locatedOf}
-use Rattle.events.specs.WellMade.{IsStretch, inside, isStretch}
+use Rattle.events.specs.WellMade.{IsString}
+use Rattle.write_names.specs.Choices.{fieldIn, formFor}
 use Rattle.write_head.specs.Given.{Given}
-use Rattle.write_head.specs.Head.{isNone, inStrings, every, distinct, distinctNames, isTriple, listedOf, tablesOf, wellGiven, textGiven, newGiven, fewGiven, headOctets, faultOfHead}
+use Rattle.write_head.specs.Head.{isNone, inStrings, every, distinct, distinctNames, isTriple, isEntry, listing, headFor, listedOf, tablesOf, wellGiven, textGiven, newGiven, fewGiven, headOctets, faultOfHead}
 use Rattle.theorems.specs.Bounded.{Bounded}
-use Rattle.theorems.specs.Heads.{headed, Distinct, NamesParts, HeadAllowed}
+use Rattle.theorems.specs.Heads.{headed, CanBeListed, Distinct, NamesParts, HeadAllowed}
 use Rattle.theorems.specs.Verdicts.{headOf, AreEntries, AreTexts, AreNew, AreFew, HeadFits, HeadOverflows, HeadRight, HeadFault, not-entries, not-texts, not-new, not-few, not-room}
 use Rattle.theorems.proofs.Alls.{all-so, all-map}
 use Rattle.theorems.proofs.Words.{map-append, strings-map, names-map}
 use Rattle.theorems.proofs.Opening.{plain-start}
+use Rattle.theorems.proofs.HeadEntries.{says}
 use Rattle.theorems.proofs.HeadKeeps.{distinct-exact}
 use Rattle.theorems.proofs.Heads.{every-head, head-allowed}
-use Rattle.theorems.proofs.HeadOctets.{opens-octets}
-use Rattle.theorems.proofs.Sayable.{both, stretch-is, is-stretch}
-use Rattle.theorems.proofs.GivenTests.{every-all, all-every, in-strings, in-names, distinct-strings, distinct-triples, triple-exact, triple-map, none-is, is-none, none-map, untrue}
+use Rattle.theorems.proofs.HeadOctets.{NoUtf16, opens-octets}
+use Rattle.theorems.proofs.Forms.{spelling-said, chosen-spelling}
+use Rattle.theorems.proofs.Sayable.{both, short-one, string-said}
+use Rattle.theorems.proofs.GivenTests.{every-all, all-every, in-strings, in-names, entries-exact, distinct-strings, distinct-triples, triple-exact, triple-map, none-is, is-none, none-map, untrue}
 
 -- ---- the tables then
 pub followed-map : {S T : Type 0} (f : S → T) (v h : Vocabulary S) → vocabularyMap f (followedBy v h) ≡ followedBy (vocabularyMap f v) (vocabularyMap f h)
@@ -59,12 +67,84 @@ map-none : {S T : Type 0} (f : S → T) → vocabularyMap f noEntries ≡ noEntr
 unfolding vocabularyMap noEntries
 map-none f = refl
 
+-- ---- the head that the writer makes of tables: it says what they say, in forms that are never utf-16
+says-listing : (t : StringTable) (l : List Octets) → map says (map (listing t) l) ≡ l
+unfolding listing
+says-listing t [] = refl
+says-listing t (x ∷ l) = ap (λ (m : List Octets). x ∷ m) (says-listing t l)
+
+plain-for : (v : Vocabulary Octets) → plainHead (headFor v) ≡ v
+unfolding vocabularyMap headFor
+plain-for v =
+    λ i. record {
+      prefixes = says-listing PREFIX (v .prefixes) i;
+      namespaces = says-listing NAMESPACE-NAME (v .namespaces) i;
+      locals = says-listing LOCAL-NAME (v .locals) i;
+      ncnames = says-listing OTHER-NCNAME (v .ncnames) i;
+      uris = says-listing OTHER-URI (v .uris) i;
+      values = says-listing ATTRIBUTE-VALUE (v .values) i;
+      chunks = says-listing CONTENT-CHARACTER-CHUNK (v .chunks) i;
+      others = says-listing OTHER-STRING (v .others) i;
+      elements = v .elements;
+      attributes = v .attributes;
+    }
+
+strings-for : (v : Vocabulary Octets) (t : StringTable) → strings (headFor v) t ≡ map (listing t) (strings v t)
+unfolding strings headFor
+strings-for v = by-table _ refl refl refl refl refl refl refl refl
+
+names-for : (v : Vocabulary Octets) (t : NameTable) → names (headFor v) t ≡ names v t
+unfolding names headFor
+names-for v ELEMENT-NAME = refl
+names-for v ATTRIBUTE-NAME = refl
+
+for-none : headFor noEntries ≡ noEntries
+unfolding headFor noEntries
+for-none = refl
+
+either-form : (b : Bool) (f g : StringForm) → (f ≡ Utf16 → ⊥) → (g ≡ Utf16 → ⊥) → pick b f g ≡ Utf16 → ⊥
+either-form true f g n m = n
+either-form false f g n m = m
+
+other-number : {f : StringForm} → (formNumber f ≡ 1 → ⊥) → f ≡ Utf16 → ⊥
+other-number n e = n (ap formNumber e)
+
+not-utf16 : (t : StringTable) (x : Octets) → listing t x .form ≡ Utf16 → ⊥
+unfolding listing formFor alphabetFor
+not-utf16 t x =
+    let bit : ℕ = c19 .lengthBit in
+    let utf8 : Utf8 ≡ Utf16 → ⊥ = other-number (λ e. omega arith) in
+    let letters = either-form (allLetters numeric x) Numeric (pick (allLetters dates x) Dates Utf8) (other-number (λ e. omega arith)) (either-form (allLetters dates x) Dates Utf8 (other-number (λ e. omega arith)) utf8) in
+    either-form (isIdentifying t) Utf8 (formFor bit x) utf8 (either-form (ltb (length (fieldIn bit (alphabetFor x) 0 x)) (length (fieldIn bit Utf8 0 x))) (alphabetFor x) Utf8 letters utf8)
+
+no-utf16 : (v : Vocabulary Octets) → NoUtf16 (headFor v)
+no-utf16 v t = rw (strings-for v t) (from (strings v t))
+  where
+    from : (l : List Octets) → All (λ (x : Listed). x .form ≡ Utf16 → ⊥) (map (listing t) l)
+    from [] = tt
+    from (x ∷ l) = (not-utf16 t x, from l)
+
+-- its strings can be listed if they can be spelled in utf-8
+can-list : (t : StringTable) (x : Octets) → Spelling Utf8 x x → CanBeListed t (listing t x)
+unfolding listing
+can-list t x sp = from (isIdentifying t) refl
+  where
+    from : (b : Bool) → isIdentifying t ≡ b → CanBeListed t (record { says = x; form = pick b Utf8 (formFor (c19 .lengthBit) x) })
+    from true i = record { octets = x; spelled = sp; plain = λ e. refl }
+    from false i = record { octets = inForm (formFor (c19 .lengthBit) x) x; spelled = chosen-spelling (c19 .lengthBit) x sp; plain = λ e. clash (sym i ∙ e) }
+
 module _ (ver : Version) (text : Octets) (g : Given) where
-  abbrev h : Vocabulary Octets
+  -- what the given entries say
+  abbrev plain : Vocabulary Octets
+  plain = plainTables text (listedOf g)
+
+  abbrev h : Head
   h = headOf ver text g
 
   pub tables-headed : plainTables text (tablesOf ver g) ≡ headed ver h
-  tables-headed = followed-map (octetsOf text) (start ver) (listedOf g) ∙ ap (λ (v : Vocabulary Octets). followedBy v h) (plain-start ver text)
+  tables-headed =
+      followed-map (octetsOf text) (start ver) (listedOf g) ∙ ap (λ (v : Vocabulary Octets). followedBy v plain) (plain-start ver text)
+      ∙ ap (λ (v : Vocabulary Octets). followedBy (started ver) v) (sym (plain-for plain))
 
   strings-headed : (t : StringTable) → map (octetsOf text) (strings (tablesOf ver g) t) ≡ strings (headed ver h) t
   strings-headed t = sym (strings-map (octetsOf text) (tablesOf ver g) t) ∙ ap (λ (v : Vocabulary Octets). strings v t) tables-headed
@@ -73,17 +153,20 @@ module _ (ver : Version) (text : Octets) (g : Given) where
   names-headed t = sym (names-map (octetsOf text) (tablesOf ver g) t) ∙ ap (λ (v : Vocabulary Octets). names v t) tables-headed
 
   names-given : (t : NameTable) → names h t ≡ names g t
-  names-given t = names-map (octetsOf text) (listedOf g) t ∙ names-map locatedOf g t
+  names-given t = names-for plain t ∙ names-map (octetsOf text) (listedOf g) t ∙ names-map locatedOf g t
 
-  strings-given : (t : StringTable) → strings h t ≡ map (octetsOf text) (map locatedOf (strings g t))
+  strings-given : (t : StringTable) → strings plain t ≡ map (octetsOf text) (map locatedOf (strings g t))
   strings-given t = strings-map (octetsOf text) (listedOf g) t ∙ ap (map (octetsOf text)) (strings-map locatedOf g t)
 
   -- ---- no entry
   pub none-given : isNone g ≡ true → h ≡ noEntries
-  none-given e = ap (λ (v : Given). plainTables text (vocabularyMap locatedOf v)) (none-is g e) ∙ ap (plainTables text) (map-none locatedOf) ∙ map-none (octetsOf text)
+  none-given e =
+      ap (λ (v : Given). headFor (plainTables text (vocabularyMap locatedOf v))) (none-is g e) ∙ ap (λ (v : Vocabulary Located). headFor (plainTables text v)) (map-none locatedOf)
+      ∙ ap headFor (map-none (octetsOf text)) ∙ for-none
 
   pub given-none : h ≡ noEntries → isNone g ≡ true
-  given-none e = sym (none-map (octetsOf text) (listedOf g) ∙ none-map locatedOf g) ∙ ap isNone e ∙ is-none Octets
+  given-none e =
+      sym (none-map locatedOf g) ∙ sym (none-map (octetsOf text) (listedOf g)) ∙ ap isNone (sym (plain-for plain)) ∙ none-map says h ∙ ap isNone e ∙ is-none Listed
 
   -- ---- EVENT
   triples-are : (x : Triple) → (isTriple (tablesOf ver g) x ≡ true) ↔ NamesParts (headed ver h) x
@@ -94,9 +177,11 @@ module _ (ver : Version) (text : Octets) (g : Given) where
   unfolding wellGiven
   entries-from e =
       let a = both-true (ver .heads || isNone g) _ e in
-      let b = both-true (inStrings (λ t. every (isStretch text) (strings g t))) _ (a .1) in
+      let b = both-true (inStrings (λ t. every (isEntry t text) (strings g t))) _ (a .1) in
+      let each = in-strings (λ t. every (isEntry t text) (strings g t)) .0 (b .0) in
       record {
-        strings-are = λ t. every-all (isStretch text) (IsStretch text) (stretch-is text) (strings g t) (in-strings (λ t. every (isStretch text) (strings g t)) .0 (b .0) t);
+        strings-are = λ t. entries-exact t text (strings g t) .0 (each t) .0;
+        in-utf8 = λ t. entries-exact t text (strings g t) .0 (each t) .1;
         names-are = λ t. every-all (isTriple (tablesOf ver g)) (NamesParts (headed ver h)) (λ x. triples-are x .0) (names g t) (in-names (λ t. every (isTriple (tablesOf ver g)) (names g t)) .0 (b .1) t);
         none-given = λ nay. none-given (without (ver .heads) refl nay (a .0));
       }
@@ -109,7 +194,7 @@ module _ (ver : Version) (text : Octets) (g : Given) where
   unfolding wellGiven
   from-entries a =
       both (with-heads (ver .heads) refl)
-      (both (in-strings (λ t. every (isStretch text) (strings g t)) .1 (λ t. all-every (isStretch text) (IsStretch text) (λ x s. is-stretch text s) (strings g t) (a .strings-are t)))
+      (both (in-strings (λ t. every (isEntry t text) (strings g t)) .1 (λ t. entries-exact t text (strings g t) .1 (a .strings-are t, a .in-utf8 t)))
       (in-names (λ t. every (isTriple (tablesOf ver g)) (names g t)) .1 (λ t. all-every (isTriple (tablesOf ver g)) (NamesParts (headed ver h)) (λ x. triples-are x .1) (names g t) (a .names-are t))))
     where
       with-heads : (b : Bool) → ver .heads ≡ b → (b || isNone g) ≡ true
@@ -120,7 +205,7 @@ module _ (ver : Version) (text : Octets) (g : Given) where
   texts-from : textGiven ver text g ≡ true → AreTexts ver text g
   unfolding textGiven
   texts-from e t =
-      rw (strings-map (octetsOf text) (listedOf g) t)
+      rw (plain-for plain, strings-map (octetsOf text) (listedOf g) t)
       (all-map (octetsOf text) IsText (strings (listedOf g) t) .0
       (every-all (λ x. isText (octetsOf text x)) (λ (x : Located). IsText (octetsOf text x)) (λ x. text-exact (octetsOf text x) .0) (strings (listedOf g) t) (in-strings _ .0 e t)))
 
@@ -129,7 +214,7 @@ module _ (ver : Version) (text : Octets) (g : Given) where
   from-texts a =
       in-strings _ .1 (λ t.
       all-every (λ x. isText (octetsOf text x)) (λ (x : Located). IsText (octetsOf text x)) (λ x. text-exact (octetsOf text x) .1) (strings (listedOf g) t)
-      (all-map (octetsOf text) IsText (strings (listedOf g) t) .1 (rw (strings-map (octetsOf text) (listedOf g) t) at (a t))))
+      (all-map (octetsOf text) IsText (strings (listedOf g) t) .1 (rw (plain-for plain, strings-map (octetsOf text) (listedOf g) t) at (a t))))
 
   -- ---- REPEAT
   abbrev newStrings : StringTable → Bool
@@ -176,22 +261,26 @@ module _ (ver : Version) (text : Octets) (g : Given) where
       both (in-strings _ .1 (λ t. le-leb (length (strings (tablesOf ver g) t)) (ver .entries) (let l = length-headed t in let k = a .few t in omega arith)))
       (in-names _ .1 (λ t. le-leb (length (names (tablesOf ver g) t)) (ver .entries) (let l = ap length (names-headed t) in let k = a .few-names t in omega arith)))
 
+  -- ---- the octets before the body: what the rules write, the writer does
+  pub given-octets : {o : Octets} {v : Vocabulary Octets} → Opens ver h o v → o ≡ headOctets ver text g
+  unfolding headOctets
+  given-octets op = opens-octets (no-utf16 plain) op
+
   -- ---- the head that the rules allow
   module _ (ok : Bounded ver) (short : length text ≤ ver .octets) where
-    spelled-all : (l : List EventString) → All (IsStretch text) l → All IsText (map (octetsOf text) (map locatedOf l)) → All Spelling (map (octetsOf text) (map locatedOf l))
-    spelled-all [] a t = tt
-    spelled-all (x ∷ l) a t = (one (a .0) (t .0), spelled-all l (a .1) (t .1))
-      where
-        one : {x : EventString} → IsStretch text x → IsText (octetsOf text (locatedOf x)) → Spelling (octetsOf text (locatedOf x))
-        one (inside {place = p} {size = n} s i) f =
-            let k = length-octets text p n i in
-            let b = ok .few-octets in
-            record { some = omega arith; fits = omega arith; formed = f }
+    spelled-all : (t : StringTable) (l : List EventString) → All (IsString text) l → All IsText (map (octetsOf text) (map locatedOf l))
+        → All (CanBeListed t) (map (listing t) (map (octetsOf text) (map locatedOf l)))
+    spelled-all t [] a f = tt
+    spelled-all t (x ∷ l) a f =
+        let y : Octets = octetsOf text (locatedOf x) in
+        let b = ok .few-octets in
+        let some = string-said text (a .0) (f .0) .0 in
+        (can-list t y (record { some = some; fits = short-one text (omega arith) (locatedOf x); formed = (f .0, refl) }), spelled-all t l (a .1) (f .1))
 
     pub given-allowed : AreEntries ver text g → AreTexts ver text g → AreNew ver text g → AreFew ver text g → HeadAllowed ver h
     given-allowed a t n f =
         record {
-          spelled = λ u. rw (strings-given u) (spelled-all (strings g u) (a .strings-are u) (rw (strings-given u) at (t u)));
+          spelled = λ u. rw (strings-for plain u, strings-given u) (spelled-all u (strings g u) (a .strings-are u) (rw (plain-for plain, strings-given u) at (t u)));
           named = λ u. rw (names-given u) (a .names-are u);
           distinct = n;
           in-limits = f;
@@ -200,8 +289,7 @@ module _ (ver : Version) (text : Octets) (g : Given) where
 
     -- The rules write it as the octets of the writer's definition.
     pub given-opens : AreEntries ver text g → AreTexts ver text g → AreNew ver text g → AreFew ver text g → Opens ver h (headOctets ver text g) (headed ver h)
-    unfolding headOctets
-    given-opens a t n f = let w = every-head ok (given-allowed a t n f) in subst (λ (o : Octets). Opens ver h o (headed ver h)) (opens-octets (w .1)) (w .1)
+    given-opens a t n f = let w = every-head ok (given-allowed a t n f) in subst (λ (o : Octets). Opens ver h o (headed ver h)) (given-octets (w .1)) (w .1)
 
     -- ---- the judgement
     module _ (room : ℕ) where
@@ -250,17 +338,13 @@ module _ (ver : Version) (text : Octets) (g : Given) where
       fault-is n e = subst Verdict e verdict
 
   module _ (room : ℕ) where
-    before-length : {o : Octets} {v : Vocabulary Octets} → Opens ver h o v → length o ≡ length (headOctets ver text g)
-    unfolding headOctets
-    before-length o = ap length (opens-octets o)
-
     room-if : HeadFits ver text g room → (b : Bool) → isNone g ≡ b → (b || leb (length (headOctets ver text g)) (min room (ver .octets))) ≡ true
     room-if f true q = refl
-    room-if f false q = let l = before-length (f .opens) in let k = f .fit (λ z. clash (sym q ∙ given-none z)) in le-leb (length (headOctets ver text g)) (min room (ver .octets)) (omega arith)
+    room-if f false q = let l = ap length (given-octets (f .opens)) in let k = f .fit (λ z. clash (sym q ∙ given-none z)) in le-leb (length (headOctets ver text g)) (min room (ver .octets)) (omega arith)
 
     room-over : HeadOverflows ver text g room → (b : Bool) → isNone g ≡ b → (b || leb (length (headOctets ver text g)) (min room (ver .octets))) ≡ false
     room-over f true q = absurd (f .entries (none-given q))
-    room-over f false q = let l = before-length (f .opens) in let k = f .over in lt-leb (length (headOctets ver text g)) (min room (ver .octets)) (omega arith)
+    room-over f false q = let l = ap length (given-octets (f .opens)) in let k = f .over in lt-leb (length (headOctets ver text g)) (min room (ver .octets)) (omega arith)
 
     -- And the other way round.
     pub is-right : HeadRight ver text g room → faultOfHead ver text g room ≡ 0
@@ -291,12 +375,12 @@ module _ (ver : Version) (text : Octets) (g : Given) where
         let w = head-allowed ok op in
         record {
           are-entries = a;
-          are-texts = λ t. all-so IsText (λ x s. s .formed) (strings h t) (w .0 .spelled t);
+          are-texts = λ t. rw (strings-map says h t)
+              (all-map says IsText (strings h t) .0 (all-so (λ (x : Listed). IsText (x .says)) (λ x c. spelling-said (c .spelled) .1) (strings h t) (w .0 .spelled t)));
           are-new = w .0 .distinct;
           are-few = w .0 .in-limits;
           fits = record { before = o; opens = subst (Opens ver h o) (w .1) op; fit = λ z. f };
         }
 
     pub right-opens : HeadRight ver text g room → Opens ver h (headOctets ver text g) (headed ver h)
-    unfolding headOctets
-    right-opens r = subst (λ (o : Octets). Opens ver h o (headed ver h)) (opens-octets (r .fits .opens)) (r .fits .opens)
+    right-opens r = subst (λ (o : Octets). Opens ver h o (headed ver h)) (given-octets (r .fits .opens)) (r .fits .opens)

@@ -1,28 +1,30 @@
 -- Words that give right tables are those of the tables that they give: each string is a stretch, so its three words are its tag, place and length. No words give no entries.
-use Prim.Native.Nat.{ℕ, zero, suc, _+_, _*_, _≤_}
+use Prim.Native.Nat.{ℕ, zero, suc, _+_, _-_, _*_, _≤_, _<_}
 use mathlib.Core.Path.{_≡_, refl, sym, ap, _∙_}
 use mathlib.Core.Bool.{Bool, true, false, _&&_, _||_}
 use mathlib.Core.List.{[], _∷_, _++_, append-assoc, append-nil}
 use native.Mathlib.Omega.{arith}
-use borrow.Author.Tests.{eqb-true}
+use borrow.Author.Tests.{eqb-true, leb-true}
 use lib.Dec.{eqb, leb}
 use lib.ListN.{length, getD, drop}
 use lib.Seq.{drop-length, drop-cons}
 use Rattle.format.specs.Octets.{Octets, Words}
 use Rattle.format.specs.Tables.{StringTable, PREFIX, NAMESPACE-NAME, LOCAL-NAME, OTHER-NCNAME, OTHER-URI, ATTRIBUTE-VALUE, CONTENT-CHARACTER-CHUNK, OTHER-STRING}
 use Rattle.format.specs.Tables.{NameTable, ELEMENT-NAME, ATTRIBUTE-NAME, Triple, strings, names, noEntries}
+use Rattle.format.specs.Forms.{formOf}
 use Rattle.format.specs.Allowed.{All}
+use Rattle.fields.proofs.Utf8.{told}
 use Rattle.tables.specs.Counts.{tripleWords, rowsOf}
 use Rattle.tables.specs.Rows.{tripleAt, entries}
 use Rattle.tables.specs.Told.{entriesOf}
 use Rattle.tables.proofs.Entries.{length-entries}
 use Rattle.tables.proofs.Found.{clash, both-true}
-use Rattle.events.specs.Words.{stringWords}
+use Rattle.events.specs.Words.{formTag, stringWords}
 use Rattle.events.specs.FromWords.{toldByTag, toldBy, stringFrom}
-use Rattle.events.specs.WellMade.{IsStretch, isStretch}
+use Rattle.events.specs.WellMade.{IsString, isString}
 use Rattle.write_head.specs.Given.{entriesBefore, isGiven, rowsOf as rowOf, givenOf}
 use Rattle.theorems.specs.Given.{givenWords}
-use Rattle.theorems.proofs.Sayable.{is-stretch}
+use Rattle.theorems.proofs.Sayable.{is-string}
 use Rattle.theorems.proofs.TenTables.{no-list}
 
 -- ---- no words at all
@@ -31,25 +33,42 @@ unfolding isGiven givenOf rowOf entriesBefore entries noEntries
 given-none = (refl, refl)
 
 -- ---- one entry: a string that is a stretch has its three words, and so has a name
+-- the tags of the forms but utf-8, from 5
+form-tag : (n : ℕ) → n < 3 → formTag (formOf (n + 1)) ≡ n + 5
+unfolding formOf
+form-tag zero h = refl
+form-tag (suc zero) h = refl
+form-tag (suc (suc zero)) h = refl
+form-tag (suc (suc (suc n))) h = absurd (omega arith)
+
 module _ (text : Octets) where
-  no-stretch : (tag place size : ℕ) (b : Bool) → (eqb place 0 && eqb size 0) ≡ b → eqb tag 2 ≡ false → isStretch text (stringFrom (tag ∷ place ∷ size ∷ []) 0) ≡ false
+  no-string : (tag place size : ℕ) (b : Bool) → (eqb place 0 && eqb size 0) ≡ b → eqb tag 2 ≡ false → (leb 5 tag && leb tag 7) ≡ false → isString text (stringFrom (tag ∷ place ∷ size ∷ []) 0) ≡ false
   unfolding stringFrom toldBy toldByTag
-  no-stretch tag place size false e n = rw (n, e)
-  no-stretch zero place size true e n = rw e
-  no-stretch (suc zero) place size true e n = rw e
-  no-stretch (suc (suc zero)) place size true e n = clash (sym n)
-  no-stretch (suc (suc (suc zero))) place size true e n = rw e
-  no-stretch (suc (suc (suc (suc zero)))) place size true e n = rw e
-  no-stretch (suc (suc (suc (suc (suc k))))) place size true e n = rw (n, e)
+  no-string tag place size false e n m = rw (n, m, e)
+  no-string zero place size true e n m = rw e
+  no-string (suc zero) place size true e n m = rw e
+  no-string (suc (suc zero)) place size true e n m = clash (sym n)
+  no-string (suc (suc (suc zero))) place size true e n m = rw e
+  no-string (suc (suc (suc (suc zero)))) place size true e n m = rw e
+  no-string (suc (suc (suc (suc (suc k))))) place size true e n m = rw (n, m, e)
 
-  stretch-words : (tag place size : ℕ) (b : Bool) → eqb tag 2 ≡ b → IsStretch text (stringFrom (tag ∷ place ∷ size ∷ []) 0) → stringWords (stringFrom (tag ∷ place ∷ size ∷ []) 0) ≡ tag ∷ place ∷ size ∷ []
+  three-words : (tag place size : ℕ) → IsString text (stringFrom (tag ∷ place ∷ size ∷ []) 0) → stringWords (stringFrom (tag ∷ place ∷ size ∷ []) 0) ≡ tag ∷ place ∷ size ∷ []
   unfolding stringFrom toldBy
-  stretch-words tag place size true e s = rw (eqb-true tag 2 e)
-  stretch-words tag place size false e s = clash (sym (no-stretch tag place size (eqb place 0 && eqb size 0) refl e) ∙ is-stretch text s)
+  three-words tag place size s =
+      told (eqb tag 2) (λ e. rw (eqb-true tag 2 e))
+      (λ n. told (leb 5 tag && leb tag 7)
+      (λ m.
+      let r = both-true (leb 5 tag) (leb tag 7) m in
+      let l : 5 ≤ tag = leb-true 5 tag (r .0) in
+      let h : tag ≤ 7 = leb-true tag 7 (r .1) in
+      let k : tag - 4 ≡ tag - 5 + 1 = omega arith in
+      let back : tag - 5 + 5 ≡ tag = omega arith in
+      rw (n, m, k) (ap (λ (i : ℕ). i ∷ place ∷ size ∷ []) (form-tag (tag - 5) (omega arith) ∙ back)))
+      (λ m. clash (sym (no-string tag place size (eqb place 0 && eqb size 0) refl n m) ∙ is-string text s)))
 
-  string-words : (w : Words) (at : ℕ) → IsStretch text (stringFrom w at) → stringWords (stringFrom w at) ≡ getD w at 0 ∷ getD w (at + 1) 0 ∷ getD w (at + 2) 0 ∷ []
+  string-words : (w : Words) (at : ℕ) → IsString text (stringFrom w at) → stringWords (stringFrom w at) ≡ getD w at 0 ∷ getD w (at + 1) 0 ∷ getD w (at + 2) 0 ∷ []
   unfolding stringFrom
-  string-words w at s = stretch-words (getD w at 0) (getD w (at + 1) 0) (getD w (at + 2) 0) (eqb (getD w at 0) 2) refl s
+  string-words w at s = three-words (getD w at 0) (getD w (at + 1) 0) (getD w (at + 2) 0) s
 
 triple-words : (w : Words) (at : ℕ) → tripleWords (tripleAt w at) ≡ getD w at 0 ∷ getD w (at + 1) 0 ∷ getD w (at + 2) 0 ∷ []
 unfolding tripleAt
@@ -90,10 +109,10 @@ module _ (w : Words) (whole : length w ≡ rowOf w 10) where
   unfolding rowOf
   counted t {n} {r} h c e = drop-cons w t 0 (omega arith) ∙ (λ i. sym c i ∷ e i)
 
-  module _ (text : Octets) (P : Triple → Type 0) (strings-are : (t : StringTable) → All (IsStretch text) (strings (givenOf w) t)) (names-are : (t : NameTable) → All P (names (givenOf w) t)) where
-    abbrev stringsAre : (t : ℕ) {r : Words} → rowOf w (suc t) ≤ length w → All (IsStretch text) (entries (stringFrom w) (rowOf w t) (getD w t 0)) → drop (rowOf w (suc t)) w ≡ r
+  module _ (text : Octets) (P : Triple → Type 0) (strings-are : (t : StringTable) → All (IsString text) (strings (givenOf w) t)) (names-are : (t : NameTable) → All P (names (givenOf w) t)) where
+    abbrev stringsAre : (t : ℕ) {r : Words} → rowOf w (suc t) ≤ length w → All (IsString text) (entries (stringFrom w) (rowOf w t) (getD w t 0)) → drop (rowOf w (suc t)) w ≡ r
         → drop (rowOf w t) w ≡ rowsOf stringWords (entries (stringFrom w) (rowOf w t) (getD w t 0)) ++ r
-    stringsAre = table-is stringFrom stringWords w (IsStretch text) (string-words text w)
+    stringsAre = table-is stringFrom stringWords w (IsString text) (string-words text w)
 
     abbrev namesAre : (t : ℕ) {r : Words} → rowOf w (suc t) ≤ length w → All P (entries (tripleAt w) (rowOf w t) (getD w t 0)) → drop (rowOf w (suc t)) w ≡ r
         → drop (rowOf w t) w ≡ rowsOf tripleWords (entries (tripleAt w) (rowOf w t) (getD w t 0)) ++ r
@@ -127,7 +146,7 @@ module _ (w : Words) (whole : length w ≡ rowOf w 10) where
         (counted 8 (omega arith) (length-entries (tripleAt w) _ _)
         (counted 9 (omega arith) (length-entries (tripleAt w) _ _) rows)))))))))
 
-pub given-only : (w : Words) (text : Octets) (P : Triple → Type 0) → isGiven w ≡ true → ((t : StringTable) → All (IsStretch text) (strings (givenOf w) t)) → ((t : NameTable) → All P (names (givenOf w) t)) → (w ≡ [] → ⊥)
+pub given-only : (w : Words) (text : Octets) (P : Triple → Type 0) → isGiven w ≡ true → ((t : StringTable) → All (IsString text) (strings (givenOf w) t)) → ((t : NameTable) → All P (names (givenOf w) t)) → (w ≡ [] → ⊥)
     → w ≡ givenWords (givenOf w)
 unfolding isGiven rowOf
 given-only w text P e strings-are names-are some = are-words w (whole (eqb (length w) 0) refl e) text P strings-are names-are

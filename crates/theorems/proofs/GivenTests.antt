@@ -9,16 +9,21 @@ use borrow.Author.Tests.{eqb-true, eq-eqb, leb-true, le-leb}
 use lib.Dec.{leb}
 use lib.ListN.{length, length-map}
 use Rattle.format.specs.Octets.{Octets}
+use Rattle.format.specs.Numbers.{pick}
 use Rattle.format.specs.Tables.{StringTable, PREFIX, NAMESPACE-NAME, LOCAL-NAME, OTHER-NCNAME, OTHER-URI, ATTRIBUTE-VALUE, CONTENT-CHARACTER-CHUNK, OTHER-STRING, holds, holdsName}
 use Rattle.format.specs.Tables.{NameTable, ELEMENT-NAME, ATTRIBUTE-NAME, Triple, Vocabulary, strings, names, noEntries, vocabularyMap, Entry, first, later, New}
-use Rattle.format.specs.Head.{tenTables, sizeOf, presence}
+use Rattle.format.specs.Head.{isIdentifying, tenTables, sizeOf, presence}
 use Rattle.format.specs.Allowed.{All}
 use Rattle.tables.proofs.Found.{clash, both-true}
 use Rattle.tables.proofs.EntryLaws.{entry-made}
 use Rattle.tables.proofs.NewLaws.{new-string, new-name}
 use Rattle.tables.proofs.ByNumber.{by-table}
-use Rattle.write_head.specs.Head.{isNone, inStrings, inNames, every, distinct, distinctNames, isTriple}
-use Rattle.theorems.proofs.Sayable.{both}
+use Rattle.fields.proofs.Utf8.{told}
+use Rattle.events.specs.declared.EventString.{EventString}
+use Rattle.events.specs.WellMade.{IsStretch, isStretch, IsString, isString}
+use Rattle.write_head.specs.Head.{isNone, inStrings, inNames, every, distinct, distinctNames, isTriple, isEntry}
+use Rattle.theorems.proofs.Sayable.{both, stretch-is, is-stretch, string-is, is-string, as-string}
+use Rattle.theorems.proofs.Alls.{all-so}
 use Rattle.theorems.proofs.HeadOctets.{nothing-listed, nothing-present}
 use Rattle.theorems.specs.Heads.{Distinct, NamesParts}
 
@@ -57,6 +62,28 @@ in-strings f = (from, λ a. both (a PREFIX) (both (a NAMESPACE-NAME) (both (a LO
 pub in-names : (f : NameTable → Bool) → (inNames f ≡ true) ↔ ((t : NameTable) → f t ≡ true)
 unfolding inNames
 in-names f = (λ e t. let a = both-true (f ELEMENT-NAME) (f ATTRIBUTE-NAME) e in elim t [ ELEMENT-NAME ↦ a .0 | ATTRIBUTE-NAME ↦ a .1 ], λ a. both (a ELEMENT-NAME) (a ATTRIBUTE-NAME))
+
+-- ---- the strings of a table: stretches of the text area, in utf-8 if they are identifying
+module _ (t : StringTable) (text : Octets) where
+  entry-is : (x : EventString) → isEntry t text x ≡ true → IsString text x × (isIdentifying t ≡ true → IsStretch text x)
+  unfolding isEntry
+  entry-is x e =
+      told (isIdentifying t) (λ i. let s = stretch-is text x (rw i at e) in (as-string text s, λ u. s)) (λ i. (string-is text x (rw i at e), λ u. clash (sym i ∙ u)))
+
+  is-entry : (x : EventString) (b : Bool) → isIdentifying t ≡ b → pick b (isStretch text x) (isString text x) ≡ true → isEntry t text x ≡ true
+  unfolding isEntry
+  is-entry x b i e = rw i e
+
+  pub entries-exact : (l : List EventString) → (every (isEntry t text) l ≡ true) ↔ (All (IsString text) l × (isIdentifying t ≡ true → All (IsStretch text) l))
+  entries-exact l = (
+    λ e.
+        let a = every-all (isEntry t text) (λ x. IsString text x × (isIdentifying t ≡ true → IsStretch text x)) entry-is l e in
+        (all-so (IsString text) (λ x s. s .0) l a, λ i. all-so (IsStretch text) (λ x s. s .1 i) l a),
+    λ a.
+        told (isIdentifying t)
+        (λ i. all-every (isEntry t text) (IsStretch text) (λ x s. is-entry x true i (is-stretch text s)) l (a .1 i))
+        (λ i. all-every (isEntry t text) (IsString text) (λ x s. is-entry x false i (is-string text s)) l (a .0)),
+  )
 
 -- ---- an entry of a list: the first, or one of the others
 by-entry : {X A : Type 0} {y x : A} {l : List A} {k : ℕ} → Entry (y ∷ l) k x → (y ≡ x → X) → ((j : ℕ) → Entry l j x → X) → X

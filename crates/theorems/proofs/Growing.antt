@@ -70,7 +70,7 @@ module _ {S : Type 0} where
   means-kept g m = record { prefix = behind-kept g PREFIX (m .prefix); namespace = behind-kept g NAMESPACE-NAME (m .namespace); local = behind-kept g LOCAL-NAME (m .local) }
 
 -- ---- what is done with a string
-module _ {S : Type 0} {d : S} {Spelt : S → Type 0} where
+module _ {S : Type 0} {d : S} {Spelt : StringTable → S → Type 0} where
   id-keeps : {t : StringTable} {v w : Vocabulary S} {x : S} {h : How} {n : ℕ} → IdDone d Spelt t v x h n w → Keeps v w
   id-keeps {t} {v} (id-made {x = x} sp) = keeps-adding v t x
   id-keeps (id-used en) = record { kept = λ t k x e. e }

@@ -5,57 +5,81 @@ use mathlib.Core.Bool.{Bool, true, false}
 use mathlib.Core.List.{List, [], _∷_, _++_, map, append-assoc}
 use native.Mathlib.Omega.{arith}
 use lib.Dec.{eqb}
-use lib.ListN.{length, getD, drop, length-append}
+use lib.ListN.{length, getD, take, drop, length-append}
 use lib.Seq.{drop-cons}
 use Rattle.format.specs.Octets.{Octets, AreOctets}
-use Rattle.format.specs.Numbers.{Form, spell, lengths, c25, top, longest}
+use Rattle.format.specs.Numbers.{spell, lengths, c25, top, longest}
 use Rattle.format.specs.Tables.{StringTable, PREFIX, NAMESPACE-NAME, LOCAL-NAME, NameTable, Triple, Vocabulary, strings, names, adding, holds, holdsName, Version}
-use Rattle.format.specs.Strings.{withLength, bit, literal-spelled, id-spelled}
-use Rattle.format.specs.Head.{Table, ofStrings, ofNames, isIdentifying, c19, some?, StringListed, an-identifying, another, PartListed, no-part, a-part, NameListed, a-surrogate, Each, no-entry, an-entry}
+use Rattle.format.specs.Strings.{withLength, inFormat, bit, literal-spelled, id-spelled}
+use Rattle.format.specs.Forms.{Spelled}
+use Rattle.format.specs.Head.{Listed, Table, ofStrings, ofNames, isIdentifying, c19, some?, StringListed, an-identifying, another, PartListed, no-part, a-part, NameListed, a-surrogate, Each, no-entry, an-entry}
+use Rattle.format.specs.declared.StringForm.{StringForm}
+use Rattle.format.specs.declared.StringForm.the-variants.{Utf8}
 use Rattle.fields.specs.Fields.{fieldAt, noTop}
 use Rattle.fields.proofs.Numbers.{c25-ordered}
 use Rattle.fields.proofs.Lengths.{lengths-ordered}
-use Rattle.tables.specs.Located.{Located, stretch, octetsOf, plainTables}
+use Rattle.forms.proofs.Forms.{one-spelling}
+use Rattle.tables.specs.Located.{Located, stretch, octetsOf, listedAs, plainTables}
 use Rattle.tables.proofs.NewLaws.{new-string, new-name}
-use Rattle.tables.proofs.Search.{length-octets}
-use Rattle.read_names.specs.Strings.{Got, got, refused, then, IdRead, StringRead, idAt, spelledAt}
+use Rattle.read_names.specs.Strings.{Got, got, refused, then, IdRead, idAt}
 use Rattle.read_names.specs.Names.{prefixBit, namespaceBit}
 use Rattle.read_head.specs.Head.{Passed, passing, partAt, identifyingAt, anotherAt, surrogateAt, entryAt, entriesAt}
-use Rattle.theorems.specs.Places.{inEntries}
+use Rattle.theorems.specs.Places.{inEntry, inEntries}
 use Rattle.theorems.proofs.Lists.{Fault, fault, test-lt, test-le, test-not, either, either-lt, either-eq}
 use Rattle.theorems.proofs.Words.{strings-map, length-strings, names-map, adding-map, adding-name-map}
 use Rattle.theorems.proofs.Numbers.{num-sound}
-use Rattle.theorems.proofs.Fields.{on-number, spelling-sound}
+use Rattle.theorems.proofs.Fields.{on-number, Stands, spelling-sound}
+use Rattle.theorems.proofs.Formats.{Leads, spelled-sound}
 use Rattle.theorems.proofs.Names.{bits-paired}
 use Rattle.theorems.proofs.TenTables.{EntryOf, addTo, addAll, mapEntry}
 
--- ---- an entry as the rules list it, and where its string stands; a name has none
-abbrev pub Listed : Version → (t : Table) → Vocabulary Octets → EntryOf Octets t → Octets → Vocabulary Octets → Type 0
-Listed ver (ofStrings t) v x o w = StringListed ver t v x o w
-Listed ver (ofNames t) v x o w = NameListed ver t v x o w
+-- ---- an entry as the rules list it, what it says in its table, and where its string stands; a name has none
+abbrev pub EntryListed : Version → (t : Table) → Vocabulary Octets → EntryOf Listed t → Octets → Vocabulary Octets → Type 0
+EntryListed ver (ofStrings t) v x o w = StringListed ver t v x o w
+EntryListed ver (ofNames t) v x o w = NameListed ver t v x o w
+
+abbrev pub says : Listed → Octets
+says x = x .says
 
 abbrev pub located : (t : Table) → List (EntryOf Located t) → List Located
 located (ofStrings t) l = l
 located (ofNames t) l = []
 
-abbrev pub inEach : {ver : Version} (t : Table) (k : ℕ) {v w : Vocabulary Octets} {xs : List (EntryOf Octets t)} {o : Octets} → Each ver (Listed ver t) v xs o w → List Located
+abbrev pub inEach : {ver : Version} (t : Table) (k : ℕ) {v w : Vocabulary Octets} {xs : List (EntryOf Listed t)} {o : Octets} → Each ver (EntryListed ver t) v xs o w → List Located
 inEach (ofStrings t) k u = inEntries k u
 inEach (ofNames t) k u = []
 
--- an entry that stands at octet k: its string is the end of its octets
-abbrev pub AtPlace : (t : Table) → EntryOf Octets t → EntryOf Located t → ℕ → Octets → Type 0
-AtPlace (ofStrings t) x y k o = stretch (k + length o - length x) (length x) ≡ y
+-- a string whose field, the octets o, stands at octet k: its own octets, in its form, are the end of the field
+pub record AtEnd (x : Listed) (y : Located) (k : ℕ) (o : Octets) : Type 0 where
+  pub octets : Octets
+  pub spells : Spelled (x .form) (x .says) octets
+  pub is : stretch (x .form) (k + length o - length octets) (length octets) ≡ y
+
+abbrev pub AtPlace : (t : Table) → EntryOf Listed t → EntryOf Located t → ℕ → Octets → Type 0
+AtPlace (ofStrings t) x y k o = AtEnd x y k o
 AtPlace (ofNames t) x y k o = Unit {0}
 
 module _ (ver : Version) where
+  -- there the rules list it
+  string-placed : {t : StringTable} {v w : Vocabulary Octets} {x : Listed} {o : Octets} (k : ℕ) (r : StringListed ver t v x o w) (y : Located) → AtEnd x y k o → inEntry k r ≡ y ∷ []
+  string-placed {o = o} k (an-identifying i u) y e =
+      ap (λ (z : Octets). stretch Utf8 (k + length o - length z) (length z) ∷ []) (sym (e .spells .1)) ∙ ap (λ (z : Located). z ∷ []) (e .is)
+  string-placed {o = o} k (another i (literal-spelled {x = x} {y = z} {form = form} sp room)) y e =
+      ap (λ (z : Octets). stretch form (k + length o - length z) (length z) ∷ []) (one-spelling form x z (e .octets) (sp .formed) (e .spells)) ∙ ap (λ (z : Located). z ∷ []) (e .is)
+
   pub none-placed : (t : Table) (k : ℕ) (v : Vocabulary Octets) → inEach {ver = ver} t k {v = v} {w = v} {xs = []} {o = []} no-entry ≡ located t []
   none-placed (ofStrings t) k v = refl
   none-placed (ofNames t) k v = refl
 
-  pub more-placed : (t : Table) (k : ℕ) (v : Vocabulary Octets) (x : EntryOf Octets t) (o : Octets) {u w : Vocabulary Octets} {xs : List (EntryOf Octets t)} {os : Octets} (r : Listed ver t v x o u)
-      (q : Each ver (Listed ver t) u xs os w) (y : EntryOf Located t) (ys : List (EntryOf Located t)) → AtPlace t x y k o → inEach t (k + length o) q ≡ located t ys → inEach t k (an-entry r q) ≡ located t (y ∷ ys)
-  more-placed (ofStrings t) k v x o r q y ys e f = ap₂ (λ (z : Located) (l : List Located). z ∷ l) e f
+  pub more-placed : (t : Table) (k : ℕ) (v : Vocabulary Octets) (x : EntryOf Listed t) (o : Octets) {u w : Vocabulary Octets} {xs : List (EntryOf Listed t)} {os : Octets} (r : EntryListed ver t v x o u)
+      (q : Each ver (EntryListed ver t) u xs os w) (y : EntryOf Located t) (ys : List (EntryOf Located t)) → AtPlace t x y k o → inEach t (k + length o) q ≡ located t ys → inEach t k (an-entry r q) ≡ located t (y ∷ ys)
+  more-placed (ofStrings t) k v x o r q y ys e f = ap₂ (λ (a b : List Located). a ++ b) (string-placed k r y e) f
   more-placed (ofNames t) k v x o r q y ys e f = refl
+
+-- ---- a string in any form: the length starts at bit 5, and nothing stands before the format
+pub leads19 : Leads (c19 .lengthBit) 0
+unfolding c19
+leads19 = record { from = omega arith; to = omega arith; lead = 0; base-is = refl }
 
 -- ---- the bits p and n of a name
 two-bits : (b : ℕ) → b < 4 → b ≡ 2 * bit (prefixBit b) + bit (namespaceBit b)
@@ -73,12 +97,12 @@ module _ (ver : Version) (s : Octets) where
   record EntryRead (t : Table) (k : ℕ) (v : Vocabulary Located) (next : ℕ) (w : Vocabulary Located) : Type 0 where
     entry : EntryOf Located t
     octets : Octets
-    rule : Listed ver t (plainTables s v) (mapEntry (octetsOf s) t entry) octets (plainTables s w)
+    rule : EntryListed ver t (plainTables s v) (mapEntry (listedAs s) t entry) octets (plainTables s w)
     here : drop k s ≡ octets ++ drop next s
     next-is : next ≡ k + length octets
     inside : next ≤ length s
     added : w ≡ addTo v t entry
-    placed : AtPlace t (mapEntry (octetsOf s) t entry) entry k octets
+    placed : AtPlace t (mapEntry (listedAs s) t entry) entry k octets
 
   abbrev EntryOk : Table → ℕ → Vocabulary Located → Passed → Type 0
   EntryOk t k v (got b next w) = EntryRead t k v next w
@@ -86,25 +110,25 @@ module _ (ver : Version) (s : Octets) where
 
   module _ (bytes : AreOctets s) (short : length s ≤ longest) where
     -- ---- strings
-    string-read : (t : StringTable) (fs : List Form) (base k n next : ℕ) (v : Vocabulary Located) → next + n ≤ length s → drop k s ≡ withLength fs base (octetsOf s (stretch next n)) ++ drop (next + n) s
-        → next + n ≡ k + length (withLength fs base (octetsOf s (stretch next n)))
-        → StringListed ver t (plainTables s v) (octetsOf s (stretch next n)) (withLength fs base (octetsOf s (stretch next n))) (adding (plainTables s v) t (octetsOf s (stretch next n)))
-        → EntryRead (ofStrings t) k v (next + n) (adding v t (stretch next n))
-    string-read t fs base k n next v ll d l r =
-        let e = length-octets s next n ll in
+    string-read : (t : StringTable) (form : StringForm) (field : Octets → Octets) (k place n : ℕ) (v : Vocabulary Located) → Stands s form field k place n
+        → StringListed ver t (plainTables s v) (listedAs s (stretch form place n)) (field (take n (drop place s))) (adding (plainTables s v) t (octetsOf s (stretch form place n)))
+        → EntryRead (ofStrings t) k v (place + n) (adding v t (stretch form place n))
+    string-read t form field k place n v st r =
+        let e = st .length-is in
+        let i = st .next-is in
         record {
-          entry = stretch next n;
-          octets = withLength fs base (octetsOf s (stretch next n));
-          rule = rw (adding-map (octetsOf s) v t (stretch next n)) r;
-          here = d;
-          next-is = l;
-          inside = ll;
+          entry = stretch form place n;
+          octets = field (take n (drop place s));
+          rule = rw (adding-map (octetsOf s) v t (stretch form place n)) r;
+          here = st .here;
+          next-is = i;
+          inside = st .inside;
           added = refl;
-          placed = ap₂ (λ (a b : ℕ). stretch a b) (omega arith) e;
+          placed = record { octets = take n (drop place s); spells = st .spelling .formed; is = ap₂ (λ (a b : ℕ). stretch form a b) (omega arith) e };
         }
 
     identifying-sound : (t : StringTable) → isIdentifying t ≡ true → (k : ℕ) (v : Vocabulary Located) → k ≤ length s → EntryOk (ofStrings t) k v (identifyingAt ver t s k v)
-    unfolding identifyingAt idAt
+    unfolding identifyingAt idAt octetsOf
     identifying-sound t i k v kl =
         let P : Passed → Type 0 = EntryOk (ofStrings t) k v in
         let Q : Got IdRead → Type 0 = (λ g. P (passing g)) in
@@ -113,26 +137,21 @@ module _ (ver : Version) (s : Octets) where
         λ h. either-lt Q (getD s k 0) 0x80 _ _
         (λ h1. on-number s Q (λ c p f. f) (lengths 2) noTop 0 k (fieldAt (lengths 2) noTop 2 s k)
         (num-sound s bytes (lengths 2) (lengths-ordered 2 (omega arith) (omega arith)) noTop 2 0 k kl (omega arith)) _
-        λ n next r. spelling-sound s short Q (λ c p f. f) (lengths 2) 0 k n next kl r _
-        λ sp d l ll. test-not Q (refused 11 k) (fault s 11 k refl kl) (holds (map (octetsOf s) (strings v t)) (octetsOf s (stretch next n))) _
+        λ n next r. spelling-sound s short Q (λ c p f. f) Utf8 (lengths 2) 0 k k n next kl r _
+        λ st. test-not Q (refused 11 k) (fault s 11 k refl kl) (holds (map (octetsOf s) (strings v t)) (octetsOf s (stretch Utf8 next n))) _
         λ t1. test-lt Q (refused 12 k) (fault s 12 k refl kl) (length (strings v t)) (ver .entries) _
-        λ t2. string-read t (lengths 2) 0 k n next v ll d l
-        (an-identifying i (id-spelled sp (new-string (strings (plainTables s v) t) (octetsOf s (stretch next n)) .0 (rw (strings-map (octetsOf s) v t) t1)) (omega arith))))
+        λ t2. string-read t Utf8 (withLength (lengths 2) 0) k next n v st
+        (an-identifying i (id-spelled (st .spelling) (new-string (strings (plainTables s v) t) (octetsOf s (stretch Utf8 next n)) .0 (rw (strings-map (octetsOf s) v t) t1)) (omega arith))))
         (λ h1. absurd (omega arith))
 
     another-sound : (t : StringTable) → isIdentifying t ≡ false → (k : ℕ) (v : Vocabulary Located) → k ≤ length s → EntryOk (ofStrings t) k v (anotherAt ver t s k v)
-    unfolding anotherAt spelledAt c19
+    unfolding anotherAt c19
     another-sound t i k v kl =
         let P : Passed → Type 0 = EntryOk (ofStrings t) k v in
-        let Q : Got StringRead → Type 0 = (λ g. P (passing g)) in
         let len = length-strings (octetsOf s) v t in
         test-lt P (refused 6 k) (fault s 6 k refl kl) (getD s k 0) 0x40 _
-        λ h. test-lt P (refused 8 k) (fault s 8 k refl kl) (getD s k 0) 0x10 _
-        λ h1. on-number s Q (λ c p f. f) (lengths 5) noTop 0 k (fieldAt (lengths 5) noTop 5 s k)
-        (num-sound s bytes (lengths 5) (lengths-ordered 5 (omega arith) (omega arith)) noTop 5 0 k kl (omega arith)) _
-        λ n next r. spelling-sound s short Q (λ c p f. f) (lengths 5) 0 k n next kl r _
-        λ sp d l ll. test-lt Q (refused 12 k) (fault s 12 k refl kl) (length (strings v t)) (ver .entries) _
-        λ t2. string-read t (lengths 5) 0 k n next v ll d l (another i (literal-spelled sp (λ y. omega arith)))
+        λ h. spelled-sound ver s t k true v bytes short kl (λ g. P (passing g)) (λ c p f. f) 5 0 leads19 (omega arith) (omega arith)
+        λ form n place st room. string-read t form (inFormat 5 form 0) k place n v st (another i (literal-spelled {added = true} (st .spelling) (λ y. let r = room y in omega arith)))
 
     -- ---- a part of a name
     record PartRead (present : Bool) (entries k n next : ℕ) : Type 0 where
@@ -231,7 +250,7 @@ module _ (ver : Version) (s : Octets) where
     pub list : List (EntryOf Located t)
     pub size : length list ≡ n
     pub octets : Octets
-    pub rule : Each ver (Listed ver t) (plainTables s v) (map (mapEntry (octetsOf s) t) list) octets (plainTables s w)
+    pub rule : Each ver (EntryListed ver t) (plainTables s v) (map (mapEntry (listedAs s) t) list) octets (plainTables s w)
     pub here : drop k s ≡ octets ++ drop next s
     pub next-is : next ≡ k + length octets
     pub inside : next ≤ length s
@@ -258,7 +277,7 @@ module _ (ver : Version) (s : Octets) where
         inside = q .inside;
         added = q .added ∙ ap (λ (u : Vocabulary Located). addAll u t (q .list)) (r .added);
         placed =
-            more-placed ver t k (plainTables s v) (mapEntry (octetsOf s) t (r .entry)) (r .octets) (r .rule) (q .rule) (r .entry) (q .list) (r .placed) (ap (λ (m : ℕ). inEach t m (q .rule)) (sym i) ∙ q .placed);
+            more-placed ver t k (plainTables s v) (mapEntry (listedAs s) t (r .entry)) (r .octets) (r .rule) (q .rule) (r .entry) (q .list) (r .placed) (ap (λ (m : ℕ). inEach t m (q .rule)) (sym i) ∙ q .placed);
       }
 
   pub entries-sound : AreOctets s → length s ≤ longest → (t : Table) (n k : ℕ) (v : Vocabulary Located) → k ≤ length s → EntriesOk t n k v (entriesAt ver t s n k v)

@@ -8,11 +8,11 @@ use lib.Pow.{mod-pow-add}
 use lib.Seq.{drop-cons}
 use Rattle.format.specs.Octets.{Octets, Bits, AreOctets}
 use Rattle.format.specs.Numbers.{spell, c21, top, longest, fromBits, behindFirst}
-use Rattle.format.specs.Tables.{Vocabulary, strings, names, followedBy, Version}
-use Rattle.format.specs.Head.{Table, ofStrings, ofNames, tenTables, sizeOf, some?, presence, Each, TablesListed, no-table, absent, present}
+use Rattle.format.specs.Tables.{Vocabulary, strings, names, followedBy, vocabularyMap, Version}
+use Rattle.format.specs.Head.{Listed, Head, Table, ofStrings, ofNames, tenTables, sizeOf, some?, presence, Each, TablesListed, no-table, absent, present}
 use Rattle.fields.specs.Fields.{fieldAt}
 use Rattle.fields.proofs.Forms.{Ordered}
-use Rattle.tables.specs.Located.{Located, octetsOf, plainTables}
+use Rattle.tables.specs.Located.{Located, listedAs, plainTables}
 use Rattle.read_names.specs.Strings.{got, refused, then}
 use Rattle.read_head.specs.Head.{Passed, entriesAt, tablesAt, headAt}
 use Rattle.theorems.specs.Heads.{allListed}
@@ -21,7 +21,7 @@ use Rattle.theorems.proofs.Lists.{Fault, fault, test-lt, either-eq}
 use Rattle.theorems.proofs.Numbers.{NumRead, num-sound}
 use Rattle.theorems.proofs.Fields.{on-number}
 use Rattle.theorems.proofs.TenTables.{EntryOf, Lists, pieces, behind, behind-lists, whole, mapEntry, mapLists, whole-map}
-use Rattle.theorems.proofs.HeadEntries.{Listed, located, inEach, EntriesRead, EntriesOk, entries-sound}
+use Rattle.theorems.proofs.HeadEntries.{EntryListed, located, inEach, EntriesRead, EntriesOk, entries-sound}
 
 pub c21-ordered : Ordered c21
 unfolding c21 behindFirst fromBits
@@ -72,23 +72,23 @@ module _ (ver : Version) where
   data End : Vocabulary Octets → Octets → Vocabulary Octets → Type 0 where
     at-end : {v : Vocabulary Octets} → End v [] v
 
-  data One (t : Table) (xs : List (EntryOf Octets t)) (Rest : Vocabulary Octets → Octets → Vocabulary Octets → Type 0) : Vocabulary Octets → Octets → Vocabulary Octets → Type 0 where
+  data One (t : Table) (xs : List (EntryOf Listed t)) (Rest : Vocabulary Octets → Octets → Vocabulary Octets → Type 0) : Vocabulary Octets → Octets → Vocabulary Octets → Type 0 where
     is-absent : {v w : Vocabulary Octets} {os : Octets} → length xs ≡ 0 → Rest v os w → One t xs Rest v os w
-    is-present : {v u w : Vocabulary Octets} (o : Octets) {os : Octets} → 0 < length xs → length xs ≤ top → Each ver (Listed ver t) v xs o u → Rest u os w
+    is-present : {v u w : Vocabulary Octets} (o : Octets) {os : Octets} → 0 < length xs → length xs ≤ top → Each ver (EntryListed ver t) v xs o u → Rest u os w
         → One t xs Rest v (spell c21 0 (length xs) ++ (o ++ os)) w
 
-  abbrev InLists : (ts : List Table) → Lists Octets ts → Vocabulary Octets → Octets → Vocabulary Octets → Type 0
+  abbrev InLists : (ts : List Table) → Lists Listed ts → Vocabulary Octets → Octets → Vocabulary Octets → Type 0
   InLists [] l v o w = End v o w
   InLists (t ∷ ts) l v o w = One t (l .0) (InLists ts (l .1)) v o w
 
-  abbrev inLists : (ts : List Table) (l : Lists Octets ts) (k : ℕ) (v : Vocabulary Octets) (o : Octets) (w : Vocabulary Octets) → InLists ts l v o w → List Located
+  abbrev inLists : (ts : List Table) (l : Lists Listed ts) (k : ℕ) (v : Vocabulary Octets) (o : Octets) (w : Vocabulary Octets) → InLists ts l v o w → List Located
   inLists [] l k v o w u = []
   inLists (t ∷ ts) l k v o w (is-absent e r) = inLists ts (l .1) k v o w r
   inLists (t ∷ ts) l k v o w (is-present {u = u} p {os = os} any few y r) =
       let n : ℕ = length (spell c21 0 (length (l .0))) in
       inEach t (k + n) y ++ inLists ts (l .1) (k + n + length p) u os w r
 
-  to-tables : (h : Vocabulary Octets) (ts : List Table) {v w : Vocabulary Octets} {o : Octets} → InLists ts (pieces h ts) v o w → TablesListed ver h ts v o w
+  to-tables : (h : Head) (ts : List Table) {v w : Vocabulary Octets} {o : Octets} → InLists ts (pieces h ts) v o w → TablesListed ver h ts v o w
   unfolding sizeOf
   to-tables h [] at-end = no-table
   to-tables h (ofStrings t ∷ ts) (is-absent e r) = absent e (to-tables h ts r)
@@ -96,7 +96,7 @@ module _ (ver : Version) where
   to-tables h (ofNames t ∷ ts) (is-absent e r) = absent e (to-tables h ts r)
   to-tables h (ofNames t ∷ ts) (is-present o any few u r) = present o any few u (to-tables h ts r)
 
-  same-places : (h : Vocabulary Octets) (ts : List Table) (k : ℕ) (v : Vocabulary Octets) (o : Octets) (w : Vocabulary Octets) (u : InLists ts (pieces h ts) v o w)
+  same-places : (h : Head) (ts : List Table) (k : ℕ) (v : Vocabulary Octets) (o : Octets) (w : Vocabulary Octets) (u : InLists ts (pieces h ts) v o w)
       → inTables k (to-tables h ts u) ≡ inLists ts (pieces h ts) k v o w u
   unfolding sizeOf inTables to-tables
   same-places h [] k v o w at-end = refl
@@ -124,13 +124,13 @@ module _ (ver : Version) (s : Octets) where
   record TablesRead (ts : List Table) (b k : ℕ) (v : Vocabulary Located) (next : ℕ) (w : Vocabulary Located) : Type 0 where
     lists : Lists Located ts
     octets : Octets
-    rule : InLists ver ts (mapLists (octetsOf s) ts lists) (plainTables s v) octets (plainTables s w)
+    rule : InLists ver ts (mapLists (listedAs s) ts lists) (plainTables s v) octets (plainTables s w)
     here : drop k s ≡ octets ++ drop next s
     next-is : next ≡ k + length octets
     inside : next ≤ length s
     added : w ≡ behind v ts lists
     bits : fromBits (bitsOf Located ts lists) ≡ b % 2 ^ length ts
-    placed : inLists ver ts (mapLists (octetsOf s) ts lists) k (plainTables s v) octets (plainTables s w) rule ≡ allOf ts lists
+    placed : inLists ver ts (mapLists (listedAs s) ts lists) k (plainTables s v) octets (plainTables s w) rule ≡ allOf ts lists
 
   abbrev TablesOk : List Table → ℕ → ℕ → Vocabulary Located → Passed → Type 0
   TablesOk ts b k v (got x next w) = TablesRead ts b k v next w
@@ -163,7 +163,7 @@ module _ (ver : Version) (s : Octets) where
   past-present t ts b k n v e m r k₁ v₁ g (got x next w) q =
       let size = g .size in
       let is = r .is in
-      let f = mapEntry (octetsOf s) t in
+      let f = mapEntry (listedAs s) t in
       let same : length (map f (g .list)) ≡ n = length-map (g .list) f ∙ size in
       let count : ℕ → Octets = (λ j. spell c21 0 j) in
       let la = length-append (count n) (g .octets ++ q .octets) in
@@ -186,7 +186,7 @@ module _ (ver : Version) (s : Octets) where
         inside = q .inside;
         added = q .added ∙ ap (λ (u : Vocabulary Located). behind u ts (q .lists)) (g .added);
         bits = one-bit Located t ts (g .list, q .lists) b (ap some? (size ∙ is) ∙ sym e) (q .bits);
-        placed = ap₂ (λ (x y : List Located). x ++ y) (ap (λ (j : ℕ). inEach t j (g .rule)) from ∙ g .placed) (ap (λ (j : ℕ). inLists ver ts (mapLists (octetsOf s) ts (q .lists)) j (plainTables s v₁) (q .octets) (plainTables s w) (q .rule)) beyond ∙ q .placed);
+        placed = ap₂ (λ (x y : List Located). x ++ y) (ap (λ (j : ℕ). inEach t j (g .rule)) from ∙ g .placed) (ap (λ (j : ℕ). inLists ver ts (mapLists (listedAs s) ts (q .lists)) j (plainTables s v₁) (q .octets) (plainTables s w) (q .rule)) beyond ∙ q .placed);
       }
 
   module _ (bytes : AreOctets s) (short : length s ≤ longest) where
@@ -205,7 +205,7 @@ module _ (ver : Version) (s : Octets) where
 
     -- the presence bits and the tables of a head
     pub record HeadRead (k : ℕ) (v : Vocabulary Located) (next : ℕ) (w : Vocabulary Located) : Type 0 where
-      pub h : Vocabulary Octets
+      pub h : Head
       pub octets : Octets
       pub some : 0 < presence h tenTables
       pub rule : TablesListed ver h tenTables (plainTables s v) octets (plainTables s w)
@@ -214,7 +214,7 @@ module _ (ver : Version) (s : Octets) where
       pub inside : next ≤ length s
       pub head : Vocabulary Located
       pub added : w ≡ followedBy v head
-      pub head-is : plainTables s head ≡ h
+      pub head-is : vocabularyMap (listedAs s) head ≡ h
       pub listed : allListed head ≡ inTables (suc (suc k)) rule
 
     abbrev pub HeadOk : ℕ → Vocabulary Located → Passed → Type 0
@@ -228,10 +228,10 @@ module _ (ver : Version) (s : Octets) where
     of-tables k v inside few any (got x next w) q =
         let b : ℕ = 256 * getD s k 0 + getD s (suc k) 0 in
         let low = bytes (suc k) in
-        let lists = mapLists (octetsOf s) tenTables (q .lists) in
-        let h : Vocabulary Octets = whole Octets lists in
+        let lists = mapLists (listedAs s) tenTables (q .lists) in
+        let h : Head = whole Listed lists in
         let u : InLists ver tenTables (pieces h tenTables) (plainTables s v) (q .octets) (plainTables s w) = q .rule in
-        let p : presence h tenTables ≡ b = (presence-is h tenTables ∙ ap fromBits (bits-map (octetsOf s) tenTables (q .lists)) ∙ q .bits ∙ ten-bits b (omega arith)) in
+        let p : presence h tenTables ≡ b = (presence-is h tenTables ∙ ap fromBits (bits-map (listedAs s) tenTables (q .lists)) ∙ q .bits ∙ ten-bits b (omega arith)) in
         let high : getD s k 0 ≡ presence h tenTables / 256 = omega arith in
         let last : getD s (suc k) 0 ≡ presence h tenTables % 256 = omega arith in
         record {
@@ -244,7 +244,7 @@ module _ (ver : Version) (s : Octets) where
           inside = q .inside;
           head = whole Located (q .lists);
           added = q .added ∙ behind-lists Located v (q .lists);
-          head-is = sym (whole-map (octetsOf s) (q .lists));
+          head-is = sym (whole-map (listedAs s) (q .lists));
           listed = sym (all-whole (q .lists)) ∙ sym (q .placed) ∙ sym (same-places ver h tenTables (suc (suc k)) (plainTables s v) (q .octets) (plainTables s w) u);
         }
 

@@ -10,17 +10,18 @@ use lib.ListN.{length, getD, drop, length-append, length-map}
 use lib.Pow.{pow-pos}
 use Rattle.format.specs.Octets.{Octets}
 use Rattle.format.specs.Numbers.{spell, sizes, lengths, c21, c25, top, fromBits, behindFirst}
-use Rattle.format.specs.Tables.{StringTable, PREFIX, NAMESPACE-NAME, LOCAL-NAME, NameTable, Triple, Vocabulary, strings, names, adding, addingName, holds, holdsName, followedBy, Version}
+use Rattle.format.specs.Tables.{StringTable, PREFIX, NAMESPACE-NAME, LOCAL-NAME, NameTable, Triple, Vocabulary, strings, names, adding, addingName, holds, holdsName, followedBy, vocabularyMap, Version}
 use Rattle.format.specs.Strings.{id-spelled, literal-spelled}
-use Rattle.format.specs.Head.{Table, ofStrings, ofNames, tenTables, c19, sizeOf, some?, presence, StringListed, an-identifying, another, PartListed, no-part, a-part, NameListed, a-surrogate}
+use Rattle.format.specs.Head.{Listed, Head, Table, ofStrings, ofNames, tenTables, c19, sizeOf, some?, presence, StringListed, an-identifying, another, PartListed, no-part, a-part, NameListed, a-surrogate}
 use Rattle.format.specs.Head.{Each, no-entry, an-entry, TablesListed, no-table, absent, present}
+use Rattle.format.specs.declared.StringForm.the-variants.{Utf8}
 use Rattle.fields.specs.Fields.{shareOf}
 use Rattle.fields.proofs.Laws.{roomsIn}
 use Rattle.fields.proofs.Numbers.{c25-ordered}
 use Rattle.fields.proofs.Lengths.{lengths-ordered}
-use Rattle.tables.specs.Located.{Located, stretch, octetsOf, plainTables}
+use Rattle.tables.specs.Located.{Located, stretch, octetsOf, listedAs, plainTables}
 use Rattle.tables.proofs.NewLaws.{new-string, new-name}
-use Rattle.read_names.specs.Strings.{got, idAt, spelledAt}
+use Rattle.read_names.specs.Strings.{got, idAt}
 use Rattle.read_names.specs.Names.{prefixBit, namespaceBit, lonePrefix}
 use Rattle.read_head.specs.Head.{Passed, partAt, identifyingAt, anotherAt, surrogateAt, entryAt, entriesAt, tablesAt, headAt}
 use Rattle.theorems.specs.Heads.{allListed}
@@ -28,9 +29,10 @@ use Rattle.theorems.specs.Places.{inEntries, inTables}
 use Rattle.theorems.proofs.Lists.{drop-head, drop-past}
 use Rattle.theorems.proofs.Words.{strings-map, length-strings, names-map}
 use Rattle.theorems.proofs.Numbers.{num-complete, num-first}
-use Rattle.theorems.proofs.Fields.{spelt, spelling-is}
+use Rattle.theorems.proofs.Fields.{spelt, says, spelling-is}
+use Rattle.theorems.proofs.Formats.{spelled-complete}
 use Rattle.theorems.proofs.TenTables.{no-list, EntryOf, addTo, addAll, Lists, pieces, behind, behind-lists, whole, whole-pieces, mapEntry, mapLists, whole-map, add-map}
-use Rattle.theorems.proofs.HeadEntries.{Listed, located, inEach, AtPlace, none-placed, more-placed}
+use Rattle.theorems.proofs.HeadEntries.{EntryListed, located, inEach, AtPlace, leads19, none-placed, more-placed}
 use Rattle.theorems.proofs.HeadReading.{c21-ordered, low-bits, allOf, none-located, all-whole}
 
 -- ---- the bits p and n of a name whose parts have these numbers
@@ -60,45 +62,44 @@ is-there (suc n) h = refl
 
 module _ (ver : Version) (s : Octets) where
   -- ---- an entry
-  record EntryHit (t : Table) (k : ℕ) (v : Vocabulary Located) (x : EntryOf Octets t) (o : Octets) (w : Vocabulary Octets) (g : Passed) : Type 0 where
+  record EntryHit (t : Table) (k : ℕ) (v : Vocabulary Located) (x : EntryOf Listed t) (o : Octets) (w : Vocabulary Octets) (g : Passed) : Type 0 where
     entry : EntryOf Located t
     goes : g ≡ got tt (k + length o) (addTo v t entry)
-    is : mapEntry (octetsOf s) t entry ≡ x
+    is : mapEntry (listedAs s) t entry ≡ x
     state : plainTables s (addTo v t entry) ≡ w
     placed : AtPlace t x entry k o
 
-  string-complete : (t : StringTable) (k : ℕ) (v : Vocabulary Located) {x o : Octets} {w : Vocabulary Octets} (rest : Octets) → StringListed ver t (plainTables s v) x o w → drop k s ≡ o ++ rest
+  string-complete : (t : StringTable) (k : ℕ) (v : Vocabulary Located) {x : Listed} {o : Octets} {w : Vocabulary Octets} (rest : Octets) → StringListed ver t (plainTables s v) x o w → drop k s ≡ o ++ rest
       → EntryHit (ofStrings t) k v x o w (entryAt ver (ofStrings t) s k v)
-  unfolding entryAt identifyingAt anotherAt idAt spelledAt c19 roomsIn shareOf behindFirst sizes lengths
+  unfolding entryAt identifyingAt anotherAt idAt c19 roomsIn shareOf behindFirst sizes lengths
   string-complete t k v rest (an-identifying {x = x} i (id-spelled sp new room)) d =
       let e = spelt s (lengths 2) 2 0 0 k x rest (lengths-ordered 2 (omega arith) (omega arith)) (omega arith) (omega arith) refl sp d in
+      let is = says s Utf8 (e .next) x x (e .octets-are) (sp .formed) in
       let len = length-strings (octetsOf s) v t in
       let fresh : holds (map (octetsOf s) (strings v t)) x ≡ false = rw (strings-map (octetsOf s) v t) at (new-string (strings (plainTables s v) t) x .1 new) in
-      let y : Located = stretch (e .next) (length x) in
+      let y : Located = stretch Utf8 (e .next) (length x) in
       let end = e .end-is in
       let high = e .high in
       record {
         entry = y;
-        goes = rw (i, lt-ltb (getD s k 0) 0x80 (omega arith), e .num, spelling-is s (lengths 2) 2 0 k x e _ (sp .formed), e .text-is, fresh, lt-ltb (length (strings v t)) (ver .entries) (omega arith))
+        goes = rw (i, lt-ltb (getD s k 0) 0x80 (omega arith), e .num, spelling-is s Utf8 (e .next) x x (e .octets-are) (sp .formed) k _ (e .room), is, fresh, lt-ltb (length (strings v t)) (ver .entries) (omega arith))
             (ap (λ (j : ℕ). got tt j (adding v t y)) end);
-        is = e .text-is;
-        state = add-map (octetsOf s) v (ofStrings t) y ∙ ap (λ (z : Octets). adding (plainTables s v) t z) (e .text-is);
-        placed = ap (λ (j : ℕ). stretch j (length x)) (omega arith);
+        is = λ j. record { says = is j; form = Utf8 };
+        state = add-map (octetsOf s) v (ofStrings t) y ∙ ap (λ (z : Octets). adding (plainTables s v) t z) is;
+        placed = record { octets = x; spells = sp .formed; is = ap (λ (j : ℕ). stretch Utf8 j (length x)) (omega arith) };
       }
-  string-complete t k v rest (another {x = x} i (literal-spelled sp room)) d =
-      let e = spelt s (lengths 5) 5 0 0 k x rest (lengths-ordered 5 (omega arith) (omega arith)) (omega arith) (omega arith) refl sp d in
+  string-complete t k v rest (another {x = x} {form = form} i (literal-spelled {y = y} sp room)) d =
       let len = length-strings (octetsOf s) v t in
-      let y : Located = stretch (e .next) (length x) in
+      let e = spelled-complete ver s t k true v (λ a. let r = room a in omega arith) 5 0 leads19 {x = x} y rest form sp d in
+      let z : Located = stretch form (e .place) (length y) in
       let end = e .end-is in
       let high = e .high in
-      let r = room refl in
       record {
-        entry = y;
-        goes = rw (i, lt-ltb (getD s k 0) 0x40 (omega arith), lt-ltb (getD s k 0) 0x10 (omega arith), e .num, spelling-is s (lengths 5) 5 0 k x e _ (sp .formed), lt-ltb (length (strings v t)) (ver .entries) (omega arith))
-            (ap (λ (j : ℕ). got tt j (adding v t y)) end);
-        is = e .text-is;
-        state = add-map (octetsOf s) v (ofStrings t) y ∙ ap (λ (z : Octets). adding (plainTables s v) t z) (e .text-is);
-        placed = ap (λ (j : ℕ). stretch j (length x)) (omega arith);
+        entry = z;
+        goes = rw (i, lt-ltb (getD s k 0) 0x40 (omega arith), e .goes) (ap (λ (j : ℕ). got tt j (adding v t z)) end);
+        is = λ j. record { says = e .saying j; form = form };
+        state = add-map (octetsOf s) v (ofStrings t) z ∙ ap (λ (a : Octets). adding (plainTables s v) t a) (e .saying);
+        placed = record { octets = y; spells = sp .formed; is = ap (λ (j : ℕ). stretch form j (length y)) (omega arith) };
       }
 
   part-complete : (entries k : ℕ) (v : Vocabulary Located) {n : ℕ} {o : Octets} (rest : Octets) → PartListed ver entries n o → drop k s ≡ o ++ rest → partAt (there n) entries s k v ≡ got n (k + length o) v
@@ -141,33 +142,33 @@ module _ (ver : Version) (s : Octets) where
         placed = tt;
       }
 
-  entry-complete : (t : Table) (k : ℕ) (v : Vocabulary Located) {x : EntryOf Octets t} {o : Octets} {w : Vocabulary Octets} (rest : Octets) → Listed ver t (plainTables s v) x o w → drop k s ≡ o ++ rest
+  entry-complete : (t : Table) (k : ℕ) (v : Vocabulary Located) {x : EntryOf Listed t} {o : Octets} {w : Vocabulary Octets} (rest : Octets) → EntryListed ver t (plainTables s v) x o w → drop k s ≡ o ++ rest
       → EntryHit t k v x o w (entryAt ver t s k v)
   entry-complete (ofStrings t) k v rest u d = string-complete t k v rest u d
   entry-complete (ofNames t) k v rest u d = name-complete t k v rest u d
 
   -- ---- entries; p is where their strings are listed, and z are the tables as the rules have them before
-  record EntriesHit (t : Table) (k : ℕ) (v : Vocabulary Located) (xs : List (EntryOf Octets t)) (o : Octets) (w : Vocabulary Octets) (p : List Located) (g : Passed) : Type 0 where
+  record EntriesHit (t : Table) (k : ℕ) (v : Vocabulary Located) (xs : List (EntryOf Listed t)) (o : Octets) (w : Vocabulary Octets) (p : List Located) (g : Passed) : Type 0 where
     list : List (EntryOf Located t)
     goes : g ≡ got tt (k + length o) (addAll v t list)
-    are : map (mapEntry (octetsOf s) t) list ≡ xs
+    are : map (mapEntry (listedAs s) t) list ≡ xs
     state : plainTables s (addAll v t list) ≡ w
     placed : p ≡ located t list
 
-  entries-complete : (t : Table) (k : ℕ) (v : Vocabulary Located) {z : Vocabulary Octets} {xs : List (EntryOf Octets t)} {o : Octets} {w : Vocabulary Octets} (rest : Octets) → plainTables s v ≡ z
-      → (u : Each ver (Listed ver t) z xs o w) → drop k s ≡ o ++ rest → EntriesHit t k v xs o w (inEach t k u) (entriesAt ver t s (length xs) k v)
+  entries-complete : (t : Table) (k : ℕ) (v : Vocabulary Located) {z : Vocabulary Octets} {xs : List (EntryOf Listed t)} {o : Octets} {w : Vocabulary Octets} (rest : Octets) → plainTables s v ≡ z
+      → (u : Each ver (EntryListed ver t) z xs o w) → drop k s ≡ o ++ rest → EntriesHit t k v xs o w (inEach t k u) (entriesAt ver t s (length xs) k v)
   unfolding entriesAt
   entries-complete t k v {z = z} rest e no-entry d =
       record { list = []; goes = ap (λ (j : ℕ). got tt j v) (omega arith); are = refl; state = e; placed = none-placed ver t k z }
   entries-complete t k v {z = z} rest e (an-entry {u = z₁} {x = x} {xs = xs} {o = o} {os = os} r q) d =
       let d1 : drop k s ≡ o ++ (os ++ rest) = d ∙ append-assoc o os rest in
-      let i = entry-complete t k v (os ++ rest) (subst (λ (y : Vocabulary Octets). Listed ver t y x o z₁) (sym e) r) d1 in
+      let i = entry-complete t k v (os ++ rest) (subst (λ (y : Vocabulary Octets). EntryListed ver t y x o z₁) (sym e) r) d1 in
       let j = entries-complete t (k + length o) (addTo v t (i .entry)) rest (i .state) q (drop-past s k o (os ++ rest) d1) in
       let la = length-append o os in
       record {
         list = i .entry ∷ j .list;
         goes = rw (i .goes) (j .goes ∙ ap (λ (n : ℕ). got tt n (addAll (addTo v t (i .entry)) t (j .list))) (omega arith));
-        are = ap₂ (λ (y : EntryOf Octets t) (ys : List (EntryOf Octets t)). y ∷ ys) (i .is) (j .are);
+        are = ap₂ (λ (y : EntryOf Listed t) (ys : List (EntryOf Listed t)). y ∷ ys) (i .is) (j .are);
         state = j .state;
         placed = more-placed ver t k z x o r q (i .entry) (j .list) (i .placed) (j .placed);
       }
@@ -204,14 +205,14 @@ module _ {S : Type 0} (h : Vocabulary S) where
 
 module _ (ver : Version) (s : Octets) where
   -- ---- tables
-  record TablesHit (ts : List Table) (l : Lists Octets ts) (k : ℕ) (v : Vocabulary Located) (o : Octets) (w : Vocabulary Octets) (p : List Located) (g : Passed) : Type 0 where
+  record TablesHit (ts : List Table) (l : Lists Listed ts) (k : ℕ) (v : Vocabulary Located) (o : Octets) (w : Vocabulary Octets) (p : List Located) (g : Passed) : Type 0 where
     lists : Lists Located ts
     goes : g ≡ got tt (k + length o) (behind v ts lists)
-    are : mapLists (octetsOf s) ts lists ≡ l
+    are : mapLists (listedAs s) ts lists ≡ l
     state : plainTables s (behind v ts lists) ≡ w
     placed : p ≡ allOf ts lists
 
-  past-absent : (t : Table) (ts : List Table) (xs : List (EntryOf Octets t)) (l : Lists Octets ts) (b k : ℕ) (v : Vocabulary Located) (o : Octets) (w : Vocabulary Octets) (p : List Located)
+  past-absent : (t : Table) (ts : List Table) (xs : List (EntryOf Listed t)) (l : Lists Listed ts) (b k : ℕ) (v : Vocabulary Located) (o : Octets) (w : Vocabulary Octets) (p : List Located)
       → length xs ≡ 0 → b / 2 ^ length ts % 2 ≡ some? (length xs) → TablesHit ts l k v o w p (tablesAt ver ts b s k v) → TablesHit (t ∷ ts) (xs, l) k v o w p (tablesAt ver (t ∷ ts) b s k v)
   unfolding tablesAt
   past-absent t ts xs l b k v o w p z e q =
@@ -228,7 +229,7 @@ module _ (ver : Version) (s : Octets) where
   some-is zero h = absurd (omega arith)
   some-is (suc n) h = refl
 
-  past-present : (t : Table) (ts : List Table) (xs : List (EntryOf Octets t)) (l : Lists Octets ts) (b k : ℕ) (v : Vocabulary Located) (o os : Octets) (u w : Vocabulary Octets) (rest : Octets) (p q : List Located)
+  past-present : (t : Table) (ts : List Table) (xs : List (EntryOf Listed t)) (l : Lists Listed ts) (b k : ℕ) (v : Vocabulary Located) (o os : Octets) (u w : Vocabulary Octets) (rest : Octets) (p q : List Located)
       → 0 < length xs → length xs ≤ top → b / 2 ^ length ts % 2 ≡ some? (length xs) → drop k s ≡ spell c21 0 (length xs) ++ rest
       → (e : EntriesHit ver s t (k + length (spell c21 0 (length xs))) v xs o u p (entriesAt ver t s (length xs) (k + length (spell c21 0 (length xs))) v))
       → TablesHit ts l (k + length (spell c21 0 (length xs)) + length o) (addAll v t (e .list)) os w q (tablesAt ver ts b s (k + length (spell c21 0 (length xs)) + length o) (addAll v t (e .list)))
@@ -247,7 +248,7 @@ module _ (ver : Version) (s : Octets) where
         placed = ap₂ (λ (x y : List Located). x ++ y) (e .placed) (r .placed);
       }
 
-  tables-complete : (h : Vocabulary Octets) {ts : List Table} (b k : ℕ) (v : Vocabulary Located) {z : Vocabulary Octets} {o : Octets} {w : Vocabulary Octets} (rest : Octets) → plainTables s v ≡ z
+  tables-complete : (h : Head) {ts : List Table} (b k : ℕ) (v : Vocabulary Located) {z : Vocabulary Octets} {o : Octets} {w : Vocabulary Octets} (rest : Octets) → plainTables s v ≡ z
       → (u : TablesListed ver h ts z o w) → presence h ts ≡ b % 2 ^ length ts → drop k s ≡ o ++ rest → TablesHit ts (pieces h ts) k v o w (inTables k u) (tablesAt ver ts b s k v)
   unfolding tablesAt inTables sizeOf
   tables-complete h b k v rest e no-table bits d = record { lists = tt; goes = ap (λ (j : ℕ). got tt j v) (omega arith); are = refl; state = e; placed = refl }
@@ -258,7 +259,7 @@ module _ (ver : Version) (s : Octets) where
       let c = presence-split h (ofNames t) ts b bits in
       past-absent (ofNames t) ts (names h t) (pieces h ts) b k v os w (inTables k r) none (c .0) (tables-complete h b k v rest e r (c .1) d)
   tables-complete h b k v rest e (present {t = ofStrings t} {ts = ts} {u = z₁} {w = w} o {os = os} any few y r) bits d =
-      let xs : List Octets = strings h t in
+      let xs : List Listed = strings h t in
       let n : ℕ = length (spell c21 0 (length xs)) in
       let c = presence-split h (ofStrings t) ts b bits in
       let d1 : drop k s ≡ spell c21 0 (length xs) ++ (o ++ (os ++ rest)) = d ∙ simp append-assoc in
@@ -277,14 +278,14 @@ module _ (ver : Version) (s : Octets) where
       (tables-complete h b (k + n + length o) (addAll v (ofNames t) (i .list)) rest (i .state) r (c .1) (drop-past s (k + n) o (os ++ rest) d2))
 
   -- ---- a head
-  pub record HeadHit (h : Vocabulary Octets) (k : ℕ) (v : Vocabulary Located) (o : Octets) (w : Vocabulary Octets) (p : List Located) : Type 0 where
+  pub record HeadHit (h : Head) (k : ℕ) (v : Vocabulary Located) (o : Octets) (w : Vocabulary Octets) (p : List Located) : Type 0 where
     pub head : Vocabulary Located
     pub goes : headAt ver s k v ≡ got tt (suc (suc k) + length o) (followedBy v head)
     pub state : plainTables s (followedBy v head) ≡ w
-    pub head-is : plainTables s head ≡ h
+    pub head-is : vocabularyMap (listedAs s) head ≡ h
     pub listed : allListed head ≡ p
 
-  few-bits : (h : Vocabulary Octets) → presence h tenTables < 1024
+  few-bits : (h : Head) → presence h tenTables < 1024
   unfolding tenTables
   few-bits h = presence-below h tenTables
 
@@ -292,7 +293,7 @@ module _ (ver : Version) (s : Octets) where
   unfolding tenTables
   ten-low b h = omega arith
 
-  pub head-complete : (h : Vocabulary Octets) (k : ℕ) (v : Vocabulary Located) {o : Octets} {w : Vocabulary Octets} (rest : Octets) → 0 < presence h tenTables
+  pub head-complete : (h : Head) (k : ℕ) (v : Vocabulary Located) {o : Octets} {w : Vocabulary Octets} (rest : Octets) → 0 < presence h tenTables
       → (u : TablesListed ver h tenTables (plainTables s v) o w) → drop k s ≡ presence h tenTables / 256 ∷ presence h tenTables % 256 ∷ (o ++ rest) → HeadHit h k v o w (inTables (suc (suc k)) u)
   unfolding headAt
   head-complete h k v {o = o} rest any u d =
@@ -311,6 +312,6 @@ module _ (ver : Version) (s : Octets) where
         goes = rw (lt-ltb k (length s) (a .0), high, lt-ltb (b / 256) 0x20 (omega arith), lt-ltb (b / 256) 4 (omega arith), lt-ltb (suc k) (length s) (c .0), low, whole-is, ne-eqb b 0 (omega arith), i .goes)
             (ap (λ (w : Vocabulary Located). got tt (suc (suc k) + length o) w) is);
         state = ap (plainTables s) (sym is) ∙ i .state;
-        head-is = sym (whole-map (octetsOf s) (i .lists)) ∙ ap (whole Octets) (i .are) ∙ whole-pieces Octets h;
+        head-is = sym (whole-map (listedAs s) (i .lists)) ∙ ap (whole Listed) (i .are) ∙ whole-pieces Listed h;
         listed = sym (all-whole (i .lists)) ∙ sym (i .placed);
       }

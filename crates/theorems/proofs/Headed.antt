@@ -9,7 +9,7 @@ use Rattle.format.specs.Octets.{Octets}
 use Rattle.format.specs.Numbers.{top}
 use Rattle.format.specs.Events.{Item}
 use Rattle.format.specs.Tables.{Vocabulary, starting, noEntries, Version, standard}
-use Rattle.format.specs.Head.{Opens, without-head}
+use Rattle.format.specs.Head.{Head, Opens, without-head}
 use Rattle.format.specs.Items.{State}
 use Rattle.format.specs.Document.{halves, Written, beginning, header, Document}
 use Rattle.theorems.specs.Heads.{headed}
@@ -23,7 +23,7 @@ unfolding header
 no-head ver = subst (Opens ver noEntries (header ver)) (sym (headed-none ver)) without-head
 
 -- ---- the body
-module _ {ver : Version} {h : Vocabulary Octets} {items : List (Item Octets)} {z : State Octets} {s : Octets} (d : Document ver h items z s) where
+module _ {ver : Version} {h : Head} {items : List (Item Octets)} {z : State Octets} {s : Octets} (d : Document ver h items z s) where
   pub opens-headed : Opens ver h (d .before) (headed ver h)
   opens-headed = subst (Opens ver h (d .before)) (opened-is (d .opens)) (d .opens)
 
@@ -31,7 +31,7 @@ module _ {ver : Version} {h : Vocabulary Octets} {items : List (Item Octets)} {z
   rule-headed = subst (λ (v : Vocabulary Octets). Written ver (2 * length (d .before)) (beginning v) items (d .body) z) (opened-is (d .opens)) (d .rule)
 
 -- ---- one document
-pub one-document : {ver : Version} {h : Vocabulary Octets} {items : List (Item Octets)} {z z′ : State Octets} {s s′ : Octets}
+pub one-document : {ver : Version} {h : Head} {items : List (Item Octets)} {z z′ : State Octets} {s s′ : Octets}
     → Document ver h items z s → Document ver h items z′ s′
     → (s ≡ s′) × (z ≡ z′)
 one-document {ver} {h} {items} {z′ = z′} {s = s} {s′ = s′} d d′ =
@@ -41,7 +41,7 @@ one-document {ver} {h} {items} {z′ = z′} {s = s} {s′ = s′} d d′ =
     (halves-one s s′ (d .here ∙ (λ j. halves (sym o j) ++ r .0 j) ∙ sym (d′ .here)), r .1)
 
 -- within the standard's own limits
-pub in-standard : {ver : Version} {h : Vocabulary Octets} {items : List (Item Octets)} {z : State Octets} {s : Octets} (depth octets : ℕ) → ver .entries ≤ top → ver .octets ≤ octets → ver .depth ≤ depth
+pub in-standard : {ver : Version} {h : Head} {items : List (Item Octets)} {z : State Octets} {s : Octets} (depth octets : ℕ) → ver .entries ≤ top → ver .octets ≤ octets → ver .depth ≤ depth
     → Document ver h items z s → Document (standard ver depth octets) h items z s
 unfolding standard starting
 in-standard depth octets few long deep d =

@@ -1,5 +1,5 @@
 -- Items, C.3 to C.8: what is read at an octet is what the rules write, and what they write is read.
-use mathlib.Core.Path.{_≡_, refl, sym, ap, ap₂, _∙_, subst}
+use mathlib.Core.Path.{_≡_, refl, sym, ap, ap₂, _∙_}
 use mathlib.Core.Bool.{Bool, true, false, not, _&&_, _||_}
 use mathlib.Core.Option.{Option, some}
 use mathlib.Core.List.{List, [], _∷_, _++_, append-assoc, append-nil}
@@ -13,7 +13,7 @@ use Rattle.format.specs.Octets.{Octets}
 use Rattle.format.specs.Numbers.{pick, behindFirst, numbers, c25, top, longest}
 use Rattle.format.specs.Events.{Name, Namespace, Start, Attribute, Text, Comment, Instruction, How, NameHow, forNamespace, forStart, forAttribute, forText, forComment, forInstruction, Item, _by_, eventMap}
 use Rattle.format.specs.Tables.{OTHER-NCNAME, ATTRIBUTE-VALUE, CONTENT-CHARACTER-CHUNK, OTHER-STRING, Vocabulary, Version}
-use Rattle.format.specs.Strings.{bit, c15, Value}
+use Rattle.format.specs.Strings.{bit, c15}
 use Rattle.format.specs.Names.{ofElement, ofAttribute, Named, Declared}
 use Rattle.format.specs.Items.{Mode, content, declaring, listing, State, mayStart, knowing, moved, opened, ItemWrittenAs, o-start, o-first-namespace, o-namespace, o-named-start, o-attribute, o-text, o-comment, o-instruction}
 use Rattle.fields.specs.declared.Cursor.{Cursor}
@@ -421,7 +421,7 @@ module _ (ver : Version) (s : Octets) where
       let t = attribute-hit k (v .tables) (c .0) in
       let h = t .0 in
       let hi = t .1 in
-      let e = value-complete ver s ATTRIBUTE-VALUE (k + length o1) (h .v) rest (subst (λ (x : Vocabulary Octets). Value ver ATTRIBUTE-VALUE x y g o2 w2) (sym (h .state)) u2) (drop-past s k o1 (o2 ++ rest) d1) in
+      let e = value-complete ver s ATTRIBUTE-VALUE (k + length o1) (h .v) rest (h .state) u2 (drop-past s k o1 (o2 ++ rest) d1) in
       let la = length-append o1 o2 in
       let z : k + length o1 + length o2 ≡ k + length (o1 ++ o2) = omega arith in
       record {
@@ -449,11 +449,11 @@ module _ (ver : Version) (s : Octets) where
         state = ap (λ (y : Vocabulary Octets). knowing (plainState s v) y) (h .state);
         some = c .some;
         here = c .here;
-        first = λ y. c .high;
+        first = λ y. let f = shape15 .fits in omega arith;
       }
   item-complete k v rest (o-comment {o = os} md u) d =
       let f = drop-head s k 0xE2 (os ++ rest) d in
-      let h = value-complete ver s OTHER-STRING (suc k) (v .tables) rest u (f .2) in
+      let h = value-complete ver s OTHER-STRING (suc k) (v .tables) rest refl u (f .2) in
       let z : suc k + length os ≡ k + suc (length os) = omega arith in
       let oc = f .1 in
       record {
@@ -473,7 +473,7 @@ module _ (ver : Version) (s : Octets) where
       let oc = f .1 in
       let d1 : drop (suc k) s ≡ o1 ++ (o2 ++ rest) = f .2 ∙ append-assoc o1 o2 rest in
       let h = id-complete ver s OTHER-NCNAME (suc k) (v .tables) (o2 ++ rest) u1 d1 in
-      let e = value-complete ver s OTHER-STRING (suc k + length o1) (h .v) rest (subst (λ (z : Vocabulary Octets). Value ver OTHER-STRING z y g o2 w2) (sym (h .state)) u2) (drop-past s (suc k) o1 (o2 ++ rest) d1) in
+      let e = value-complete ver s OTHER-STRING (suc k + length o1) (h .v) rest (h .state) u2 (drop-past s (suc k) o1 (o2 ++ rest) d1) in
       let la = length-append o1 o2 in
       let z : suc k + length o1 + length o2 ≡ k + suc (length (o1 ++ o2)) = omega arith in
       record {

@@ -7,7 +7,7 @@ use lib.ListN.{length}
 use Rattle.format.specs.Octets.{Octets, Halves}
 use Rattle.format.specs.Events.{Item}
 use Rattle.format.specs.Tables.{Vocabulary, Version}
-use Rattle.format.specs.Head.{Opens}
+use Rattle.format.specs.Head.{Head, Opens}
 use Rattle.format.specs.Items.{State}
 use Rattle.format.specs.Document.{halves, pad, aligned, Written, document-end, attributes-end, element-end, item, beginning, Document}
 use Rattle.write_items.specs.Steps.{joined}
@@ -57,7 +57,7 @@ pub joins : {ver : Version} (n : ℕ) {v z : State Octets} {items : List (Item O
 joins n w = let e : 2 * n % 2 ≡ 0 = omega arith in rw e at (joins-from w)
 
 -- A document: behind these octets, which open it with these tables.
-module _ {ver : Version} {h : Vocabulary Octets} {o : Octets} {v : Vocabulary Octets} (op : Opens ver h o v) where
+module _ {ver : Version} {h : Head} {o : Octets} {v : Vocabulary Octets} (op : Opens ver h o v) where
   abbrev pub document-of : {z : State Octets} {items : List (Item Octets)} {hs : Halves} → Written ver (2 * length o) (beginning v) items hs z → length (o ++ joined hs) ≤ ver .octets
       → Document ver h items z (o ++ joined hs)
   document-of {hs = hs} w short =

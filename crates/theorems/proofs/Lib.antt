@@ -3,6 +3,8 @@ mod Splits
 mod Words
 mod Numbers
 mod Fields
+mod Alphabets
+mod Formats
 mod Strings
 mod Names
 mod Items
@@ -32,6 +34,7 @@ mod Begun
 mod Plain
 mod ReadEffects
 mod ReadRecords
+pub mod Forms
 mod Chosen
 mod Produced
 mod WriterChoices

@@ -13,8 +13,6 @@ use Rattle.format.specs.Octets.{Octets, Halves}
 use Rattle.format.specs.Numbers.{pick}
 use Rattle.format.specs.Document.{halves, pad, aligned}
 use Rattle.read_items.specs.Steps.{halfAt, endsAt, padsAt}
-use Rattle.tables.specs.Located.{stretch, octetsOf}
-use Rattle.tables.proofs.Search.{octets-stretch}
 use Rattle.tables.proofs.Found.{clash, both-true}
 
 -- ---- tests
@@ -87,13 +85,13 @@ drop-head (x ∷ s) zero o t e = (omega arith, cc, cc)
 drop-head (x ∷ s) (suc k) o t e = let i = drop-head s k o t e in (omega arith, i .1, i .2)
 
 -- n octets
-pub stretch-sound : (s : Octets) (k n : ℕ) → drop k s ≡ octetsOf s (stretch k n) ++ drop (k + n) s
-stretch-sound s k n = rw (octets-stretch s k n) (sym (take-append-drop n (drop k s)) ∙ ap (λ (l : Octets). take n (drop k s) ++ l) (drop-add s k n))
+pub stretch-sound : (s : Octets) (k n : ℕ) → drop k s ≡ take n (drop k s) ++ drop (k + n) s
+stretch-sound s k n = sym (take-append-drop n (drop k s)) ∙ ap (λ (l : Octets). take n (drop k s) ++ l) (drop-add s k n)
 
 pub stretch-complete : (s : Octets) (k n : ℕ) (x t : Octets) → length x ≡ n → 0 < n → drop k s ≡ x ++ t
-    → (octetsOf s (stretch k n) ≡ x) × (k + n ≤ length s) × (drop (k + n) s ≡ t)
+    → (take n (drop k s) ≡ x) × (k + n ≤ length s) × (drop (k + n) s ≡ t)
 stretch-complete s k n x t l h e = (
-  octets-stretch s k n ∙ rw e (take-at x t n l),
+  rw e (take-at x t n l),
   (let a = length-append x t in let b = length-drop k s in let c = ap length e in omega arith),
   sym (drop-add s k n) ∙ rw e (drop-at x t n l),
 )

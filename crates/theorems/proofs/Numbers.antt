@@ -25,9 +25,13 @@ pub record NumRead (s : Octets) (fs : List Form) (top base k n next : ℕ) : Typ
   pub next-is : next ≡ k + length (spell fs base n)
   pub inside : next ≤ length s
 
+-- what is told of a number and the place behind it; or the refusal is a fault of the document
+abbrev pub Told : Octets → (ℕ → ℕ → Type 0) → Number → Type 0
+Told s Q (Num n c) = Q n (c .at)
+Told s Q (NoNum c p) = Fault s c p
+
 abbrev pub NumOk : Octets → List Form → ℕ → ℕ → ℕ → Number → Type 0
-NumOk s fs top base k (Num n c) = NumRead s fs top base k n (c .at)
-NumOk s fs top base k (NoNum c p) = Fault s c p
+NumOk s fs top base k a = Told s (NumRead s fs top base k) a
 
 -- whatever a number is refused for, it is at its place
 abbrev Refusable : Octets → Number → Type 0

@@ -6,7 +6,8 @@ use native.Mathlib.Omega.{arith}
 use lib.ListN.{length}
 use Rattle.format.specs.Octets.{Octets}
 use Rattle.format.specs.Events.{IsDocument}
-use Rattle.format.specs.Tables.{Vocabulary, Version}
+use Rattle.format.specs.Tables.{Version}
+use Rattle.format.specs.Head.{Head}
 use Rattle.format.specs.Document.{aligned}
 use Rattle.events.specs.declared.Event.{Event}
 use Rattle.theorems.specs.Verdicts.{plains, itemsOf, WrittenIn, Right, Fault, not-an-event, not-text, too-deep, too-many, no-room, AllRight, Refused, at-event, too-soon, no-room-for-end}
@@ -14,7 +15,7 @@ use Rattle.theorems.proofs.Heads.{one-head}
 use Rattle.theorems.proofs.Splits.{splits}
 use Rattle.theorems.proofs.Begun.{begun-size}
 
-module _ (ver : Version) (h : Vocabulary Octets) (text : Octets) (room : ℕ) where
+module _ (ver : Version) (h : Head) (text : Octets) (room : ℕ) where
   -- ---- one fault
   fault-one : {before : List Event} {e : Event} {m n : ℕ} → Fault ver h text room before e m → Fault ver h text room before e n → m ≡ n
   fault-one (not-an-event a) (not-an-event b) = refl

@@ -8,12 +8,13 @@ use native.Mathlib.Omega.{arith}
 use Rattle.format.specs.Octets.{Octets, Halves}
 use Rattle.format.specs.Events.{Name, Event, Namespace, Start, Attribute, Text, Comment, Instruction, End, How, numbered, NameHow, Item, _by_, forEnd, isDeclaration, isStart}
 use Rattle.format.specs.Tables.{StringTable, Vocabulary, addingName, Version}
-use Rattle.format.specs.Strings.{bit, Identifying, id-spelled, id-numbered, Optional, absent, present, Layout, Literal, literal-spelled, literal-numbered, Value, value-empty, value}
+use Rattle.format.specs.Strings.{inFormat, bit, Identifying, id-spelled, id-numbered, Optional, absent, present, Layout, Literal, literal-spelled, literal-numbered, Value, value-empty, value}
 use Rattle.format.specs.Names.{has, NameLayout, Named, in-parts, by-number, Declared, declared}
 use Rattle.format.specs.Items.{Mode, content, declaring, listing, State, afterStart, knowing, moved, opened, ItemWrittenAs, o-start, o-first-namespace, o-namespace, o-named-start, o-attribute, o-text, o-comment, o-instruction}
 use Rattle.write_items.specs.Steps.{isAttribute}
 use Rattle.tables.proofs.Found.{clash as false-true}
 use Rattle.format.specs.Document.{halves, pad, Written, document-end, attributes-end, element-end, item}
+use Rattle.forms.proofs.Forms.{one-spelling}
 use Rattle.theorems.proofs.Lists.{octet-is}
 
 -- Whether attributes follow is decided by the items: by the next, and behind declarations by the one behind the Start.
@@ -102,7 +103,8 @@ module _ {ver : Version} where
 
   pub literal-one : {q : Layout} {t : StringTable} {v w w′ : Vocabulary Octets} {x : Octets} {h : How} {o o′ : Octets}
       → Literal ver q t v x h o w → Literal ver q t v x h o′ w′ → (o ≡ o′) × (w ≡ w′)
-  literal-one (literal-spelled sp room) (literal-spelled sp′ room′) = (refl, refl)
+  literal-one {q} (literal-spelled {x = x} {y = y} {form = form} {added = a} sp room) (literal-spelled {y = y′} sp′ room′) =
+      (ap (inFormat (q .lengthBit) form (q .spelledBits + q .addBit * bit a)) (one-spelling form x y y′ (sp .formed) (sp′ .formed)), refl)
   literal-one (literal-numbered small fits en) (literal-numbered small′ fits′ en′) = (refl, refl)
 
   pub literal-some : {q : Layout} {t : StringTable} {v w : Vocabulary Octets} {x : Octets} {h : How} {o : Octets} {X : Type 0}

@@ -12,9 +12,9 @@ use lib.Seq.{drop-cons, drop-at, take-at}
 use Rattle.format.specs.Octets.{Octets, AreOctets}
 use Rattle.format.specs.Numbers.{longest}
 use Rattle.format.specs.Tables.{Vocabulary, strings, noEntries, followedBy, vocabularyMap, same, Version}
-use Rattle.format.specs.Head.{Table, tenTables, presence, started, TablesListed, Opens, without-head, with-head}
+use Rattle.format.specs.Head.{Head, Table, tenTables, presence, started, TablesListed, Opens, without-head, with-head}
 use Rattle.format.specs.Document.{header}
-use Rattle.tables.specs.Located.{Located, octetsOf, plainTables, start}
+use Rattle.tables.specs.Located.{Located, octetsOf, listedAs, plainTables, start}
 use Rattle.tables.proofs.Found.{both-true, same-eq, same-refl}
 use Rattle.read_names.specs.Strings.{got, refused}
 use Rattle.read_head.specs.Head.{Passed, headAt}
@@ -36,16 +36,16 @@ pub plain-start : (ver : Version) (s : Octets) → plainTables s (start ver) ≡
 unfolding start octetsOf
 plain-start ver s = starting-map (octetsOf s) ver _ _
 
-no-plain : (s : Octets) → plainTables s noEntries ≡ noEntries
+no-strings : (s : Octets) → vocabularyMap (listedAs s) noEntries ≡ noEntries
 unfolding vocabularyMap noEntries
-no-plain s = refl
+no-strings s = refl
 
 none-listed : allListed {S = Located} noEntries ≡ []
 unfolding strings noEntries
 none-listed = refl
 
 -- tables are listed at the same places, whichever of two equal tables they are added to
-moved : {ver : Version} {h v z w : Vocabulary Octets} {ts : List Table} {o : Octets} (k : ℕ) → v ≡ z → (u : TablesListed ver h ts v o w) → (y : TablesListed ver h ts z o w) × (inTables k y ≡ inTables k u)
+moved : {ver : Version} {h : Head} {v z w : Vocabulary Octets} {ts : List Table} {o : Octets} (k : ℕ) → v ≡ z → (u : TablesListed ver h ts v o w) → (y : TablesListed ver h ts z o w) × (inTables k y ≡ inTables k u)
 moved {ver = ver} {h = h} {w = w} {ts = ts} {o = o} k e u = subst (λ (z : Vocabulary Octets). (y : TablesListed ver h ts z o w) × (inTables k y ≡ inTables k u)) e (u, refl)
 
 -- ---- what lets the reader go on is what the rules write
@@ -58,7 +58,7 @@ module _ (ver : Version) (s : Octets) where
 
   -- the octets `before` are written before the body, which starts at octet `body`
   pub record Begins (body : ℕ) (tables : Vocabulary Located) : Type 0 where
-    pub h : Vocabulary Octets
+    pub h : Head
     pub before : Octets
     pub opens : Opens ver h before (plainTables s tables)
     pub splits : s ≡ before ++ drop body s
@@ -68,7 +68,7 @@ module _ (ver : Version) (s : Octets) where
     pub short : length s ≤ ver .octets
     pub head : Vocabulary Located
     pub tables-are : tables ≡ followedBy (start ver) head
-    pub head-is : plainTables s head ≡ h
+    pub head-is : vocabularyMap (listedAs s) head ≡ h
     pub listed : allListed head ≡ listedIn opens
 
   abbrev pub Opened : Opening → Type 0
@@ -94,7 +94,7 @@ module _ (ver : Version) (s : Octets) where
           short = short;
           head = noEntries;
           tables-are = sym (followed-none (start ver));
-          head-is = no-plain s;
+          head-is = no-strings s;
           listed = none-listed;
         }
 
@@ -103,7 +103,7 @@ module _ (ver : Version) (s : Octets) where
       a-head heads e (refused c p) r = r
       a-head heads e (got x next w) r =
           let l = header-length ver in
-          let h : Vocabulary Octets = r .h in
+          let h : Head = r .h in
           let b : ℕ = presence h tenTables in
           let u = moved (n + 3) (plain-start ver s) (r .rule) in
           let at : suc (suc (suc n)) ≡ n + 3 = omega arith in
@@ -147,16 +147,16 @@ opening-sound ver ok s bytes =
     a-head ver s four t3 short bytes small (both .0) (eqb-true (getD s n 0) 0x20 (both .1)) (headAt ver s (suc n) (start ver)) (head-sound ver s bytes small (suc n) (start ver) t3)
 
 -- ---- and what the rules write lets the reader go on
-pub record OpensAt (ver : Version) (s : Octets) {h : Vocabulary Octets} {before : Octets} {listed : Vocabulary Octets} (op : Opens ver h before listed) : Type 0 where
+pub record OpensAt (ver : Version) (s : Octets) {h : Head} {before : Octets} {listed : Vocabulary Octets} (op : Opens ver h before listed) : Type 0 where
   pub tables : Vocabulary Located
   pub answers : opening ver s ≡ onward (length before) tables
   pub are : plainTables s tables ≡ listed
   pub head : Vocabulary Located
   pub tables-are : tables ≡ followedBy (start ver) head
-  pub head-is : plainTables s head ≡ h
+  pub head-is : vocabularyMap (listedAs s) head ≡ h
   pub listed-are : allListed head ≡ listedIn op
 
-pub opening-complete : (ver : Version) (s : Octets) {h : Vocabulary Octets} {before : Octets} {listed : Vocabulary Octets} (op : Opens ver h before listed) (rest : Octets) → s ≡ before ++ rest
+pub opening-complete : (ver : Version) (s : Octets) {h : Head} {before : Octets} {listed : Vocabulary Octets} (op : Opens ver h before listed) (rest : Octets) → s ≡ before ++ rest
     → length s ≤ ver .octets → OpensAt ver s op
 unfolding opening sized
 opening-complete ver s without-head rest d short =
@@ -174,7 +174,7 @@ opening-complete ver s without-head rest d short =
       are = plain-start ver s;
       head = noEntries;
       tables-are = sym (followed-none (start ver));
-      head-is = no-plain s;
+      head-is = no-strings s;
       listed-are = none-listed;
     }
 opening-complete ver s {h = h} (with-head {o = o} heads any u) rest d short =

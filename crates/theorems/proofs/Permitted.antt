@@ -11,6 +11,7 @@ use Rattle.format.specs.Items.{State, ItemWrittenAs, o-start, o-first-namespace
 use Rattle.format.specs.Document.{Written, document-end, attributes-end, element-end, item}
 use Rattle.theorems.specs.Permitted.{PermitsId, id-new, id-entry, PermitsIfAny, not-there, there, PermitsString, string-spelled, string-entry, PermitsValue, value-none, value-spelled, value-entry}
 use Rattle.theorems.specs.Permitted.{PermitsName, name-parts, name-entry, Permits, a-declaration, a-start, an-attribute, a-chunk, a-comment, an-instruction, an-end, PermitsAll, no-item, an-item}
+use Rattle.theorems.proofs.Forms.{spelling-said, has-form}
 
 module _ {ver : Version} where
   id-may : {t : StringTable} {v w : Vocabulary Octets} {x : Octets} {h : How} {n : ℕ} {o : Octets} → Identifying ver t v x h n o w → PermitsId t v x h n w
@@ -22,12 +23,12 @@ module _ {ver : Version} where
   optional-may (present u) = there (id-may u)
 
   literal-may : {q : Layout} {t : StringTable} {v w : Vocabulary Octets} {x : Octets} {h : How} {o : Octets} → Literal ver q t v x h o w → PermitsString t v x h w
-  literal-may (literal-spelled {added = b} sp room) = string-spelled b
+  literal-may (literal-spelled {added = b} sp room) = string-spelled b (has-form sp)
   literal-may (literal-numbered small fits en) = string-entry en
 
   value-may : {t : StringTable} {v w : Vocabulary Octets} {x : Octets} {h : How} {o : Octets} → Value ver t v x h o w → PermitsValue t v x h w
   value-may value-empty = value-none
-  value-may (value (literal-spelled {added = b} sp room)) = value-spelled b (sp .some)
+  value-may (value (literal-spelled {added = b} sp room)) = value-spelled b (spelling-said sp .0) (has-form sp)
   value-may (value (literal-numbered small fits en)) = value-entry en
 
   name-may : {q : NameLayout} {lead : ℕ} {v w : Vocabulary Octets} {x : Name Octets} {h : NameHow} {o : Octets} → Named ver q lead v x h o w → PermitsName (q .table) v x h w

@@ -11,16 +11,16 @@ use Rattle.format.specs.Events.{Name, Event, Namespace, Start, Attribute, Text,
 use Rattle.format.specs.Tables.{StringTable, PREFIX, NAMESPACE-NAME, LOCAL-NAME, OTHER-NCNAME, ATTRIBUTE-VALUE, CONTENT-CHARACTER-CHUNK, OTHER-STRING}
 use Rattle.format.specs.Tables.{NameTable, Triple, Vocabulary, strings, names, adding, addingName, Version}
 use Rattle.format.specs.Tables.{Behind, nothing, an-entry, Means}
-use Rattle.format.specs.Head.{some?}
+use Rattle.format.specs.Head.{Head, some?}
 use Rattle.format.specs.Names.{has}
 use Rattle.format.specs.Items.{State}
-use Rattle.format.specs.Allowed.{Said, SaidIfAny, AllowedName, Allowed, All}
+use Rattle.format.specs.Allowed.{SaidIfAny, AllowedName, Allowed, All}
 use Rattle.format.specs.Document.{Document}
 use Rattle.tables.specs.Rows.{place}
 use Rattle.tables.proofs.Adding.{sameNames, strings-adding, names-adding, strings-adding-name, names-adding-name}
 use Rattle.theorems.proofs.Alls.{all-extended, all-entry, all-so}
 use Rattle.theorems.proofs.Effects.{IdDone, id-made, id-used, PartDone, no-part, a-part, StringDone, string-made, string-used, ValueDone, empty-value, a-value, NameDone, name-made, name-used}
-use Rattle.theorems.proofs.Effects.{ItemDone, done-namespace, done-start, done-attribute, done-text, done-comment, done-instruction, done-end, Done, no-item, an-item, document-done}
+use Rattle.theorems.proofs.Effects.{ItemDone, done-namespace, done-start, done-attribute, done-text, done-comment, done-instruction, done-end, Done, no-item, an-item, OfTable, document-done}
 use Rattle.read_names.specs.Names.{partOf, nameOf}
 use Rattle.theorems.specs.Heads.{NamesParts}
 use Rattle.theorems.proofs.Triples.{means-is, means-at}
@@ -106,7 +106,7 @@ module _ {S : Type 0} (P : StringTable → S → Type 0) (d : S) where
       )
 
   -- P holds of all that can be spelled
-  module _ (Spelt : S → Type 0) (of-spelt : (t : StringTable) (x : S) → Spelt x → P t x) where
+  module _ (Spelt : StringTable → S → Type 0) (of-spelt : (t : StringTable) (x : S) → Spelt t x → P t x) where
     id-holds : {t : StringTable} {v w : Vocabulary S} {x : S} {h : How} {n : ℕ} → IdDone d Spelt t v x h n w → Good v → P t x × Good w
     id-holds {t} {v} (id-made {x = x} sp) g = let p = of-spelt t x sp in (p, good-adding v t x p g)
     id-holds {t} (id-used en) g = (all-entry (P t) (g .of-strings t) en, g)
@@ -153,9 +153,6 @@ module _ {S : Type 0} (P : StringTable → S → Type 0) (d : S) where
     holds {v} a b r = all-hold r (record { of-strings = a; of-names = λ t. all-so (Meant v) (triple-meant v a) (names v t) (b t) })
 
 -- ---- the requirements' strings
-abbrev OfTable : StringTable → Octets → Type 0
-OfTable t x = Said x
-
 if-any : (t : StringTable) (x : Option Octets) → IfAny OfTable [] t x → SaidIfAny x
 if-any t none a = tt
 if-any t (some x) a = a
@@ -177,6 +174,6 @@ as-allowed (Comment y) a = as-text a
 as-allowed (Instruction x y) a = (a .0, as-text (a .1))
 as-allowed End a = tt
 
-pub all-allowed : {ver : Version} {h : Vocabulary Octets} {items : List (Item Octets)} {z : State Octets} {s : Octets} → Document ver h items z s → All (λ i. Allowed (i .event)) items
+pub all-allowed : {ver : Version} {h : Head} {items : List (Item Octets)} {z : State Octets} {s : Octets} → Document ver h items z s → All (λ i. Allowed (i .event)) items
 all-allowed {items = items} w =
-    all-so (λ i. Allowed (i .event)) (λ i a. as-allowed (i .event) a) items (holds OfTable [] Said (λ t x a. a) (opened-spelled (w .opens)) (opened-named (w .opens)) (document-done w))
+    all-so (λ i. Allowed (i .event)) (λ i a. as-allowed (i .event) a) items (holds OfTable [] OfTable (λ t x a. a) (opened-spelled (w .opens)) (opened-named (w .opens)) (document-done w))

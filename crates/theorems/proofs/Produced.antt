@@ -12,7 +12,8 @@ use Rattle.format.specs.Octets.{Octets}
 use Rattle.format.specs.Numbers.{sizes, numbers, c25, top}
 use Rattle.format.specs.Events.{Name, Event, Namespace, Start, Attribute, Text, Comment, Instruction, End, How, NameHow, Item, _by_, Choice}
 use Rattle.format.specs.Tables.{StringTable, PREFIX, NAMESPACE-NAME, LOCAL-NAME, OTHER-NCNAME, ATTRIBUTE-VALUE, CONTENT-CHARACTER-CHUNK, OTHER-STRING, NameTable, ELEMENT-NAME, ATTRIBUTE-NAME, Vocabulary, strings, adding, Version, InLimits}
-use Rattle.format.specs.Strings.{Spelling, bit, c15}
+use Rattle.format.specs.Strings.{Spelling, bit, Layout, c15}
+use Rattle.format.specs.declared.StringForm.the-variants.{Utf8}
 use Rattle.format.specs.Names.{has, ofElement, ofAttribute, Declared, declared}
 use Rattle.format.specs.Items.{Mode, content, declaring, listing, State, mayStart, knowing, moved, opened, ItemWrittenAs, o-start, o-first-namespace, o-namespace, o-named-start, o-attribute, o-text, o-comment, o-instruction}
 use Rattle.format.specs.Document.{closed}
@@ -22,7 +23,7 @@ use Rattle.write_names.specs.Chosen.{Chose, chooseId, chooseOptional, chooseNam
 use Rattle.write_items.specs.Items.{beforeDeclaration, beforeName, nameLead}
 use Rattle.theorems.specs.Permitted.{PermitsIfAny, Permits, a-declaration, a-start, an-attribute, a-chunk, a-comment, an-instruction, an-end}
 use Rattle.theorems.proofs.Growing.{same-table, extended-few}
-use Rattle.theorems.proofs.Chosen.{Grows, same-size, grows-on, fits-before, idOctets, optionalOctets, literalOctets, valueOctets, nameOctets, More, as-was, one-more, id-more, optional-more, string-more, value-more, more-grows, id-case, id-rule, optional-case, optional-rule, SpellingIfAny, SpellingIfSome, LiteralCase, lit-held, lit-new, literal-case, literal-permits, literal-rule, ValueCase, is-empty, is-literal, value-case, value-permits, value-rule, Ranged, more-ranged, NameCase, name-held, name-new, name-case, name-permits, name-grows, name-ranged, NameSaid, name-rule}
+use Rattle.theorems.proofs.Chosen.{Grows, same-size, grows-on, fits-before, idOctets, optionalOctets, nameOctets, More, as-was, one-more, id-more, optional-more, string-more, value-more, more-grows, id-case, id-rule, optional-case, optional-rule, SpellingIfAny, SpellingIfSome, stringOctets, literalOctets, LiteralCase, lit-held, lit-new, literal-case, literal-more, literal-permits, literal-rule, valueOctets, valueBy, ValueCase, is-empty, is-literal, value-case, value-adds, value-permits, value-rule, Ranged, more-ranged, NameCase, name-held, name-new, name-case, name-permits, name-grows, name-ranged, NameSaid, name-rule}
 
 -- the tables in order: none over its limit, and each triple's numbers in range
 pub record Order (ver : Version) (v : Vocabulary Octets) : Type 0 where
@@ -50,7 +51,7 @@ adding-rest {ver} v t x room r =
           (λ e. let z = same-table t u e in rw (← z) room));
     }
 
-literal-rest : {ver : Version} {t : StringTable} {v : Vocabulary Octets} {x : Octets} {c : Chose How} → LiteralCase ver t v x c → Rest ver v → Rest ver (c .tables)
+literal-rest : {ver : Version} {q : Layout} {t : StringTable} {v : Vocabulary Octets} {x : Octets} {c : Chose How} → LiteralCase ver q t v x c → Rest ver v → Rest ver (c .tables)
 literal-rest (lit-held en) r = r
 literal-rest {t = t} {v = v} {x = x} (lit-new {added = true} room) r = adding-rest v t x (room refl) r
 literal-rest (lit-new {added = false} room) r = r
@@ -82,23 +83,12 @@ rest-for C v e o = go e (record { few = λ t h. o .fit .few t })
     go (Attribute x y) r =
         value-rest (value-case C ATTRIBUTE-VALUE (chooseName ATTRIBUTE-NAME v x .tables) y)
         (same-rest (λ u h. name-rest ATTRIBUTE-NAME v x u h (name-case ATTRIBUTE-NAME v x (o .ranged))) r)
-    go (Text y) r = literal-rest (literal-case C CONTENT-CHARACTER-CHUNK v y) r
+    go (Text y) r = literal-rest (literal-case C c15 CONTENT-CHARACTER-CHUNK v y) r
     go (Comment y) r = value-rest (value-case C OTHER-STRING v y) r
     go (Instruction x y) r =
         value-rest (value-case C OTHER-STRING (chooseId OTHER-NCNAME v x .tables) y)
         (same-rest (λ u h. other-tables u (omega arith) h (id-more (id-case OTHER-NCNAME v x))) r)
     go End r = r
-
--- ---- the required choices are permitted ones
-unfoldable pub permits-for : (C : Version) (v : Vocabulary Octets) (e : Event Octets) → Ranged v → Permits v e (chooseFor C v e .how) (chooseFor C v e .tables)
-unfolding chooseFor
-permits-for C v (Namespace p n) r = a-declaration (optional-case PREFIX v p) (optional-case NAMESPACE-NAME (chooseOptional PREFIX v p .tables) n)
-permits-for C v (Start x) r = a-start (name-permits ELEMENT-NAME v x (name-case ELEMENT-NAME v x r))
-permits-for C v (Attribute x y) r = an-attribute (name-permits ATTRIBUTE-NAME v x (name-case ATTRIBUTE-NAME v x r)) (value-permits (value-case C ATTRIBUTE-VALUE (chooseName ATTRIBUTE-NAME v x .tables) y))
-permits-for C v (Text y) r = a-chunk (literal-permits (literal-case C CONTENT-CHARACTER-CHUNK v y))
-permits-for C v (Comment y) r = a-comment (value-permits (value-case C OTHER-STRING v y))
-permits-for C v (Instruction x y) r = an-instruction (id-case OTHER-NCNAME v x) (value-permits (value-case C OTHER-STRING (chooseId OTHER-NCNAME v x .tables) y))
-permits-for C v End r = an-end
 
 -- ---- tables only grow, and the numbers of triples stay in range
 pub permits-grows : {v w : Vocabulary Octets} {e : Event Octets} {c : Choice} → Permits v e c w → Grows v w
@@ -119,8 +109,17 @@ permits-ranged (a-comment y) r = more-ranged (value-more y) r
 permits-ranged (an-instruction x y) r = more-ranged (value-more y) (more-ranged (id-more x) r)
 permits-ranged an-end r = r
 
+-- so they do with the required choices, also where a string is no text
 pub ranged-for : (C : Version) (v : Vocabulary Octets) (e : Event Octets) → Ranged v → Ranged (chooseFor C v e .tables)
-ranged-for C v e r = permits-ranged (permits-for C v e r) r
+unfolding chooseFor
+ranged-for C v (Namespace p n) r = more-ranged (optional-more (optional-case NAMESPACE-NAME (chooseOptional PREFIX v p .tables) n)) (more-ranged (optional-more (optional-case PREFIX v p)) r)
+ranged-for C v (Start x) r = name-ranged (name-permits ELEMENT-NAME v x (name-case ELEMENT-NAME v x r)) r
+ranged-for C v (Attribute x y) r =
+    more-ranged (value-adds (value-case C ATTRIBUTE-VALUE (chooseName ATTRIBUTE-NAME v x .tables) y)) (name-ranged (name-permits ATTRIBUTE-NAME v x (name-case ATTRIBUTE-NAME v x r)) r)
+ranged-for C v (Text y) r = more-ranged (literal-more (literal-case C c15 CONTENT-CHARACTER-CHUNK v y)) r
+ranged-for C v (Comment y) r = more-ranged (value-adds (value-case C OTHER-STRING v y)) r
+ranged-for C v (Instruction x y) r = more-ranged (value-adds (value-case C OTHER-STRING (chooseId OTHER-NCNAME v x .tables) y)) (more-ranged (id-more (id-case OTHER-NCNAME v x)) r)
+ranged-for C v End r = r
 
 -- ---- one event
 -- where an event may stand, a says whether an attribute follows its element's Start
@@ -139,10 +138,22 @@ abbrev pub Said : Event Octets → Type 0
 Said (Namespace p n) = SpellingIfAny p × SpellingIfAny n
 Said (Start x) = NameSaid x
 Said (Attribute x y) = NameSaid x × SpellingIfSome y
-Said (Text y) = Spelling y
+Said (Text y) = Spelling Utf8 y y
 Said (Comment y) = SpellingIfSome y
-Said (Instruction x y) = Spelling x × SpellingIfSome y
+Said (Instruction x y) = Spelling Utf8 x x × SpellingIfSome y
 Said End = Unit {0}
+
+-- ---- the required choices are permitted ones
+unfoldable pub permits-for : (C : Version) (v : Vocabulary Octets) (e : Event Octets) → Said e → Ranged v → Permits v e (chooseFor C v e .how) (chooseFor C v e .tables)
+unfolding chooseFor
+permits-for C v (Namespace p n) s r = a-declaration (optional-case PREFIX v p) (optional-case NAMESPACE-NAME (chooseOptional PREFIX v p .tables) n)
+permits-for C v (Start x) s r = a-start (name-permits ELEMENT-NAME v x (name-case ELEMENT-NAME v x r))
+permits-for C v (Attribute x y) s r =
+    an-attribute (name-permits ATTRIBUTE-NAME v x (name-case ATTRIBUTE-NAME v x r)) (value-permits (s .1) (value-case C ATTRIBUTE-VALUE (chooseName ATTRIBUTE-NAME v x .tables) y) .0)
+permits-for C v (Text y) s r = a-chunk (literal-permits s (literal-case C c15 CONTENT-CHARACTER-CHUNK v y) .0)
+permits-for C v (Comment y) s r = a-comment (value-permits s (value-case C OTHER-STRING v y) .0)
+permits-for C v (Instruction x y) s r = an-instruction (id-case OTHER-NCNAME v x) (value-permits (s .1) (value-case C OTHER-STRING (chooseId OTHER-NCNAME v x .tables) y) .0)
+permits-for C v End s r = an-end
 
 -- what is known behind it, with these tables
 abbrev pub behind : Bool → State Octets → Vocabulary Octets → Event Octets → State Octets
@@ -158,10 +169,10 @@ behind a v w End = closed v
 unfoldable pub octetsAs : Bool → Mode → {v w : Vocabulary Octets} {e : Event Octets} {c : Choice} → Permits v e c w → Octets
 octetsAs a m (a-declaration {p = p} {n = n} {hp = hp} {hn = hn} up un) = beforeDeclaration m a ++ ((0xCC + 2 * has p + has n) ∷ (optionalOctets p hp ++ optionalOctets n hn))
 octetsAs a m (a-start {x = x} {h = h} u) = beforeName m ++ nameOctets ofElement (nameLead m a) x h
-octetsAs a m (an-attribute {x = x} {y = y} {h = h} {g = g} u z) = nameOctets ofAttribute 0 x h ++ valueOctets y g
-octetsAs a m (a-chunk {y = y} {h = h} u) = literalOctets c15 y h
-octetsAs a m (a-comment {y = y} {h = h} u) = 0xE2 ∷ valueOctets y h
-octetsAs a m (an-instruction {x = x} {y = y} {h = h} {g = g} u z) = 0xE1 ∷ (idOctets x h ++ valueOctets y g)
+octetsAs a m (an-attribute {x = x} {h = h} u z) = nameOctets ofAttribute 0 x h ++ valueOctets z
+octetsAs a m (a-chunk u) = stringOctets c15 u
+octetsAs a m (a-comment u) = 0xE2 ∷ valueOctets u
+octetsAs a m (an-instruction {x = x} {h = h} u z) = 0xE1 ∷ (idOctets x h ++ valueOctets z)
 octetsAs a m an-end = []
 
 module _ (C : Version) where
@@ -174,27 +185,31 @@ module _ (C : Version) where
   octetsBy a v (Start x) = beforeName (v .mode) ++ nameOctets ofElement (nameLead (v .mode) a) x (chooseName ELEMENT-NAME (v .tables) x .how)
   octetsBy a v (Attribute x y) =
       let w : Chose NameHow = chooseName ATTRIBUTE-NAME (v .tables) x in
-      nameOctets ofAttribute 0 x (w .how) ++ valueOctets y (chooseValue C ATTRIBUTE-VALUE (w .tables) y .how)
-  octetsBy a v (Text y) = literalOctets c15 y (chooseLiteral C CONTENT-CHARACTER-CHUNK (v .tables) y .how)
-  octetsBy a v (Comment y) = 0xE2 ∷ valueOctets y (chooseValue C OTHER-STRING (v .tables) y .how)
+      nameOctets ofAttribute 0 x (w .how) ++ valueBy y (chooseValue C ATTRIBUTE-VALUE (w .tables) y .how)
+  octetsBy a v (Text y) = literalOctets c15 y (chooseLiteral C c15 CONTENT-CHARACTER-CHUNK (v .tables) y .how)
+  octetsBy a v (Comment y) = 0xE2 ∷ valueBy y (chooseValue C OTHER-STRING (v .tables) y .how)
   octetsBy a v (Instruction x y) =
       let w : Chose How = chooseId OTHER-NCNAME (v .tables) x in
-      0xE1 ∷ (idOctets x (w .how) ++ valueOctets y (chooseValue C OTHER-STRING (w .tables) y .how))
+      0xE1 ∷ (idOctets x (w .how) ++ valueBy y (chooseValue C OTHER-STRING (w .tables) y .how))
   octetsBy a v End = []
 
   -- what is known behind it
   abbrev pub knownBy : Bool → State Octets → Event Octets → State Octets
   knownBy a v e = behind a v (chooseFor C (v .tables) e .tables) e
 
-pub octets-by : (C : Version) (a : Bool) (v : State Octets) (e : Event Octets) (r : Ranged (v .tables)) → octetsAs a (v .mode) (permits-for C (v .tables) e r) ≡ octetsBy C a v e
+pub octets-by : (C : Version) (a : Bool) (v : State Octets) (e : Event Octets) (s : Said e) (r : Ranged (v .tables)) → octetsAs a (v .mode) (permits-for C (v .tables) e s r) ≡ octetsBy C a v e
 unfolding octetsAs octetsBy permits-for chooseFor
-octets-by C a v (Namespace p n) r = refl
-octets-by C a v (Start x) r = refl
-octets-by C a v (Attribute x y) r = refl
-octets-by C a v (Text y) r = refl
-octets-by C a v (Comment y) r = refl
-octets-by C a v (Instruction x y) r = refl
-octets-by C a v End r = refl
+octets-by C a v (Namespace p n) s r = refl
+octets-by C a v (Start x) s r = refl
+octets-by C a v (Attribute x y) s r =
+    let w = chooseName ATTRIBUTE-NAME (v .tables) x in
+    ap (λ (o : Octets). nameOctets ofAttribute 0 x (w .how) ++ o) (value-permits (s .1) (value-case C ATTRIBUTE-VALUE (w .tables) y) .1)
+octets-by C a v (Text y) s r = literal-permits s (literal-case C c15 CONTENT-CHARACTER-CHUNK (v .tables) y) .1
+octets-by C a v (Comment y) s r = ap (λ (o : Octets). 0xE2 ∷ o) (value-permits s (value-case C OTHER-STRING (v .tables) y) .1)
+octets-by C a v (Instruction x y) s r =
+    let w = chooseId OTHER-NCNAME (v .tables) x in
+    ap (λ (o : Octets). 0xE1 ∷ (idOctets x (w .how) ++ o)) (value-permits (s .1) (value-case C OTHER-STRING (w .tables) y) .1)
+octets-by C a v End s r = refl
 
 -- A permitted choice is what the rules write.
 module _ (ver : Version) (small : ver .entries ≤ top) where
@@ -214,7 +229,7 @@ module _ (ver : Version) (small : ver .entries ≤ top) where
   made a v s (next-namespace md) f (a-declaration up un) = at-mode (λ m. octetsAs a m (a-declaration up un)) md (o-namespace {a = a} md (declared-rule s f up un))
   made a v s (first-start md may deep) f (a-start u) = at-mode (λ m. octetsAs a m (a-start u)) md (o-start a md may deep (name-rule ver small ofElement (omega arith) (64 * bit a) s f u))
   made a v s (named-start md) f (a-start u) = at-mode (λ m. octetsAs a m (a-start u)) md (o-named-start md (name-rule ver small ofElement (omega arith) 0 s f u))
-  made a v s (in-list md) f (an-attribute u y) = o-attribute md (name-rule ver small ofAttribute (omega arith) 0 (s .0) (fits-before (more-grows (value-more y)) f) u) (value-rule ver small (s .1) f y)
-  made a v s (in-element md lev) f (a-chunk y) = o-text md lev (literal-rule ver small (omega arith) s f y)
-  made a v s (comment md) f (a-comment y) = o-comment md (value-rule ver small s f y)
-  made a v s (instruction md) f (an-instruction x y) = o-instruction md (id-rule ver small (s .0) (fits-before (more-grows (value-more y)) f) x) (value-rule ver small (s .1) f y)
+  made a v s (in-list md) f (an-attribute u y) = o-attribute md (name-rule ver small ofAttribute (omega arith) 0 (s .0) (fits-before (more-grows (value-more y)) f) u) (value-rule ver small f y)
+  made a v s (in-element md lev) f (a-chunk y) = o-text md lev (literal-rule ver small (omega arith) (s .some) f y)
+  made a v s (comment md) f (a-comment y) = o-comment md (value-rule ver small f y)
+  made a v s (instruction md) f (an-instruction x y) = o-instruction md (id-rule ver small (s .0) (fits-before (more-grows (value-more y)) f) x) (value-rule ver small f y)

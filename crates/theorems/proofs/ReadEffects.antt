@@ -18,14 +18,19 @@ use Rattle.format.specs.Strings.{bit, Layout, c14, c15}
 use Rattle.format.specs.Names.{has, NameLayout, ofElement, ofAttribute}
 use Rattle.format.specs.Items.{Mode, content, declaring, listing, State, mayStart}
 use Rattle.format.specs.Document.{aligned, beginning}
+use Rattle.format.specs.Forms.{formOf}
+use Rattle.format.specs.Head.{isIdentifying}
+use Rattle.format.specs.declared.StringForm.{StringForm}
+use Rattle.format.specs.declared.StringForm.the-variants.{Utf8, Utf16}
 use Rattle.fields.specs.declared.Number.{Number}
 use Rattle.fields.specs.declared.Number.the-variants.{Got as Num, Refused as NoNum}
 use Rattle.fields.specs.Fields.{fieldAt, noTop}
 use Rattle.fields.proofs.Bounds.{field-got}
-use Rattle.tables.specs.Located.{Located, empty, stretch, octetsOf}
+use Rattle.tables.specs.Located.{Located, empty, stretch, formAs, octetsOf}
 use Rattle.events.specs.Records.{eventString}
-use Rattle.events.specs.WellMade.{IsStretch, inside}
-use Rattle.read_names.specs.Strings.{Got, got, refused, then, number, spelling, IdRead, OptionalRead, StringRead, idAt, optionalAt, spelledAt, literalAt, valueAt, numberBit}
+use Rattle.events.specs.WellMade.{IsString, inside}
+use Rattle.read_names.specs.Strings.{Got, got, refused, then, number, spelling, alphabetAt, alphabetBehind, alphabetLength, IdRead, OptionalRead, StringRead, idAt, optionalAt, formedAt, spelledAt, literalAt, valueAt, numberBit}
+use Rattle.tables.proofs.Found.{clash}
 use Rattle.tables.proofs.EntryLaws.{entry-at}
 use Rattle.read_names.specs.Names.{noTriple, NameRead, DeclaredRead, prefixBit, namespaceBit, lonePrefix, partsAt, numberedAt, nameAt, declaredAt, nameBit}
 use Rattle.read_items.specs.Items.{Stand, Step, more, quiet, done, stop, into, namePadding, startOf, namespaceAt, elementAt, namedAt, attributeAt, chunkAt, commentAt, instructionAt, otherAt, childAt, declaringAt, itemAt}
@@ -36,9 +41,9 @@ use Rattle.theorems.proofs.Names.{bits-paired}
 use Rattle.theorems.proofs.Effects.{IdDone, id-made, id-used, PartDone, no-part, a-part, StringDone, string-made, string-used, ValueDone, empty-value, a-value, NameDone, name-made, name-used}
 use Rattle.theorems.proofs.Effects.{ItemDone, done-namespace, done-start, done-attribute, done-text, done-comment, done-instruction, done-end, Done, no-item, an-item}
 
--- What is spelled is a stretch of the document.
-abbrev pub Lies : Octets → Located → Type 0
-Lies s x = IsStretch s (eventString x)
+-- What is spelled in a table is a stretch of the document, of an identifying string in utf-8.
+abbrev pub Lies : Octets → StringTable → Located → Type 0
+Lies s t x = IsString s (eventString x) × (isIdentifying t ≡ true → formAs x ≡ Utf8)
 
 -- number suc k names entry k
 entry-of : {A : Type 0} (l : List A) (d : A) (k : ℕ) → suc k ≤ length l → Entry l k (getD l (suc k - 1) d)
@@ -55,19 +60,39 @@ module _ {B C : Type 0} (Q : C → Vocabulary Located → Type 0) where
   then-did R (got b next w) f r h = h b next w r
   then-did R (refused n p) f r h = tt
 
-module _ (s : Octets) {C : Type 0} (Q : C → Vocabulary Located → Type 0) where
-  -- a number is from 1
-  number-did : (fs : List Form) (max bit k : ℕ) (f : ℕ → ℕ → Got C) → ((n next : ℕ) → Did Q (f (suc n) next)) → Did Q (number (fieldAt fs max bit s k) f)
-  number-did fs max bit k f g = go (fieldAt fs max bit s k) refl
+-- ---- a number is from 1
+abbrev Some : Number → Type 0
+Some (Num n c) = 1 ≤ n
+Some (NoNum n p) = Unit {0}
+
+module _ (s : Octets) where
+  field-some : (fs : List Form) (max bit k : ℕ) → Some (fieldAt fs max bit s k)
+  field-some fs max bit k = go (fieldAt fs max bit s k) refl
     where
-      go : (a : Number) → fieldAt fs max bit s k ≡ a → Did Q (number a f)
-      go (Num zero c) e = absurd (let b = field-got max s k fs bit e .0 in omega arith)
-      go (Num (suc n) c) e = g n (c .at)
+      go : (a : Number) → fieldAt fs max bit s k ≡ a → Some a
+      go (Num n c) e = field-got max s k fs bit e .0
       go (NoNum n p) e = tt
 
-  spelling-did : (k next n : ℕ) (a : Got C) → (next + n ≤ length s → Did Q a) → Did Q (spelling s k next n a)
+  behind-some : (bit k others n : ℕ) (clean : Bool) → 1 ≤ n → Some (alphabetBehind bit s k others n clean)
+  unfolding alphabetBehind
+  behind-some bit k others n clean h =
+      test Some (NoNum 2 k) tt (leb (k + 2 + others + n) (length s)) _ λ t1. test Some (NoNum 8 k) tt (ltb (alphabetAt bit s k) 2) _ λ t2. test Some (NoNum 6 k) tt clean _ λ t3. h
+
+  alphabet-some : (bit k b : ℕ) → Some (alphabetLength bit s k b)
+  unfolding alphabetLength
+  alphabet-some bit k b =
+      either Some (ltb b (2 ^ (8 - bit))) _ _ (λ e. behind-some bit k 0 _ true (omega arith))
+      λ e. either Some (ltb b (3 * 2 ^ (7 - bit))) _ _ (λ e. behind-some bit k 1 _ _ (omega arith)) (λ e. behind-some bit k 4 _ _ (omega arith))
+
+module _ (s : Octets) {C : Type 0} (Q : C → Vocabulary Located → Type 0) where
+  number-did : (a : Number) → Some a → (f : ℕ → ℕ → Got C) → ((n next : ℕ) → Did Q (f (suc n) next)) → Did Q (number a f)
+  number-did (Num zero c) h f g = absurd (omega arith)
+  number-did (Num (suc n) c) h f g = g n (c .at)
+  number-did (NoNum n p) h f g = tt
+
+  spelling-did : (form : StringForm) (k next n : ℕ) (a : Got C) → (next + n ≤ length s → Did Q a) → Did Q (spelling form s k next n a)
   unfolding spelling
-  spelling-did k next n a f = test-le (Did Q) (refused 2 k) tt (next + n) (length s) _ λ h. test (Did Q) (refused 9 k) tt (isText (octetsOf s (stretch next n))) _ λ t. f h
+  spelling-did form k next n a f = test-le (Did Q) (refused 2 k) tt (next + n) (length s) _ λ h. test (Did Q) (refused 9 k) tt (isText (octetsOf s (stretch form next n))) _ λ t. f h
 
 module _ (ver : Version) (s : Octets) where
   -- ---- strings
@@ -79,12 +104,12 @@ module _ (ver : Version) (s : Octets) where
   id-did t k v =
       let P : Got IdRead → Type 0 = Did (IdDid t v) in
       either P (ltb (getD s k 0) 0x80) _ _
-      (λ e. number-did s (IdDid t v) (lengths 2) noTop 2 k _
-      λ n next. spelling-did s (IdDid t v) k next (suc n) _
-      λ h. test-not P (refused 11 k) tt (holds (map (octetsOf s) (strings v t)) (octetsOf s (stretch next (suc n)))) _
+      (λ e. number-did s (IdDid t v) (fieldAt (lengths 2) noTop 2 s k) (field-some s (lengths 2) noTop 2 k) _
+      λ n next. spelling-did s (IdDid t v) Utf8 k next (suc n) _
+      λ h. test-not P (refused 11 k) tt (holds (map (octetsOf s) (strings v t)) (octetsOf s (stretch Utf8 next (suc n)))) _
       λ t1. test P (refused 12 k) tt (ltb (length (strings v t)) (ver .entries)) _
-      λ t2. id-made (inside (omega arith) h))
-      (λ e. number-did s (IdDid t v) c25 top 2 k _
+      λ t2. id-made (inside (omega arith) h, λ i. refl))
+      (λ e. number-did s (IdDid t v) (fieldAt c25 top 2 s k) (field-some s c25 top 2 k) _
       λ n next. test-le P (refused 10 k) tt (suc n) (length (strings v t)) _
       λ h. id-used (entry-of (strings v t) empty n h))
 
@@ -99,25 +124,34 @@ module _ (ver : Version) (s : Octets) where
   abbrev StringDid : StringTable → Vocabulary Located → StringRead → Vocabulary Located → Type 0
   StringDid t v b w = StringDone empty (Lies s) t v (b .string) (b .how) w
 
-  spelled-did : (q : Layout) (t : StringTable) (k : ℕ) (added : Bool) (v : Vocabulary Located) → Did (StringDid t v) (spelledAt ver q s t k added v)
-  unfolding spelledAt
-  spelled-did q t k added v =
-      number-did s (StringDid t v) (lengths (q .lengthBit)) noTop (q .lengthBit) k _
-      λ n next. spelling-did s (StringDid t v) k next (suc n) _
-      λ h. test (Did (StringDid t v)) (refused 12 k) tt (not added || ltb (length (strings v t)) (ver .entries)) _
-      λ t1. string-made added (inside (omega arith) h)
+  -- in a table of other strings than identifying ones
+  module _ (t : StringTable) (other : isIdentifying t ≡ false) (k : ℕ) (v : Vocabulary Located) where
+    formed-did : (form : StringForm) (added : Bool) (a : Number) → Some a → Did (StringDid t v) (formedAt ver form s t k added a v)
+    unfolding formedAt
+    formed-did form added a h =
+        number-did s (StringDid t v) a h _
+        λ n next. spelling-did s (StringDid t v) form k next (suc n) _
+        λ r. test (Did (StringDid t v)) (refused 12 k) tt (not added || ltb (length (strings v t)) (ver .entries)) _
+        λ t1. string-made added (inside (omega arith) r, λ i. clash (sym other ∙ i))
 
-  string-did : (q : Layout) (t : StringTable) (k : ℕ) (v : Vocabulary Located) → Did (StringDid t v) (literalAt ver q s t k v)
-  unfolding literalAt
-  string-did q t k v =
-      let P : Got StringRead → Type 0 = Did (StringDid t v) in
-      either P (ltb (getD s k 0) (q .spelledBits + 2 ^ (9 - q .lengthBit))) _ _ (λ e. spelled-did q t k false v)
-      λ e. test-not P (refused 8 k) tt (ltb (getD s k 0) (q .spelledBits + q .addBit)) _
-      λ e. either P (ltb (getD s k 0) (q .spelledBits + q .addBit + 2 ^ (9 - q .lengthBit))) _ _ (λ e. spelled-did q t k true v)
-      λ e. test-not P (refused 8 k) tt (ltb (getD s k 0) (q .numberedBits)) _
-      λ e. number-did s (StringDid t v) (q .numberForms) top (numberBit q) k _
-      λ n next. test-le P (refused 10 k) tt (suc n) (length (strings v t)) _
-      λ h. string-used (entry-of (strings v t) empty n h)
+    spelled-did : (bit : ℕ) (added : Bool) → Did (StringDid t v) (spelledAt ver bit s t k added v)
+    unfolding spelledAt
+    spelled-did bit added =
+        let P : Got StringRead → Type 0 = Did (StringDid t v) in
+        let format : ℕ = getD s k 0 / 2 ^ (9 - bit) % 4 in
+        either P (eqb format 0) _ _ (λ e. formed-did Utf8 added _ (field-some s (lengths bit) noTop bit k))
+        λ e. either P (eqb format 1) _ _ (λ e. formed-did Utf16 added _ (field-some s (lengths bit) noTop bit k))
+        λ e. test P (refused 8 k) tt (eqb format 2) _ λ e. formed-did (formOf (2 + alphabetAt bit s k)) added _ (alphabet-some s bit k _)
+
+    string-did : (q : Layout) → Did (StringDid t v) (literalAt ver q s t k v)
+    unfolding literalAt
+    string-did q =
+        let P : Got StringRead → Type 0 = Did (StringDid t v) in
+        either P (ltb (getD s k 0) (q .spelledBits + q .addBit)) _ _ (λ e. spelled-did (q .lengthBit) false)
+        λ e. either P (ltb (getD s k 0) (q .numberedBits)) _ _ (λ e. spelled-did (q .lengthBit) true)
+        λ e. number-did s (StringDid t v) (fieldAt (q .numberForms) top (numberBit q) s k) (field-some s (q .numberForms) top (numberBit q) k) _
+        λ n next. test-le P (refused 10 k) tt (suc n) (length (strings v t)) _
+        λ h. string-used (entry-of (strings v t) empty n h)
 
   abbrev ValueDid : StringTable → Vocabulary Located → StringRead → Vocabulary Located → Type 0
   ValueDid t v b w = ValueDone empty (Lies s) t v (b .string) (b .how) w
@@ -126,10 +160,10 @@ module _ (ver : Version) (s : Octets) where
   as-value t v (got b next w) r = a-value r
   as-value t v (refused n p) r = tt
 
-  value-did : (t : StringTable) (k : ℕ) (v : Vocabulary Located) → Did (ValueDid t v) (valueAt ver s t k v)
+  value-did : (t : StringTable) → isIdentifying t ≡ false → (k : ℕ) (v : Vocabulary Located) → Did (ValueDid t v) (valueAt ver s t k v)
   unfolding valueAt
-  value-did t k v =
-      either (Did (ValueDid t v)) (eqb (getD s k 0) 0xFF) _ _ (λ e. empty-value) (λ e. as-value t v (literalAt ver c14 s t k v) (string-did c14 t k v))
+  value-did t other k v =
+      either (Did (ValueDid t v)) (eqb (getD s k 0) 0xFF) _ _ (λ e. empty-value) (λ e. as-value t v (literalAt ver c14 s t k v) (string-did t other k v c14))
 
   -- ---- names
   abbrev NameDid : NameTable → Vocabulary Located → NameRead → Vocabulary Located → Type 0
@@ -152,7 +186,7 @@ module _ (ver : Version) (s : Octets) where
   numbered-did : (q : NameLayout) (k : ℕ) (v : Vocabulary Located) → Did (NameDid (q .table) v) (numberedAt ver q s k v)
   unfolding numberedAt
   numbered-did q k v =
-      number-did s (NameDid (q .table) v) (q .numberForms) top (nameBit (q .table)) k _
+      number-did s (NameDid (q .table) v) (fieldAt (q .numberForms) top (nameBit (q .table)) s k) (field-some s (q .numberForms) top (nameBit (q .table)) k) _
       λ n next. test-le (Did (NameDid (q .table) v)) (refused 10 k) tt (suc n) (length (names v (q .table))) _
       λ h. name-used (entry-of (names v (q .table)) noTriple n h)
 
@@ -220,18 +254,18 @@ module _ (ver : Version) (s : Octets) where
       λ e. start-gave k a v (nameAt ver ofElement s (getD s k 0) k (v .tables)) (name-did ofElement (getD s k 0) k (v .tables))
 
   attribute-gave : (k : ℕ) (v : State Located) → Gave (v .tables) (attributeAt ver s k v)
-  unfolding attributeAt ofAttribute
+  unfolding attributeAt ofAttribute isIdentifying
   attribute-gave k v =
       let P : Step → Type 0 = Gave (v .tables) in
       test P (stop 2 k) tt (ltb k (length s)) _
       λ e. test P (stop 5 k) tt (ltb (getD s k 0) 0x80) _
       λ e. test P (stop 6 k) tt (ltb (getD s k 0) 0x7C) _
       λ e. into-gave (v .tables) (NameDid (ofAttribute .table) (v .tables)) (nameAt ver ofAttribute s (getD s k 0) k (v .tables)) _ (name-did ofAttribute (getD s k 0) k (v .tables))
-      λ x k₁ w₁ r₁. into-gave (v .tables) (ValueDid ATTRIBUTE-VALUE w₁) (valueAt ver s ATTRIBUTE-VALUE k₁ w₁) _ (value-did ATTRIBUTE-VALUE k₁ w₁)
+      λ x k₁ w₁ r₁. into-gave (v .tables) (ValueDid ATTRIBUTE-VALUE w₁) (valueAt ver s ATTRIBUTE-VALUE k₁ w₁) _ (value-did ATTRIBUTE-VALUE refl k₁ w₁)
       λ y k₂ w₂ r₂. done-attribute r₁ r₂
 
   child-gave : (k : ℕ) (v : State Located) → Gave (v .tables) (childAt ver s k v)
-  unfolding childAt chunkAt commentAt instructionAt otherAt
+  unfolding childAt chunkAt commentAt instructionAt otherAt isIdentifying
   child-gave k v =
       let P : Step → Type 0 = Gave (v .tables) in
       let o : ℕ = getD s k 0 in
@@ -240,14 +274,14 @@ module _ (ver : Version) (s : Octets) where
       λ e. either P (ltb o 0x80) _ _ (λ e. element-gave k (o - 0x40) true v)
       λ e. either P (ltb o 0xC0) _ _
       (λ e. test P (stop 5 k) tt (ltb 0 (v .level)) _
-      λ e. into-gave (v .tables) (StringDid CONTENT-CHARACTER-CHUNK (v .tables)) (literalAt ver c15 s CONTENT-CHARACTER-CHUNK k (v .tables)) _ (string-did c15 CONTENT-CHARACTER-CHUNK k (v .tables))
+      λ e. into-gave (v .tables) (StringDid CONTENT-CHARACTER-CHUNK (v .tables)) (literalAt ver c15 s CONTENT-CHARACTER-CHUNK k (v .tables)) _ (string-did CONTENT-CHARACTER-CHUNK refl k (v .tables) c15)
       λ y next w u. done-text u)
       λ e. either P (eqb o 0xE1) _ _
       (λ e. into-gave (v .tables) (IdDid OTHER-NCNAME (v .tables)) (idAt ver s OTHER-NCNAME (suc k) (v .tables)) _ (id-did OTHER-NCNAME (suc k) (v .tables))
-      λ x k₁ w₁ r₁. into-gave (v .tables) (ValueDid OTHER-STRING w₁) (valueAt ver s OTHER-STRING k₁ w₁) _ (value-did OTHER-STRING k₁ w₁)
+      λ x k₁ w₁ r₁. into-gave (v .tables) (ValueDid OTHER-STRING w₁) (valueAt ver s OTHER-STRING k₁ w₁) _ (value-did OTHER-STRING refl k₁ w₁)
       λ y k₂ w₂ r₂. done-instruction r₁ r₂)
       λ e. either P (eqb o 0xE2) _ _
-      (λ e. into-gave (v .tables) (ValueDid OTHER-STRING (v .tables)) (valueAt ver s OTHER-STRING (suc k) (v .tables)) _ (value-did OTHER-STRING (suc k) (v .tables))
+      (λ e. into-gave (v .tables) (ValueDid OTHER-STRING (v .tables)) (valueAt ver s OTHER-STRING (suc k) (v .tables)) _ (value-did OTHER-STRING refl (suc k) (v .tables))
       λ y next w u. done-comment u)
       λ e. test P (stop 6 k) tt (ltb o 0xF0) _ λ e. test P (stop 5 k) tt (eqb (o / 4) (pick (ltb 0 (v .level)) 0x32 0x31)) _ λ e. tt
 

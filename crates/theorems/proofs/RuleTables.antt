@@ -7,7 +7,7 @@ use native.Mathlib.Omega.{arith}
 use Rattle.format.specs.Octets.{Octets, Halves}
 use Rattle.format.specs.Events.{Name, Event, End, How, NameHow, Item, _by_, forEnd}
 use Rattle.format.specs.Tables.{StringTable, PREFIX, NAMESPACE-NAME, LOCAL-NAME, OTHER-NCNAME, ATTRIBUTE-VALUE, CONTENT-CHARACTER-CHUNK, OTHER-STRING, ELEMENT-NAME, ATTRIBUTE-NAME, Vocabulary, addingName, Version}
-use Rattle.format.specs.Strings.{keeping, Identifying, id-spelled, id-numbered, Optional, absent, present, Layout, Literal, literal-spelled, literal-numbered, Value, value-empty, value}
+use Rattle.format.specs.Strings.{keeping, Identifying, id-spelled, id-numbered, Optional, absent, present, Layout, c15, Literal, literal-spelled, literal-numbered, Value, value-empty, value}
 use Rattle.format.specs.Names.{NameLayout, ofElement, ofAttribute, Named, in-parts, by-number, Declared, declared}
 use Rattle.format.specs.Items.{State, ItemWrittenAs, o-start, o-first-namespace, o-namespace, o-named-start, o-attribute, o-text, o-comment, o-instruction}
 use Rattle.format.specs.Document.{Begun, begun, after-attributes, after-end, after-item}
@@ -32,7 +32,7 @@ module _ {ver : Version} where
   optional-words (present u) (there c) e = id-words u c (cc)
 
   literal-words : {C : Version} {q : Layout} {t : StringTable} {v w : Vocabulary Octets} {x : Octets} {h : How} {o : Octets} {c : Chose How}
-      → Literal ver q t v x h o w → LiteralCase C t v x c → h ≡ c .how → w ≡ c .tables
+      → Literal ver q t v x h o w → LiteralCase C q t v x c → h ≡ c .how → w ≡ c .tables
   literal-words {t = t} {v = v} {x = x} (literal-spelled {added = a} sp room) (lit-new {added = b} r) e = let y : a ≡ b = cc in λ j. keeping (y j) v t x
   literal-words (literal-spelled sp room) (lit-held en) e = cc
   literal-words (literal-numbered small fits en) (lit-new r) e = cc
@@ -79,7 +79,7 @@ module _ {ver : Version} where
     octets-words {v} (o-attribute {x = x} {y = y} md u1 u2) r e =
         let a = named-words u1 (name-case ATTRIBUTE-NAME (v .tables) x r) (cc) in
         value-words (rw a at u2) (value-case C ATTRIBUTE-VALUE (chooseName ATTRIBUTE-NAME (v .tables) x .tables) y) (cc)
-    octets-words {v} (o-text {y = y} md lv u) r e = literal-words u (literal-case C CONTENT-CHARACTER-CHUNK (v .tables) y) (cc)
+    octets-words {v} (o-text {y = y} md lv u) r e = literal-words u (literal-case C c15 CONTENT-CHARACTER-CHUNK (v .tables) y) (cc)
     octets-words {v} (o-comment {y = y} md u) r e = value-words u (value-case C OTHER-STRING (v .tables) y) (cc)
     octets-words {v} (o-instruction {x = x} {y = y} md u1 u2) r e =
         let a = id-words u1 (id-case OTHER-NCNAME (v .tables) x) (cc) in

@@ -10,7 +10,7 @@ use lib.Dec.{eqb}
 use lib.ListN.{length, getD, drop, length-append, length-drop, replicate}
 use lib.Seq.{drop-cons, drop-length}
 use Rattle.format.specs.Octets.{Octets, Halves}
-use Rattle.format.specs.Numbers.{spell, lengths, longest}
+use Rattle.format.specs.Numbers.{longest}
 use Rattle.format.specs.Events.{Name, How, NameHow, End, forEnd, Item, _by_, eventMap}
 use Rattle.format.specs.Tables.{StringTable, Vocabulary, Version}
 use Rattle.format.specs.Strings.{bit, Layout, Literal, literal-spelled, literal-numbered}
@@ -25,6 +25,7 @@ use Rattle.reader.specs.Reading.{EventRead, itemsRead, Result, accepted, refusa
 use Rattle.tables.proofs.Found.{both-true}
 use Rattle.theorems.specs.Places.{itemSpelled, allSpelled, inItem, spelledIn}
 use Rattle.theorems.proofs.Lists.{Refusal, Fault, fault, test, either, either-lt, not-true, drop-head, drop-past, ends-sound, ends-complete, pads-sound, pads-complete, halves-drop, halves-length, halves-sound, halves-complete, align-is, aligned-ge, aligned-in, pad-length}
+use Rattle.theorems.proofs.Formats.{field-longer}
 use Rattle.theorems.proofs.Strings.{Shape, shape15}
 use Rattle.theorems.proofs.Names.{NameShape, element-shape, attribute-shape}
 use Rattle.theorems.proofs.Chosen.{Ranged}
@@ -47,8 +48,7 @@ module _ {ver : Version} where
   declared-some (declared up un) = omega arith
 
   literal-some : {q : Layout} (g : Shape q) {t : StringTable} {v w : Vocabulary Octets} {x : Octets} {h : How} {o : Octets} → Literal ver q t v x h o w → 0 < length o
-  literal-some {q} g (literal-spelled {x = x} {added = a} sp room) =
-      let l = length-append (spell (lengths (q .lengthBit)) (q .spelledBits + q .addBit * bit a) (length x)) x in omega arith
+  literal-some {q} g (literal-spelled {y = y} {form = form} {added = a} sp room) = let l = field-longer (q .lengthBit) form (q .spelledBits + q .addBit * bit a) y in let p = sp .some in omega arith
   literal-some {q} g (literal-numbered {k = k} small fits en) = some-first (q .numberForms) (q .numberedBits) (suc k) (g .numbers-ok) (omega arith) fits
 
   octets-some : {v w : State Octets} {i : Item Octets} {o : Octets} → ItemWrittenAs ver v i o w → (0 < length o) × (w .level ≤ suc (v .level))

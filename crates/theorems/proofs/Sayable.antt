@@ -4,11 +4,11 @@ use mathlib.Core.Logic.{_↔_}
 use mathlib.Core.Bool.{Bool, true, not, _&&_, _||_, or-true}
 use mathlib.Core.Option.{Option, none, some, Option·map}
 use mathlib.Core.List.{List, [], _∷_, _++_, append-assoc}
-use Prim.Native.Nat.{_+_, _≤_}
+use Prim.Native.Nat.{_+_, _*_, _≤_}
 use native.Mathlib.Omega.{arith}
 use borrow.Author.Tests.{ltb-true, leb-true, lt-ltb, le-leb}
 use lib.Dec.{ltb, leb}
-use lib.ListN.{length}
+use lib.ListN.{length, take, drop}
 use Rattle.format.specs.Octets.{Octets}
 use Rattle.format.specs.Numbers.{longest}
 use Rattle.format.specs.Characters.{IsText}
@@ -19,18 +19,25 @@ use Rattle.format.specs.Strings.{Spelling}
 use Rattle.format.specs.Names.{has}
 use Rattle.format.specs.Allowed as A
 use Rattle.format.specs.Allowed.{All, SaidIfAny, AllowedName, Allowed}
+use Rattle.format.specs.declared.StringForm.{StringForm}
+use Rattle.format.specs.declared.StringForm.the-variants.{Utf8, Utf16, Numeric, Dates}
 use Rattle.fields.specs.Utf8.{isText}
+use Rattle.fields.proofs.Utf8.{told}
 use Rattle.fields.proofs.Characters.{text-exact}
+use Rattle.forms.specs.Reading as S
+use Rattle.forms.specs.Reading.{isText16, arePlaces}
+use Rattle.forms.proofs.Forms as F
+use Rattle.forms.proofs.Forms.{sound-most}
 use Rattle.events.specs.declared.EventString.{EventString}
 use Rattle.events.specs.declared.EventString.the-variants.{Absent, Empty, Stretch, XmlPrefix, XmlNamespace}
 use Rattle.events.specs.declared.Kind.{Kind}
 use Rattle.events.specs.declared.Kind.the-variants.{Blank, Namespace, Start, Attribute, Chunk, Comment, Instruction, End}
 use Rattle.events.specs.declared.Event.{Event}
 use Rattle.events.specs.Records.{eventString, optionalEventString as stringIfAny, recordOf, namespaceRecord, startRecord, attributeRecord, chunkRecord, commentRecord, instructionRecord}
-use Rattle.events.specs.WellMade.{IsStretch, inside, IsPrefix, no-prefix, xml-prefix, a-prefix, IsNamespace, no-namespace, xml-namespace, a-namespace, IsValue, no-octets, some-octets, IsName, WellMade, a-declaration, a-start, an-attribute, a-chunk, a-comment, an-instruction, an-end}
+use Rattle.events.specs.WellMade.{IsStretch, inside-utf8, IsString, inside, IsPrefix, no-prefix, xml-prefix, a-prefix, IsNamespace, no-namespace, xml-namespace, a-namespace, IsValue, no-octets, some-octets, IsName, WellMade, a-declaration, a-start, an-attribute, a-chunk, a-comment, an-instruction, an-end}
 use Rattle.tables.specs.Located.{Located, empty, stretch, builtInPrefix, builtInNamespace, octetsOf}
 use Rattle.tables.proofs.Search.{short-octets, length-octets}
-use Rattle.write_items.specs.Events.{isAbsent, isStretch, isPrefix, isNamespace, isValue, isName, noName, wellMade, locatedOf, optionalOf, eventOf, optionalText, nameText, allText}
+use Rattle.write_items.specs.Events.{isAbsent, isStretch, isString, isPrefix, isNamespace, isValue, isName, noName, wellMade, locatedOf, optionalOf, eventOf, optionalText, nameText, allText}
 use Rattle.write_items.specs.Steps.{fits}
 use Rattle.tables.proofs.Found.{clash, both-true}
 use Rattle.theorems.specs.Verdicts.{plainOf}
@@ -43,7 +50,7 @@ both p q = ap₂ (λ (x y : Bool). x && y) p q
 absent-is : (x : EventString) → isAbsent x ≡ true → Absent ≡ x
 absent-is Absent e = refl
 absent-is Empty e = clash e
-absent-is (Stretch p n) e = clash e
+absent-is (Stretch form p n) e = clash e
 absent-is XmlPrefix e = clash e
 absent-is XmlNamespace e = clash e
 
@@ -52,60 +59,77 @@ module _ (s : Octets) where
   pub stretch-is : (x : EventString) → isStretch s x ≡ true → IsStretch s x
   stretch-is Absent e = clash e
   stretch-is Empty e = clash e
-  stretch-is (Stretch p n) e = let a = both-true (ltb 0 n) (leb (p + n) (length s)) e in inside (ltb-true 0 n (a .0)) (leb-true (p + n) (length s) (a .1))
+  stretch-is (Stretch Utf8 p n) e = let a = both-true (ltb 0 n) (leb (p + n) (length s)) e in inside-utf8 (ltb-true 0 n (a .0)) (leb-true (p + n) (length s) (a .1))
+  stretch-is (Stretch Utf16 p n) e = clash e
+  stretch-is (Stretch Numeric p n) e = clash e
+  stretch-is (Stretch Dates p n) e = clash e
   stretch-is XmlPrefix e = clash e
   stretch-is XmlNamespace e = clash e
 
   pub is-stretch : {x : EventString} → IsStretch s x → isStretch s x ≡ true
-  is-stretch (inside h k) = both (lt-ltb _ _ h) (le-leb _ _ k)
+  is-stretch (inside-utf8 h k) = both (lt-ltb _ _ h) (le-leb _ _ k)
+
+  pub string-is : (x : EventString) → isString s x ≡ true → IsString s x
+  string-is Absent e = clash e
+  string-is Empty e = clash e
+  string-is (Stretch form p n) e = let a = both-true (ltb 0 n) (leb (p + n) (length s)) e in inside (ltb-true 0 n (a .0)) (leb-true (p + n) (length s) (a .1))
+  string-is XmlPrefix e = clash e
+  string-is XmlNamespace e = clash e
+
+  pub is-string : {x : EventString} → IsString s x → isString s x ≡ true
+  is-string (inside h k) = both (lt-ltb _ _ h) (le-leb _ _ k)
+
+  -- a stretch in utf-8 is one in some form
+  pub as-string : {x : EventString} → IsStretch s x → IsString s x
+  as-string (inside-utf8 h k) = inside h k
 
   prefix-is : (x : EventString) → isPrefix s x ≡ true → IsPrefix s x
   prefix-is Absent e = no-prefix
   prefix-is Empty e = clash e
-  prefix-is (Stretch p n) e = a-prefix (stretch-is (Stretch p n) e)
+  prefix-is (Stretch form p n) e = a-prefix (stretch-is (Stretch form p n) e)
   prefix-is XmlPrefix e = xml-prefix
   prefix-is XmlNamespace e = clash e
 
   is-prefix : {x : EventString} → IsPrefix s x → isPrefix s x ≡ true
   is-prefix no-prefix = refl
   is-prefix xml-prefix = refl
-  is-prefix (a-prefix (inside h k)) = is-stretch (inside h k)
+  is-prefix (a-prefix (inside-utf8 h k)) = is-stretch (inside-utf8 h k)
 
   namespace-is : (x : EventString) → isNamespace s x ≡ true → IsNamespace s x
   namespace-is Absent e = no-namespace
   namespace-is Empty e = clash e
-  namespace-is (Stretch p n) e = a-namespace (stretch-is (Stretch p n) e)
+  namespace-is (Stretch form p n) e = a-namespace (stretch-is (Stretch form p n) e)
   namespace-is XmlPrefix e = clash e
   namespace-is XmlNamespace e = xml-namespace
 
   is-namespace : {x : EventString} → IsNamespace s x → isNamespace s x ≡ true
   is-namespace no-namespace = refl
   is-namespace xml-namespace = refl
-  is-namespace (a-namespace (inside h k)) = is-stretch (inside h k)
+  is-namespace (a-namespace (inside-utf8 h k)) = is-stretch (inside-utf8 h k)
 
   value-is : (x : EventString) → isValue s x ≡ true → IsValue s x
   value-is Absent e = clash e
   value-is Empty e = no-octets
-  value-is (Stretch p n) e = some-octets (stretch-is (Stretch p n) e)
+  value-is (Stretch form p n) e = some-octets (string-is (Stretch form p n) e)
   value-is XmlPrefix e = clash e
   value-is XmlNamespace e = clash e
 
   is-value : {x : EventString} → IsValue s x → isValue s x ≡ true
   is-value no-octets = refl
-  is-value (some-octets (inside h k)) = is-stretch (inside h k)
+  is-value (some-octets (inside {form = form} h k)) = is-string (inside {form = form} h k)
 
   -- a prefix only with a namespace
   alone-is : (p n : EventString) → (isAbsent p || not (isAbsent n)) ≡ true → n ≡ Absent → p ≡ Absent
   alone-is Absent n e q = refl
   alone-is Empty n e q = clash (rw q at e)
-  alone-is (Stretch a b) n e q = clash (rw q at e)
+  alone-is (Stretch form a b) n e q = clash (rw q at e)
   alone-is XmlPrefix n e q = clash (rw q at e)
   alone-is XmlNamespace n e q = clash (rw q at e)
 
   is-alone : (p n : EventString) → (n ≡ Absent → p ≡ Absent) → (isAbsent p || not (isAbsent n)) ≡ true
   is-alone p Absent f = rw (f refl)
   is-alone p Empty f = or-true (isAbsent p)
-  is-alone p (Stretch a b) f = or-true (isAbsent p)
+  is-alone p (Stretch form a b) f = or-true (isAbsent p)
   is-alone p XmlPrefix f = or-true (isAbsent p)
   is-alone p XmlNamespace f = or-true (isAbsent p)
 
@@ -142,7 +166,7 @@ module _ (s : Octets) where
       let a = both-true (isAbsent (e .prefix) && isAbsent (e .namespace)) _ m in
       let b = both-true (isAbsent (e .prefix)) (isAbsent (e .namespace)) (a .0) in
       let c = both-true (isAbsent (e .name)) _ (a .1) in
-      subst (WellMade s) (rebuilt e Chunk _ _ _ _ (sym q) (absent-is (e .prefix) (b .0)) (absent-is (e .namespace) (b .1)) (absent-is (e .name) (c .0)) refl) (a-chunk (stretch-is (e .value) (c .1)))
+      subst (WellMade s) (rebuilt e Chunk _ _ _ _ (sym q) (absent-is (e .prefix) (b .0)) (absent-is (e .namespace) (b .1)) (absent-is (e .name) (c .0)) refl) (a-chunk (string-is (e .value) (c .1)))
   made-is e Comment q m =
       let a = both-true (isAbsent (e .prefix) && isAbsent (e .namespace)) _ m in
       let b = both-true (isAbsent (e .prefix)) (isAbsent (e .namespace)) (a .0) in
@@ -164,7 +188,7 @@ module _ (s : Octets) where
   is-made (a-declaration p n) = both (is-prefix p) (both (is-namespace n) refl)
   is-made (a-start {p = p} {n = n} {l = l} m) = both (is-name (startRecord p n l) m) refl
   is-made (an-attribute {p = p} {n = n} {l = l} {v = v} m y) = both (is-name (attributeRecord p n l v) m) (is-value y)
-  is-made (a-chunk y) = is-stretch y
+  is-made (a-chunk y) = is-string y
   is-made (a-comment y) = is-value y
   is-made (an-instruction x y) = both (is-stretch x) (is-value y)
   is-made an-end = refl
@@ -173,25 +197,25 @@ module _ (s : Octets) where
   optional-back : (x : EventString) → stringIfAny (optionalOf x) ≡ x
   optional-back Absent = refl
   optional-back Empty = refl
-  optional-back (Stretch p n) = refl
+  optional-back (Stretch form p n) = refl
   optional-back XmlPrefix = refl
   optional-back XmlNamespace = refl
 
-  stretch-back : {x : EventString} → IsStretch s x → eventString (locatedOf x) ≡ x
-  stretch-back (inside h k) = refl
+  string-back : {x : EventString} → IsString s x → eventString (locatedOf x) ≡ x
+  string-back (inside h k) = refl
 
   value-back : {x : EventString} → IsValue s x → eventString (locatedOf x) ≡ x
   value-back no-octets = refl
-  value-back (some-octets (inside h k)) = refl
+  value-back (some-octets y) = string-back y
 
   pub record-back : {e : Event} → WellMade s e → recordOf (eventOf (e .kind) e) ≡ e
   unfolding eventOf recordOf
   record-back (a-declaration {p = p} {n = n} x y) = λ i. namespaceRecord (optional-back p i) (optional-back n i)
-  record-back (a-start {p = p} {n = n} m) = λ i. startRecord (optional-back p i) (optional-back n i) (stretch-back (m .a-local) i)
-  record-back (an-attribute {p = p} {n = n} m y) = λ i. attributeRecord (optional-back p i) (optional-back n i) (stretch-back (m .a-local) i) (value-back y i)
-  record-back (a-chunk y) = λ i. chunkRecord (stretch-back y i)
+  record-back (a-start {p = p} {n = n} m) = λ i. startRecord (optional-back p i) (optional-back n i) (string-back (as-string (m .a-local)) i)
+  record-back (an-attribute {p = p} {n = n} m y) = λ i. attributeRecord (optional-back p i) (optional-back n i) (string-back (as-string (m .a-local)) i) (value-back y i)
+  record-back (a-chunk y) = λ i. chunkRecord (string-back y i)
   record-back (a-comment y) = λ i. commentRecord (value-back y i)
-  record-back (an-instruction x y) = λ i. instructionRecord (stretch-back x i) (value-back y i)
+  record-back (an-instruction x y) = λ i. instructionRecord (string-back (as-string x) i) (value-back y i)
   record-back an-end = refl
 
 -- ---- the strings of an event, by its kind
@@ -262,11 +286,11 @@ module _ (P : Octets → Type 0) where
 abbrev pub Short : Octets → Type 0
 Short x = length x ≤ longest
 
-said-one : (x : Octets) → A.Said x → Short x → Spelling x
-said-one x a b = record { some = a .0; fits = b; formed = a .1 }
+said-one : (x : Octets) → A.Said x → Short x → Spelling Utf8 x x
+said-one x a b = record { some = a .0; fits = b; formed = (a .1, refl) }
 
 said-some : (x : Octets) → IsText x → Short x → SpellingIfSome x
-said-some x a b h = record { some = h; fits = b; formed = a }
+said-some x a b h = record { some = h; fits = b; formed = (a, refl) }
 
 said-any : (x : Option Octets) → SaidIfAny x → IfAny Short x → SpellingIfAny x
 said-any none a b = tt
@@ -350,12 +374,18 @@ module _ (text : Octets) where
   text-all (E.Instruction x y) t = both (exact x .1 (t .0)) (exact y .1 (t .1))
   text-all E.End t = refl
 
-  -- none is longer than the text area, or than the built-in ones
-  module _ (short : length text ≤ longest) where
-    short-one : (x : Located) → Short (f x)
+  -- none is longer than twice the text area, or than the built-in ones
+  short-said : (form : StringForm) (o : Octets) → 2 * length o ≤ longest → Short (S.said form o)
+  short-said Utf8 o h = omega arith
+  short-said Utf16 o h = told (isText16 o) (λ e. let l = sound-most Utf16 o e in omega arith) (λ e. rw e (omega arith))
+  short-said Numeric o h = told (arePlaces o) (λ e. let l = sound-most Numeric o e in omega arith) (λ e. rw e (omega arith))
+  short-said Dates o h = told (arePlaces o) (λ e. let l = sound-most Dates o e in omega arith) (λ e. rw e (omega arith))
+
+  module _ (short : 2 * length text ≤ longest) where
+    pub short-one : (x : Located) → Short (f x)
     unfolding octetsOf xmlPrefix xmlNamespace
     short-one empty = omega arith
-    short-one (stretch p n) = let a = short-octets text p n in omega arith
+    short-one (stretch form p n) = let a = short-octets text p n in short-said form (take n (drop p text)) (omega arith)
     short-one builtInPrefix = omega arith
     short-one builtInNamespace = omega arith
 
@@ -374,20 +404,21 @@ module _ (text : Octets) where
     all-short E.End = tt
 
   -- a record that is well made, its strings text, is an event as the requirements allow it
-  stretch-said : {x : EventString} → IsStretch text x → IsText (f (locatedOf x)) → A.Said (f (locatedOf x))
-  stretch-said (inside {place = p} {size = n} h k) t = let l = length-octets text p n k in (omega arith, t)
+  pub string-said : {x : EventString} → IsString text x → IsText (f (locatedOf x)) → A.Said (f (locatedOf x))
+  unfolding octetsOf
+  string-said (inside {form = form} {place = p} {size = n} h k) t = let l = length-octets text p n k in (F.said-some form (take n (drop p text)) (omega arith), t)
 
   prefix-said : {x : EventString} → IsPrefix text x → IfAny IsText (Option·map f (optionalOf x)) → SaidIfAny (Option·map f (optionalOf x))
   unfolding octetsOf xmlPrefix
   prefix-said no-prefix t = tt
   prefix-said xml-prefix t = (omega arith, t)
-  prefix-said (a-prefix (inside h k)) t = stretch-said (inside h k) t
+  prefix-said (a-prefix (inside-utf8 h k)) t = string-said (inside {form = Utf8} h k) t
 
   namespace-said : {x : EventString} → IsNamespace text x → IfAny IsText (Option·map f (optionalOf x)) → SaidIfAny (Option·map f (optionalOf x))
   unfolding octetsOf xmlNamespace
   namespace-said no-namespace t = tt
   namespace-said xml-namespace t = (omega arith, t)
-  namespace-said (a-namespace (inside h k)) t = stretch-said (inside h k) t
+  namespace-said (a-namespace (inside-utf8 h k)) t = string-said (inside {form = Utf8} h k) t
 
   one-or-none : (x : Option Octets) → has x ≤ 1
   one-or-none none = omega arith
@@ -396,21 +427,21 @@ module _ (text : Octets) where
   paired : (p n : EventString) → (n ≡ Absent → p ≡ Absent) → has (Option·map f (optionalOf p)) ≤ has (Option·map f (optionalOf n))
   paired p Absent c = rw (c refl) (omega arith)
   paired p Empty c = one-or-none (Option·map f (optionalOf p))
-  paired p (Stretch a b) c = one-or-none (Option·map f (optionalOf p))
+  paired p (Stretch form a b) c = one-or-none (Option·map f (optionalOf p))
   paired p XmlPrefix c = one-or-none (Option·map f (optionalOf p))
   paired p XmlNamespace c = one-or-none (Option·map f (optionalOf p))
 
   name-allowed : {p n l : EventString} → IsName text p n l → EachOfName IsText (nameMap f (record { prefix = optionalOf p; namespace = optionalOf n; local = locatedOf l }))
       → AllowedName (nameMap f (record { prefix = optionalOf p; namespace = optionalOf n; local = locatedOf l }))
   name-allowed {p} {n} m t =
-      record { prefix = prefix-said (m .a-prefix) (t .0); namespace = namespace-said (m .a-namespace) (t .1); local = stretch-said (m .a-local) (t .2); not-alone = paired p n (m .not-alone) }
+      record { prefix = prefix-said (m .a-prefix) (t .0); namespace = namespace-said (m .a-namespace) (t .1); local = string-said (as-string text (m .a-local)) (t .2); not-alone = paired p n (m .not-alone) }
 
   pub made-allowed : {e : Event} → WellMade text e → Each IsText (plainOf text e) → Allowed (plainOf text e)
   unfolding eventOf eventMap
   made-allowed (a-declaration p n) t = (prefix-said p (t .0), namespace-said n (t .1))
   made-allowed (a-start m) t = name-allowed m t
   made-allowed (an-attribute m y) t = (name-allowed m (t .0), t .1)
-  made-allowed (a-chunk y) t = stretch-said y t
+  made-allowed (a-chunk y) t = string-said y t
   made-allowed (a-comment y) t = t
-  made-allowed (an-instruction x y) t = (stretch-said x (t .0), t .1)
+  made-allowed (an-instruction x y) t = (string-said (as-string text x) (t .0), t .1)
   made-allowed an-end t = tt

@@ -179,8 +179,8 @@ module _ (ver : Version) (small : ver .entries ≤ top) where
       let u : State Octets = settled v e in
       let same = words-settled v e in
       let r′ = subst (λ (z : Vocabulary Octets). Ranged z) (sym same) r in
-      let b = front at a v e ah s go deep (subst (λ (z : Vocabulary Octets). InLimits ver (chooseFor C z e .tables)) (sym same) i) (permits-for C (u .tables) e r′) in
-      subst₂ (λ (z : Vocabulary Octets) (os : Octets). Begun ver at v ((e by chooseFor C z e .how) ∷ []) (halvesAs at v e os) (nextBy C a v e)) same (octets-by C a u e r′) b
+      let b = front at a v e ah s go deep (subst (λ (z : Vocabulary Octets). InLimits ver (chooseFor C z e .tables)) (sym same) i) (permits-for C (u .tables) e s r′) in
+      subst₂ (λ (z : Vocabulary Octets) (os : Octets). Begun ver at v ((e by chooseFor C z e .how) ∷ []) (halvesAs at v e os) (nextBy C a v e)) same (octets-by C a u e s r′) b
 
 -- ---- the place behind an event is that of the structure, with the tables that the choice leaves
 picked : (t : Bool) (v : State Octets) → pick t (moved v (v .tables) content) v ≡ moved v (v .tables) (pick t (moved v (v .tables) content) v .mode)
@@ -209,9 +209,9 @@ module _ (a : Bool) (v : State Octets) where
   next-state (E.Instruction x y) {w = w} go u = stays (E.Instruction x y) w refl go
   next-state E.End {w = w} go an-end = ap (λ (y : State Octets). behind a y w E.End) (settled-is v E.End)
 
-  pub next-by : (C : Version) (e : E.Event Octets) → goesOn v e ≡ true → Ranged (v .tables) → nextBy C a v e ≡ knowing (stepped a v e) (chooseFor C (v .tables) e .tables)
-  next-by C e go r =
-      ap (λ (u : Vocabulary Octets). behind a (settled v e) (chooseFor C u e .tables) e) (words-settled v e) ∙ next-state e go (permits-for C (v .tables) e r)
+  pub next-by : (C : Version) (e : E.Event Octets) → goesOn v e ≡ true → Said e → Ranged (v .tables) → nextBy C a v e ≡ knowing (stepped a v e) (chooseFor C (v .tables) e .tables)
+  next-by C e go s r =
+      ap (λ (u : Vocabulary Octets). behind a (settled v e) (chooseFor C u e .tables) e) (words-settled v e) ∙ next-state e go (permits-for C (v .tables) e s r)
 
 pub ahead-next : (a b : Bool) (v : State Octets) (e : E.Event Octets) → (isDeclaration e ≡ true → a ≡ b) → Ahead (stepped a v e .mode) b
 ahead-next a b v (E.Namespace p n) f = f refl

@@ -7,15 +7,19 @@ use borrow.Author.Tests.{eq-eqb, ne-eqb}
 use lib.ListN.{length}
 use Rattle.format.specs.Tables.{StringTable, PREFIX, NAMESPACE-NAME, LOCAL-NAME, OTHER-NCNAME, OTHER-URI, ATTRIBUTE-VALUE, CONTENT-CHARACTER-CHUNK, OTHER-STRING}
 use Rattle.format.specs.Tables.{ELEMENT-NAME, ATTRIBUTE-NAME, Triple, Vocabulary, strings, names, adding, addingName, noEntries, followedBy, vocabularyMap}
-use Rattle.format.specs.Head.{Table, ofStrings, ofNames, tenTables}
+use Rattle.format.specs.Head.{Table, ofStrings, ofNames, tenTables, sizeOf}
 use Rattle.tables.specs.Rows.{place}
 use Rattle.tables.proofs.Adding.{sameNames, strings-adding, names-adding, strings-adding-name, names-adding-name}
 use Rattle.tables.proofs.ByNumber.{by-table}
-use Rattle.theorems.proofs.Words.{adding-map, adding-name-map}
+use Rattle.theorems.proofs.Words.{strings-map, length-strings, names-map, adding-map, adding-name-map}
 
 pub no-list : {A : Type 0} (l : List A) → length l ≡ 0 → l ≡ []
 no-list [] e = refl
 no-list (x ∷ l) e = absurd (omega arith)
+
+same-behind : {A : Type 0} (a b c : List A) → a ++ b ≡ a ++ c → b ≡ c
+same-behind [] b c e = e
+same-behind (x ∷ a) b c e = same-behind a b c (cc)
 
 -- ---- one table
 abbrev pub EntryOf : Type 0 → Table → Type 0
@@ -159,6 +163,11 @@ module _ {S : Type 0} where
   unfolding followedBy noEntries
   followed-none v = simp append-nil
 
+  -- what stands behind the same entries is the same
+  pub followed-one : (v : Vocabulary S) {g h : Vocabulary S} → followedBy v g ≡ followedBy v h → g ≡ h
+  followed-one v {g} {h} e =
+      same-tables g h (λ t. same-behind (listOf v t) (listOf g t) (listOf h t) (sym (list-followed v g t) ∙ ap (λ (w : Vocabulary S). listOf w t) e ∙ list-followed v h t))
+
   -- the ten with the entries of others behind their own
   pub behind-ten : (v h : Vocabulary S) → behind v tenTables (pieces h tenTables) ≡ followedBy v h
   behind-ten v h = same-tables _ _ (λ u. behind-list v h u (every u) ten-ascend ∙ sym (list-followed v h u))
@@ -207,6 +216,15 @@ module _ {S T : Type 0} (f : S → T) where
   map-triples : (l : List Triple) → map (λ (x : Triple). x) l ≡ l
   map-triples [] = refl
   map-triples (x ∷ l) = ap (λ (m : List Triple). x ∷ m) (map-triples l)
+
+  pub list-map : (v : Vocabulary S) (t : Table) → listOf (vocabularyMap f v) t ≡ map (mapEntry t) (listOf v t)
+  list-map v (ofStrings t) = strings-map f v t
+  list-map v (ofNames t) = names-map f v t ∙ sym (map-triples (names v t))
+
+  pub size-map : (v : Vocabulary S) (t : Table) → length (listOf (vocabularyMap f v) t) ≡ sizeOf v t
+  unfolding sizeOf
+  size-map v (ofStrings t) = length-strings f v t
+  size-map v (ofNames t) = ap length (names-map f v t)
 
   pub whole-map : (l : Lists S tenTables) → whole T (mapLists tenTables l) ≡ vocabularyMap f (whole S l)
   unfolding tenTables vocabularyMap whole

@@ -1,5 +1,5 @@
 -- THE THEOREMS: the three demands hold of every bounded version, and so of the link, which is the version that the contracts of the code name; and its rules are exact. Their
--- statements are specs/Demands. And measuring says of writing what specs/Measures states, of every version.
+-- statements are specs/Demands. And measuring says of writing what specs/Measures states, of every version; and of the forms of strings holds what specs/Forms states.
 use Prim.Native.Nat.{ℕ}
 use mathlib.Core.Path.{refl}
 use mathlib.Core.List.{[]}
@@ -9,6 +9,7 @@ use Rattle.write_head.specs.Given.{givenOf}
 use Rattle.theorems.specs.Bounded.{Bounded}
 use Rattle.theorems.specs.Demands.{Demand1, Demand2, Demand3, RulesExact, AsRequired}
 use Rattle.theorems.specs.Measures.{Measures}
+use Rattle.theorems.specs.Forms.{FormsExact, FormsNumbered, WritesFewest}
 use Rattle.theorems.proofs.Document.{link-bounded}
 use Rattle.theorems.proofs.Heads.{head-allowed, every-head, opened-ranged, begins, holds-begins}
 use Rattle.theorems.proofs.GivenWords.{given-back}
@@ -22,6 +23,7 @@ use Rattle.theorems.proofs.DemandTwo.{write-exactly, tables-same}
 use Rattle.theorems.proofs.DemandThree.{read-exactly}
 use Rattle.theorems.proofs.DemandWords.{read-words-exactly, write-words-exactly, check-exactly}
 use Rattle.theorems.proofs.Measures as Rooms
+use Rattle.theorems.proofs.Forms as Spellings
 
 module _ (ver : Version) (ok : Bounded ver) where
   pub demand-1 : Demand1 ver
@@ -72,6 +74,15 @@ module _ (ver : Version) (ok : Bounded ver) where
 
 pub measures : (ver : Version) (given records : Words) (text : Octets) (t c : ℕ) → Measures ver given records text t c
 measures ver given records text t c = Rooms.measures ver given records text t c
+
+pub forms-exact : FormsExact
+forms-exact = Spellings.forms-exact
+
+pub writes-fewest : WritesFewest
+writes-fewest = Spellings.writes-fewest
+
+pub forms-numbered : FormsNumbered
+forms-numbered = Spellings.forms-numbered
 
 -- Of the link, whose values are the requirements'.
 pub link-as-required : AsRequired link

@@ -9,7 +9,8 @@ use Rattle.format.specs.Octets.{Octets}
 use Rattle.format.specs.Characters.{IsText}
 use Rattle.format.specs.Events as E
 use Rattle.format.specs.Events.{Item, _by_, IsDocument, openAfter, declaresLast, isDeclaration, isStart, opensElement}
-use Rattle.format.specs.Tables.{Vocabulary, InLimits, Version}
+use Rattle.format.specs.Tables.{InLimits, Version}
+use Rattle.format.specs.Head.{Head}
 use Rattle.format.specs.Items.{State}
 use Rattle.format.specs.Document.{halves, aligned, beginning, Document}
 use Rattle.format.specs.Allowed.{All, Allowed}
@@ -44,10 +45,10 @@ all-at P [] x l a = a .0
 all-at P (y ∷ b) x l a = all-at P b x l (a .1)
 
 -- a written list is a document
-pub written-document : (ver : Version) (h : Vocabulary Octets) (es : List (E.Event Octets)) (z : State Octets) (s : Octets) → Document ver h (itemsOf ver h es) z s → IsDocument es
+pub written-document : (ver : Version) (h : Head) (es : List (E.Event Octets)) (z : State Octets) (s : Octets) → Document ver h (itemsOf ver h es) z s → IsDocument es
 written-document ver h es z s w = subst IsDocument (chosen-events ver (headed ver h) es) (is-document w)
 
-module _ (ver : Version) (ok : Bounded ver) (h : Vocabulary Octets) (text : Octets) (room : ℕ) (ps rest : List (E.Event Octets)) (pe : E.Event Octets) (z : State Octets) (s : Octets) (w : Document ver h (itemsOf ver h (ps ++ (pe ∷ rest))) z s) where
+module _ (ver : Version) (ok : Bounded ver) (h : Head) (text : Octets) (room : ℕ) (ps rest : List (E.Event Octets)) (pe : E.Event Octets) (z : State Octets) (s : Octets) (w : Document ver h (itemsOf ver h (ps ++ (pe ∷ rest))) z s) where
   abbrev choice : Item Octets
   choice = pe by chooseFor ver (tablesAfter ver (headed ver h) ps) pe .how
 
@@ -99,7 +100,7 @@ module _ (ver : Version) (ok : Bounded ver) (h : Vocabulary Octets) (text : Octe
       let m = aligned-in (2 * length (w .before) + length (with-it .front-halves)) (length s) (omega arith) in
       omega arith
 
-module _ (ver : Version) (ok : Bounded ver) (h : Vocabulary Octets) (text : Octets) (room : ℕ) (es : List Event) (made : All (WellMade text) es) (z : State Octets) (s : Octets) (w : Document ver h (itemsOf ver h (plains text es)) z s) (fit : length s ≤ room) where
+module _ (ver : Version) (ok : Bounded ver) (h : Head) (text : Octets) (room : ℕ) (es : List Event) (made : All (WellMade text) es) (z : State Octets) (s : Octets) (w : Document ver h (itemsOf ver h (plains text es)) z s) (fit : length s ≤ room) where
   all-right : AllRight ver h text room es
   all-right before e after is =
       let ps = plains text before in
@@ -116,7 +117,7 @@ module _ (ver : Version) (ok : Bounded ver) (h : Vocabulary Octets) (text : Octe
       }
 
 module _ (ver : Version) (ok : Bounded ver) (text : Octets) (room : ℕ) (g : Given) (es : List Event) (short : length text ≤ ver .octets) where
-  abbrev head : Vocabulary Octets
+  abbrev head : Head
   head = headOf ver text g
 
   module _ (a : AreEntries ver text g) (made : All (WellMade text) es) (z : State Octets) (s : Octets) (w : Document ver head (itemsOf ver head (plains text es)) z s) (fit : length s ≤ room) where

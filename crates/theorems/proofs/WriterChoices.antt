@@ -20,7 +20,7 @@ use Rattle.write_names.specs.Choices.{Wrote, writeId, writeOptional, writeName,
 use Rattle.write_names.specs.Chosen.{Chose, chooseId, chooseOptional, chooseName, chooseLiteral, chooseValue, chooseFor}
 use Rattle.write_items.specs.Items.{beforeDeclaration, beforeName, nameLead, writeItem}
 use Rattle.theorems.proofs.Words.{strings-map, names-map, adding-map, keeping-map, adding-name-map}
-use Rattle.theorems.proofs.Chosen.{idOctets, optionalOctets, literalOctets, valueOctets, nameOctets, literal-value, literal-case}
+use Rattle.theorems.proofs.Chosen.{idOctets, optionalOctets, literalOctets, valueBy, nameOctets, literal-value, literal-case}
 use Rattle.theorems.proofs.Produced.{octetsBy, knownBy}
 
 module _ (text : Octets) where
@@ -103,7 +103,7 @@ module _ (text : Octets) where
 
   module _ (ver : Version) where
     same-literal : (q : Layout) (t : StringTable) (v : Vocabulary Located) (x : Located)
-        → Same (literalOctets q (octetsOf text x)) (writeLiteral ver q text t v x) (chooseLiteral ver t (plainTables text v) (octetsOf text x))
+        → Same (literalOctets q (octetsOf text x)) (writeLiteral ver q text t v x) (chooseLiteral ver q t (plainTables text v) (octetsOf text x))
     unfolding writeLiteral chooseLiteral worthAdding
     same-literal q t v x =
         let b = worthAdding ver (strings v t) (octetsOf text x) in
@@ -113,12 +113,12 @@ module _ (text : Octets) where
         (record { octets-are = refl; how = refl; number = refl; tables = refl }))
 
     same-value : (t : StringTable) (v : Vocabulary Located) (x : Located)
-        → Same (valueOctets (octetsOf text x)) (writeValue ver text t v x) (chooseValue ver t (plainTables text v) (octetsOf text x))
+        → Same (valueBy (octetsOf text x)) (writeValue ver text t v x) (chooseValue ver t (plainTables text v) (octetsOf text x))
     unfolding writeValue chooseValue
     same-value t v x =
         let s = same-literal c14 t v x in
         same-pick (eqb (length (octetsOf text x)) 0) (record { octets-are = refl; how = refl; number = refl; tables = refl })
-        (record { octets-are = s .octets-are ∙ sym (literal-value (literal-case ver t (plainTables text v) (octetsOf text x))); how = s .how; number = s .number; tables = s .tables })
+        (record { octets-are = s .octets-are ∙ sym (literal-value (literal-case ver c14 t (plainTables text v) (octetsOf text x))); how = s .how; number = s .number; tables = s .tables })
 
     pub record SameItem (a : Bool) (v : State Located) (e : E.Event Located) : Type 0 where
       pub octets : writeItem ver text a v e .octets ≡ octetsBy ver a (plainState text v) (eventMap (octetsOf text) e)
@@ -127,8 +127,8 @@ module _ (text : Octets) where
 
     -- the second string of an event, with the tables behind the first
     value-then : (t : StringTable) (v : Vocabulary Located) (w : Vocabulary Octets) (x : Located) → plainTables text v ≡ w
-        → Same (valueOctets (octetsOf text x)) (writeValue ver text t v x) (chooseValue ver t w (octetsOf text x))
-    value-then t v w x e = subst (λ (u : Vocabulary Octets). Same (valueOctets (octetsOf text x)) (writeValue ver text t v x) (chooseValue ver t u (octetsOf text x))) e (same-value t v x)
+        → Same (valueBy (octetsOf text x)) (writeValue ver text t v x) (chooseValue ver t w (octetsOf text x))
+    value-then t v w x e = subst (λ (u : Vocabulary Octets). Same (valueBy (octetsOf text x)) (writeValue ver text t v x) (chooseValue ver t u (octetsOf text x))) e (same-value t v x)
 
     optional-then : (t : StringTable) (v : Vocabulary Located) (w : Vocabulary Octets) (x : Option Located) → plainTables text v ≡ w
         → Same (optionalOctets (Option·map (octetsOf text) x)) (writeOptional text t v x) (chooseOptional t w (Option·map (octetsOf text) x))

@@ -9,8 +9,8 @@ use borrow.Author.Tests.{leb-true}
 use lib.ListN.{length, length-append, length-map}
 use Rattle.format.specs.Octets.{Octets, Halves}
 use Rattle.format.specs.Events.{Item}
-use Rattle.format.specs.Tables.{Vocabulary, Version}
-use Rattle.format.specs.Head.{Opens}
+use Rattle.format.specs.Tables.{Version}
+use Rattle.format.specs.Head.{Head, Opens}
 use Rattle.format.specs.Items.{content, State}
 use Rattle.format.specs.Document.{halves, aligned, Written, document-end, attributes-end, element-end, item, knownAfter, begun, beginning, Document}
 use Rattle.events.specs.declared.Event.{Event}
@@ -57,7 +57,7 @@ unfolding beginning
 plain-beginning ver text g = λ i. record { tables = tables-headed ver text g i; level = 0; root = false; mode = content }
 
 module _ (ver : Version) (ok : Bounded ver) (text : Octets) (short : length text ≤ ver .octets) (room : ℕ) (g : Given) where
-  abbrev head : Vocabulary Octets
+  abbrev head : Head
   head = headOf ver text g
 
   abbrev lead : Octets

@@ -17,7 +17,7 @@ use Rattle.format.specs.Events.{Item, _by_, IsDocument, BeginsDocument, openAft
 use Rattle.format.specs.Tables.{Vocabulary, InLimits, Version}
 use Rattle.format.specs.Items.{Mode, content, declaring, listing, State, knowing}
 use Rattle.format.specs.Document.{halves, pad, aligned, Written, document-end, knownAfter, beginning, Begun}
-use Rattle.format.specs.Head.{Opens}
+use Rattle.format.specs.Head.{Head, Opens}
 use Rattle.events.specs.declared.Event.{Event}
 use Rattle.events.specs.WellMade.{WellMade}
 use Rattle.tables.specs.Located.{Located, octetsOf, plain, plainTables, plainState}
@@ -52,7 +52,7 @@ abbrev pub Knows : Version → ℕ → State Octets → List (Item Octets) → O
 Knows ver at v items hs z ks = (w : Written ver at v items hs z) × (knownAfter ver w ≡ ks)
 
 -- Behind these octets, with which a document opens that has the head h.
-module _ (ver : Version) (ok : Bounded ver) (text : Octets) (h : Vocabulary Octets) (lead : Octets) (op : Opens ver h lead (headed ver h)) where
+module _ (ver : Version) (ok : Bounded ver) (text : Octets) (h : Head) (lead : Octets) (op : Opens ver h lead (headed ver h)) where
   -- Where the writer stands behind the plain events ps, with es ahead.
   pub record Stands (ps : List (E.Event Octets)) (at : ℕ) (v : State Located) (es : List Event) : Type 0 where
     pub halves : Halves
@@ -174,7 +174,7 @@ module _ (ver : Version) (ok : Bounded ver) (text : Octets) (h : Vocabulary Octe
       goes-plain = Tree.same-kind (octetsOf text) ev .goes-too (plainTables text (v .tables)) v ∙ go
 
       state-then : plainState text (wi .state) ≡ knowing (stepped a pv pe) (chooseFor ver (pv .tables) pe .tables)
-      state-then = next-plain ver text a v ev ∙ next-by a pv ver pe goes-plain (st .order .ranged)
+      state-then = next-plain ver text a v ev ∙ next-by a pv ver pe goes-plain sd (st .order .ranged)
 
       next-stands : Stands (plains text (before ++ (e ∷ []))) (at + length hs) (wi .state) es
       next-stands =

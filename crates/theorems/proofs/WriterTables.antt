@@ -11,6 +11,7 @@ use Rattle.format.specs.Octets.{Octets, Halves}
 use Rattle.format.specs.Events as E
 use Rattle.format.specs.Events.{Name, How, spelled, numbered, NameHow, Item, _by_}
 use Rattle.format.specs.Tables.{StringTable, PREFIX, NAMESPACE-NAME, LOCAL-NAME, OTHER-NCNAME, ATTRIBUTE-VALUE, CONTENT-CHARACTER-CHUNK, OTHER-STRING, Tables, Vocabulary, strings, names, Version}
+use Rattle.format.specs.declared.StringForm.{StringForm}
 use Rattle.format.specs.Strings.{keeping, Layout, c14, c15}
 use Rattle.format.specs.Names.{NameLayout, ofElement, ofAttribute}
 use Rattle.format.specs.Items.{State}
@@ -19,7 +20,7 @@ use Rattle.format.specs.Uses.{ofString, ofOption, ofName, ofItem, acts, after, 
 use Rattle.events.specs.declared.Event.{Event}
 use Rattle.tables.specs.Located.{Located, octetsOf}
 use Rattle.tables.specs.Search.{numberIn, numberOfTriple}
-use Rattle.write_names.specs.Choices.{Wrote, writeId, writeOptional, writeName, worthAdding, writeLiteral, writeValue}
+use Rattle.write_names.specs.Choices.{Wrote, writeId, writeOptional, writeName, formFor, worthAdding, writeLiteral, writeValue}
 use Rattle.write_head.specs.Given.{Given}
 use Rattle.write_head.specs.Head.{tablesOf}
 use Rattle.write_items.specs.Events.{isListing, eventOf}
@@ -35,9 +36,9 @@ number-adds : (t : StringTable) (v : Vocabulary Located) (x : Located) (k : ℕ)
 number-adds t v x zero = adds-none
 number-adds t v x (suc k) = adds-number t (suc k) x
 
-spelled-adds : (t : StringTable) (v : Vocabulary Located) (x : Located) (added : Bool) → Adds v (ofString t x (spelled added)) (keeping added v t x)
-spelled-adds t v x true = adds-string v t x
-spelled-adds t v x false = adds-none
+spelled-adds : (t : StringTable) (v : Vocabulary Located) (x : Located) (form : StringForm) (added : Bool) → Adds v (ofString t x (spelled form added)) (keeping added v t x)
+spelled-adds t v x form true = adds-string v t x
+spelled-adds t v x form false = adds-none
 
 abbrev WroteString : StringTable → Vocabulary Located → Located → Wrote How → Type 0
 WroteString t v x w = Adds v (ofString t x (w .how)) (w .tables)
@@ -76,7 +77,7 @@ module _ (text : Octets) where
     unfolding writeLiteral
     literal-adds q t v x =
         let k = numberIn (map (octetsOf text) (strings v t)) (octetsOf text x) in
-        either (WroteString t v x) (eqb k 0) _ _ (λ e. spelled-adds t v x (worthAdding ver (strings v t) (octetsOf text x))) (λ e. number-adds t v x k)
+        either (WroteString t v x) (eqb k 0) _ _ (λ e. spelled-adds t v x (formFor (q .lengthBit) (octetsOf text x)) (worthAdding ver (strings v t) (octetsOf text x))) (λ e. number-adds t v x k)
 
     value-adds : (t : StringTable) (v : Vocabulary Located) (x : Located) → WroteString t v x (writeValue ver text t v x)
     unfolding writeValue

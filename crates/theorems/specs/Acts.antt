@@ -11,7 +11,7 @@ use Rattle.format.specs.Uses.{Act, makes, uses, makesName, usesName, ofItem, af
 
 -- The numbers in a choice, in order. The 0 of the empty string is no entry's number.
 abbrev pub numberIn : How → List ℕ
-numberIn (spelled added) = []
+numberIn (spelled form added) = []
 numberIn (numbered zero) = []
 numberIn (numbered (suc k)) = suc k ∷ []
 

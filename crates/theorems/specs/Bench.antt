@@ -6,6 +6,7 @@ use lib.ListN.{replicate}
 use Rattle.format.specs.Octets.{Octets}
 use Rattle.format.specs.Events.{Name, Event, Namespace, Start, Attribute, Text, Comment, Instruction, End, eventMap}
 use Rattle.format.specs.Tables.{Triple, Vocabulary, noEntries, xmlPrefix, xmlNamespace, link}
+use Rattle.format.specs.declared.StringForm.the-variants.{Utf8, Numeric}
 use Rattle.tables.specs.Located.{Located, octetsOf, plainTables}
 use Rattle.events.specs.declared.EventString.{EventString}
 use Rattle.events.specs.declared.EventString.the-variants.{Stretch}
@@ -15,10 +16,11 @@ use Rattle.write_head.specs.Head.{headOctets}
 use Rattle.write_items.specs.Steps.{joined}
 use Rattle.writer.specs.Writing as WWriting
 
--- A document, the tables that its head lists, as they are given to the writer with the document as text area, and the events and the tables that it stands for; or octets, the refusal's
--- number and its place.
+-- A document, the tables that its head lists, as they are given to the writer with the document as text area, and the events and the tables that it stands for; one that the writer writes as
+-- other octets; or octets, the refusal's number and its place.
 pub data Case : Type 0 where
   document : Octets → Given → List (Event Octets) → Vocabulary Octets → Case
+  rewritten : Octets → Given → List (Event Octets) → Vocabulary Octets → (written : Octets) → Case
   refused : Octets → (number place : ℕ) → Case
 
 -- What reading finds: events and tables, and what writing these events behind the given tables, with the document as text area, gives; or a refusal.
@@ -39,10 +41,12 @@ read s g (RReading.refusal n p) = number n p
 
 abbrev pub finds : Case → Found
 finds (document s g es v) = read s g (RReading.reading link s 32768)
+finds (rewritten s g es v w) = read s g (RReading.reading link s 32768)
 finds (refused s n p) = read s noEntries (RReading.reading link s 32768)
 
 abbrev pub wants : Case → Found
 wants (document s g es v) = found es v s v
+wants (rewritten s g es v w) = found es v w v
 wants (refused s n p) = number n p
 
 -- Strings of the cases.
@@ -106,7 +110,7 @@ inNames x = inHead (0x00 ∷ 0x82 ∷ 0x00 ∷ 0x00 ∷ 0x61 ∷ x)
 
 -- What the heads of the cases list: one octet at each of these places, as local names, values and chunks; and names of elements.
 abbrev at : ℕ → EventString
-at place = Stretch place 1
+at place = Stretch Utf8 place 1
 
 abbrev listing : (locals values chunks : List EventString) (elements : List Triple) → Given
 listing ls vs cs es = record { prefixes = []; namespaces = []; locals = ls; ncnames = []; uris = []; values = vs; chunks = cs; others = []; elements = es; attributes = [] }
@@ -130,6 +134,33 @@ tenListed =
     (0x03
     ∷ 0xFF
     ∷ (identified 0x61 ++ identified 0x62 ++ identified 0x63 ++ identified 0x64 ++ identified 0x65 ++ another 0x66 ++ another 0x67 ++ another 0x68 ++ names ++ (0x00 ∷ 0xFF ∷ [])))
+
+-- The characters of the alphabets, in order, and their octets there: places 0 to 14, and 15 that fills up. A in UTF-16 and in UTF-8, with a character above FFFF.
+abbrev allNumeric : Octets
+allNumeric = 0x30 ∷ 0x31 ∷ 0x32 ∷ 0x33 ∷ 0x34 ∷ 0x35 ∷ 0x36 ∷ 0x37 ∷ 0x38 ∷ 0x39 ∷ 0x2D ∷ 0x2B ∷ 0x2E ∷ 0x65 ∷ 0x20 ∷ []
+
+abbrev allDates : Octets
+allDates = 0x30 ∷ 0x31 ∷ 0x32 ∷ 0x33 ∷ 0x34 ∷ 0x35 ∷ 0x36 ∷ 0x37 ∷ 0x38 ∷ 0x39 ∷ 0x2D ∷ 0x3A ∷ 0x54 ∷ 0x5A ∷ 0x20 ∷ []
+
+abbrev allPlaces : Octets
+allPlaces = 0x01 ∷ 0x23 ∷ 0x45 ∷ 0x67 ∷ 0x89 ∷ 0xAB ∷ 0xCD ∷ 0xEF ∷ []
+
+abbrev pair16 : Octets
+pair16 = 0x00 ∷ 0x41 ∷ 0xD8 ∷ 0x3D ∷ 0xDE ∷ 0x00 ∷ []
+
+abbrev pair : Octets
+pair = 0x41 ∷ 0xF0 ∷ 0x9F ∷ 0x98 ∷ 0x80 ∷ []
+
+abbrev digits : Octets
+digits = 0x31 ∷ 0x32 ∷ 0x33 ∷ 0x34 ∷ []
+
+-- <a> and a chunk.
+abbrev inA : Octets → Octets
+inA x = behindHeader (0x3C ∷ 0x00 ∷ 0x61 ∷ x)
+
+-- <a b="..
+abbrev inB : Octets → Octets
+inB x = behindHeader (0x7C ∷ 0x00 ∷ 0x61 ∷ 0x78 ∷ 0x00 ∷ 0x62 ∷ x)
 
 abbrev pub cases : List Case
 cases =
@@ -185,14 +216,14 @@ cases =
     -- a head that lists an entry for each of the ten tables
     ∷ document tenListed
     (record {
-      prefixes = Stretch 9 9 ∷ [];
-      namespaces = Stretch 20 9 ∷ [];
-      locals = Stretch 31 9 ∷ [];
-      ncnames = Stretch 42 9 ∷ [];
-      uris = Stretch 53 9 ∷ [];
-      values = Stretch 65 9 ∷ [];
-      chunks = Stretch 77 9 ∷ [];
-      others = Stretch 89 9 ∷ [];
+      prefixes = Stretch Utf8 9 9 ∷ [];
+      namespaces = Stretch Utf8 20 9 ∷ [];
+      locals = Stretch Utf8 31 9 ∷ [];
+      ncnames = Stretch Utf8 42 9 ∷ [];
+      uris = Stretch Utf8 53 9 ∷ [];
+      values = Stretch Utf8 65 9 ∷ [];
+      chunks = Stretch Utf8 77 9 ∷ [];
+      others = Stretch Utf8 89 9 ∷ [];
       elements = triple 2 1 1 ∷ [];
       attributes = triple 0 0 1 ∷ [];
     })
@@ -243,4 +274,40 @@ cases =
     ∷ refused (behindHeader (0x3C ∷ 0x00 ∷ 0x61 ∷ 0x90 ∷ 0x01 ∷ [])) 9 8
     ∷ refused (behindHeader (0x3C ∷ 0x00 ∷ 0x00 ∷ [])) 9 6
     ∷ refused (behindHeader (0x3C ∷ 0x02 ∷ 0xEF ∷ 0xBF ∷ 0xBE ∷ [])) 9 6
+    -- every character of an alphabet, in a chunk and in a value
+    ∷ plain (inA (0x88 ∷ 0x02 ∷ 0x05 ∷ (allPlaces ++ (0xFF ∷ [])))) (Start (local a) ∷ Text allNumeric ∷ End ∷ []) (tables [] (a ∷ []) [] [] (triple 0 0 1 ∷ []) [])
+    ∷ plain (inB (0x20 ∷ 0x17 ∷ (allPlaces ++ (0xFF ∷ 0xF0 ∷ [])))) (Start (local a) ∷ Attribute (local b) allDates ∷ End ∷ []) (tables [] (a ∷ b ∷ []) [] [] (triple 0 0 1 ∷ []) (triple 0 0 2 ∷ []))
+    -- 1234, added, in alphabet 1 as a chunk and as a value; listed, and used by number
+    ∷ plain (inA (0x98 ∷ 0x01 ∷ 0x12 ∷ 0x34 ∷ 0xFF ∷ [])) (Start (local a) ∷ Text digits ∷ End ∷ []) (tables [] (a ∷ []) [] (digits ∷ []) (triple 0 0 1 ∷ []) [])
+    ∷ plain (inB (0x60 ∷ 0x01 ∷ 0x12 ∷ 0x34 ∷ 0xFF ∷ 0xF0 ∷ [])) (Start (local a) ∷ Attribute (local b) digits ∷ End ∷ [])
+    (tables [] (a ∷ b ∷ []) (digits ∷ []) [] (triple 0 0 1 ∷ []) (triple 0 0 2 ∷ []))
+    ∷ document (inHead (0x00 ∷ 0x08 ∷ 0x00 ∷ 0x20 ∷ 0x01 ∷ 0x12 ∷ 0x34 ∷ 0x3C ∷ 0x00 ∷ 0x61 ∷ 0xA0 ∷ 0xFF ∷ [])) (listing [] [] (Stretch Numeric 10 2 ∷ []) []) (Start (local a) ∷ Text digits ∷ End ∷ [])
+    (tables [] (a ∷ []) [] (digits ∷ []) (triple 0 0 1 ∷ []) [])
+    -- 100: alphabet 1 saves an octet in a chunk, and none in a value or in the head
+    ∷ plain (inA (0x98 ∷ 0x01 ∷ 0x10 ∷ 0x0F ∷ 0xFF ∷ [])) (Start (local a) ∷ Text (0x31 ∷ 0x30 ∷ 0x30 ∷ []) ∷ End ∷ []) (tables [] (a ∷ []) [] ((0x31 ∷ 0x30 ∷ 0x30 ∷ []) ∷ []) (triple 0 0 1 ∷ []) [])
+    ∷ plain (inB (0x42 ∷ 0x31 ∷ 0x30 ∷ 0x30 ∷ 0xFF ∷ 0xF0 ∷ [])) (Start (local a) ∷ Attribute (local b) (0x31 ∷ 0x30 ∷ 0x30 ∷ []) ∷ End ∷ [])
+    (tables [] (a ∷ b ∷ []) ((0x31 ∷ 0x30 ∷ 0x30 ∷ []) ∷ []) [] (triple 0 0 1 ∷ []) (triple 0 0 2 ∷ []))
+    ∷ rewritten (inA (0x98 ∷ 0x00 ∷ 0x1F ∷ 0xFF ∷ [])) noEntries (Start (local a) ∷ Text (0x31 ∷ []) ∷ End ∷ []) (tables [] (a ∷ []) [] ((0x31 ∷ []) ∷ []) (triple 0 0 1 ∷ []) []) (inA (0x90 ∷ 0x31 ∷ 0xFF ∷ []))
+    -- utf-16, which the writer never uses, with a pair of surrogates; and digits that are given in utf-16
+    ∷ rewritten (inA (0x96 ∷ 0x03 ∷ (pair16 ++ (0xFF ∷ [])))) noEntries (Start (local a) ∷ Text pair ∷ End ∷ []) (tables [] (a ∷ []) [] (pair ∷ []) (triple 0 0 1 ∷ []) [])
+    (inA (0x92 ∷ 0x02 ∷ (pair ++ (0xFF ∷ []))))
+    ∷ rewritten (inA (0x96 ∷ 0x05 ∷ 0x00 ∷ 0x31 ∷ 0x00 ∷ 0x32 ∷ 0x00 ∷ 0x33 ∷ 0x00 ∷ 0x34 ∷ 0xFF ∷ [])) noEntries (Start (local a) ∷ Text digits ∷ End ∷ [])
+    (tables [] (a ∷ []) [] (digits ∷ []) (triple 0 0 1 ∷ []) []) (inA (0x98 ∷ 0x01 ∷ 0x12 ∷ 0x34 ∷ 0xFF ∷ []))
+    -- the same characters in two forms are the same string: the second chunk has the first one's number
+    ∷ rewritten (inA (0x92 ∷ 0x01 ∷ (digits ++ (0x88 ∷ 0x01 ∷ 0x12 ∷ 0x34 ∷ 0xFF ∷ [])))) noEntries (Start (local a) ∷ Text digits ∷ Text digits ∷ End ∷ [])
+    (tables [] (a ∷ []) [] (digits ∷ []) (triple 0 0 1 ∷ []) []) (inA (0x98 ∷ 0x01 ∷ 0x12 ∷ 0x34 ∷ 0xA0 ∷ 0xFF ∷ []))
+    -- an alphabet: 15 before the end, twice; another alphabet, cut and whole; its number cut; wrong padding, cut, with another alphabet, alone
+    ∷ refused (inA (0x88 ∷ 0x00 ∷ 0xFF ∷ 0xFF ∷ [])) 9 8
+    ∷ refused (inA (0x88 ∷ 0x01 ∷ 0x1F ∷ 0x1F ∷ 0xFF ∷ [])) 9 8
+    ∷ refused (inA (0x88 ∷ 0x09 ∷ 0x11 ∷ [])) 2 8
+    ∷ refused (inA (0x88 ∷ 0x09 ∷ 0x11 ∷ 0x22 ∷ 0xFF ∷ [])) 8 8
+    ∷ refused (inA (0x8B ∷ [])) 2 8
+    ∷ refused (inB (0x20 ∷ 0x09 ∷ 0x00 ∷ 0x12 ∷ [])) 2 11
+    ∷ refused (inB (0x20 ∷ 0x29 ∷ 0x00 ∷ replicate 9 0x11)) 8 11
+    ∷ refused (inB (0x20 ∷ 0x09 ∷ 0x00 ∷ replicate 9 0x11)) 6 11
+    -- utf-16: an odd count, a lone surrogate, FFFE; and the format 11
+    ∷ refused (inA (0x84 ∷ 0x41 ∷ [])) 9 8
+    ∷ refused (inA (0x85 ∷ 0xD8 ∷ 0x00 ∷ 0xFF ∷ [])) 9 8
+    ∷ refused (inA (0x85 ∷ 0xFF ∷ 0xFE ∷ 0xFF ∷ [])) 9 8
+    ∷ refused (inA (0x8C ∷ 0x09 ∷ 0xFF ∷ 0xFE ∷ 0xFF ∷ [])) 8 8
     ∷ []

@@ -11,13 +11,13 @@ use Rattle.format.specs.Refusals.{SIZE, TEXT, REPEAT, FULL, DEPTH, ROOM, EVENT}
 use Rattle.format.specs.Numbers.{longest}
 use Rattle.format.specs.Events as E
 use Rattle.format.specs.Events.{Item, IsDocument, stringsOf, deepest}
-use Rattle.format.specs.Tables.{StringTable, NameTable, Tables, Vocabulary, strings, names, noEntries, followedBy, Version, InLimits}
-use Rattle.format.specs.Head.{Opens}
+use Rattle.format.specs.Tables.{StringTable, NameTable, Tables, Vocabulary, strings, names, vocabularyMap, noEntries, followedBy, Version, InLimits}
+use Rattle.format.specs.Head.{Head, Opens}
 use Rattle.format.specs.Items.{State}
 use Rattle.format.specs.Document.{knownAfter, Document}
 use Rattle.format.specs.Uses.{acts, after, Known, Holds}
 use Rattle.format.specs.Allowed.{All, Allowed}
-use Rattle.tables.specs.Located.{Located, plain, plainTables, plainState, start}
+use Rattle.tables.specs.Located.{Located, listedAs, plain, plainTables, plainState, start}
 use Rattle.tables.specs.Counts.{tableWords, entryWords, wordsOf}
 use Rattle.tables.specs.Told.{toldAccepted, toldRefused, entriesOf, wholeWord}
 use Rattle.events.specs.declared.Event.{Event}
@@ -84,7 +84,7 @@ pub data MeasureWordsAnswer (es : List Event) (t c : ℕ) (w : WriteWords.WordsM
 -- events have the places of the document's marks, in order. Each record is as the requirements' "Events" has it; each spelled string has the place at which the
 -- rules write it, and each number names an entry that is built in, listed or made earlier, at its very place. The tables hold what is built in, then what the head lists, each string at the place
 -- at which the rules list it, then what the events made, each entry at its very place.
-pub record HandsOut (ver : Version) (s : Octets) (room : ℕ) (h : Vocabulary Octets) (items : List (Item Octets)) (z : State Octets) (w : Document ver h items z s) (o : Read.Outcome) : Type 0 where
+pub record HandsOut (ver : Version) (s : Octets) (room : ℕ) (h : Head) (items : List (Item Octets)) (z : State Octets) (w : Document ver h items z s) (o : Read.Outcome) : Type 0 where
   pub events : List Read.EventRead
   pub tables : Vocabulary Located
   pub answer : o .told ≡ toldAccepted (length items) (entriesOf (z .tables))
@@ -98,7 +98,7 @@ pub record HandsOut (ver : Version) (s : Octets) (room : ℕ) (h : Vocabulary Oc
   -- the head's entries, and the tables behind it with the names themselves
   pub head : Vocabulary Located
   pub begins : Tables Located (E.Name Located)
-  pub head-is : plainTables s head ≡ h
+  pub head-is : vocabularyMap (listedAs s) head ≡ h
   pub listed : allListed head ≡ listedIn (w .opens)
   pub begins-with : Holds (followedBy (start ver) head) begins
   -- the numbers of a listed name, too, are those of entries that are built in or listed
@@ -108,11 +108,11 @@ pub record HandsOut (ver : Version) (s : Octets) (room : ℕ) (h : Vocabulary Oc
 
 pub record ReadsExactly (ver : Version) (s : Octets) (room table : ℕ) (o : Read.Outcome) : Type 0 where
   -- what the rules write is accepted, if there is a record for each event and the right table room, and this is handed out
-  pub accepts : (h : Vocabulary Octets) (items : List (Item Octets)) (z : State Octets) (w : Document ver h items z s) → length items ≤ room → table ≡ tableWords → HandsOut ver s room h items z w o
+  pub accepts : (h : Head) (items : List (Item Octets)) (z : State Octets) (w : Document ver h items z s) → length items ≤ room → table ≡ tableWords → HandsOut ver s room h items z w o
   -- and nothing else is accepted
-  pub only : o .told .number ≡ 0 → (h : Vocabulary Octets) × (items : List (Item Octets)) × (z : State Octets) × Document ver h items z s × (length items ≤ room) × (table ≡ tableWords)
+  pub only : o .told .number ≡ 0 → (h : Head) × (items : List (Item Octets)) × (z : State Octets) × Document ver h items z s × (length items ≤ room) × (table ≡ tableWords)
   -- there is one such head, with one such list of events and choices
-  pub one-pair : (g h : Vocabulary Octets) (items others : List (Item Octets)) (y z : State Octets) → Document ver g items y s → Document ver h others z s → (g ≡ h) × (items ≡ others) × (y ≡ z)
+  pub one-pair : (g h : Head) (items others : List (Item Octets)) (y z : State Octets) → Document ver g items y s → Document ver h others z s → (g ≡ h) × (items ≡ others) × (y ≡ z)
 
 -- ---- what a call that writes owes by demand 2
 -- The requirements give no number to refuse these records, and the tables that these words give for the head, over this text area, with this room; s is the document that the rules write from them,
@@ -186,10 +186,10 @@ pub record InWriteWords (o : Write.Outcome) (w : WriteWords.WordsLeft) : Type 0 
 -- What lomphachit_read and lomphachit_write owe: the same in 32-bit words. r, t and c are the words lent for records (writer: the octets of output), tables and counts.
 pub record ReadsExactlyInWords (ver : Version) (s : Octets) (r t c : ℕ) (w : ReadWords.WordsLeft) : Type 0 where
   -- what the rules write is accepted, if there are 13 words for each event and the right room for tables and counts, and this is handed out
-  pub accepts : (h : Vocabulary Octets) (items : List (Item Octets)) (z : State Octets) (u : Document ver h items z s) → length items ≤ r / 13 → t ≡ tableWords → c ≡ 10
+  pub accepts : (h : Head) (items : List (Item Octets)) (z : State Octets) (u : Document ver h items z s) → length items ≤ r / 13 → t ≡ tableWords → c ≡ 10
       → (o : Read.Outcome) × HandsOut ver s (r / 13) h items z u o × InReadWords r o w
   -- and nothing else is accepted
-  pub only : w .answer % 2 ^ 32 ≡ 0 → (h : Vocabulary Octets) × (items : List (Item Octets)) × (z : State Octets) × Document ver h items z s × (length items ≤ r / 13) × (t ≡ tableWords) × (c ≡ 10)
+  pub only : w .answer % 2 ^ 32 ≡ 0 → (h : Head) × (items : List (Item Octets)) × (z : State Octets) × Document ver h items z s × (length items ≤ r / 13) × (t ≡ tableWords) × (c ≡ 10)
 
 -- The requirements refuse records given as words with this number at this place: SIZE first, then the room of the counts, then as RefusedBy.
 pub data WordsRefusedBy (ver : Version) (given : Words) (es : List Event) (text : Octets) (r t c : ℕ) : (number place : ℕ) → Type 0 where
@@ -243,27 +243,27 @@ pub record Demand2 (ver : Version) : Type 0 where
   pub given-none : (isGiven [] ≡ true) × (givenOf [] ≡ noEntries)
   pub given-only : (words : Words) (text : Octets) → isGiven words ≡ true → AreEntries ver text (givenOf words) → (words ≡ [] → ⊥) → words ≡ givenWords (givenOf words)
 
--- 3. Octets are accepted exactly when the rules write them from some head, events and choices; there is one such head with one such pair, and its events are handed out.
+-- 3. Octets are accepted exactly when the rules write them from some head, events and choices, the forms of strings among them; there is one such head with one such pair, and its events are handed out.
 pub record Demand3 (ver : Version) : Type 0 where
   pub read : (s : Octets) → AreOctets s → (room table : ℕ) → ReadsExactly ver s room table (Read.readOf ver s room table)
   pub read-words : (s : Octets) → AreOctets s → (r t c : ℕ) → ReadsExactlyInWords ver s r t c (ReadWords.readWords ver s r t c)
-  pub check : (s : Octets) → AreOctets s → (Read.checkOf ver s ≡ 0) ↔ ((h : Vocabulary Octets) × (items : List (Item Octets)) × (z : State Octets) × Document ver h items z s)
+  pub check : (s : Octets) → AreOctets s → (Read.checkOf ver s ≡ 0) ↔ ((h : Head) × (items : List (Item Octets)) × (z : State Octets) × Document ver h items z s)
 
 -- The rules themselves, on which 2 and 3 rest, are neither too wide nor too narrow. What they write is an allowed head and a document of allowed events with permitted choices, and they
 -- write every such head and list within the version's limits, with every permitted choice, as one run of octets.
 pub record RulesExact (ver : Version) : Type 0 where
-  pub head-allowed : (h : Vocabulary Octets) (o : Octets) (v : Vocabulary Octets) → Opens ver h o v → HeadAllowed ver h × (v ≡ headed ver h)
-  pub every-head : (h : Vocabulary Octets) → HeadAllowed ver h → (o : Octets) × Opens ver h o (headed ver h)
-  pub begins : (h : Vocabulary Octets) (o : Octets) (v : Vocabulary Octets) → Opens ver h o v → (names : Tables Octets (E.Name Octets)) × Holds v names
-  pub a-document : (h : Vocabulary Octets) (items : List (Item Octets)) (z : State Octets) (s : Octets) → Document ver h items z s → IsDocument (map (λ (i : Item Octets). i .event) items)
-  pub allowed : (h : Vocabulary Octets) (items : List (Item Octets)) (z : State Octets) (s : Octets) → Document ver h items z s → All (λ (i : Item Octets). Allowed (i .event)) items
-  pub permitted : (h : Vocabulary Octets) (items : List (Item Octets)) (z : State Octets) (s : Octets) → Document ver h items z s → PermitsAll (headed ver h) items (z .tables)
-  pub one-document : (h : Vocabulary Octets) (items : List (Item Octets)) (y z : State Octets) (s t : Octets) → Document ver h items y s → Document ver h items z t → (s ≡ t) × (y ≡ z)
+  pub head-allowed : (h : Head) (o : Octets) (v : Vocabulary Octets) → Opens ver h o v → HeadAllowed ver h × (v ≡ headed ver h)
+  pub every-head : (h : Head) → HeadAllowed ver h → (o : Octets) × Opens ver h o (headed ver h)
+  pub begins : (h : Head) (o : Octets) (v : Vocabulary Octets) → Opens ver h o v → (names : Tables Octets (E.Name Octets)) × Holds v names
+  pub a-document : (h : Head) (items : List (Item Octets)) (z : State Octets) (s : Octets) → Document ver h items z s → IsDocument (map (λ (i : Item Octets). i .event) items)
+  pub allowed : (h : Head) (items : List (Item Octets)) (z : State Octets) (s : Octets) → Document ver h items z s → All (λ (i : Item Octets). Allowed (i .event)) items
+  pub permitted : (h : Head) (items : List (Item Octets)) (z : State Octets) (s : Octets) → Document ver h items z s → PermitsAll (headed ver h) items (z .tables)
+  pub one-document : (h : Head) (items : List (Item Octets)) (y z : State Octets) (s t : Octets) → Document ver h items y s → Document ver h items z t → (s ≡ t) × (y ≡ z)
   -- the acts, of which `earlier` and `tables-made` speak above, use every number of the choices; and what is known after each item is what the acts up to it made, behind the head
-  pub every-number : (h : Vocabulary Octets) (items : List (Item Octets)) (z : State Octets) (s : Octets) → Document ver h items z s → used (acts items) ≡ allNumbers items
-  pub tables-after : (h : Vocabulary Octets) (items : List (Item Octets)) (z : State Octets) (s : Octets) (w : Document ver h items z s) (begins : Tables Octets (E.Name Octets)) → Holds (headed ver h) begins
+  pub every-number : (h : Head) (items : List (Item Octets)) (z : State Octets) (s : Octets) → Document ver h items z s → used (acts items) ≡ allNumbers items
+  pub tables-after : (h : Head) (items : List (Item Octets)) (z : State Octets) (s : Octets) (w : Document ver h items z s) (begins : Tables Octets (E.Name Octets)) → Holds (headed ver h) begins
       → HoldAfter begins items (knownAfter ver (w .rule))
-  pub every-choice : (h : Vocabulary Octets) (items : List (Item Octets)) (w : Vocabulary Octets) → HeadAllowed ver h → IsDocument (map (λ (i : Item Octets). i .event) items)
+  pub every-choice : (h : Head) (items : List (Item Octets)) (w : Vocabulary Octets) → HeadAllowed ver h → IsDocument (map (λ (i : Item Octets). i .event) items)
       → All Allowed (map (λ (i : Item Octets). i .event) items)
       → All (λ (e : E.Event Octets). All (λ (x : Octets). length x ≤ longest) (stringsOf e)) (map (λ (i : Item Octets). i .event) items) → PermitsAll (headed ver h) items w
       → deepest 0 (map (λ (i : Item Octets). i .event) items) ≤ ver .depth → InLimits ver w → WrittenUnlessLong ver h items w

@@ -8,12 +8,19 @@ use Rattle.format.specs.Octets.{Octets}
 use Rattle.format.specs.Tables.{StringTable, PREFIX, NAMESPACE-NAME, LOCAL-NAME, OTHER-NCNAME, OTHER-URI, ATTRIBUTE-VALUE, CONTENT-CHARACTER-CHUNK, OTHER-STRING}
 use Rattle.format.specs.Tables.{NameTable, Triple, Vocabulary, strings, names, New, noEntries, followedBy, Version, InLimits}
 use Rattle.format.specs.Strings.{Spelling}
-use Rattle.format.specs.Head.{started, some?}
+use Rattle.format.specs.Head.{isIdentifying, Listed, Head, plainHead, started, some?}
+use Rattle.format.specs.declared.StringForm.the-variants.{Utf8}
 use Rattle.format.specs.Allowed.{All}
 
 -- The tables of a document behind its head: the built-in entries, then those that the head lists.
-abbrev pub headed : Version → Vocabulary Octets → Vocabulary Octets
-headed ver h = followedBy (started ver) h
+abbrev pub headed : Version → Head → Vocabulary Octets
+headed ver h = followedBy (started ver) (plainHead h)
+
+-- A string can be listed in its form; in a table of identifying strings that is utf-8.
+pub record CanBeListed (t : StringTable) (x : Listed) : Type 0 where
+  pub octets : Octets
+  pub spelled : Spelling (x .form) (x .says) octets
+  pub plain : isIdentifying t ≡ true → x .form ≡ Utf8
 
 -- No entry is one of those before it.
 abbrev pub Distinct : {A : Type 0} → List A → Type 0
@@ -37,9 +44,9 @@ pub record NamesParts {S : Type 0} (v : Vocabulary S) (x : Triple) : Type 0 wher
   pub has-local : 1 ≤ x .local
   pub not-alone : some? (x .prefix) ≤ some? (x .namespace)
 
-pub record HeadAllowed (ver : Version) (h : Vocabulary Octets) : Type 0 where
-  -- every string can be spelled; every name's parts are there
-  pub spelled : (t : StringTable) → All Spelling (strings h t)
+pub record HeadAllowed (ver : Version) (h : Head) : Type 0 where
+  -- every string can be listed in its form; every name's parts are there
+  pub spelled : (t : StringTable) → All (CanBeListed t) (strings h t)
   pub named : (t : NameTable) → All (NamesParts (headed ver h)) (names h t)
   -- nothing is listed twice, nor what is built in
   pub distinct : AllDistinct (headed ver h)

@@ -4,6 +4,7 @@ pub mod Bounded
 pub mod Bench
 pub mod Acts
 pub mod Heads
+pub mod Forms
 pub mod Given
 pub mod Verdicts
 pub mod Permitted

@@ -11,15 +11,15 @@ use Rattle.format.specs.Events as E
 use Rattle.format.specs.Events.{Item, eventMap, IsDocument, BeginsDocument, openAfter, deepest, opensElement, stringsOf}
 use Rattle.format.specs.Tables.{StringTable, NameTable, Vocabulary, strings, names, noEntries, Version, standard, InLimits}
 use Rattle.format.specs.Items.{State}
-use Rattle.format.specs.Head.{Opens}
+use Rattle.format.specs.Head.{isIdentifying, Head, plainHead, Opens}
 use Rattle.format.specs.Document.{aligned, beginning, Begun, Document}
 use Rattle.format.specs.Allowed.{All}
 use Rattle.tables.specs.Located.{octetsOf, plainTables}
 use Rattle.events.specs.declared.Event.{Event}
-use Rattle.events.specs.WellMade.{IsStretch, WellMade}
+use Rattle.events.specs.WellMade.{IsStretch, IsString, WellMade}
 use Rattle.write_names.specs.Chosen.{chosen, tablesAfter}
 use Rattle.write_head.specs.Given.{Given}
-use Rattle.write_head.specs.Head.{listedOf}
+use Rattle.write_head.specs.Head.{headFor, listedOf}
 use Rattle.write_items.specs.Events.{eventOf}
 use Rattle.theorems.specs.Heads.{headed, AllDistinct, NamesParts}
 
@@ -31,18 +31,18 @@ abbrev pub plains : Octets → List Event → List (E.Event Octets)
 plains text es = map (plainOf text) es
 
 -- A plain list with the required choices, behind a head.
-abbrev pub itemsOf : Version → (head : Vocabulary Octets) → List (E.Event Octets) → List (Item Octets)
+abbrev pub itemsOf : Version → (head : Head) → List (E.Event Octets) → List (Item Octets)
 itemsOf ver h es = chosen ver (headed ver h) es
 
 -- The rules write these items behind this head as one document, however deep it is and however long, and these are the tables then.
-pub record WrittenAs (ver : Version) (head : Vocabulary Octets) (items : List (Item Octets)) (tables : Vocabulary Octets) : Type 0 where
+pub record WrittenAs (ver : Version) (head : Head) (items : List (Item Octets)) (tables : Vocabulary Octets) : Type 0 where
   pub octets : Octets
   pub last : State Octets
   pub writes : (depth size : ℕ) → deepest 0 (map (λ (i : Item Octets). i .event) items) ≤ depth → length octets ≤ size → Document (standard ver depth size) head items last octets
   pub known : last .tables ≡ tables
 
 -- The rules of a version write these items behind this head, and these are the tables then; it is a document of the version unless there are too many octets.
-pub record WrittenUnlessLong (ver : Version) (head : Vocabulary Octets) (items : List (Item Octets)) (tables : Vocabulary Octets) : Type 0 where
+pub record WrittenUnlessLong (ver : Version) (head : Head) (items : List (Item Octets)) (tables : Vocabulary Octets) : Type 0 where
   pub octets : Octets
   pub last : State Octets
   pub writes : length octets ≤ ver .octets → Document ver head items last octets
@@ -50,21 +50,21 @@ pub record WrittenUnlessLong (ver : Version) (head : Vocabulary Octets) (items :
 
 -- The rules write these events behind this head, with the required choices, as one document, however deep it is and however long: within every limit on open elements and octets that
 -- it keeps. The limit on the entries of a table is the standard's own.
-pub record WrittenWidely (ver : Version) (head : Vocabulary Octets) (es : List (E.Event Octets)) : Type 0 where
+pub record WrittenWidely (ver : Version) (head : Head) (es : List (E.Event Octets)) : Type 0 where
   pub octets : Octets
   pub last : State Octets
   pub writes : (depth size : ℕ) → deepest 0 es ≤ depth → length octets ≤ size → Document (standard ver depth size) head (itemsOf ver head es) last octets
   pub tables : last .tables ≡ tablesAfter ver (headed ver head) es
 
 -- What is written of these events is a document of the version, or it is over one of its three limits: nothing else keeps it out.
-pub data OrPasses (ver : Version) (head : Vocabulary Octets) (es : List (E.Event Octets)) (last : State Octets) (octets : Octets) : Type 0 where
+pub data OrPasses (ver : Version) (head : Head) (es : List (E.Event Octets)) (last : State Octets) (octets : Octets) : Type 0 where
   within-limits : Document ver head (itemsOf ver head es) last octets → OrPasses ver head es last octets
   over-depth : ver .depth < deepest 0 es → OrPasses ver head es last octets
   over-entries : (InLimits ver (tablesAfter ver (headed ver head) es) → ⊥) → OrPasses ver head es last octets
   over-octets : ver .octets < length octets → OrPasses ver head es last octets
 
 -- What stands before the body and these items, filled up to octets, fit the output lent and the limit of a document.
-pub record FitsIn (ver : Version) (head : Vocabulary Octets) (room : ℕ) (items : List (Item Octets)) : Type 0 where
+pub record FitsIn (ver : Version) (head : Head) (room : ℕ) (items : List (Item Octets)) : Type 0 where
   pub before : Octets
   pub opens : Opens ver head before (headed ver head)
   pub halves : Halves
@@ -73,7 +73,7 @@ pub record FitsIn (ver : Version) (head : Vocabulary Octets) (room : ℕ) (items
   pub fit : aligned (2 * length before + length halves) / 2 ≤ min room (ver .octets)
 
 -- The rules write these items behind the head, but what they write does not fit.
-pub record Overflows (ver : Version) (head : Vocabulary Octets) (room : ℕ) (items : List (Item Octets)) : Type 0 where
+pub record Overflows (ver : Version) (head : Head) (room : ℕ) (items : List (Item Octets)) : Type 0 where
   pub before : Octets
   pub opens : Opens ver head before (headed ver head)
   pub halves : Halves
@@ -82,7 +82,7 @@ pub record Overflows (ver : Version) (head : Vocabulary Octets) (room : ℕ) (it
   pub over : min room (ver .octets) < aligned (2 * length before + length halves) / 2
 
 -- The rules write the document of these items, and it fits the output lent.
-pub record WrittenIn (ver : Version) (head : Vocabulary Octets) (room : ℕ) (items : List (Item Octets)) : Type 0 where
+pub record WrittenIn (ver : Version) (head : Head) (room : ℕ) (items : List (Item Octets)) : Type 0 where
   pub octets : Octets
   pub last : State Octets
   pub writes : Document ver head items last octets
@@ -90,19 +90,20 @@ pub record WrittenIn (ver : Version) (head : Vocabulary Octets) (room : ℕ) (it
 
 -- The tables g that are given for the head, over a text area: the requirements' tests of them, in their order, each of the whole head. A test that fails gives the number beside it.
 module _ (ver : Version) (text : Octets) (g : Given) where
-  -- The head that they stand for.
-  abbrev pub headOf : Vocabulary Octets
-  headOf = plainTables text (listedOf g)
+  -- The head that they stand for: their strings, in the forms that the writer chooses.
+  abbrev pub headOf : Head
+  headOf = headFor (plainTables text (listedOf g))
 
-  -- EVENT: each string is a stretch of the text area, each name names entries that are there; none is given if the version has no heads
+  -- EVENT: each string is a stretch of the text area, an identifying one in utf-8, each name names entries that are there; none is given if the version has no heads
   pub record AreEntries : Type 0 where
-    pub strings-are : (t : StringTable) → All (IsStretch text) (strings g t)
+    pub strings-are : (t : StringTable) → All (IsString text) (strings g t)
+    pub in-utf8 : (t : StringTable) → isIdentifying t ≡ true → All (IsStretch text) (strings g t)
     pub names-are : (t : NameTable) → All (NamesParts (headed ver headOf)) (names g t)
     pub none-given : (ver .heads ≡ true → ⊥) → headOf ≡ noEntries
 
   -- TEXT: the strings are text
   abbrev pub AreTexts : Type 0
-  AreTexts = (t : StringTable) → All IsText (strings headOf t)
+  AreTexts = (t : StringTable) → All IsText (strings (plainHead headOf) t)
 
   -- REPEAT: no identifying string and no name is listed twice, or is built in
   abbrev pub AreNew : Type 0
@@ -141,7 +142,7 @@ module _ (ver : Version) (text : Octets) (g : Given) where
       not-room : AreEntries → AreTexts → AreNew → AreFew → HeadOverflows → HeadFault ROOM
 
 -- Behind a head that is right.
-module _ (ver : Version) (head : Vocabulary Octets) (text : Octets) (room : ℕ) where
+module _ (ver : Version) (head : Head) (text : Octets) (room : ℕ) where
   -- The event e behind the events `before` and all these: the requirements' tests, in their order. A test that fails gives the number beside it.
   module _ (before : List Event) (e : Event) where
     abbrev pub upTo : List (E.Event Octets)

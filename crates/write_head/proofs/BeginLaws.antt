@@ -24,7 +24,7 @@ use Rattle.index.specs.Indexed.{slots}
 use Rattle.write_names.specs.Contracts.{tablesIn, InOrder}
 use Rattle.write_names.proofs.Order.{order-start}
 use Rattle.write_head.specs.Given.{entriesBefore, isGiven, givenOf}
-use Rattle.write_head.specs.Head.{every, distinct, distinctNames, inStrings, inNames, isNone, octetsBefore, wellGiven, textGiven, newGiven, fewGiven, tablesOf, headOctets, faultOfHead, faultOfGiven}
+use Rattle.write_head.specs.Head.{every, distinct, distinctNames, inStrings, inNames, isNone, octetsBefore, headFor, wellGiven, textGiven, newGiven, fewGiven, tablesOf, headOctets, faultOfHead, faultOfGiven}
 use Rattle.write_head.specs.Contracts.{Opened}
 use Rattle.write_head.specs.RowContracts.{below, Laid, startCount, keeps, fewTable, Few, Right, presenceOf, headOf, addTables, Judged}
 use Rattle.write_head.proofs.RowLaws.{given-laid}
@@ -41,7 +41,7 @@ cleared s {o} {out} e put =
 module _ (text g : List ℕ) where
   module _ (n : ℕ) (all : (room : ℕ) → faultOfHead link text (givenOf g) room ≡ n) (some : n ≡ 0 → ⊥) (high : n ≤ 16) where
     refuses : Judged text g n
-    refuses = record { refused = λ ne room. all room; high = high; right = λ e. absurd (some e); few = λ e. absurd (some e); repeats = λ e. absurd (some e); left = λ e. absurd (some e) }
+    refuses = record { refused = λ ne room. all room; high = high; right = λ e. absurd (some e); texts = λ e. absurd (some e); few = λ e. absurd (some e); repeats = λ e. absurd (some e); left = λ e. absurd (some e) }
 
   fault-event : (room : ℕ) → false ≡ keeps 16 text g → faultOfHead link text (givenOf g) room ≡ 16
   unfolding faultOfHead
@@ -86,6 +86,7 @@ module _ (text g : List ℕ) where
             refused = λ ne. absurd (ne refl);
             high = omega arith;
             right = λ e. right;
+            texts = λ e. all-text;
             few = λ e. few;
             repeats = λ e held room. fault-repeat right all-text room (sym held);
             left = λ e all-new room. fault-room right all-text all-new few room;
@@ -165,7 +166,7 @@ unfolding faultOfHead wellGiven textGiven newGiven fewGiven inStrings inNames ev
 none-wrong text room = refl
 
 none-octets : (text : List ℕ) → headOctets link text noEntries ≡ 0xE0 ∷ 0x00 ∷ 0x00 ∷ 0x01 ∷ 0x00 ∷ []
-unfolding headOctets octetsBefore isNone presence fromBits sizeOf tenTables strings names noEntries vocabularyMap link
+unfolding headOctets headFor octetsBefore isNone presence fromBits sizeOf tenTables strings names noEntries vocabularyMap link
 none-octets text = refl
 
 none-tables : tablesOf link noEntries ≡ start link

@@ -18,14 +18,14 @@ use Rattle.tables.specs.Rows.{tableOf, builtIn, tripleAt, entries}
 use Rattle.tables.specs.Kept.{nameTableOf}
 use Rattle.tables.proofs.ByNumber.{by-number, eight-nine, by-table}
 use Rattle.tables.proofs.Entries.{length-entries}
-use Rattle.tables.proofs.Search.{octets-entries, length-octets, not-same}
-use Rattle.events.specs.FromWords.{stringFrom, toldBy}
+use Rattle.tables.proofs.Search.{octets-entries, not-same}
+use Rattle.tables.proofs.SaidLaws.{says-some}
+use Rattle.events.specs.FromWords.{stringFrom}
 use Rattle.events.specs.Records.{locatedOf}
-use Rattle.events.specs.WellMade.{isStretch}
 use Rattle.write_head.specs.Given.{Given, rowsOf, givenOf}
-use Rattle.write_head.specs.Head.{inStrings, inNames, every, distinct, distinctNames, isTriple, listedOf, tablesOf, wellGiven, textGiven, newGiven, fewGiven}
-use Rattle.write_head.specs.RowContracts.{below, someBelow, located, startCount, isRightName, rightRow, textRow, startsRow, sameRow, heldRow, newRow, keepsRow, keepsTable, keeps, fewTable, Right}
-use Rattle.write_head.proofs.RowLaws.{right-tag, right-lies}
+use Rattle.write_head.specs.Head.{inStrings, inNames, every, distinct, distinctNames, isTriple, isEntry, listedOf, tablesOf, wellGiven, textGiven, newGiven, fewGiven}
+use Rattle.write_head.specs.RowContracts.{below, someBelow, formGiven, located, startCount, isRightName, rightRow, textRow, startsRow, sameRow, heldRow, newRow, keepsRow, keepsTable, keeps, fewTable, Right}
+use Rattle.write_head.proofs.RowLaws.{IsTag, string-is, right-any, right-lies}
 use Rattle.write_head.proofs.ListLaws.{and-true, or-false, below-same, some-same, every-rows, map-rows, heldBy, distinctBy, held-rows, distinct-rows, distinct-is, distinct-names-is, same-either, triple-either}
 
 -- ---- all tables, by number
@@ -107,9 +107,8 @@ module _ (g : List ℕ) where
   tables-names t l h = eight-nine (λ (t : ℕ). names (tablesOf link G) (nameTableOf t) ≡ names G (nameTableOf t)) refl refl t l h
 
   -- a row with the tag of a stretch
-  is-located : (at : ℕ) → getD g at 0 ≡ 2 → locatedOf (stringFrom g at) ≡ located g at
-  unfolding stringFrom toldBy
-  is-located at e = rw e
+  is-located : (at : ℕ) → IsTag (getD g at 0) → locatedOf (stringFrom g at) ≡ located g at
+  is-located at e = ap locatedOf (string-is g at e)
 
   -- how many entries there are
   pub given-length : (t : ℕ) → t < 8 → length (strings G (tableOf t)) ≡ getD g t 0
@@ -149,19 +148,19 @@ module _ (g : List ℕ) where
     few-is = by-tables (fewTable g) (λ (t : StringTable). leb (length (strings (tablesOf link G) t)) 256) (λ (t : NameTable). leb (length (names (tablesOf link G) t)) 256) few-table few-names
 
     -- EVENT
-    right-one : (t i : ℕ) → t < 8 → keepsRow 16 text g t i ≡ isStretch text (stringFrom g (rowsOf g t + 3 * i))
-    unfolding keepsRow rightRow
-    right-one t i h = rw (lt-ltb t 8 h)
+    right-one : (t i : ℕ) → t < 8 → keepsRow 16 text g t i ≡ isEntry (tableOf t) text (stringFrom g (rowsOf g t + 3 * i))
+    unfolding keepsRow rightRow isEntry
+    right-one t i h = rw (identifying t h) (case t 5 (λ l. rw (lt-ltb t 5 l)) (λ l. rw (le-ltb t 5 l, lt-ltb t 8 h)))
 
     right-two : (t i : ℕ) → 8 ≤ t → keepsRow 16 text g t i ≡ isTriple (tablesOf link G) (tripleAt g (rowsOf g t + 3 * i))
     unfolding keepsRow rightRow
-    right-two t i h = rw (le-ltb t 8 h, right-triple (tripleAt g (rowsOf g t + 3 * i)))
+    right-two t i h = let l : 5 ≤ t = omega arith in rw (le-ltb t 5 l, le-ltb t 8 h, right-triple (tripleAt g (rowsOf g t + 3 * i)))
 
-    right-strings : (t : ℕ) → t < 8 → keepsTable 16 text g t ≡ every (isStretch text) (strings G (tableOf t))
+    right-strings : (t : ℕ) → t < 8 → keepsTable 16 text g t ≡ every (isEntry (tableOf t) text) (strings G (tableOf t))
     unfolding keepsTable
     right-strings t h =
-        rw (given-strings t h, every-rows (isStretch text) (stringFrom g) (rowsOf g t) (getD g t 0))
-        (below-same (keepsRow 16 text g t) (λ (i : ℕ). isStretch text (stringFrom g (rowsOf g t + 3 * i))) (getD g t 0) (λ i l. right-one t i h))
+        rw (given-strings t h, every-rows (isEntry (tableOf t) text) (stringFrom g) (rowsOf g t) (getD g t 0))
+        (below-same (keepsRow 16 text g t) (λ (i : ℕ). isEntry (tableOf t) text (stringFrom g (rowsOf g t + 3 * i))) (getD g t 0) (λ i l. right-one t i h))
 
     right-names : (t : ℕ) → 8 ≤ t → t < 10 → keepsTable 16 text g t ≡ every (isTriple (tablesOf link G)) (names G (nameTableOf t))
     unfolding keepsTable
@@ -171,7 +170,7 @@ module _ (g : List ℕ) where
 
     pub right-is : keeps 16 text g ≡ wellGiven link text G
     unfolding keeps wellGiven link
-    right-is = by-tables (keepsTable 16 text g) (λ (t : StringTable). every (isStretch text) (strings G t)) (λ (t : NameTable). every (isTriple (tablesOf link G)) (names G t)) right-strings right-names
+    right-is = by-tables (keepsTable 16 text g) (λ (t : StringTable). every (isEntry t text) (strings G t)) (λ (t : NameTable). every (isTriple (tablesOf link G)) (names G t)) right-strings right-names
 
     -- rows, as REPEAT looks at them
     same-spelt : (t : ℕ) → t < 8 → (a b : ℕ) → sameRow text g t a b ≡ same (octetsOf text (located g a)) (octetsOf text (located g b))
@@ -199,7 +198,7 @@ module _ (g : List ℕ) where
       pub listed-are : (t : ℕ) → t < 8 → strings (listedOf G) (tableOf t) ≡ entries (located g) (rowsOf g t) (getD g t 0)
       listed-are t h =
           rw (listed-map (tableOf t), given-strings t h)
-          (map-rows locatedOf (stringFrom g) (located g) (rowsOf g t) (getD g t 0) (λ i l. is-located (rowsOf g t + 3 * i) (right-tag text g right t i (omega arith) l h)))
+          (map-rows locatedOf (stringFrom g) (located g) (rowsOf g t) (getD g t 0) (λ i l. is-located (rowsOf g t + 3 * i) (right-any text g right t i (omega arith) l h)))
 
       pub tables-are : (t : ℕ) → t < 8 → strings (tablesOf link G) (tableOf t) ≡ strings (start link) (tableOf t) ++ entries (located g) (rowsOf g t) (getD g t 0)
       tables-are t h = rw (tables-strings (tableOf t), listed-are t h)
@@ -258,9 +257,8 @@ module _ (g : List ℕ) where
       held-is t i h l =
           let at : ℕ = rowsOf g t + 3 * i in
           let lies = right-lies text g right t i (omega arith) l h in
-          let long = length-octets text (getD g (at + 1) 0) (getD g (at + 2) 0) (lies .1) in
-          let some = lies .0 in
-          rw (lt-ltb t 8 h, starts-held t h (spelt at) (omega arith), held-rows same (built t) spelt (rowsOf g t) i (spelt at), some-same (λ (j : ℕ). sameRow text g t (rowsOf g t + 3 * j) at) (λ (j : ℕ). same (spelt (rowsOf g t + 3 * j)) (spelt at)) i (λ j k. same-spelt t h (rowsOf g t + 3 * j) at))
+          let some = says-some text (formGiven (getD g at 0)) (getD g (at + 1) 0) (getD g (at + 2) 0) (lies .1) (lies .0) in
+          rw (lt-ltb t 8 h, starts-held t h (spelt at) some, held-rows same (built t) spelt (rowsOf g t) i (spelt at), some-same (λ (j : ℕ). sameRow text g t (rowsOf g t + 3 * j) at) (λ (j : ℕ). same (spelt (rowsOf g t + 3 * j)) (spelt at)) i (λ j k. same-spelt t h (rowsOf g t + 3 * j) at))
 
       new-strings : (t : ℕ) → t < 8 → keepsTable 11 text g t ≡ (not (isIdentifying (tableOf t)) || distinct (map (octetsOf text) (strings (tablesOf link G) (tableOf t))))
       unfolding keepsTable

@@ -14,7 +14,7 @@ use Rattle.format.specs.Octets.{Octets}
 use Rattle.format.specs.Numbers.{pick, fromBits}
 use Rattle.format.specs.Tables.{StringTable, PREFIX, NAMESPACE-NAME, LOCAL-NAME, OTHER-NCNAME, OTHER-URI, ATTRIBUTE-VALUE, CONTENT-CHARACTER-CHUNK, OTHER-STRING, NameTable, ELEMENT-NAME, ATTRIBUTE-NAME}
 use Rattle.format.specs.Tables.{Vocabulary, strings, names, vocabularyMap, starting, link}
-use Rattle.format.specs.Head.{ofStrings, ofNames, tenTables, sizeOf, presence}
+use Rattle.format.specs.Head.{ofStrings, ofNames, Listed, Head, tenTables, sizeOf, presence}
 use Rattle.fields.proofs.Laws.{case}
 use Rattle.tables.specs.Located.{Located, octetsOf, plainTables, start}
 use Rattle.tables.specs.Rows.{tableOf, place, tripleAt, entries}
@@ -24,10 +24,10 @@ use Rattle.tables.proofs.Adding.{extended, sameNames, strings-adding, names-add
 use Rattle.tables.proofs.Entries.{length-entries, entries-more}
 use Rattle.tables.proofs.Search.{octets-entries}
 use Rattle.write_head.specs.Given.{rowsOf, givenOf}
-use Rattle.write_head.specs.Head.{entryOctets, nameOctets, countOctets, joinedBy, tableOctets, isNone, octetsBefore, headOctets, listedOf, tablesOf}
+use Rattle.write_head.specs.Head.{entryOctets, nameOctets, countOctets, joinedBy, tableOctets, isNone, octetsBefore, listing, headFor, headOctets, listedOf, tablesOf}
 use Rattle.write_head.specs.RowContracts.{joinBelow, located, addRow, addRows, addTables, rowOctets, rowsOctets, tableOctetsOf, presenceOf, headOf, Right}
-use Rattle.write_head.proofs.ListLaws.{join-rows, join-same}
-use Rattle.write_head.proofs.GivenLaws.{identifying, given-names, tables-names, given-length, listed-are, tables-are}
+use Rattle.write_head.proofs.ListLaws.{map-rows, join-rows, join-same}
+use Rattle.write_head.proofs.GivenLaws.{given-names, tables-names, given-length, listed-are, tables-are}
 
 -- ---- tables
 same-tables : {S : Type 0} (v w : Vocabulary S) → ((t : StringTable) → strings v t ≡ strings w t) → ((t : NameTable) → names v t ≡ names w t) → v ≡ w
@@ -201,30 +201,45 @@ module _ (g : List ℕ) where
         of-names ATTRIBUTE-NAME = attributes-ten ∙ sym (tables-names g 9 (omega arith) (omega arith) ∙ given-names g 9 (omega arith) (omega arith))
 
     -- ---- octets
-    abbrev H : Vocabulary Octets
-    H = plainTables text (listedOf (givenOf g))
+    abbrev plain : Vocabulary Octets
+    plain = plainTables text (listedOf (givenOf g))
+
+    abbrev H : Head
+    H = headFor plain
 
     abbrev spelt : ℕ → List ℕ
     spelt at = octetsOf text (located g at)
 
-    plain-map : (u : StringTable) → strings H u ≡ map (octetsOf text) (strings (listedOf (givenOf g)) u)
+    plain-map : (u : StringTable) → strings plain u ≡ map (octetsOf text) (strings (listedOf (givenOf g)) u)
     unfolding vocabularyMap strings
     plain-map = by-table _ refl refl refl refl refl refl refl refl
 
-    plain-kept : (u : NameTable) → names H u ≡ names (givenOf g) u
-    unfolding vocabularyMap names
-    plain-kept ELEMENT-NAME = refl
-    plain-kept ATTRIBUTE-NAME = refl
-
-    plain-strings : (t : ℕ) → t < 8 → strings H (tableOf t) ≡ entries spelt (rowsOf g t) (getD g t 0)
+    plain-strings : (t : ℕ) → t < 8 → strings plain (tableOf t) ≡ entries spelt (rowsOf g t) (getD g t 0)
     plain-strings t h = plain-map (tableOf t) ∙ ap (λ (l : List Located). map (octetsOf text) l) (listed-are g text right t h) ∙ octets-entries text (located g) (rowsOf g t) (getD g t 0)
 
-    plain-names : (t : ℕ) → 8 ≤ t → t < 10 → names H (nameTableOf t) ≡ entries (tripleAt g) (rowsOf g t) (getD g t 0)
-    plain-names t l h = plain-kept (nameTableOf t) ∙ given-names g t l h
+    head-map : (u : StringTable) → strings H u ≡ map (listing u) (strings plain u)
+    unfolding headFor strings
+    head-map = by-table _ refl refl refl refl refl refl refl refl
 
-    string-octets : (t at : ℕ) → t < 8 → entryOctets (tableOf t) (spelt at) ≡ rowOctets text g t at
-    unfolding entryOctets rowOctets
-    string-octets t at h = rw (lt-ltb t 8 h, identifying t h)
+    abbrev listedAt : (t at : ℕ) → Listed
+    listedAt t at = listing (tableOf t) (spelt at)
+
+    head-strings : (t : ℕ) → t < 8 → strings H (tableOf t) ≡ entries (listedAt t) (rowsOf g t) (getD g t 0)
+    head-strings t h =
+        head-map (tableOf t) ∙ ap (λ (l : List Octets). map (listing (tableOf t)) l) (plain-strings t h)
+        ∙ map-rows (listing (tableOf t)) spelt (listedAt t) (rowsOf g t) (getD g t 0) (λ i l. refl)
+
+    head-kept : (u : NameTable) → names H u ≡ names (givenOf g) u
+    unfolding headFor vocabularyMap names
+    head-kept ELEMENT-NAME = refl
+    head-kept ATTRIBUTE-NAME = refl
+
+    head-names : (t : ℕ) → 8 ≤ t → t < 10 → names H (nameTableOf t) ≡ entries (tripleAt g) (rowsOf g t) (getD g t 0)
+    head-names t l h = head-kept (nameTableOf t) ∙ given-names g t l h
+
+    string-octets : (t at : ℕ) → t < 8 → entryOctets (tableOf t) (listedAt t at) ≡ rowOctets text g t at
+    unfolding rowOctets
+    string-octets t at h = rw (lt-ltb t 8 h)
 
     name-octets : (t at : ℕ) → 8 ≤ t → nameOctets (tripleAt g at) ≡ rowOctets text g t at
     unfolding rowOctets
@@ -233,14 +248,14 @@ module _ (g : List ℕ) where
     strings-table : (t : ℕ) → t < 8 → tableOctets H (ofStrings (tableOf t)) ≡ tableOctetsOf text g t
     unfolding tableOctets tableOctetsOf rowsOctets
     strings-table t h =
-        rw (plain-strings t h, length-entries spelt (rowsOf g t) (getD g t 0), join-rows (entryOctets (tableOf t)) spelt (rowsOf g t) (getD g t 0))
+        rw (head-strings t h, length-entries (listedAt t) (rowsOf g t) (getD g t 0), join-rows (entryOctets (tableOf t)) (listedAt t) (rowsOf g t) (getD g t 0))
         (ap (λ (o : List ℕ). countOctets (getD g t 0) ++ o)
-        (join-same (λ (i : ℕ). entryOctets (tableOf t) (spelt (rowsOf g t + 3 * i))) (λ (i : ℕ). rowOctets text g t (rowsOf g t + 3 * i)) (getD g t 0) (λ i l. string-octets t (rowsOf g t + 3 * i) h)))
+        (join-same (λ (i : ℕ). entryOctets (tableOf t) (listedAt t (rowsOf g t + 3 * i))) (λ (i : ℕ). rowOctets text g t (rowsOf g t + 3 * i)) (getD g t 0) (λ i l. string-octets t (rowsOf g t + 3 * i) h)))
 
     names-table : (t : ℕ) → 8 ≤ t → t < 10 → tableOctets H (ofNames (nameTableOf t)) ≡ tableOctetsOf text g t
     unfolding tableOctets tableOctetsOf rowsOctets
     names-table t l h =
-        rw (plain-names t l h, length-entries (tripleAt g) (rowsOf g t) (getD g t 0), join-rows nameOctets (tripleAt g) (rowsOf g t) (getD g t 0))
+        rw (head-names t l h, length-entries (tripleAt g) (rowsOf g t) (getD g t 0), join-rows nameOctets (tripleAt g) (rowsOf g t) (getD g t 0))
         (ap (λ (o : List ℕ). countOctets (getD g t 0) ++ o)
         (join-same (λ (i : ℕ). nameOctets (tripleAt g (rowsOf g t + 3 * i))) (λ (i : ℕ). rowOctets text g t (rowsOf g t + 3 * i)) (getD g t 0) (λ i k. name-octets t (rowsOf g t + 3 * i) l)))
 
@@ -261,12 +276,12 @@ module _ (g : List ℕ) where
         )
         (nested (tableOctetsOf text g 0) (tableOctetsOf text g 1) (tableOctetsOf text g 2) (tableOctetsOf text g 3) (tableOctetsOf text g 4) (tableOctetsOf text g 5) (tableOctetsOf text g 6) (tableOctetsOf text g 7) (tableOctetsOf text g 8) (tableOctetsOf text g 9))
 
-    plain-length : (t : ℕ) → t < 8 → length (strings H (tableOf t)) ≡ getD g t 0
-    plain-length t h = rw (plain-strings t h) (length-entries spelt (rowsOf g t) (getD g t 0))
+    head-length : (t : ℕ) → t < 8 → length (strings H (tableOf t)) ≡ getD g t 0
+    head-length t h = rw (head-strings t h) (length-entries (listedAt t) (rowsOf g t) (getD g t 0))
 
-    plain-names-length : (t : ℕ) → 8 ≤ t → t < 10 → length (names H (nameTableOf t)) ≡ getD g t 0
-    plain-names-length t l h = rw (plain-names t l h) (length-entries (tripleAt g) (rowsOf g t) (getD g t 0))
+    head-names-length : (t : ℕ) → 8 ≤ t → t < 10 → length (names H (nameTableOf t)) ≡ getD g t 0
+    head-names-length t l h = rw (head-names t l h) (length-entries (tripleAt g) (rowsOf g t) (getD g t 0))
 
     pub head-is : (presenceOf g ≡ 0 → ⊥) → headOctets link text (givenOf g) ≡ headOf text g
     unfolding headOctets octetsBefore isNone link headOf
-    head-is ne = rw (presence-is H plain-length plain-names-length, ne-eqb (presenceOf g) 0 ne, joined-ten)
+    head-is ne = rw (presence-is H head-length head-names-length, ne-eqb (presenceOf g) 0 ne, joined-ten)

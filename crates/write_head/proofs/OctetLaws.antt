@@ -1,30 +1,28 @@
 -- The octets of a head: a law for each way out of the functions that put them, on plain values.
 -- Assumes nothing.
-use mathlib.Core.Path.{_≡_, refl}
+use mathlib.Core.Path.{_≡_, refl, _∙_}
 use mathlib.Core.List.{List, [], _∷_}
 use Prim.Native.Nat.{ℕ, zero, suc, _+_, _*_, _/_, _%_, _≤_, _<_}
 use native.Mathlib.Omega.{arith}
 use native.Mathlib.Numerals.{add-one}
 use borrow.Author.Tests.{lt-ltb, le-ltb}
-use lib.Dec.{ltb}
 use lib.ListN.{length, getD, set, take, drop}
-use Rattle.format.specs.Numbers.{pick, spell, lengths, c21, c25}
-use Rattle.format.specs.Strings.{withLength}
-use Rattle.format.specs.Head.{some?}
+use Rattle.format.specs.Numbers.{spell, lengths, c21, c25}
+use Rattle.format.specs.Head.{some?, c19}
+use Rattle.format.specs.Forms.{formNumber}
+use Rattle.format.specs.declared.StringForm.{StringForm}
 use Rattle.fields.specs.PutContracts.{Puts}
 use Rattle.fields.proofs.Puts.{puts-nothing, puts-octet, puts-append}
-use Rattle.tables.specs.Located.{stretch, octetsOf}
-use Rattle.tables.specs.Rows.{tripleAt}
-use Rattle.tables.proofs.Search.{octets-stretch, length-octets}
+use Rattle.tables.specs.Located.{octetsOf}
+use Rattle.tables.specs.Rows.{tableOf, tripleAt}
+use Rattle.events.specs.declared.EventString.{EventString}
+use Rattle.events.specs.Records.{locatedOf}
+use Rattle.write_names.specs.Contracts.{valueMost, chosenField}
+use Rattle.write_names.proofs.Stretches.{Stretched, plain-says, plain-length}
 use Rattle.write_head.specs.Given.{rowsOf}
-use Rattle.write_head.specs.Head.{partOctets, nameOctets}
+use Rattle.write_head.specs.Head.{entryOctets, listing, partOctets, nameOctets}
 use Rattle.write_head.specs.RowContracts.{joinBelow, located, rowMost, tableMost, rowOctets, rowsOctets, tableOctetsOf, presenceOf, headOf}
-
-pub bit-two : (t : ℕ) → t < 5 → (_≡_ {A = ℕ} 2 (pick (ltb t 5) 2 5)) × (2 ≤ 2) × (2 ≤ 5) × (128 ≤ 128)
-bit-two t h = (rw (lt-ltb t 5 h), omega arith, omega arith, omega arith)
-
-pub bit-five : (t : ℕ) → 5 ≤ t → (_≡_ {A = ℕ} 5 (pick (ltb t 5) 2 5)) × (2 ≤ 5) × (5 ≤ 5) × (16 ≤ 128)
-bit-five t h = (rw (le-ltb t 5 h), omega arith, omega arith, omega arith)
+use Rattle.write_head.proofs.GivenLaws.{identifying}
 
 -- the bits of a name's parts
 pub parts-are : (p n x : ℕ) → some? p ≡ x → (y : ℕ) → some? n ≡ y → 2 * x + y ≡ 2 * some? p + some? n
@@ -45,16 +43,23 @@ module _ {out out′ : List ℕ} {at r : ℕ} where
   part-number zero h p = absurd (h refl)
   part-number (suc n) h p = p
 
-  pub puts-string : (t : ℕ) (text : List ℕ) (place size n p b : ℕ) {q : ℕ} {out″ : List ℕ} → place + size ≤ length text → length text ≤ 16384 → b ≡ pick (ltb t 5) 2 5 → n ≡ size → p ≡ place
-      → Puts out at r out′ (spell (lengths b) 0 n) × (r ≤ at + 5) → Puts out′ r q out″ (take n (drop p text))
-      → Puts out at q out″ (withLength (lengths (pick (ltb t 5) 2 5)) 0 (octetsOf text (stretch place size))) × (q ≤ at + rowMost)
-  puts-string t text place size n p b h short e f g a c =
-      let l = length-octets text place size h in
-      let d = rw (f, g, ← octets-stretch text place size) at c in
-      let k = d .behind in
-      let m = a .1 in
-      let s = rw (e, f) at (a .0) in
-      (rw l (puts-append s d), omega arith)
+  -- a string of n octets in UTF-8: an identifying one, and another
+  module _ (t : ℕ) (small : t < 8) (text : List ℕ) (x : EventString) where
+    pub puts-identifying : t < 5 → {f : StringForm} {p m : ℕ} → Stretched text x f p m → formNumber f ≡ 0 → (n : ℕ) → n ≡ length (octetsOf text (locatedOf x)) → n ≤ 32768 → {q : ℕ} {out″ : List ℕ}
+        → Puts out at r out′ (spell (lengths 2) 0 n) × (r ≤ at + 5) → Puts out′ r q out″ (take n (drop p text))
+        → Puts out at q out″ (entryOctets (tableOf t) (listing (tableOf t) (octetsOf text (locatedOf x)))) × (q ≤ at + rowMost)
+    unfolding entryOctets listing
+    puts-identifying low s z n size fits a b =
+        let m = size ∙ plain-length s z in
+        let c = rw (← plain-says s z) at (rw m at b) in
+        let k = c .behind in
+        let l = a .1 in
+        (rw (identifying t small, lt-ltb t 5 low) (puts-append (rw size at (a .0)) c), omega arith)
+
+    pub puts-other : 5 ≤ t → Puts out at r out′ (chosenField 5 0 (octetsOf text (locatedOf x))) × (r ≤ at + valueMost)
+        → Puts out at r out′ (entryOctets (tableOf t) (listing (tableOf t) (octetsOf text (locatedOf x)))) × (r ≤ at + rowMost)
+    unfolding entryOctets listing chosenField c19
+    puts-other high p = rw (identifying t small, le-ltb t 5 high) p
 
   pub puts-name : (p n l b : ℕ) {out₁ out₂ out₃ : List ℕ} {q u : ℕ} → b ≡ 2 * some? p + some? n → out′ ≡ set out at b → Puts out′ (at + 1) q out₁ (partOctets p) × (q ≤ at + 1 + 3)
       → Puts out₁ q u out₂ (partOctets n) × (u ≤ q + 3) → Puts out₂ u r out₃ (partOctets l) × (r ≤ u + 3)
@@ -63,7 +68,7 @@ module _ {out out′ : List ℕ} {at r : ℕ} where
   puts-name p n l b e o x y z = (puts-octet (rw e at o) (puts-append (x .0) (puts-append (y .0) (z .0))), let a = x .1 in let b = y .1 in let d = z .1 in omega arith)
 
   module _ (text g : List ℕ) (t row : ℕ) where
-    pub row-string : t < 8 → Puts out at r out′ (withLength (lengths (pick (ltb t 5) 2 5)) 0 (octetsOf text (located g row))) × (r ≤ at + rowMost) → Puts out at r out′ (rowOctets text g t row) × (r ≤ at + rowMost)
+    pub row-string : t < 8 → Puts out at r out′ (entryOctets (tableOf t) (listing (tableOf t) (octetsOf text (located g row)))) × (r ≤ at + rowMost) → Puts out at r out′ (rowOctets text g t row) × (r ≤ at + rowMost)
     unfolding rowOctets
     row-string h p = rw (lt-ltb t 8 h) p
 

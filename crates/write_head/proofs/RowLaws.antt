@@ -1,6 +1,7 @@
 -- Rows of given tables: a law for each way out of the functions that judge one, on plain values.
 -- Assumes nothing.
 use mathlib.Core.Path.{_≡_, refl, sym, _∙_}
+use mathlib.Core.Logic.{_⊎_, ⊎-elim, inl, inr}
 use mathlib.Core.Bool.{Bool, true, false, not, _&&_, _||_}
 use mathlib.Core.List.{List}
 use Prim.Native.Nat.{ℕ, zero, suc, _+_, _-_, _*_, _≤_, _<_}
@@ -9,19 +10,31 @@ use native.Mathlib.Numerals.{add-one}
 use native.Mathlib.Decide.{ℕ-discrete}
 use borrow.Author.Tests.{lt-ltb, le-ltb, le-leb, lt-leb, eq-eqb, ne-eqb, ltb-true, leb-true}
 use lib.Dec.{eqb, leb, ltb, eqb·suc-zero}
-use lib.ListN.{length, getD, take, drop}
+use lib.ListN.{length, getD}
 use Rattle.format.specs.Tables.{same, sameTriple}
 use Rattle.format.specs.Head.{some?}
+use Rattle.format.specs.Forms.{formOf}
+use Rattle.format.specs.declared.StringForm.{StringForm}
+use Rattle.format.specs.declared.StringForm.the-variants.{Utf8}
 use Rattle.fields.specs.Utf8.{isText}
 use Rattle.fields.proofs.Laws.{case}
+use Rattle.forms.specs.Reading.{said}
+use Rattle.forms.specs.Streams.{part}
+use Rattle.forms.proofs.Forms.{text-sound}
 use Rattle.tables.specs.Located.{stretch, octetsOf}
 use Rattle.tables.specs.Rows.{tableOf, builtIn, tripleAt}
+use Rattle.tables.proofs.ByNumber.{by-number}
 use Rattle.tables.proofs.Search.{octets-stretch}
+use Rattle.tables.proofs.SaidLaws.{octets-part}
 use Rattle.tables.proofs.Found.{both-true, clash}
+use Rattle.tables.specs.Kept.{IsSound}
+use Rattle.events.specs.declared.EventString.{EventString}
+use Rattle.events.specs.declared.EventString.the-variants.{Absent, Empty, Stretch, XmlPrefix, XmlNamespace}
 use Rattle.events.specs.FromWords.{stringFrom, toldBy, toldByTag}
-use Rattle.events.specs.WellMade.{isStretch}
+use Rattle.events.specs.WellMade.{isStretch, isString}
+use Rattle.write_names.specs.Contracts.{Spells}
 use Rattle.write_head.specs.Given.{entriesBefore, isGiven, rowsOf}
-use Rattle.write_head.specs.RowContracts.{below, someBelow, Laid, startCount, isRightName, rightRow, textRow, startsRow, sameRow, heldRow, newRow, keepsRow, keepsTable, keeps, fewTable, Few, Right, Fits}
+use Rattle.write_head.specs.RowContracts.{below, someBelow, Laid, formGiven, located, startCount, isRightName, rightRow, textRow, startsRow, sameRow, heldRow, newRow, keepsRow, keepsTable, keeps, fewTable, Few, Right, Texts, IsRow, Fits}
 
 -- ---- loops
 and-false : (b : Bool) → (b && false) ≡ false
@@ -162,54 +175,119 @@ module _ (g : List ℕ) (at : ℕ) where
           by (suc a) zero h = refl
           by (suc a) (suc b) h = rw (eqb·suc-zero b)
 
+-- ---- tags
+-- the tags of a stretch: in utf-8, in another form
+abbrev pub IsTag : ℕ → Type 0
+IsTag k = (k ≡ 2) ⊎ ((5 ≤ k) × (k ≤ 7))
+
+pub form-two : (k : ℕ) → k ≡ 2 → formGiven k ≡ Utf8
+unfolding formGiven formOf
+form-two k e = rw e
+
+module _ (g : List ℕ) (at : ℕ) where
+  pub string-is : IsTag (getD g at 0) → stringFrom g at ≡ Stretch (formGiven (getD g at 0)) (getD g (at + 1) 0) (getD g (at + 2) 0)
+  unfolding stringFrom toldBy formGiven formOf
+  string-is = ⊎-elim (λ e. rw e) (λ r. rw (ne-eqb (getD g at 0) 2 (λ e. let l = r .0 in omega arith), le-leb 5 (getD g at 0) (r .0), le-leb (getD g at 0) 7 (r .1)))
+
+  pub located-utf8 : getD g at 0 ≡ 2 → located g at ≡ stretch Utf8 (getD g (at + 1) 0) (getD g (at + 2) 0)
+  located-utf8 e = rw (form-two (getD g at 0) e)
+
+  -- a test that no other string passes
+  module _ (f : EventString → Bool) (a : f Absent ≡ false) (b : f Empty ≡ false) (c : f XmlPrefix ≡ false) (d : f XmlNamespace ≡ false) where
+    by-tag : (b : Bool) → (eqb (getD g (at + 1) 0) 0 && eqb (getD g (at + 2) 0) 0) ≡ b → (k : ℕ) → getD g at 0 ≡ k → (IsTag k → ⊥) → (leb 5 k && leb k 7) ≡ false → f (stringFrom g at) ≡ false
+    unfolding stringFrom toldBy toldByTag
+    by-tag false e k q n h = rw (q, ne-eqb k 2 (λ z. n (inl z)), h, e) a
+    by-tag true e zero q n h = rw (q, e) a
+    by-tag true e (suc zero) q n h = rw (q, e) b
+    by-tag true e (suc (suc zero)) q n h = absurd (n (inl refl))
+    by-tag true e (suc (suc (suc zero))) q n h = rw (q, e) c
+    by-tag true e (suc (suc (suc (suc zero)))) q n h = rw (q, e) d
+    by-tag true e (suc (suc (suc (suc (suc k))))) q n h = rw (q, ne-eqb (suc (suc (suc (suc (suc k))))) 2 (λ z. n (inl z)), h, e) a
+
+    no-form : (k : ℕ) → (IsTag k → ⊥) → (leb 5 k && leb k 7) ≡ false
+    no-form k n = case k 5 (λ l. rw (lt-leb 5 k l)) (λ l. case 7 k (λ h. rw (lt-leb k 7 h) (and-false (leb 5 k))) (λ h. absurd (n (inr (l, h)))))
+
+    pub no-stretch : (IsTag (getD g at 0) → ⊥) → f (stringFrom g at) ≡ false
+    no-stretch n = by-tag (eqb (getD g (at + 1) 0) 0 && eqb (getD g (at + 2) 0) 0) refl (getD g at 0) refl n (no-form (getD g at 0) n)
+
+-- the string in a row, in the form f
+module _ (text g : List ℕ) (t at : ℕ) (row : IsRow text g t at) (f : StringForm) (e : f ≡ formGiven (getD g at 0)) where
+  pub row-utf8 : t < 5 → f ≡ Utf8
+  row-utf8 l = e ∙ form-two (getD g at 0) (row .3 l)
+
+  pub row-sound : IsSound text (stretch f (getD g (at + 1) 0) (getD g (at + 2) 0))
+  row-sound = rw e (row .2)
+
+  pub row-spells : Spells text (Stretch f (getD g (at + 1) 0) (getD g (at + 2) 0))
+  row-spells = (row .0, row .1, row-sound)
+
+pub form-low : (k : ℕ) → k < 5 → Utf8 ≡ formGiven k
+unfolding formGiven formOf
+form-low k h = let z : k - 4 ≡ 0 = omega arith in rw z
+
 module _ (text g : List ℕ) where
-  -- a row that is no stretch
-  by-tag : (at : ℕ) (b : Bool) → (eqb (getD g (at + 1) 0) 0 && eqb (getD g (at + 2) 0) 0) ≡ b → (k : ℕ) → getD g at 0 ≡ k → (k ≡ 2 → ⊥) → isStretch text (stringFrom g at) ≡ false
-  unfolding stringFrom toldBy toldByTag
-  by-tag at false e k q ne = rw (q, ne-eqb k 2 ne, e)
-  by-tag at true e zero q ne = rw (q, e)
-  by-tag at true e (suc zero) q ne = rw (q, e)
-  by-tag at true e (suc (suc zero)) q ne = absurd (ne refl)
-  by-tag at true e (suc (suc (suc zero))) q ne = rw (q, e)
-  by-tag at true e (suc (suc (suc (suc zero)))) q ne = rw (q, e)
-  by-tag at true e (suc (suc (suc (suc (suc k))))) q ne = rw (q, ne-eqb (suc (suc (suc (suc (suc k))))) 2 ne, e)
+  other-form : (k p n : ℕ) → 5 ≤ k → k ≤ 7 → isStretch text (Stretch (formGiven k) p n) ≡ false
+  unfolding formGiven formOf
+  other-form k p n l h = by-number (λ (k : ℕ). isStretch text (Stretch (formGiven k) p n) ≡ false) 5 3 (refl, (refl, (refl, tt))) k l (omega arith)
 
   pub other-tag : (at : ℕ) → (getD g at 0 ≡ 2 → ⊥) → false ≡ isStretch text (stringFrom g at)
-  other-tag at ne = sym (by-tag at (eqb (getD g (at + 1) 0) 0 && eqb (getD g (at + 2) 0) 0) refl (getD g at 0) refl ne)
+  other-tag at ne =
+      sym
+      (case 4 (getD g at 0)
+      (λ l.
+      case (getD g at 0) 8 (λ h. rw (string-is g at (inr (omega arith, omega arith))) (other-form (getD g at 0) (getD g (at + 1) 0) (getD g (at + 2) 0) (omega arith) (omega arith)))
+      (λ h. no-stretch g at (isStretch text) refl refl refl refl (⊎-elim ne (λ r. let m = r .1 in omega arith))))
+      (λ l. no-stretch g at (isStretch text) refl refl refl refl (⊎-elim ne (λ r. let m = r .0 in omega arith))))
 
-  pub stretch-tag : (at : ℕ) → getD g at 0 ≡ 2 → (ltb 0 (getD g (at + 2) 0) && leb (getD g (at + 1) 0 + getD g (at + 2) 0) (length text)) ≡ isStretch text (stringFrom g at)
+  abbrev lies : ℕ → Bool
+  lies at = ltb 0 (getD g (at + 2) 0) && leb (getD g (at + 1) 0 + getD g (at + 2) 0) (length text)
+
+  pub stretch-tag : (at : ℕ) → getD g at 0 ≡ 2 → lies at ≡ isStretch text (stringFrom g at)
   unfolding stringFrom toldBy
   stretch-tag at e = rw e
 
-  pub right-string : (t at : ℕ) → t < 8 → (r : Bool) → r ≡ isStretch text (stringFrom g at) → r ≡ rightRow text g t at
+  -- a string in any form
+  pub string-tag : (at : ℕ) → IsTag (getD g at 0) → lies at ≡ isString text (stringFrom g at)
+  string-tag at e = rw (string-is g at e)
+
+  pub no-string : (at : ℕ) → (IsTag (getD g at 0) → ⊥) → false ≡ isString text (stringFrom g at)
+  no-string at n = sym (no-stretch g at (isString text) refl refl refl refl n)
+
+  pub right-identifying : (t at : ℕ) → t < 5 → (r : Bool) → r ≡ isStretch text (stringFrom g at) → r ≡ rightRow text g t at
   unfolding rightRow
-  right-string t at h r e = rw (lt-ltb t 8 h) e
+  right-identifying t at h r e = rw (lt-ltb t 5 h) e
+
+  pub right-string : (t at : ℕ) → 5 ≤ t → t < 8 → (r : Bool) → r ≡ isString text (stringFrom g at) → r ≡ rightRow text g t at
+  unfolding rightRow
+  right-string t at l h r e = rw (le-ltb t 5 l, lt-ltb t 8 h) e
 
   pub right-name : (t at : ℕ) → 8 ≤ t → (r : Bool) → r ≡ isRightName g (tripleAt g at) → r ≡ rightRow text g t at
   unfolding rightRow
-  right-name t at h r e = rw (le-ltb t 8 h) e
+  right-name t at h r e = let l : 5 ≤ t = omega arith in rw (le-ltb t 5 l, le-ltb t 8 h) e
 
   pub text-name : (t at : ℕ) → 8 ≤ t → true ≡ textRow text g t at
   unfolding textRow
   text-name t at h = rw (le-ltb t 8 h)
 
-  pub text-string : (t at p n : ℕ) → t < 8 → p ≡ getD g (at + 1) 0 → n ≡ getD g (at + 2) 0 → (r : Bool) → r ≡ isText (take (p + n - p) (drop p text)) → r ≡ textRow text g t at
+  pub text-string : (t at : ℕ) (f : StringForm) (p n : ℕ) → t < 8 → f ≡ formGiven (getD g at 0) → p ≡ getD g (at + 1) 0 → n ≡ getD g (at + 2) 0 → (r : Bool)
+      → r ≡ isText (said f (part text p (p + n))) → r ≡ textRow text g t at
   unfolding textRow
-  text-string t at p n h e f r q = let z : p + n - p ≡ n = omega arith in rw (lt-ltb t 8 h, octets-stretch text (getD g (at + 1) 0) (getD g (at + 2) 0), ← e, ← f) (rw z at q)
+  text-string t at f p n h d e k r q = rw (lt-ltb t 8 h, ← d, ← e, ← k, octets-part text f p n) q
 
   pub starts-name : (t at : ℕ) → 8 ≤ t → false ≡ startsRow text g t at
   unfolding startsRow
   starts-name t at h = rw (le-ltb t 8 h)
 
-  pub starts-string : (t at p n : ℕ) → t < 8 → p ≡ getD g (at + 1) 0 → n ≡ getD g (at + 2) 0 → (r : Bool) → r ≡ same (octetsOf text (builtIn (tableOf t))) (octetsOf text (stretch p n)) → r ≡ startsRow text g t at
+  pub starts-string : (t at p n : ℕ) → t < 8 → getD g at 0 ≡ 2 → p ≡ getD g (at + 1) 0 → n ≡ getD g (at + 2) 0 → (r : Bool)
+      → r ≡ same (octetsOf text (builtIn (tableOf t))) (octetsOf text (stretch Utf8 p n)) → r ≡ startsRow text g t at
   unfolding startsRow
-  starts-string t at p n h e f r q = rw (lt-ltb t 8 h, ← e, ← f) q
+  starts-string t at p n h u e f r q = rw (lt-ltb t 8 h, located-utf8 g at u, ← e, ← f) q
 
   module _ (t a b : ℕ) where
-    pub same-string : t < 8 → (p n q m : ℕ) → p ≡ getD g (a + 1) 0 → n ≡ getD g (a + 2) 0 → q ≡ getD g (b + 1) 0 → m ≡ getD g (b + 2) 0 → (r : Bool)
-        → r ≡ same (octetsOf text (stretch p n)) (octetsOf text (stretch q m)) → r ≡ sameRow text g t a b
+    pub same-string : t < 8 → getD g a 0 ≡ 2 → getD g b 0 ≡ 2 → (p n q m : ℕ) → p ≡ getD g (a + 1) 0 → n ≡ getD g (a + 2) 0 → q ≡ getD g (b + 1) 0 → m ≡ getD g (b + 2) 0 → (r : Bool)
+        → r ≡ same (octetsOf text (stretch Utf8 p n)) (octetsOf text (stretch Utf8 q m)) → r ≡ sameRow text g t a b
     unfolding sameRow
-    same-string h p n q m e f e′ f′ r is = rw (lt-ltb t 8 h, ← e, ← f, ← e′, ← f′) is
+    same-string h u v p n q m e f e′ f′ r is = rw (lt-ltb t 8 h, located-utf8 g a u, located-utf8 g b v, ← e, ← f, ← e′, ← f′) is
 
     module _ (h : 8 ≤ t) where
       pub same-prefix : (getD g a 0 ≡ getD g b 0 → ⊥) → eqb (getD g a 0) (getD g b 0) ≡ sameRow text g t a b
@@ -289,24 +367,54 @@ module _ (text g : List ℕ) where
     unfolding keeps keepsTable keepsRow
     row-right = below-at (keepsRow 16 text g t) (getD g t 0) i (below-at (keepsTable 16 text g) 10 t right ten) h
 
-    is-stretch : t < 8 → isStretch text (stringFrom g (rowsOf g t + 3 * i)) ≡ true
+    abbrev here : ℕ
+    here = rowsOf g t + 3 * i
+
+    is-stretch : t < 5 → isStretch text (stringFrom g here) ≡ true
     unfolding rightRow
-    is-stretch k = rw (lt-ltb t 8 k) at row-right
+    is-stretch k = rw (lt-ltb t 5 k) at row-right
 
-    pub right-tag : t < 8 → getD g (rowsOf g t + 3 * i) 0 ≡ 2
-    right-tag k =
-        let at : ℕ = rowsOf g t + 3 * i in
-        elim (ℕ-discrete (getD g at 0) 2) [ yes e ↦ e | no e ↦ clash (other-tag at e ∙ is-stretch k) ]
+    is-string : 5 ≤ t → t < 8 → isString text (stringFrom g here) ≡ true
+    unfolding rightRow
+    is-string l k = rw (le-ltb t 5 l, lt-ltb t 8 k) at row-right
 
-    pub right-lies : t < 8 → (0 < getD g (rowsOf g t + 3 * i + 2) 0) × (getD g (rowsOf g t + 3 * i + 1) 0 + getD g (rowsOf g t + 3 * i + 2) 0 ≤ length text)
-    right-lies k =
-        let at : ℕ = rowsOf g t + 3 * i in
-        let b = both-true _ _ (stretch-tag at (right-tag k) ∙ is-stretch k) in
-        (ltb-true _ _ (b .0), leb-true _ _ (b .1))
+    pub right-tag : t < 5 → getD g here 0 ≡ 2
+    right-tag k = elim (ℕ-discrete (getD g here 0) 2) [ yes e ↦ e | no e ↦ clash (other-tag here e ∙ is-stretch k) ]
+
+    any-tag : 5 ≤ t → t < 8 → IsTag (getD g here 0)
+    any-tag l k =
+        elim (ℕ-discrete (getD g here 0) 2) [
+          | yes e ↦ inl e
+          | no e ↦ inr (case 4 (getD g here 0) (λ a. case (getD g here 0) 8 (λ b. (omega arith, omega arith)) (λ b. not-tag (⊎-elim e (λ r. let m = r .1 in omega arith)))) (λ a. not-tag (⊎-elim e (λ r. let m = r .0 in omega arith))))
+        ]
+      where
+        not-tag : {X : Type 0} → (IsTag (getD g here 0) → ⊥) → X
+        not-tag n = clash (no-string here n ∙ is-string l k)
+
+    pub right-any : t < 8 → IsTag (getD g here 0)
+    right-any k = case t 5 (λ l. inl (right-tag l)) (λ l. any-tag l k)
+
+    lies-true : t < 8 → lies here ≡ true
+    lies-true k = case t 5 (λ l. stretch-tag here (right-tag l) ∙ is-stretch l) (λ l. string-tag here (any-tag l k) ∙ is-string l k)
+
+    pub right-lies : t < 8 → (0 < getD g (here + 2) 0) × (getD g (here + 1) 0 + getD g (here + 2) 0 ≤ length text)
+    right-lies k = let b = both-true _ _ (lies-true k) in (ltb-true _ _ (b .0), leb-true _ _ (b .1))
+
+    -- and text, so that it is a string in its form
+    module _ (texts : Texts text g) where
+      text-here : t < 8 → isText (octetsOf text (located g here)) ≡ true
+      unfolding keeps keepsTable keepsRow textRow
+      text-here k = rw (lt-ltb t 8 k) at (below-at (keepsRow 9 text g t) (getD g t 0) i (below-at (keepsTable 9 text g) 10 t texts ten) h)
+
+      pub right-row : t < 8 → IsRow text g t here
+      right-row k =
+          let l = right-lies k in
+          let e = octets-stretch text (formGiven (getD g here 0)) (getD g (here + 1) 0) (getD g (here + 2) 0) in
+          (l .0, l .1, text-sound (formGiven (getD g here 0)) _ (rw e at (text-here k)), right-tag)
 
     is-name : 8 ≤ t → isRightName g (tripleAt g (rowsOf g t + 3 * i)) ≡ true
     unfolding rightRow
-    is-name k = rw (le-ltb t 8 k) at row-right
+    is-name k = let l : 5 ≤ t = omega arith in rw (le-ltb t 5 l, le-ltb t 8 k) at row-right
 
     right-numbers : 8 ≤ t → (getD g (rowsOf g t + 3 * i) 0 ≤ 1 + getD g 0 0) × (getD g (rowsOf g t + 3 * i + 1) 0 ≤ 1 + getD g 1 0) × (getD g (rowsOf g t + 3 * i + 2) 0 ≤ getD g 2 0)
     unfolding isRightName tripleAt
@@ -322,13 +430,13 @@ module _ (text g : List ℕ) where
         let e = both-true (leb l (getD g 2 0)) (leb (some? p) (some? n)) (d .1) in
         (leb-true _ _ (a .0), leb-true _ _ (b .0), leb-true _ _ (e .0))
 
-    pub right-fits : Few g → Fits text g t (rowsOf g t + 3 * i)
+    pub right-fits : Texts text g → Few g → Fits text g t here
     unfolding startCount
-    right-fits few =
+    right-fits texts few =
         let a : 1 + getD g 0 0 ≤ 256 = few-at g 0 few (omega arith) in
         let b : 1 + getD g 1 0 ≤ 256 = few-at g 1 few (omega arith) in
         let d : 0 + getD g 2 0 ≤ 256 = few-at g 2 few (omega arith) in
-        (right-lies, λ k. let n = right-numbers k in (omega arith, omega arith, omega arith))
+        (right-row texts, λ k. let n = right-numbers k in (omega arith, omega arith, omega arith))
 
 pub few-more : (g : List ℕ) (t b n : ℕ) → below (fewTable g) t ≡ true → b ≡ startCount t → n ≡ getD g t 0 → b + n ≤ 256 → below (fewTable g) (t + 1) ≡ true
 unfolding fewTable

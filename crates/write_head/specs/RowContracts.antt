@@ -1,25 +1,26 @@
 -- Contracts of the code, not definitions to be believed. Given tables row by row, by the number of their table: which rows are right, what they add, and their octets.
-use Prim.Native.Nat.{ℕ, zero, suc, _+_, _*_, _/_, _%_, _≤_, _<_, min}
+use Prim.Native.Nat.{ℕ, zero, suc, _+_, _-_, _*_, _/_, _%_, _≤_, _<_, min}
 use mathlib.Core.Path.{_≡_}
 use mathlib.Core.Bool.{Bool, true, false, not, _&&_, _||_}
 use mathlib.Core.List.{[], _∷_, _++_, map}
 use lib.ListN.{length, getD}
 use lib.Dec.{eqb, leb, ltb}
 use Rattle.format.specs.Octets.{Octets, Words}
-use Rattle.format.specs.Numbers.{pick, lengths}
+use Rattle.format.specs.Numbers.{pick}
 use Rattle.format.specs.Tables.{Triple, Vocabulary, strings, names, same, sameTriple, adding, addingName, link}
-use Rattle.format.specs.Strings.{withLength}
 use Rattle.format.specs.Head.{some?}
+use Rattle.format.specs.declared.StringForm.{StringForm}
+use Rattle.format.specs.Forms.{formOf}
 use Rattle.fields.specs.Utf8.{isText}
 use Rattle.tables.specs.Located.{Located, stretch, octetsOf, start}
 use Rattle.tables.specs.Rows.{tableOf, builtIn, tripleAt}
 use Rattle.tables.specs.Search.{numberIn, numberOfTriple}
-use Rattle.tables.specs.Kept.{nameTableOf}
+use Rattle.tables.specs.Kept.{nameTableOf, IsSound}
 use Rattle.events.specs.FromWords.{stringFrom}
-use Rattle.events.specs.WellMade.{isStretch}
-use Rattle.write_names.specs.Contracts.{tablesIn, InOrder}
+use Rattle.events.specs.WellMade.{isStretch, isString}
+use Rattle.write_names.specs.Contracts.{valueMost, tablesIn, InOrder}
 use Rattle.write_head.specs.Given.{entriesBefore, rowsOf, givenOf}
-use Rattle.write_head.specs.Head.{nameOctets, countOctets, isNone, headOctets, faultOfHead}
+use Rattle.write_head.specs.Head.{entryOctets, listing, nameOctets, countOctets, isNone, headOctets, faultOfHead}
 
 -- ---- loops
 -- All numbers below n pass; some number does; what f gives for each, one behind the other.
@@ -40,21 +41,24 @@ joinBelow f (suc n) = joinBelow f n ++ f n
 abbrev pub Laid : Words → Type 0
 Laid g = (10 ≤ length g) × (length g ≡ 10 + 3 * entriesBefore g 10)
 
--- The string in the row at a word, if it is a stretch.
+-- The form of a tag; the string in the row at a word, if it is a stretch.
+unfoldable pub formGiven : ℕ → StringForm
+formGiven tag = formOf (tag - 4)
+
 abbrev pub located : Words → (at : ℕ) → Located
-located g at = stretch (getD g (at + 1) 0) (getD g (at + 2) 0)
+located g at = stretch (formGiven (getD g at 0)) (getD g (at + 1) 0) (getD g (at + 2) 0)
 
 -- The number of a table's built-in entries.
 unfoldable pub startCount : ℕ → ℕ
 startCount t = pick (ltb t 2) 1 0
 
--- EVENT: a row of strings is a stretch; a row of names has numbers of entries that are there.
+-- EVENT: a row of strings is a stretch, of identifying ones in utf-8; a row of names has numbers of entries that are there.
 unfoldable pub isRightName : Words → Triple → Bool
 isRightName g x =
     leb (x .prefix) (1 + getD g 0 0) && (leb (x .namespace) (1 + getD g 1 0) && (leb 1 (x .local) && (leb (x .local) (getD g 2 0) && leb (some? (x .prefix)) (some? (x .namespace)))))
 
 unfoldable pub rightRow : Octets → Words → (t at : ℕ) → Bool
-rightRow text g t at = pick (ltb t 8) (isStretch text (stringFrom g at)) (isRightName g (tripleAt g at))
+rightRow text g t at = pick (ltb t 5) (isStretch text (stringFrom g at)) (pick (ltb t 8) (isString text (stringFrom g at)) (isRightName g (tripleAt g at)))
 
 -- TEXT
 unfoldable pub textRow : Octets → Words → (t at : ℕ) → Bool
@@ -100,6 +104,14 @@ Few g = below (fewTable g) 10 ≡ true
 abbrev pub Right : Octets → Words → Type 0
 Right text g = keeps 16 text g ≡ true
 
+-- Every string is text: what adding and writing ask beside, so that it is a string in its form.
+abbrev pub Texts : Octets → Words → Type 0
+Texts text g = keeps 9 text g ≡ true
+
+-- The row of a table of strings at a word is a stretch that is a string in its form, of an identifying string in utf-8.
+abbrev pub IsRow : Octets → Words → (t at : ℕ) → Type 0
+IsRow text g t at = (0 < getD g (at + 2) 0) × (getD g (at + 1) 0 + getD g (at + 2) 0 ≤ length text) × IsSound text (located g at) × (t < 5 → getD g at 0 ≡ 2)
+
 -- ---- what the rows add
 unfoldable pub addRow : Words → Vocabulary Located → (t at : ℕ) → Vocabulary Located
 addRow g v t at = pick (ltb t 8) (adding v (tableOf t) (located g at)) (addingName v (nameTableOf t) (tripleAt g at))
@@ -122,7 +134,7 @@ pub record Grown (text : Octets) (t n : ℕ) (v : Vocabulary Located) (c c′ w�
 -- ---- octets
 -- The most octets of a row, and of a table.
 abbrev pub rowMost : ℕ
-rowMost = 16389
+rowMost = valueMost
 
 abbrev pub tableMost : ℕ
 tableMost = 3 + 256 * rowMost
@@ -130,11 +142,11 @@ tableMost = 3 + 256 * rowMost
 -- What the row at a word must hold so that its octets can be put.
 abbrev pub Fits : Octets → Words → (t at : ℕ) → Type 0
 Fits text g t at =
-    (t < 8 → (0 < getD g (at + 2) 0) × (getD g (at + 1) 0 + getD g (at + 2) 0 ≤ length text))
+    (t < 8 → IsRow text g t at)
     × (8 ≤ t → (getD g at 0 ≤ 257) × (getD g (at + 1) 0 ≤ 257) × (getD g (at + 2) 0 ≤ 256))
 
 unfoldable pub rowOctets : Octets → Words → (t at : ℕ) → Octets
-rowOctets text g t at = pick (ltb t 8) (withLength (lengths (pick (ltb t 5) 2 5)) 0 (octetsOf text (located g at))) (nameOctets (tripleAt g at))
+rowOctets text g t at = pick (ltb t 8) (entryOctets (tableOf t) (listing (tableOf t) (octetsOf text (located g at)))) (nameOctets (tripleAt g at))
 
 unfoldable pub rowsOctets : Octets → Words → (t n : ℕ) → Octets
 rowsOctets text g t n = joinBelow (λ (i : ℕ). rowOctets text g t (rowsOf g t + 3 * i)) n
@@ -157,6 +169,7 @@ pub record Judged (text : Octets) (g : Words) (r : ℕ) : Type 0 where
   pub refused : (r ≡ 0 → ⊥) → (room : ℕ) → faultOfHead link text (givenOf g) room ≡ r
   pub high : r ≤ 16
   pub right : r ≡ 0 → Right text g
+  pub texts : r ≡ 0 → Texts text g
   pub few : r ≡ 0 → Few g
   pub repeats : r ≡ 0 → keeps 11 text g ≡ false → (room : ℕ) → faultOfHead link text (givenOf g) room ≡ 11
   pub left : r ≡ 0 → keeps 11 text g ≡ true → (room : ℕ) → faultOfHead link text (givenOf g) room ≡ pick (isNone (givenOf g) || leb (length (headOctets link text (givenOf g))) (min room 16384)) 0 14

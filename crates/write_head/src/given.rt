@@ -4,7 +4,9 @@ ghost use Prim.Native.Nat.{_+_, _*_, _≤_, _<_};
 ghost use lib.ListN.{length, getD};
 ghost use Rattle.format.specs.Head.{some?};
 ghost use Rattle.write_head.specs.Given.{entriesBefore, isGiven, rowsOf};
-ghost use Rattle.write_head.specs.RowContracts.{Laid, presenceOf};
+ghost use Rattle.write_head.specs.RowContracts.{formGiven, Laid, presenceOf};
+use events::tags;
+use format::StringForm;
 use tables::Counts;
 
 // Words of an entry.
@@ -15,6 +17,16 @@ pub fn wide(x: u32) -> usize
     ensures { λ r. ⌜ (r ≡ x) × (r < 0x1_0000_0000) ⌝ }
 {
     x as usize
+}
+
+// The form of a string by its tag, if it is one that a stretch has.
+pub fn form_given(tag: u32) -> StringForm
+    ensures { λ r. ⌜ r ≡ formGiven tag ⌝ }
+{
+    if tag < tags::UTF16 {
+        return StringForm::Utf8;
+    }
+    StringForm::of(tag - tags::BEFORE_FORMS)
 }
 
 // How many entries are given before those of a table. Counts may be any numbers; ten of them are summed without overflow.

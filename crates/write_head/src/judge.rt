@@ -4,10 +4,11 @@ ghost use Prim.Native.Nat.{_+_, _*_, _≤_, _<_};
 ghost use lib.ListN.{length, getD};
 ghost use Rattle.tables.specs.Rows.{tripleAt};
 ghost use Rattle.events.specs.FromWords.{stringFrom};
-ghost use Rattle.events.specs.WellMade.{isStretch};
+ghost use Rattle.events.specs.WellMade.{isStretch, isString};
 ghost use Rattle.write_head.specs.Given.{rowsOf};
 ghost use Rattle.write_head.specs.RowContracts.{below, Laid, isRightName, rightRow, textRow, keepsRow, keepsTable, keeps, startCount, fewTable, Right, Judged};
 use crate::given::ROW;
+use crate::given::form_given;
 use crate::given::rows_of;
 use crate::given::wide;
 use crate::repeats::is_new;
@@ -17,19 +18,37 @@ use format::refusals::EVENT;
 use format::refusals::FULL;
 use format::refusals::REPEAT;
 use format::refusals::TEXT;
+use format::table::ATTRIBUTE_VALUE;
 use format::table::ELEMENT_NAME;
 use format::table::LOCAL_NAME;
 use format::table::NAMESPACE_NAME;
 use format::table::PREFIX;
 use tables::Counts;
 
-// A string is a stretch of the text: no mark, neither absent nor empty.
+// An identifying string is a stretch of the text in utf-8: no mark, neither absent nor empty.
 fn is_stretch(given: &[u32], text: &[u8], at: usize) -> bool
     requires { ⌜ at + 3 ≤ length (now given) ⌝ }
     ensures { λ r. ⌜ r ≡ isStretch (now (text .entry)) (stringFrom (now (given .entry)) at) ⌝ }
 {
     if given[at] != tags::STRETCH {
         return false;
+    }
+    lies_in(text, given[at + 1], given[at + 2])
+}
+
+// Another string is one in any form; the tags of the other forms are the last three.
+fn is_string(given: &[u32], text: &[u8], at: usize) -> bool
+    requires { ⌜ at + 3 ≤ length (now given) ⌝ }
+    ensures { λ r. ⌜ r ≡ isString (now (text .entry)) (stringFrom (now (given .entry)) at) ⌝ }
+{
+    let tag = given[at];
+    if tag != tags::STRETCH {
+        if tag < tags::UTF16 {
+            return false;
+        }
+        if tags::DATES < tag {
+            return false;
+        }
     }
     lies_in(text, given[at + 1], given[at + 2])
 }
@@ -61,8 +80,11 @@ fn is_right(given: &[u32], text: &[u8], table: usize, at: usize) -> bool
     requires { ⌜ (at + 3 ≤ length (now given)) × (10 ≤ length (now given)) ⌝ }
     ensures { λ r. ⌜ r ≡ rightRow (now (text .entry)) (now (given .entry)) table at ⌝ }
 {
-    if table < ELEMENT_NAME {
+    if table < ATTRIBUTE_VALUE {
         return is_stretch(given, text, at);
+    }
+    if table < ELEMENT_NAME {
+        return is_string(given, text, at);
     }
     is_name(given, at)
 }
@@ -75,7 +97,12 @@ fn is_text(given: &[u32], text: &[u8], table: usize, at: usize) -> bool
         return true;
     }
     let place = wide(given[at + 1]);
-    fields::is_text(text, place, place + wide(given[at + 2]))
+    forms::is_text(
+        text,
+        form_given(given[at]),
+        place,
+        place + wide(given[at + 2]),
+    )
 }
 
 // Row i of a table keeps to the rule.

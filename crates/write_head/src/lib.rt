@@ -1,5 +1,5 @@
 // A document's head written: tables that a caller gives are judged as one thing, become the tables' first entries, and go into the output.
-// May depend on format, fields, tables, index, events and write_names.
+// May depend on format, fields, forms, tables, index, events and write_names.
 mod adding;
 mod given;
 mod judge;

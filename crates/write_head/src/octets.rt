@@ -2,18 +2,23 @@
 ghost use mathlib.Core.Path.{_≡_};
 ghost use Prim.Native.Nat.{_+_, _-_, _*_, _^_, _≤_, _<_};
 ghost use lib.ListN.{length, getD};
-ghost use lib.Dec.{ltb};
-ghost use Rattle.format.specs.Numbers.{top, pick, lengths};
-ghost use Rattle.format.specs.Strings.{withLength};
+ghost use Rattle.format.specs.Numbers.{top};
 ghost use Rattle.format.specs.Head.{some?};
-ghost use Rattle.tables.specs.Located.{stretch, octetsOf};
+ghost use Rattle.format.specs.declared.StringForm.the-variants.{Utf8};
+ghost use Rattle.tables.specs.Located.{octetsOf};
+ghost use Rattle.tables.specs.Rows.{tableOf};
+ghost use Rattle.events.specs.Records.{locatedOf};
+ghost use Rattle.events.specs.Words.{stringForm};
+ghost use Rattle.write_names.specs.Contracts.{Spells};
 ghost use Rattle.fields.specs.PutContracts.{Puts};
-ghost use Rattle.write_head.specs.Head.{partOctets, nameOctets};
-ghost use Rattle.write_head.specs.RowContracts.{Laid, Right, Few, Fits, joinBelow, rowMost, tableMost, rowOctets, rowsOctets, tableOctetsOf, headOf};
+ghost use Rattle.write_head.specs.Head.{entryOctets, listing, partOctets, nameOctets};
+ghost use Rattle.write_head.specs.RowContracts.{Laid, Right, Texts, Few, Fits, joinBelow, rowMost, tableMost, rowOctets, rowsOctets, tableOctetsOf, headOf};
 use crate::given::ROW;
+use crate::given::form_given;
 use crate::given::presence;
 use crate::given::rows_of;
 use crate::given::wide;
+use events::EventString;
 use fields::put::put;
 use fields::put::put_count;
 use fields::put::put_length;
@@ -23,24 +28,17 @@ use format::table::ATTRIBUTE_VALUE;
 use format::table::ELEMENT_NAME;
 use tables::Counts;
 
-// The bit where the length of a string starts: C.22 in the tables of identifying strings, C.23 in the others.
-fn length_bit(table: usize) -> u32
-    ensures { λ r. ⌜ (r ≡ pick (ltb table 5) 2 5) × (2 ≤ r) × (r ≤ 5) × (2 ^ (9 - r) ≤ 128) ⌝ }
+// A string: an identifying one as C.22 has it, its length and its octets; another as C.19 does, in the form that is chosen for it.
+fn put_string(out: &mut [u8], at: usize, table: usize, text: &[u8], x: EventString) -> usize
+    requires { ⌜ (at < 2 ^ 31) × (table < 8) × Spells (now text) x × (table < 5 → stringForm x ≡ Utf8) × (length (now text) ≤ 16384) ⌝ }
+    ensures { λ r. ⌜ Puts (now (out .entry)) at r (now (out .exit)) (entryOctets (tableOf table) (listing (tableOf table) (octetsOf (now (text .entry)) (locatedOf x)))) × (r ≤ at + rowMost) ⌝ }
 {
-    if table < ATTRIBUTE_VALUE {
-        return 2;
+    let n = write_names::octets_of(text, x);
+    if ATTRIBUTE_VALUE <= table {
+        return write_names::put_string(out, at, 5, 0, text, x, n);
     }
-    5
-}
-
-// A string: its length, and its octets.
-fn put_string(out: &mut [u8], at: usize, table: usize, text: &[u8], place: u32, size: u32) -> usize
-    requires { ⌜ (at < 2 ^ 31) × (0 < size) × (place + size ≤ length (now text)) × (length (now text) ≤ 16384) ⌝ }
-    ensures { λ r. ⌜ Puts (now (out .entry)) at r (now (out .exit)) (withLength (lengths (pick (ltb table 5) 2 5)) 0 (octetsOf (now (text .entry)) (stretch place size))) × (r ≤ at + rowMost) ⌝ }
-{
-    let n = wide(size);
-    let behind = put_length(out, at, length_bit(table), 0, n);
-    put_part(out, behind, text, wide(place), n)
+    let behind = put_length(out, at, 2, 0, n);
+    put_part(out, behind, text, wide(x.place()), n)
 }
 
 // A part of a name: its number, unless there is none.
@@ -86,13 +84,15 @@ fn put_row(out: &mut [u8], at: usize, given: &[u32], text: &[u8], table: usize, 
     ensures { λ r. ⌜ Puts (now (out .entry)) at r (now (out .exit)) (rowOctets (now (text .entry)) (now (given .entry)) table row) × (r ≤ at + rowMost) ⌝ }
 {
     if table < ELEMENT_NAME {
-        return put_string(out, at, table, text, given[row + 1], given[row + 2]);
+        let form = form_given(given[row]);
+        let x = EventString::Stretch(form, given[row + 1], given[row + 2]);
+        return put_string(out, at, table, text, x);
     }
     put_name(out, at, given[row], given[row + 1], given[row + 2])
 }
 
 fn put_rows(out: &mut [u8], from: usize, given: &[u32], text: &[u8], table: usize) -> usize
-    requires { ⌜ (from < 2 ^ 30) × (table < 10) × Laid (now given) × Right (now text) (now given) × Few (now given) × (length (now text) ≤ 16384) ⌝ }
+    requires { ⌜ (from < 2 ^ 30) × (table < 10) × Laid (now given) × Right (now text) (now given) × Few (now given) × (length (now text) ≤ 16384) × Texts (now text) (now given) ⌝ }
     ensures { λ r. ⌜ Puts (now (out .entry)) from r (now (out .exit)) (rowsOctets (now (text .entry)) (now (given .entry)) table (getD (now (given .entry)) table 0)) × (r ≤ from + 256 * rowMost) ⌝ }
 {
     let rows = rows_of(given, table);
@@ -108,7 +108,7 @@ fn put_rows(out: &mut [u8], from: usize, given: &[u32], text: &[u8], table: usiz
 
 // A table: how many entries it lists, and these; nothing of one that lists none.
 fn put_table(out: &mut [u8], at: usize, given: &[u32], text: &[u8], table: usize) -> usize
-    requires { ⌜ (at < 2 ^ 29) × (table < 10) × Laid (now given) × Right (now text) (now given) × Few (now given) × (length (now text) ≤ 16384) ⌝ }
+    requires { ⌜ (at < 2 ^ 29) × (table < 10) × Laid (now given) × Right (now text) (now given) × Few (now given) × (length (now text) ≤ 16384) × Texts (now text) (now given) ⌝ }
     ensures { λ r. ⌜ Puts (now (out .entry)) at r (now (out .exit)) (tableOctetsOf (now (text .entry)) (now (given .entry)) table) × (r ≤ at + tableMost) ⌝ }
 {
     let n = given[table];
@@ -120,7 +120,7 @@ fn put_table(out: &mut [u8], at: usize, given: &[u32], text: &[u8], table: usize
 }
 
 fn put_tables(out: &mut [u8], from: usize, given: &[u32], text: &[u8]) -> usize
-    requires { ⌜ (from ≤ 7) × Laid (now given) × Right (now text) (now given) × Few (now given) × (length (now text) ≤ 16384) ⌝ }
+    requires { ⌜ (from ≤ 7) × Laid (now given) × Right (now text) (now given) × Few (now given) × (length (now text) ≤ 16384) × Texts (now text) (now given) ⌝ }
     ensures { λ r. ⌜ Puts (now (out .entry)) from r (now (out .exit)) (joinBelow (tableOctetsOf (now (text .entry)) (now (given .entry))) 10) ⌝ }
 {
     let mut at = from;
@@ -134,7 +134,7 @@ fn put_tables(out: &mut [u8], from: usize, given: &[u32], text: &[u8]) -> usize
 
 // All octets before the body: the identification, the bit of the head, the presence bits and the tables.
 pub fn put_head(out: &mut [u8], given: &[u32], text: &[u8]) -> usize
-    requires { ⌜ Laid (now given) × Right (now text) (now given) × Few (now given) × (length (now text) ≤ 16384) ⌝ }
+    requires { ⌜ Laid (now given) × Right (now text) (now given) × Few (now given) × (length (now text) ≤ 16384) × Texts (now text) (now given) ⌝ }
     ensures { λ r. ⌜ Puts (now (out .entry)) 0 r (now (out .exit)) (headOf (now (text .entry)) (now (given .entry))) ⌝ }
 {
     let header = fields::HEADER;

@@ -11,7 +11,7 @@ use format::table::ATTRIBUTE_VALUE;
 use format::table::ELEMENT_NAME;
 
 fn is_built_in(given: &[u32], text: &[u8], table: usize, at: usize) -> bool
-    requires { ⌜ (at + 3 ≤ length (now given)) × (table < 8 → getD (now given) (at + 1) 0 + getD (now given) (at + 2) 0 ≤ length (now text)) ⌝ }
+    requires { ⌜ (at + 3 ≤ length (now given)) × (table < 8 → (getD (now given) at 0 ≡ 2) × (getD (now given) (at + 1) 0 + getD (now given) (at + 2) 0 ≤ length (now text))) ⌝ }
     ensures { λ r. ⌜ r ≡ startsRow (now (text .entry)) (now (given .entry)) table at ⌝ }
 {
     if ELEMENT_NAME <= table {
@@ -21,7 +21,7 @@ fn is_built_in(given: &[u32], text: &[u8], table: usize, at: usize) -> bool
 }
 
 fn is_same(given: &[u32], text: &[u8], table: usize, a: usize, b: usize) -> bool
-    requires { ⌜ (a + 3 ≤ length (now given)) × (b + 3 ≤ length (now given)) × (table < 8 → (getD (now given) (a + 1) 0 + getD (now given) (a + 2) 0 ≤ length (now text)) × (getD (now given) (b + 1) 0 + getD (now given) (b + 2) 0 ≤ length (now text))) ⌝ }
+    requires { ⌜ (a + 3 ≤ length (now given)) × (b + 3 ≤ length (now given)) × (table < 8 → (getD (now given) a 0 ≡ 2) × (getD (now given) (a + 1) 0 + getD (now given) (a + 2) 0 ≤ length (now text)) × (getD (now given) b 0 ≡ 2) × (getD (now given) (b + 1) 0 + getD (now given) (b + 2) 0 ≤ length (now text))) ⌝ }
     ensures { λ r. ⌜ r ≡ sameRow (now (text .entry)) (now (given .entry)) table a b ⌝ }
 {
     if table < ELEMENT_NAME {
@@ -37,8 +37,9 @@ fn is_same(given: &[u32], text: &[u8], table: usize, a: usize, b: usize) -> bool
     given[a] == given[b] && (given[a + 1] == given[b + 1] && given[a + 2] == given[b + 2])
 }
 
+// Identifying strings and names alone: these are in utf-8.
 fn is_held(given: &[u32], text: &[u8], table: usize, i: usize) -> bool
-    requires { ⌜ Laid (now given) × (table < 10) × (i < getD (now given) table 0) × Right (now text) (now given) ⌝ }
+    requires { ⌜ Laid (now given) × (table < 10) × (i < getD (now given) table 0) × Right (now text) (now given) × (table < 8 → table < 5) ⌝ }
     ensures { λ r. ⌜ r ≡ heldRow (now (text .entry)) (now (given .entry)) table i ⌝ }
 {
     let rows = rows_of(given, table);

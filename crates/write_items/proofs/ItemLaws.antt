@@ -2,22 +2,24 @@
 -- Assumes nothing.
 use mathlib.Core.Path.{_≡_, refl, sym, subst, _∙_}
 use mathlib.Core.Bool.{Bool, true, false, not, _&&_}
-use mathlib.Core.List.{List, _++_, map}
-use Prim.Native.Nat.{ℕ, _+_, _-_, _*_, _/_, _≤_, _<_, min}
+use mathlib.Core.List.{List, [], _∷_, _++_, map}
+use Prim.Native.Nat.{ℕ, _+_, _-_, _*_, _/_, _^_, _≤_, _<_, min}
 use native.Mathlib.Nat.{le-min}
 use native.Mathlib.Numerals.{add-one}
 use native.Mathlib.Omega.{arith}
-use borrow.Author.Tests.{le-leb, lt-leb, eqb-false, leb-false}
+use borrow.Author.Tests.{lt-ltb, le-leb, lt-leb, eqb-false, leb-false}
 use lib.Dec.{eqb, leb}
 use lib.ListN.{length, set, length-append, length-map}
-use Rattle.format.specs.Numbers.{numbers, c25, sizes, pick}
+use Rattle.format.specs.Numbers.{lengths, numbers, c25, spell, sizes, pick}
 use Rattle.format.specs.Events as E
 use Rattle.format.specs.Events.{Choice}
 use Rattle.format.specs.Tables.{StringTable, PREFIX, NAMESPACE-NAME, LOCAL-NAME, ATTRIBUTE-VALUE, CONTENT-CHARACTER-CHUNK, OTHER-STRING, Vocabulary, strings, names, adding, link}
-use Rattle.format.specs.Strings.{c15, keeping}
+use Rattle.format.specs.Strings.{withLength, inFormat, c15, keeping}
 use Rattle.format.specs.Names.{NameLayout, ofElement, ofAttribute}
 use Rattle.format.specs.Items as F
 use Rattle.format.specs.Document.{aligned}
+use Rattle.format.specs.declared.StringForm.{StringForm}
+use Rattle.format.specs.declared.StringForm.the-variants.{Utf8, Utf16, Numeric, Dates}
 use Rattle.fields.specs.PutContracts.{Puts}
 use Rattle.fields.proofs.Forms.{Ordered}
 use Rattle.fields.proofs.Numbers.{numbers-ordered, c25-ordered}
@@ -25,74 +27,39 @@ use Rattle.fields.proofs.Puts.{puts-one, puts-append}
 use Rattle.fields.proofs.RoundTrip.{some-first}
 use Rattle.tables.specs.Located.{Located, octetsOf}
 use Rattle.tables.specs.Search.{numberIn, numberOfTriple}
-use Rattle.tables.proofs.Search.{length-octets}
 use Rattle.tables.specs.Rows.{tableOf}
 use Rattle.tables.specs.Kept.{nameTableOf, layoutOf}
 use Rattle.tables.proofs.Laws.{number-within, name-number-within}
 use Rattle.states.specs.declared.State.{State}
 use Rattle.states.specs.States.{farthest, modeOf, stateOf, coming, movedTo, openedAt, afterEnd, declaringMode}
 use Rattle.states.proofs.Modes.{mode-content, mode-listed, mode-declaring, after-mode, after-coming, coming-low, declaring-coming, root-one}
-use Rattle.events.specs.declared.EventString.{EventString}
-use Rattle.events.specs.declared.EventString.the-variants.{Absent, Empty, Stretch, XmlPrefix, XmlNamespace}
 use Rattle.events.specs.declared.Kind.{Kind}
 use Rattle.events.specs.declared.Kind.the-variants.{Namespace, Start, Attribute, Chunk, Comment, Instruction, End}
 use Rattle.events.specs.declared.Event.{Event}
 use Rattle.events.specs.Records.{locatedOf, optionalOf}
-use Rattle.events.specs.Words.{stringPlace, stringSize}
 use Rattle.write_names.specs.declared.Wrote as W
 use Rattle.write_names.specs.declared.Wrote.the-variants.{Put, Full}
 use Rattle.write_names.specs.declared.QualifiedName.{QualifiedName}
-use Rattle.write_names.specs.Choices.{Wrote, writeId, writeOptional, writeName, writeLiteral, writeValue, worthAdding, within}
-use Rattle.write_names.specs.Contracts.{stringMost, pairMost, nameMost, tablesIn, InOrder, Suits, Fills, Spells, namedOf, tripleFor, Proper, pairBehind, declaredBy, Stands, Meets}
+use Rattle.write_names.specs.Choices.{Wrote, writeId, writeOptional, writeName, fieldIn, writeLiteral, writeValue, worthAdding, within}
+use Rattle.write_names.specs.Contracts.{stringMost, valueMost, pairMost, nameMost, tablesIn, InOrder, namedOf, tripleFor, Proper, pairBehind, declaredBy, Stands, Meets}
 use Rattle.write_names.proofs.Order.{entries-count, triples-count, counted-at}
 use Rattle.write_names.proofs.NameLaws.{names-kept}
-use Rattle.write_names.proofs.StringLaws.{spells-suits, spells-stretch}
-use Rattle.tables.proofs.Found.{clash}
 use Rattle.write_items.specs.declared.Step.the-variants.{On, Stop}
-use Rattle.write_items.specs.Events.{isStretch, isPrefix, isNamespace, isValue, nameOf, eventOf, isDeclaring, isListing}
+use Rattle.write_items.specs.Events.{nameOf, eventOf, isDeclaring, isListing}
 use Rattle.write_items.specs.Items.{WroteItem, beforeDeclaration, beforeName, nameLead, writeItem}
 use Rattle.write_items.specs.Steps.{isAttribute, isEnd, fits}
 use Rattle.write_items.specs.OutputContracts.{endOctet}
 use Rattle.write_items.specs.StepContracts.{known}
 use Rattle.write_items.specs.ItemContracts.{owes, listEnded, endPut, qualifiedOf, Fit, landing, Near, Lands, holding}
-use Rattle.write_items.proofs.WellMade.{stretch-lies, Named, by-kind}
+use Rattle.write_items.proofs.WellMade.{Named}
+use Rattle.write_items.proofs.Strings.{prefix-suits, namespace-suits, stretch-suits}
 use Rattle.write_items.proofs.ModeLaws.{declares}
 
--- ---- the strings of a record that is well made
-module _ (text : List ℕ) where
-  pub prefix-suits : (x : EventString) → isPrefix text x ≡ true → Suits text 0 x
-  prefix-suits Absent e = tt
-  prefix-suits Empty e = clash e
-  prefix-suits (Stretch p n) e = stretch-lies text (Stretch p n) e
-  prefix-suits XmlPrefix e = refl
-  prefix-suits XmlNamespace e = clash e
-
-  pub namespace-suits : (x : EventString) → isNamespace text x ≡ true → Suits text 1 x
-  namespace-suits Absent e = tt
-  namespace-suits Empty e = clash e
-  namespace-suits (Stretch p n) e = stretch-lies text (Stretch p n) e
-  namespace-suits XmlPrefix e = clash e
-  namespace-suits XmlNamespace e = refl
-
-  pub stretch-spells : (x : EventString) → isStretch text x ≡ true → Spells text x
-  stretch-spells Absent e = clash e
-  stretch-spells Empty e = clash e
-  stretch-spells (Stretch p n) e = stretch-lies text (Stretch p n) e
-  stretch-spells XmlPrefix e = clash e
-  stretch-spells XmlNamespace e = clash e
-
-  pub value-fills : (x : EventString) → isValue text x ≡ true → Fills text x
-  value-fills Absent e = clash e
-  value-fills Empty e = tt
-  value-fills (Stretch p n) e = stretch-lies text (Stretch p n) e
-  value-fills XmlPrefix e = clash e
-  value-fills XmlNamespace e = clash e
-
-  pub name-ready : (table lead : ℕ) (e : Event) (name : QualifiedName) → name ≡ qualifiedOf table lead e → 8 ≤ table → table < 10 → lead ≤ 0x80 → Named text e → Proper text name
-  name-ready table lead e name is low high bits n =
-      let s = stretch-spells (e .name) (n .local) in
-      rw is
-      (low, high, bits, prefix-suits (e .prefix) (n .prefix), namespace-suits (e .namespace) (n .namespace), spells-suits text 2 (e .name) s, spells-stretch text (e .name) s .3)
+-- ---- a name
+pub name-ready : (text : List ℕ) (table lead : ℕ) (e : Event) (name : QualifiedName) → name ≡ qualifiedOf table lead e → 8 ≤ table → table < 10 → lead ≤ 0x80 → Named text e → Proper text name
+name-ready text table lead e name is low high bits n =
+    let s = stretch-suits text 2 (e .name) (n .local) in
+    rw is (low, high, bits, prefix-suits text (e .prefix) (n .prefix), namespace-suits text (e .namespace) (n .namespace), s .0, s .1)
 
 -- ---- the end of an attribute list, and the room
 module _ (st : State) (e : Event) (out : List ℕ) where
@@ -168,14 +135,23 @@ sizes-4 : 256 ≤ sizes (numbers 4)
 unfolding sizes numbers
 sizes-4 = omega arith
 
-spelled-some : (text : List ℕ) (x : EventString) → Spells text x → 1 ≤ length (octetsOf text (locatedOf x))
-spelled-some text x s = let f = spells-stretch text x s in let n = f .1 in rw (f .0, length-octets text (stringPlace x) (stringSize x) (f .2)) (omega arith)
+length-some : (bit lead : ℕ) (y : List ℕ) → 1 ≤ length (withLength (lengths bit) lead y)
+unfolding spell lengths
+length-some bit lead [] = rw (lt-ltb 0 (1 + 2 ^ (8 - bit)) (omega arith)) (omega arith)
+length-some bit lead (b ∷ y) = simp length-append (omega arith)
 
-module _ (text : List ℕ) (v : Vocabulary Located) (x : Located) (some : 1 ≤ length (octetsOf text x)) (few : length (strings v CONTENT-CHARACTER-CHUNK) ≤ 256) where
+field-some : (bit lead : ℕ) (f : StringForm) (y : List ℕ) → 1 ≤ length (inFormat bit f lead y)
+unfolding inFormat
+field-some bit lead Utf8 y = length-some bit lead y
+field-some bit lead Utf16 y = length-some bit (lead + 2 ^ (9 - bit)) y
+field-some bit lead Numeric y = omega arith
+field-some bit lead Dates y = omega arith
+
+module _ (text : List ℕ) (v : Vocabulary Located) (x : Located) (few : length (strings v CONTENT-CHARACTER-CHUNK) ≤ 256) where
   chunk-by : (b : Bool) → eqb (numberIn (map (octetsOf text) (strings v CONTENT-CHARACTER-CHUNK)) (octetsOf text x)) 0 ≡ b
       → 1 ≤ length (writeLiteral link c15 text CONTENT-CHARACTER-CHUNK v x .octets)
-  unfolding writeLiteral c15
-  chunk-by true q = rw q (simp length-append (omega arith))
+  unfolding writeLiteral fieldIn c15
+  chunk-by true q = rw q (field-some 7 _ _ _)
   chunk-by false q =
       let m = number-within (map (octetsOf text) (strings v CONTENT-CHARACTER-CHUNK)) (octetsOf text x) in
       let n = length-map (strings v CONTENT-CHARACTER-CHUNK) (octetsOf text) in
@@ -238,7 +214,7 @@ andValue text t d y =
     record { octets = d .octets ++ v .octets; how = v .how; number = 0; tables = v .tables }
 
 value-behind : {H : Type 0} {text out out₁ out₂ c₁ w₁ i₁ c₂ w₂ i₂ : List ℕ} {at m h g : ℕ} (d : Wrote H) (t : StringTable) (y : Located) → Stands text out at m h out₁ c₁ w₁ i₁ d
-    → Stands text out₁ h stringMost g out₂ c₂ w₂ i₂ (writeValue link text t (tablesIn c₁ w₁) y) → Stands text out at (m + stringMost) g out₂ c₂ w₂ i₂ (andValue text t d y)
+    → Stands text out₁ h valueMost g out₂ c₂ w₂ i₂ (writeValue link text t (tablesIn c₁ w₁) y) → Stands text out at (m + valueMost) g out₂ c₂ w₂ i₂ (andValue text t d y)
 value-behind {text = text} {m = m} d t y s r = stands-behind (writeValue link text t (d .tables) y) _ m (s .puts) (s .few) refl refl (rw (s .tables) at r)
 
 -- ---- a kind that was found out
@@ -262,22 +238,22 @@ start-room {st = st} fit = element-room (st .level) (st .mode) (fit .shallow) (f
 -- ---- each kind
 module _ (text : List ℕ) (a : Bool) (st : State) (c w : List ℕ) (e : Event) where
   pub chunk-lands : {ix : List ℕ} → Fit text st c w ix Chunk e → {at : ℕ} → (at ≡ aligned (st .at) / 2) × (at ≤ 16385) → {out out′ c′ w′ ix′ : List ℕ} {h : ℕ}
-      → Stands text out at stringMost h out′ c′ w′ ix′ (writeLiteral link c15 text CONTENT-CHARACTER-CHUNK (tablesIn c w) (locatedOf (e .value)))
+      → Stands text out at valueMost h out′ c′ w′ ix′ (writeLiteral link c15 text CONTENT-CHARACTER-CHUNK (tablesIn c w) (locatedOf (e .value)))
       → Lands text a st c out w (eventOf Chunk e) (landing (λ k. movedTo st k (st .mode)) (Put h)) out′ c′ w′ ix′
   unfolding eventOf writeItem tableOf
   chunk-lands fit q {out′ = out′} {c′ = c′} {w′ = w′} {ix′ = ix′} {h = h} s =
       let n = entries-count c w (fit .order .ten) 6 (omega arith) in
       let l = counted-at text c w _ 6 (fit .order) in
-      let o = chunk-by text (tablesIn c w) (locatedOf (e .value)) (spelled-some text (e .value) (stretch-spells text (e .value) (by-kind text e Chunk (fit .made) .2))) (omega arith) _ refl in
-      lands text a st c _ w (eventOf Chunk e) refl (λ k. movedTo st k (st .mode)) (λ k. refl) (λ k. refl) (λ k. fit .shallow) stringMost (Put h) out′ c′ w′ ix′ o
+      let o = chunk-by text (tablesIn c w) (locatedOf (e .value)) (omega arith) _ refl in
+      lands text a st c _ w (eventOf Chunk e) refl (λ k. movedTo st k (st .mode)) (λ k. refl) (λ k. refl) (λ k. fit .shallow) valueMost (Put h) out′ c′ w′ ix′ o
       (rw (← (q .0)) (stands-as _ _ refl refl s)) (let b = q .1 in let f = s .few in omega arith)
 
   pub comment-lands : {ix : List ℕ} → Fit text st c w ix Comment e → {at : ℕ} → (at ≡ aligned (st .at) / 2) × (at ≤ 16385) → {out out₁ out′ c′ w′ ix′ : List ℕ} {h : ℕ} → out₁ ≡ set out at 0xE2
-      → Stands text out₁ (at + 1) stringMost h out′ c′ w′ ix′ (writeValue link text (tableOf 7) (tablesIn c w) (locatedOf (e .value)))
+      → Stands text out₁ (at + 1) valueMost h out′ c′ w′ ix′ (writeValue link text (tableOf 7) (tablesIn c w) (locatedOf (e .value)))
       → Lands text a st c out w (eventOf Comment e) (landing (λ k. movedTo st k (st .mode)) (Put h)) out′ c′ w′ ix′
   unfolding eventOf writeItem tableOf
   comment-lands fit q {out′ = out′} {c′ = c′} {w′ = w′} {ix′ = ix′} {h = h} p s =
-      lands text a st c _ w (eventOf Comment e) refl (λ k. movedTo st k (st .mode)) (λ k. refl) (λ k. refl) (λ k. fit .shallow) (1 + stringMost) (Put h) out′ c′ w′ ix′ (omega arith)
+      lands text a st c _ w (eventOf Comment e) refl (λ k. movedTo st k (st .mode)) (λ k. refl) (λ k. refl) (λ k. fit .shallow) (1 + valueMost) (Put h) out′ c′ w′ ix′ (omega arith)
       (rw (← (q .0)) (stands-behind _ _ 1 (puts-one p) (omega arith) refl refl s)) (let b = q .1 in let f = s .few in omega arith)
 
   pub instruction-full : within link (writeId text (tableOf 3) (tablesIn c w) (locatedOf (e .name)) .tables) ≡ false
@@ -287,11 +263,11 @@ module _ (text : List ℕ) (a : Bool) (st : State) (c w : List ℕ) (e : Event) 
 
   pub instruction-lands : {ix : List ℕ} → Fit text st c w ix Instruction e → {at : ℕ} → (at ≡ aligned (st .at) / 2) × (at ≤ 16385) → {out out₁ out₂ out′ c₁ w₁ i₁ c′ w′ ix′ : List ℕ} {h g : ℕ}
       → out₁ ≡ set out at 0xE1 → Stands text out₁ (at + 1) stringMost h out₂ c₁ w₁ i₁ (writeId text (tableOf 3) (tablesIn c w) (locatedOf (e .name)))
-      → Stands text out₂ h stringMost g out′ c′ w′ ix′ (writeValue link text (tableOf 7) (tablesIn c₁ w₁) (locatedOf (e .value)))
+      → Stands text out₂ h valueMost g out′ c′ w′ ix′ (writeValue link text (tableOf 7) (tablesIn c₁ w₁) (locatedOf (e .value)))
       → Lands text a st c out w (eventOf Instruction e) (landing (λ k. movedTo st k (st .mode)) (Put g)) out′ c′ w′ ix′
   unfolding eventOf writeItem tableOf
   instruction-lands fit q {out′ = out′} {c′ = c′} {w′ = w′} {ix′ = ix′} {g = g} p s r =
-      lands text a st c _ w (eventOf Instruction e) refl (λ k. movedTo st k (st .mode)) (λ k. refl) (λ k. refl) (λ k. fit .shallow) (1 + (stringMost + stringMost)) (Put g) out′ c′ w′ ix′
+      lands text a st c _ w (eventOf Instruction e) refl (λ k. movedTo st k (st .mode)) (λ k. refl) (λ k. refl) (λ k. fit .shallow) (1 + (stringMost + valueMost)) (Put g) out′ c′ w′ ix′
       (omega arith) (rw (← (q .0)) (stands-behind _ _ 1 (puts-one p) (omega arith) refl refl (value-behind _ OTHER-STRING _ s r))) (let b = q .1 in let f = s .few in let k = r .few in omega arith)
 
   pub declare-lands : {ix : List ℕ} → Fit text st c w ix Namespace e → {at₀ at : ℕ} {out out₁ : List ℕ} → (at₀ ≡ aligned (st .at) / 2) × (at₀ ≤ 16385)
@@ -347,7 +323,7 @@ module _ (text : List ℕ) (a : Bool) (st : State) (c w : List ℕ) (e : Event) 
 
     pub attribute-lands : {at : ℕ} → (at ≡ aligned (st .at) / 2) × (at ≤ 16385) → {out out₁ out′ c₁ w₁ i₁ c′ w′ ix′ : List ℕ} {h g : ℕ}
         → Stands text out at nameMost h out₁ c₁ w₁ i₁ (writeName (layoutOf (name .table)) (name .lead) text (tablesIn c w) (namedOf name))
-        → Stands text out₁ h stringMost g out′ c′ w′ ix′ (writeValue link text (tableOf 5) (tablesIn c₁ w₁) (locatedOf (e .value)))
+        → Stands text out₁ h valueMost g out′ c′ w′ ix′ (writeValue link text (tableOf 5) (tablesIn c₁ w₁) (locatedOf (e .value)))
         → Lands text a st c out w (eventOf Attribute e) (landing (λ k. movedTo st k 2) (Put g)) out′ c′ w′ ix′
     unfolding eventOf writeItem layoutOf tableOf
     attribute-lands q {out′ = out′} {c′ = c′} {w′ = w′} {ix′ = ix′} {g = g} s r =
@@ -356,7 +332,7 @@ module _ (text : List ℕ) (a : Bool) (st : State) (c w : List ℕ) (e : Event) 
         let k = r .few in
         let d = fit .shallow in
         let l = coming-low 2 (omega arith) in
-        lands text a st c _ w (eventOf Attribute e) refl (λ k. movedTo st k 2) (λ k. refl) (λ k. rw mode-listed) (λ k. omega arith) (nameMost + stringMost) (Put g) out′ c′ w′ ix′ attribute-some
+        lands text a st c _ w (eventOf Attribute e) refl (λ k. movedTo st k 2) (λ k. refl) (λ k. rw mode-listed) (λ k. omega arith) (nameMost + valueMost) (Put g) out′ c′ w′ ix′ attribute-some
         (rw (← (q .0)) (stands-as _ _ refl refl (value-behind _ ATTRIBUTE-VALUE _ (rw is at s) r))) (omega arith)
 
 pub end-lands : (text : List ℕ) (a : Bool) (st : State) (c w ix : List ℕ) → InOrder text c w ix → st .at ≤ 32769 → st .level ≤ 32 → {out out′ : List ℕ} → out′ ≡ set out (st .at / 2) (endOctet (st .at))

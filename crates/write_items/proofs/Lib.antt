@@ -1,5 +1,6 @@
 pub mod RecordLaws
 pub mod WellMade
+pub mod Strings
 pub mod Faults
 pub mod ModeLaws
 pub mod KindLaws

@@ -1,23 +1,26 @@
 -- Event records: a law for each way out of the functions that judge one, on plain values.
 -- Assumes nothing.
-use mathlib.Core.Path.{_≡_, refl, sym}
-use mathlib.Core.Bool.{true, false, _&&_}
+use mathlib.Core.Path.{_≡_, refl, sym, ap, _∙_}
+use mathlib.Core.Bool.{true, false, _&&_, _||_}
 use mathlib.Core.List.{List}
-use Prim.Native.Nat.{ℕ, _+_, _-_, _≤_}
+use Prim.Native.Nat.{ℕ, _+_, _-_, _≤_, _<_}
 use native.Mathlib.Omega.{arith}
 use borrow.Author.Tests.{eq-eqb, ne-eqb}
 use lib.Dec.{eqb, ltb, leb}
 use lib.ListN.{length, take, drop}
+use Rattle.format.specs.declared.StringForm.{StringForm}
+use Rattle.format.specs.declared.StringForm.the-variants.{Utf8, Utf16, Numeric, Dates}
 use Rattle.fields.specs.Utf8.{isText}
 use Rattle.fields.proofs.Utf8.{none-text, built-in-texts}
+use Rattle.forms.specs.Reading.{said}
 use Rattle.tables.specs.Located.{stretch, octetsOf}
 use Rattle.tables.proofs.Search.{octets-stretch}
 use Rattle.events.specs.declared.EventString.{EventString}
 use Rattle.events.specs.declared.EventString.the-variants.{Absent, Empty, Stretch, XmlPrefix, XmlNamespace}
 use Rattle.events.specs.declared.Kind.the-variants.{Namespace}
 use Rattle.events.specs.declared.Event.{Event}
-use Rattle.events.specs.Words.{stringTag, stringPlace, stringSize}
-use Rattle.write_items.specs.Events.{isAbsent, isStretch, isPrefix, isNamespace, isValue, locatedOf, optionalOf, nameOf, eventOf, optionalText, nameText, allText}
+use Rattle.events.specs.Words.{formTag, stringTag, stringForm, stringPlace, stringSize}
+use Rattle.write_items.specs.Events.{isAbsent, isStretch, isString, isPrefix, isNamespace, isValue, locatedOf, optionalOf, nameOf, eventOf, optionalText, nameText, allText}
 use Rattle.write_items.specs.Contracts.{Lies}
 use Rattle.write_items.specs.RecordContracts.{isOne}
 
@@ -36,12 +39,32 @@ module _ (text : List ℕ) (x : EventString) (a b t : ℕ) (e : t ≡ stringTag 
     unfolding isOne
     one-second k = rw (← e, ne-eqb _ _ h, ne-eqb _ _ k)
 
+-- the tags of the forms: 2 is utf-8's, the others' are the last
+abbrev pub Formed : ℕ → Type 0
+Formed tag = (tag ≡ 2 → ⊥) → tag < 5 → ⊥
+
+form-tag : (f : StringForm) → Formed (formTag f)
+form-tag Utf8 h l = h refl
+form-tag Utf16 h l = omega arith
+form-tag Numeric h l = omega arith
+form-tag Dates h l = omega arith
+
+form-not : (f : StringForm) (n : ℕ) → n < 2 → eqb (formTag f) n ≡ false
+form-not f n l = ne-eqb (formTag f) n λ e. form-tag f (omega arith) (omega arith)
+
 module _ (text : List ℕ) where
+  one-form : (f : StringForm) (p n a b : ℕ) → a < 5 → b < 5 → isOne text (Stretch f p n) a b ≡ isStretch text (Stretch f p n)
+  unfolding isOne
+  one-form Utf8 p n a b h k = refl
+  one-form Utf16 p n a b h k = rw (ne-eqb 5 a (omega arith), ne-eqb 5 b (omega arith))
+  one-form Numeric p n a b h k = rw (ne-eqb 6 a (omega arith), ne-eqb 6 b (omega arith))
+  one-form Dates p n a b h k = rw (ne-eqb 7 a (omega arith), ne-eqb 7 b (omega arith))
+
   pub one-stretch : (x : EventString) → isOne text x 2 2 ≡ isStretch text x
   unfolding isOne
   one-stretch Absent = refl
   one-stretch Empty = refl
-  one-stretch (Stretch p n) = refl
+  one-stretch (Stretch f p n) = one-form f p n 2 2 (omega arith) (omega arith)
   one-stretch XmlPrefix = refl
   one-stretch XmlNamespace = refl
 
@@ -49,7 +72,7 @@ module _ (text : List ℕ) where
   unfolding isOne
   one-prefix Absent = refl
   one-prefix Empty = refl
-  one-prefix (Stretch p n) = refl
+  one-prefix (Stretch f p n) = one-form f p n 0 3 (omega arith) (omega arith)
   one-prefix XmlPrefix = refl
   one-prefix XmlNamespace = refl
 
@@ -57,62 +80,73 @@ module _ (text : List ℕ) where
   unfolding isOne
   one-namespace Absent = refl
   one-namespace Empty = refl
-  one-namespace (Stretch p n) = refl
+  one-namespace (Stretch f p n) = one-form f p n 0 4 (omega arith) (omega arith)
   one-namespace XmlPrefix = refl
   one-namespace XmlNamespace = refl
 
-  pub one-value : (x : EventString) → isOne text x 1 1 ≡ isValue text x
-  unfolding isOne
-  one-value Absent = refl
-  one-value Empty = refl
-  one-value (Stretch p n) = refl
-  one-value XmlPrefix = refl
-  one-value XmlNamespace = refl
+  -- a string of any form, by its tag
+  pub string-lies : (x : EventString) (p n : ℕ) → Formed (stringTag x) → p ≡ stringPlace x → n ≡ stringSize x → (ltb 0 n && leb (p + n) (length text)) ≡ isString text x
+  string-lies Absent p n k g h = absurd (k (omega arith) (omega arith))
+  string-lies Empty p n k g h = absurd (k (omega arith) (omega arith))
+  string-lies (Stretch f a b) p n k g h = rw (g, h)
+  string-lies XmlPrefix p n k g h = absurd (k (omega arith) (omega arith))
+  string-lies XmlNamespace p n k g h = absurd (k (omega arith) (omega arith))
+
+  pub string-not : (x : EventString) → (stringTag x ≡ 2 → ⊥) → stringTag x < 5 → false ≡ isString text x
+  string-not Absent h l = refl
+  string-not Empty h l = refl
+  string-not (Stretch f p n) h l = absurd (form-tag f h l)
+  string-not XmlPrefix h l = refl
+  string-not XmlNamespace h l = refl
+
+  pub tag-value : (x : EventString) → (eqb (stringTag x) 1 || isString text x) ≡ isValue text x
+  tag-value Absent = refl
+  tag-value Empty = refl
+  tag-value (Stretch f p n) = rw (form-not f 1 (omega arith))
+  tag-value XmlPrefix = refl
+  tag-value XmlNamespace = refl
 
 pub tag-absent : (x : EventString) → eqb (stringTag x) 0 ≡ isAbsent x
 tag-absent Absent = refl
 tag-absent Empty = refl
-tag-absent (Stretch p n) = refl
+tag-absent (Stretch f p n) = form-not f 0 (omega arith)
 tag-absent XmlPrefix = refl
 tag-absent XmlNamespace = refl
 
 -- ---- text
 module _ (text : List ℕ) where
-  -- what is no stretch is text
-  pub absent-text : true ≡ isText (octetsOf text (locatedOf Absent))
+  absent-text : true ≡ isText (octetsOf text (locatedOf Absent))
   unfolding octetsOf
   absent-text = sym none-text
 
-  pub prefix-text : true ≡ isText (octetsOf text (locatedOf XmlPrefix))
+  -- what is no stretch is text
+  pub other-text : (x : EventString) → ((f : StringForm) (p n : ℕ) → x ≡ Stretch f p n → ⊥) → true ≡ isText (octetsOf text (locatedOf x))
   unfolding octetsOf
-  prefix-text = sym (built-in-texts .0)
+  other-text Absent h = sym none-text
+  other-text Empty h = sym none-text
+  other-text (Stretch f p n) h = absurd (h f p n refl)
+  other-text XmlPrefix h = sym (built-in-texts .0)
+  other-text XmlNamespace h = sym (built-in-texts .1)
 
-  pub namespace-text : true ≡ isText (octetsOf text (locatedOf XmlNamespace))
-  unfolding octetsOf
-  namespace-text = sym (built-in-texts .1)
+  pub stretch-text : (f : StringForm) (p n : ℕ) → isText (said f (take ((p + n) - p) (drop p text))) ≡ isText (octetsOf text (stretch f p n))
+  stretch-text f p n = let q : p + n - p ≡ n = omega arith in rw (q, octets-stretch text f p n)
 
-  pub stretch-text : (p n : ℕ) → isText (take ((p + n) - p) (drop p text)) ≡ isText (octetsOf text (stretch p n))
-  stretch-text p n = let q : p + n - p ≡ n = omega arith in rw (q, octets-stretch text p n)
+  -- a string in utf-8, by its tag
+  pub untagged-text : (x : EventString) → stringForm x ≡ Utf8 → (stringTag x ≡ 2 → ⊥) → true ≡ isText (octetsOf text (locatedOf x))
+  untagged-text x u h = other-text x λ f p n q. h (ap stringTag q ∙ ap formTag (sym (ap stringForm q) ∙ u))
 
-  -- by the tag
-  pub other-text : (x : EventString) → (stringTag x ≡ 2 → ⊥) → true ≡ isText (octetsOf text (locatedOf x))
-  other-text Absent h = absent-text
-  other-text Empty h = absent-text
-  other-text (Stretch p n) h = absurd (h refl)
-  other-text XmlPrefix h = prefix-text
-  other-text XmlNamespace h = namespace-text
-
-  pub tagged-text : (x : EventString) → stringTag x ≡ 2 → isText (take ((stringPlace x + stringSize x) - stringPlace x) (drop (stringPlace x) text)) ≡ isText (octetsOf text (locatedOf x))
-  tagged-text Absent h = absurd (omega arith)
-  tagged-text Empty h = absurd (omega arith)
-  tagged-text (Stretch p n) h = stretch-text p n
-  tagged-text XmlPrefix h = absurd (omega arith)
-  tagged-text XmlNamespace h = absurd (omega arith)
+  pub tagged-text : (x : EventString) → stringForm x ≡ Utf8 → stringTag x ≡ 2
+      → isText (take ((stringPlace x + stringSize x) - stringPlace x) (drop (stringPlace x) text)) ≡ isText (octetsOf text (locatedOf x))
+  tagged-text Absent u h = absurd (omega arith)
+  tagged-text Empty u h = absurd (omega arith)
+  tagged-text (Stretch f p n) u h = rw u (stretch-text Utf8 p n)
+  tagged-text XmlPrefix u h = absurd (omega arith)
+  tagged-text XmlNamespace u h = absurd (omega arith)
 
   pub tagged-lies : (x : EventString) → stringTag x ≡ 2 → Lies text x → stringPlace x + stringSize x ≤ length text
   tagged-lies Absent h l = absurd (omega arith)
   tagged-lies Empty h l = absurd (omega arith)
-  tagged-lies (Stretch p n) h l = l .1
+  tagged-lies (Stretch f p n) h l = l .1
   tagged-lies XmlPrefix h l = absurd (omega arith)
   tagged-lies XmlNamespace h l = absurd (omega arith)
 
@@ -120,7 +154,7 @@ module _ (text : List ℕ) where
   optional-text : (x : EventString) → optionalText text (optionalOf x) ≡ isText (octetsOf text (locatedOf x))
   optional-text Absent = absent-text
   optional-text Empty = refl
-  optional-text (Stretch p n) = refl
+  optional-text (Stretch f p n) = refl
   optional-text XmlPrefix = refl
   optional-text XmlNamespace = refl
 

@@ -110,12 +110,13 @@ module _ (text : List ℕ) (st : State) (c w : List ℕ) (e : Event) where
         at = omega arith;
         shallow = omega arith;
         made = f .made;
+        texts = f .texts;
         roomy = rw (mode-content, opens-behind (modeOf (st .mode)) (eventOf (e .kind) e) l) (f .shallow);
         inside = end-inside (known st c w) _ (f .goes);
       }
   fit-by false o r f =
       let at = r .at in
-      record { order = r .order; at = omega arith; shallow = r .shallow; made = f .made; roomy = f .shallow; inside = end-inside (known st c w) _ (f .goes) }
+      record { order = r .order; at = omega arith; shallow = r .shallow; made = f .made; texts = f .texts; roomy = f .shallow; inside = end-inside (known st c w) _ (f .goes) }
 
   pub step-fit : {ix : List ℕ} → Ready text st c w ix → faultOf text (known st c w) e ≡ 0 → {next : State} → next ≡ listEnded (owes st e) st → Fit text next c w ix (e .kind) e
   step-fit r f q = rw q (fit-by (owes st e) refl r (fault-none text (known st c w) e f))

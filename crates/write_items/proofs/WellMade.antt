@@ -3,42 +3,64 @@
 use mathlib.Core.Path.{_≡_, refl, subst}
 use mathlib.Core.Bool.{true, not, _||_}
 use mathlib.Core.List.{List}
-use Prim.Native.Nat.{ℕ, _+_}
+use Prim.Native.Nat.{ℕ, _+_, _<_, _≤_}
 use borrow.Author.Tests.{ltb-true, leb-true}
 use lib.Dec.{ltb, leb}
 use lib.ListN.{length}
+use Rattle.format.specs.declared.StringForm.{StringForm}
+use Rattle.format.specs.declared.StringForm.the-variants.{Utf8, Utf16, Numeric, Dates}
 use Rattle.events.specs.declared.EventString.{EventString}
 use Rattle.events.specs.declared.EventString.the-variants.{Absent, Empty, Stretch, XmlPrefix, XmlNamespace}
 use Rattle.events.specs.declared.Kind.{Kind}
 use Rattle.events.specs.declared.Kind.the-variants.{Blank, Namespace, Start, Attribute, Chunk, Comment, Instruction, End}
 use Rattle.events.specs.declared.Event.{Event}
 use Rattle.tables.proofs.Found.{clash, both-true}
-use Rattle.write_items.specs.Events.{isAbsent, isStretch, isPrefix, isNamespace, isValue, isName, noName, wellMade}
-use Rattle.write_items.specs.Contracts.{Lies, Placed}
+use Rattle.write_items.specs.Events.{isAbsent, isStretch, isString, isPrefix, isNamespace, isValue, isName, noName, wellMade}
+use Rattle.write_items.specs.Contracts.{Lies, LiesPlain, Placed}
 
 -- ---- strings
 module _ (text : List ℕ) where
-  lies-by : (x : EventString) → ((p n : ℕ) → x ≡ Stretch p n → isStretch text (Stretch p n) ≡ true) → Lies text x
-  lies-by Absent f = tt
-  lies-by Empty f = tt
-  lies-by (Stretch p n) f = let b = both-true (ltb 0 n) (leb (p + n) (length text)) (f p n refl) in (ltb-true _ _ (b .0), leb-true _ _ (b .1))
-  lies-by XmlPrefix f = tt
-  lies-by XmlNamespace f = tt
+  pub stretch-inside : (f : StringForm) (p n : ℕ) → isString text (Stretch f p n) ≡ true → (0 < n) × (p + n ≤ length text)
+  stretch-inside f p n e = let b = both-true (ltb 0 n) (leb (p + n) (length text)) e in (ltb-true _ _ (b .0), leb-true _ _ (b .1))
 
-  absent-lies : (x : EventString) → isAbsent x ≡ true → Lies text x
-  absent-lies x e = lies-by x λ p n q. clash (subst (λ (y : EventString). isAbsent y ≡ true) q e)
+  pub stretch-plain : (f : StringForm) (p n : ℕ) → isStretch text (Stretch f p n) ≡ true → (0 < n) × (p + n ≤ length text) × (f ≡ Utf8)
+  stretch-plain Utf8 p n e = let l = stretch-inside Utf8 p n e in (l .0, l .1, refl)
+  stretch-plain Utf16 p n e = clash e
+  stretch-plain Numeric p n e = clash e
+  stretch-plain Dates p n e = clash e
 
-  pub stretch-lies : (x : EventString) → isStretch text x ≡ true → Lies text x
-  stretch-lies x e = lies-by x λ p n q. subst (λ (y : EventString). isStretch text y ≡ true) q e
+  -- a string that is a stretch only where its test holds
+  lies-by : (x : EventString) → ((f : StringForm) (p n : ℕ) → x ≡ Stretch f p n → isString text (Stretch f p n) ≡ true) → Lies text x
+  lies-by Absent g = tt
+  lies-by Empty g = tt
+  lies-by (Stretch f p n) g = stretch-inside f p n (g f p n refl)
+  lies-by XmlPrefix g = tt
+  lies-by XmlNamespace g = tt
 
-  pub prefix-lies : (x : EventString) → isPrefix text x ≡ true → Lies text x
-  prefix-lies x e = lies-by x λ p n q. subst (λ (y : EventString). isPrefix text y ≡ true) q e
+  plain-by : (x : EventString) → ((f : StringForm) (p n : ℕ) → x ≡ Stretch f p n → isStretch text (Stretch f p n) ≡ true) → LiesPlain text x
+  plain-by Absent g = (tt, refl)
+  plain-by Empty g = (tt, refl)
+  plain-by (Stretch f p n) g = let l = stretch-plain f p n (g f p n refl) in ((l .0, l .1), l .2)
+  plain-by XmlPrefix g = (tt, refl)
+  plain-by XmlNamespace g = (tt, refl)
 
-  pub namespace-lies : (x : EventString) → isNamespace text x ≡ true → Lies text x
-  namespace-lies x e = lies-by x λ p n q. subst (λ (y : EventString). isNamespace text y ≡ true) q e
+  absent-lies : (x : EventString) → isAbsent x ≡ true → LiesPlain text x
+  absent-lies x e = plain-by x λ f p n q. clash (subst (λ (y : EventString). isAbsent y ≡ true) q e)
 
-  pub value-lies : (x : EventString) → isValue text x ≡ true → Lies text x
-  value-lies x e = lies-by x λ p n q. subst (λ (y : EventString). isValue text y ≡ true) q e
+  stretch-lies : (x : EventString) → isStretch text x ≡ true → LiesPlain text x
+  stretch-lies x e = plain-by x λ f p n q. subst (λ (y : EventString). isStretch text y ≡ true) q e
+
+  prefix-lies : (x : EventString) → isPrefix text x ≡ true → LiesPlain text x
+  prefix-lies x e = plain-by x λ f p n q. subst (λ (y : EventString). isPrefix text y ≡ true) q e
+
+  namespace-lies : (x : EventString) → isNamespace text x ≡ true → LiesPlain text x
+  namespace-lies x e = plain-by x λ f p n q. subst (λ (y : EventString). isNamespace text y ≡ true) q e
+
+  string-lies : (x : EventString) → isString text x ≡ true → Lies text x
+  string-lies x e = lies-by x λ f p n q. subst (λ (y : EventString). isString text y ≡ true) q e
+
+  value-lies : (x : EventString) → isValue text x ≡ true → Lies text x
+  value-lies x e = lies-by x λ f p n q. subst (λ (y : EventString). isValue text y ≡ true) q e
 
 -- ---- records
 pub record Named (text : List ℕ) (e : Event) : Type 0 where
@@ -56,7 +78,7 @@ Made text Blank e = ⊥
 Made text Namespace e = (isPrefix text (e .prefix) ≡ true) × (isNamespace text (e .namespace) ≡ true) × (isAbsent (e .name) ≡ true) × (isAbsent (e .value) ≡ true)
 Made text Start e = Named text e × (isAbsent (e .value) ≡ true)
 Made text Attribute e = Named text e × (isValue text (e .value) ≡ true)
-Made text Chunk e = Nameless e × (isAbsent (e .name) ≡ true) × (isStretch text (e .value) ≡ true)
+Made text Chunk e = Nameless e × (isAbsent (e .name) ≡ true) × (isString text (e .value) ≡ true)
 Made text Comment e = Nameless e × (isAbsent (e .name) ≡ true) × (isValue text (e .value) ≡ true)
 Made text Instruction e = Nameless e × (isStretch text (e .name) ≡ true) × (isValue text (e .value) ≡ true)
 Made text End e = Nameless e × (isAbsent (e .name) ≡ true) × (isAbsent (e .value) ≡ true)
@@ -102,7 +124,7 @@ module _ (text : List ℕ) (e : Event) where
         value = v;
       }
 
-  nameless-placed : Nameless e → Lies text (e .name) → Lies text (e .value) → Placed text e
+  nameless-placed : Nameless e → LiesPlain text (e .name) → Lies text (e .value) → Placed text e
   nameless-placed n l v = record { prefix = absent-lies text (e .prefix) (n .prefix); namespace = absent-lies text (e .namespace) (n .namespace); name = l; value = v }
 
   placed-by : (k : Kind) → Made text k e → Placed text e
@@ -112,14 +134,14 @@ module _ (text : List ℕ) (e : Event) where
         prefix = prefix-lies text (e .prefix) (m .0);
         namespace = namespace-lies text (e .namespace) (m .1);
         name = absent-lies text (e .name) (m .2);
-        value = absent-lies text (e .value) (m .3);
+        value = absent-lies text (e .value) (m .3) .0;
       }
-  placed-by Start m = named-placed (m .0) (absent-lies text (e .value) (m .1))
+  placed-by Start m = named-placed (m .0) (absent-lies text (e .value) (m .1) .0)
   placed-by Attribute m = named-placed (m .0) (value-lies text (e .value) (m .1))
-  placed-by Chunk m = nameless-placed (m .0) (absent-lies text (e .name) (m .1)) (stretch-lies text (e .value) (m .2))
+  placed-by Chunk m = nameless-placed (m .0) (absent-lies text (e .name) (m .1)) (string-lies text (e .value) (m .2))
   placed-by Comment m = nameless-placed (m .0) (absent-lies text (e .name) (m .1)) (value-lies text (e .value) (m .2))
   placed-by Instruction m = nameless-placed (m .0) (stretch-lies text (e .name) (m .1)) (value-lies text (e .value) (m .2))
-  placed-by End m = nameless-placed (m .0) (absent-lies text (e .name) (m .1)) (absent-lies text (e .value) (m .2))
+  placed-by End m = nameless-placed (m .0) (absent-lies text (e .name) (m .1)) (absent-lies text (e .value) (m .2) .0)
 
   pub made-placed : wellMade text (e .kind) e ≡ true → Placed text e
   made-placed h = placed-by (e .kind) (by-kind (e .kind) h)

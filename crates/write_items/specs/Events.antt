@@ -10,7 +10,7 @@ use Rattle.format.specs.Events as E
 use Rattle.format.specs.Items.{Mode, content, declaring, listing, State, mayStart}
 use Rattle.tables.specs.Located.{Located, octetsOf}
 pub use Rattle.events.specs.Records.{locatedOf, optionalOf}
-pub use Rattle.events.specs.WellMade.{isStretch}
+pub use Rattle.events.specs.WellMade.{isStretch, isString}
 use Rattle.events.specs.declared.EventString.{EventString}
 use Rattle.events.specs.declared.EventString.the-variants.{Absent, Empty, Stretch, XmlPrefix, XmlNamespace}
 use Rattle.events.specs.declared.Kind.{Kind}
@@ -20,21 +20,21 @@ use Rattle.events.specs.declared.Event.{Event}
 abbrev pub isAbsent : EventString → Bool
 isAbsent Absent = true
 isAbsent Empty = false
-isAbsent (Stretch p n) = false
+isAbsent (Stretch form p n) = false
 isAbsent XmlPrefix = false
 isAbsent XmlNamespace = false
 
 abbrev pub isPrefix : Octets → EventString → Bool
 isPrefix text Absent = true
 isPrefix text Empty = false
-isPrefix text (Stretch p n) = isStretch text (Stretch p n)
+isPrefix text (Stretch form p n) = isStretch text (Stretch form p n)
 isPrefix text XmlPrefix = true
 isPrefix text XmlNamespace = false
 
 abbrev pub isNamespace : Octets → EventString → Bool
 isNamespace text Absent = true
 isNamespace text Empty = false
-isNamespace text (Stretch p n) = isStretch text (Stretch p n)
+isNamespace text (Stretch form p n) = isStretch text (Stretch form p n)
 isNamespace text XmlPrefix = false
 isNamespace text XmlNamespace = true
 
@@ -42,7 +42,7 @@ isNamespace text XmlNamespace = true
 abbrev pub isValue : Octets → EventString → Bool
 isValue text Absent = false
 isValue text Empty = true
-isValue text (Stretch p n) = isStretch text (Stretch p n)
+isValue text (Stretch form p n) = isString text (Stretch form p n)
 isValue text XmlPrefix = false
 isValue text XmlNamespace = false
 
@@ -59,7 +59,7 @@ wellMade text Blank e = false
 wellMade text Namespace e = isPrefix text (e .prefix) && (isNamespace text (e .namespace) && (isAbsent (e .name) && isAbsent (e .value)))
 wellMade text Start e = isName text e && isAbsent (e .value)
 wellMade text Attribute e = isName text e && isValue text (e .value)
-wellMade text Chunk e = noName e && (isAbsent (e .name) && isStretch text (e .value))
+wellMade text Chunk e = noName e && (isAbsent (e .name) && isString text (e .value))
 wellMade text Comment e = noName e && (isAbsent (e .name) && isValue text (e .value))
 wellMade text Instruction e = noName e && (isStretch text (e .name) && isValue text (e .value))
 wellMade text End e = noName e && (isAbsent (e .name) && isAbsent (e .value))

@@ -23,7 +23,7 @@ use Rattle.write_names.specs.Choices.{within}
 use Rattle.write_names.specs.Contracts.{InOrder}
 use Rattle.write_items.specs.declared.Step.{Step}
 use Rattle.write_items.specs.declared.Step.the-variants.{On, Stop}
-use Rattle.write_items.specs.Events.{wellMade, eventOf, isListing}
+use Rattle.write_items.specs.Events.{wellMade, eventOf, allText, isListing}
 use Rattle.write_items.specs.Items.{writeItem}
 use Rattle.write_items.specs.Steps.{isAttribute, isEnd, opens, fits}
 use Rattle.write_items.specs.OutputContracts.{endOctet}
@@ -41,12 +41,13 @@ abbrev pub endPut : Bool → (out : Octets) (at : ℕ) → Octets
 endPut true out at = set out (at / 2) (endOctet at)
 endPut false out at = out
 
--- What an event of this kind is written from: it is well made, and the state is one that its item may follow.
+-- What an event of this kind is written from: it is well made and text, and the state is one that its item may follow.
 pub record Fit (text : Octets) (st : State) (c w : Words) (index : Octets) (k : Kind) (e : Event) : Type 0 where
   pub order : InOrder text c w index
   pub at : st .at ≤ 32769
   pub shallow : st .level + coming (st .mode) ≤ 32
   pub made : wellMade text k e ≡ true
+  pub texts : allText text (eventOf k e) ≡ true
   pub roomy : (opens (modeOf (st .mode)) (eventOf k e) && leb (link .depth) (st .level)) ≡ false
   pub inside : isEnd (eventOf k e) ≡ true → 0 < st .level
 

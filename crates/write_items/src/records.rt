@@ -9,11 +9,11 @@ ghost use Rattle.format.specs.Tables.{Vocabulary, link};
 ghost use Rattle.format.specs.Items.{mayStart};
 ghost use Rattle.tables.specs.Located.{Located, octetsOf};
 ghost use Rattle.events.specs.declared.Event.{Event};
-ghost use Rattle.write_items.specs.Events.{isAbsent, isStretch, isPrefix, isNamespace, isValue, isName, noName, wellMade, locatedOf, nameOf, eventOf, amongChildren, isDeclaring, isListing, goesOn, nameText, allText};
+ghost use Rattle.write_items.specs.Events.{isAbsent, isStretch, isString, isPrefix, isNamespace, isValue, isName, noName, wellMade, locatedOf, nameOf, eventOf, amongChildren, isDeclaring, isListing, goesOn, nameText, allText};
 ghost use Rattle.write_items.specs.RecordContracts.{isOne};
 ghost use Rattle.write_items.specs.Steps.{opens};
 ghost use Rattle.states.specs.States.{modeOf, stateOf};
-ghost use Rattle.write_items.specs.Contracts.{Lies, Placed, faultOf};
+ghost use Rattle.write_items.specs.Contracts.{Lies, LiesPlain, Placed, faultOf};
 use events::Event;
 use events::EventString;
 use events::Kind;
@@ -60,10 +60,21 @@ fn is_namespace(text: &[u8], x: EventString) -> bool
     is_one(text, x, tags::ABSENT, tags::XML_NAMESPACE)
 }
 
+// The same in any form; the tags of the other forms are the last.
+fn is_string(text: &[u8], x: EventString) -> bool
+    ensures { λ r. ⌜ r ≡ isString (now (text .entry)) x ⌝ }
+{
+    let tag = x.tag();
+    if tag == tags::STRETCH || tags::UTF16 <= tag {
+        return lies_in(text, x.place(), x.size());
+    }
+    false
+}
+
 fn is_value(text: &[u8], x: EventString) -> bool
     ensures { λ r. ⌜ r ≡ isValue (now (text .entry)) x ⌝ }
 {
-    is_one(text, x, tags::EMPTY, tags::EMPTY)
+    x.tag() == tags::EMPTY || is_string(text, x)
 }
 
 // A name's strings: a prefix only with a namespace.
@@ -103,16 +114,16 @@ fn well_made(text: &[u8], e: Event) -> bool
         }
         Kind::Start => is_name(text, e) && is_absent(value),
         Kind::Attribute => is_name(text, e) && is_value(text, value),
-        Kind::Chunk => no_name(e) && (is_absent(name) && is_stretch(text, value)),
+        Kind::Chunk => no_name(e) && (is_absent(name) && is_string(text, value)),
         Kind::Comment => no_name(e) && (is_absent(name) && is_value(text, value)),
         Kind::Instruction => no_name(e) && (is_stretch(text, name) && is_value(text, value)),
         Kind::End => no_name(e) && (is_absent(name) && is_absent(value)),
     }
 }
 
-// The string is text; only a stretch has to be looked at.
+// The identifying string is text; only a stretch has to be looked at, and it is in utf-8.
 fn is_text_string(text: &[u8], x: EventString) -> bool
-    requires { ⌜ Lies (now text) x ⌝ }
+    requires { ⌜ LiesPlain (now text) x ⌝ }
     ensures { λ r. ⌜ r ≡ isText (octetsOf (now (text .entry)) (locatedOf x)) ⌝ }
 {
     if x.tag() != tags::STRETCH {
@@ -120,6 +131,20 @@ fn is_text_string(text: &[u8], x: EventString) -> bool
     }
     let from = x.place() as usize;
     is_text(text, from, from + x.size() as usize)
+}
+
+// The same of a string in any form.
+fn is_text_value(text: &[u8], x: EventString) -> bool
+    requires { ⌜ Lies (now text) x ⌝ }
+    ensures { λ r. ⌜ r ≡ isText (octetsOf (now (text .entry)) (locatedOf x)) ⌝ }
+{
+    match x {
+        EventString::Stretch(form, place, size) => {
+            let from = place as usize;
+            forms::is_text(text, form, from, from + size as usize)
+        }
+        _ => true,
+    }
 }
 
 fn name_text(text: &[u8], e: Event) -> bool
@@ -146,10 +171,10 @@ fn all_text(text: &[u8], e: Event) -> bool
         Kind::Blank => true,
         Kind::Namespace => is_text_string(text, prefix) && is_text_string(text, namespace),
         Kind::Start => name_text(text, e),
-        Kind::Attribute => name_text(text, e) && is_text_string(text, value),
-        Kind::Chunk => is_text_string(text, value),
-        Kind::Comment => is_text_string(text, value),
-        Kind::Instruction => is_text_string(text, name) && is_text_string(text, value),
+        Kind::Attribute => name_text(text, e) && is_text_value(text, value),
+        Kind::Chunk => is_text_value(text, value),
+        Kind::Comment => is_text_value(text, value),
+        Kind::Instruction => is_text_string(text, name) && is_text_value(text, value),
         Kind::End => true,
     }
 }

@@ -1,3 +1,5 @@
 pub mod Order
+pub mod Stretches
+pub mod FormLaws
 pub mod StringLaws
 pub mod NameLaws

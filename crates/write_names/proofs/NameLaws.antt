@@ -37,6 +37,7 @@ use Rattle.write_names.specs.declared.Wrote.the-variants.{Put, Full}
 use Rattle.write_names.specs.Choices.{Wrote, writeId, writeOptional, writeName, within}
 use Rattle.write_names.specs.Contracts.{stringMost, pairMost, nameMost, tablesIn, InOrder, heldAs, Looked, namedOf, Held, numberThen, tripleFor, nameHeldAs, Proper, New, Tripled, pairBehind, declaredBy, Stands, Meets}
 use Rattle.write_names.proofs.Order.{entries-count, triples-are, triples-count, counted-at, order-name, grows-on, grows-id, grows-optional, grows-name, within-grown, full-name}
+use Rattle.write_names.proofs.Stretches.{tagged}
 use Rattle.write_names.proofs.StringLaws.{held-is, stands-put}
 
 -- ---- a string's number once it is written
@@ -74,7 +75,7 @@ then-optional : (text : List ℕ) (t : StringTable) (v : Vocabulary Located) (x 
 unfolding writeOptional numberThen heldAs
 then-optional text t v Absent n k size held = rw held
 then-optional text t v Empty n k size held = then-id text t v Empty n k size held (omega arith)
-then-optional text t v (Stretch p m) n k size held = then-id text t v (Stretch p m) n k size held (omega arith)
+then-optional text t v (Stretch f p m) n k size held = then-id text t v (Stretch f p m) n k size held (tagged (Stretch f p m) f p m refl)
 then-optional text t v XmlPrefix n k size held = then-id text t v XmlPrefix n k size held (omega arith)
 then-optional text t v XmlNamespace n k size held = then-id text t v XmlNamespace n k size held (omega arith)
 
@@ -97,7 +98,7 @@ held-by : (text : List ℕ) (t : StringTable) (u v : Vocabulary Located) (x : Ev
 unfolding heldAs
 held-by text t u v Absent e = refl
 held-by text t u v Empty e = rw e
-held-by text t u v (Stretch p n) e = rw e
+held-by text t u v (Stretch f p n) e = rw e
 held-by text t u v XmlPrefix e = rw e
 held-by text t u v XmlNamespace e = rw e
 

@@ -12,13 +12,16 @@ use lib.ListN.{length, getD, set, replicate, length-append, length-replicate}
 use Rattle.format.specs.Numbers.{pick}
 use Rattle.format.specs.Events.{How}
 use Rattle.format.specs.Tables.{StringTable, PREFIX, NAMESPACE-NAME, LOCAL-NAME, OTHER-NCNAME, NameTable, ELEMENT-NAME, ATTRIBUTE-NAME, Triple, Vocabulary, strings, names, adding, addingName, starting, link}
+use Rattle.format.specs.Forms.{formNumber}
+use Rattle.format.specs.declared.StringForm.{StringForm}
 use Rattle.tables.specs.Located.{Located, stretch, builtInPrefix, builtInNamespace, octetsOf, start}
 use Rattle.tables.specs.Search.{numberIn}
 use Rattle.tables.specs.Counts.{countsOf}
 use Rattle.tables.specs.Rows.{tableOf, place, stringAt, tripleAt, entries}
-use Rattle.tables.specs.Kept.{nameTableOf, listed, unlisted, countOf}
+use Rattle.tables.specs.Kept.{nameTableOf, listed, unlisted, countOf, Ends, IsSound, AllSound}
 use Rattle.tables.proofs.Adding.{extended, adding-is}
-use Rattle.tables.proofs.Laws.{strings-are, names-are, length-strings, length-names, counted-start, clean-start, inside-start, vocabulary-start}
+use Rattle.tables.proofs.FormLaws.{MayHold}
+use Rattle.tables.proofs.Laws.{strings-are, names-are, length-strings, length-names, counted-start, clean-start, all-start, all-string, all-name, vocabulary-start}
 use Rattle.tables.proofs.Found.{both-true}
 use Rattle.index.specs.Indexed.{slots, StringEntered, NameEntered}
 use Rattle.index.proofs.Counted.{indexed-start, count-at, one-more-words}
@@ -32,11 +35,23 @@ begins-extended false x y l h = h
 begins-extended true x y [] h = absurd h
 begins-extended true x y (z ∷ l) h = h
 
-begins-named : (p n : Located) (v : Vocabulary Located) (t : NameTable) (x : Triple) → Begins p (v .prefixes) → Begins n (v .namespaces)
-    → Begins p (addingName v t x .prefixes) × Begins n (addingName v t x .namespaces)
-unfolding addingName
-begins-named p n v ELEMENT-NAME x a b = (a, b)
-begins-named p n v ATTRIBUTE-NAME x a b = (a, b)
+module _ (text : List ℕ) where
+  -- what a writer keeps beside the order: two tables begin with their built-in entry, and each string is one in its form
+  abbrev Kept : Vocabulary Located → Type 0
+  Kept v = Begins builtInPrefix (v .prefixes) × Begins builtInNamespace (v .namespaces) × AllSound text v
+
+  kept-string : (v : Vocabulary Located) (t : StringTable) (x : Located) → Kept v → IsSound text x → Kept (adding v t x)
+  kept-string v t x k sound =
+      let is = adding-is v t x in (
+        rw is (begins-extended (eqb (place t) 0) builtInPrefix x (v .prefixes) (k .0)),
+        rw is (begins-extended (eqb (place t) 1) builtInNamespace x (v .namespaces) (k .1)),
+        all-string (IsSound text) v t x (k .2) sound,
+      )
+
+  kept-name : (v : Vocabulary Located) (t : NameTable) (x : Triple) → Kept v → Kept (addingName v t x)
+  unfolding addingName
+  kept-name v ELEMENT-NAME x k = (k .0, k .1, all-name (IsSound text) v ELEMENT-NAME x (k .2))
+  kept-name v ATTRIBUTE-NAME x k = (k .0, k .1, all-name (IsSound text) v ATTRIBUTE-NAME x (k .2))
 
 -- the entries of a table of strings, and of a table of names, are as many as their count says
 module _ (c w : List ℕ) (ten : length c ≡ 10) (t : ℕ) where
@@ -59,14 +74,13 @@ module _ (text c w ix : List ℕ) (t : ℕ) (order : InOrder text c w ix) (room 
   abbrev then-counts : List ℕ
   then-counts = set c t (getD c t 0 + 1)
 
-  module _ (p n : ℕ) (small : t < 8) (some : 0 < n) (lies : p + n ≤ length text) where
-    pub order-string : (v iv : List ℕ) → StringEntered text t (getD c t 0) p n w ix v iv → InOrder text then-counts v iv
+  module _ (f : StringForm) (p n : ℕ) (small : t < 8) (may : MayHold t f) (some : 0 < n) (lies : p + n ≤ length text) (sound : IsSound text (stretch f p n)) where
+    pub order-string : (v iv : List ℕ) → StringEntered text t (getD c t 0) (record { a = p; b = n; c = formNumber f }) w ix v iv → InOrder text then-counts v iv
     order-string v iv e =
-        let more : tablesIn then-counts v ≡ adding (tablesIn c w) (tableOf t) (stretch p n) = rw (e .words) (string-more order t room p n small some) in
-        ordered-string order t room p n small some lies v iv (e .words)
+        let more : tablesIn then-counts v ≡ adding (tablesIn c w) (tableOf t) (stretch f p n) = rw (e .words) (string-more order t room f p n small may some) in
+        ordered-string order t room f p n small may some lies v iv (e .words)
         (e .keeps .still every (countOf (unlisted c)) (countOf (unlisted then-counts)) (one-more-words c (order .ten) t (omega arith)) (order .indexed))
-        (rw (more, adding-is (tablesIn c w) (tableOf t) (stretch p n))
-        (begins-extended (eqb (place (tableOf t)) 0) builtInPrefix (stretch p n) (tablesIn c w .prefixes) (order .more .0), begins-extended (eqb (place (tableOf t)) 1) builtInNamespace (stretch p n) (tablesIn c w .namespaces) (order .more .1)))
+        (rw more (kept-string text (tablesIn c w) (tableOf t) (stretch f p n) (order .more) sound))
 
   module _ (x : Triple) (low : 8 ≤ t) (high : t < 10) where
     pub order-name : (v iv : List ℕ) → NameEntered text t (getD c t 0) x w ix v iv → InOrder text then-counts v iv
@@ -74,7 +88,7 @@ module _ (text c w ix : List ℕ) (t : ℕ) (order : InOrder text c w ix) (room 
         let more : tablesIn then-counts v ≡ addingName (tablesIn c w) (nameTableOf t) x = rw (e .words) (name-more order t room x low high) in
         ordered-name order t room x low high v iv (e .words)
         (e .keeps .still every (countOf (unlisted c)) (countOf (unlisted then-counts)) (one-more-words c (order .ten) t high) (order .indexed))
-        (rw more (begins-named builtInPrefix builtInNamespace (tablesIn c w) (nameTableOf t) x (order .more .0) (order .more .1)))
+        (rw more (kept-name text (tablesIn c w) (nameTableOf t) x (order .more)))
 
 pub order-start : (text ix : List ℕ) → length text ≤ 16384 → ix ≡ replicate slots 0 → InOrder text (listed (countsOf (start link))) (replicate 7680 0) ix
 unfolding start starting link countsOf
@@ -86,8 +100,8 @@ order-start text ix h zeros =
       room = length-replicate {A = ℕ} 7680 0;
       counted = counted-start;
       clean = clean-start;
-      inside = rw is (inside-start text);
-      more = rw is (refl, refl);
+      inside = rw is (all-start (Ends text) tt tt);
+      more = rw is (refl, refl, all-start (IsSound text) tt tt);
       indexed = indexed-start every text (replicate 7680 0) ix refl refl zeros;
     }
 

@@ -13,6 +13,9 @@ use Rattle.format.specs.Events.{spelled, numbered}
 use Rattle.format.specs.Tables.{StringTable, CONTENT-CHARACTER-CHUNK, Vocabulary, strings, adding, link}
 use Rattle.format.specs.Strings.{withLength, Layout, c14, c15}
 use Rattle.format.specs.Names.{has, ofElement, ofAttribute}
+use Rattle.format.specs.Forms.{formNumber, formOf}
+use Rattle.format.specs.declared.StringForm.{StringForm}
+use Rattle.format.specs.declared.StringForm.the-variants.{Utf8}
 use Rattle.fields.specs.PutContracts.{Puts}
 use Rattle.fields.proofs.Laws.{case}
 use Rattle.fields.proofs.Puts.{puts-nothing, puts-one, puts-append}
@@ -20,9 +23,11 @@ use Rattle.tables.specs.Located.{Located, stretch, builtInPrefix, builtInNamesp
 use Rattle.tables.specs.Search.{lowest, numberIn}
 use Rattle.tables.proofs.Search.{octets-stretch, length-octets}
 use Rattle.tables.specs.Rows.{tableOf, stringAt, entries}
-use Rattle.tables.specs.Kept.{unlisted, Inside, layoutOf}
-use Rattle.tables.proofs.Laws.{number-within, inside-table}
-use Rattle.index.specs.Indexed.{slots, StringsIndexed}
+use Rattle.tables.specs.Kept.{unlisted, Ends, Inside, IsSound, layoutOf}
+use Rattle.tables.proofs.FormLaws.{MayHold, holds-any, form-of}
+use Rattle.tables.proofs.Laws.{number-within, all-table}
+use Rattle.index.specs.Hash.{bucket}
+use Rattle.index.specs.Indexed.{slots, StringsIndexed, SoughtSaid}
 use Rattle.index.proofs.Counted.{count-at}
 use Rattle.index.proofs.Ordered.{string-more}
 use Rattle.events.specs.declared.EventString.{EventString}
@@ -35,37 +40,16 @@ use Rattle.write_names.specs.declared.Wrote.the-variants.{Put, Full}
 use Rattle.write_names.specs.declared.Sought.{Sought}
 use Rattle.write_names.specs.declared.Spelling.{Spelling}
 use Rattle.write_names.specs.Choices.{Wrote, writeId, writeOptional, writeLiteral, writeValue, worthAdding, within}
-use Rattle.write_names.specs.Contracts.{stringMost, tablesIn, Begins, InOrder, Suits, Fills, Spells, heldAs, Looked, Added, spelledAs, Stands, Meets}
+use Rattle.write_names.specs.Contracts.{stringMost, valueMost, chosenField, tablesIn, Begins, InOrder, Suits, Fills, Spells, heldAs, Looked, Added, spelledAs, Stands, Meets}
 use Rattle.write_names.proofs.Order.{entries-are, entries-count, counted-at, order-string, full-string}
+use Rattle.write_names.proofs.Stretches.{there, absent, tagged, Stretched, stretched, located, said-length}
 
 -- ---- a string of an event
 pub has-none : (x : EventString) → stringTag x ≡ 0 → (0 ≡ has (optionalOf x)) × (0 ≤ 1)
-has-none Absent e = (refl, omega arith)
-has-none Empty e = absurd (omega arith)
-has-none (Stretch p n) e = absurd (omega arith)
-has-none XmlPrefix e = absurd (omega arith)
-has-none XmlNamespace e = absurd (omega arith)
+has-none x e = rw (absent x e) (refl, omega arith)
 
 pub has-one : (x : EventString) → (stringTag x ≡ 0 → ⊥) → (1 ≡ has (optionalOf x)) × (1 ≤ 1)
-has-one Absent e = absurd (e refl)
-has-one Empty e = (refl, omega arith)
-has-one (Stretch p n) e = (refl, omega arith)
-has-one XmlPrefix e = (refl, omega arith)
-has-one XmlNamespace e = (refl, omega arith)
-
-there : (x : EventString) → 1 ≤ stringTag x → optionalOf x ≡ some (locatedOf x)
-there Absent h = absurd (omega arith)
-there Empty h = refl
-there (Stretch p n) h = refl
-there XmlPrefix h = refl
-there XmlNamespace h = refl
-
-absent : (x : EventString) → stringTag x ≡ 0 → x ≡ Absent
-absent Absent e = refl
-absent Empty e = absurd (omega arith)
-absent (Stretch p n) e = absurd (omega arith)
-absent XmlPrefix e = absurd (omega arith)
-absent XmlNamespace e = absurd (omega arith)
+has-one x e = rw (there x (omega arith)) (refl, omega arith)
 
 -- ---- a name's layout
 module _ (t : ℕ) (e : t ≡ 8) where
@@ -92,13 +76,13 @@ module _ (text c w ix : List ℕ) (t : ℕ) (order : InOrder text c w ix) (x : E
   pub held-empty : x ≡ Empty → Suits text t x → (0 ≡ heldAs text (tableOf t) (tablesIn c w) x) × (0 ≤ 256)
   held-empty e s = absurd (rw e at s)
 
-  pub held-stretch : (p n a b r : ℕ) → x ≡ Stretch p n → a ≡ p → b ≡ n → t < 8
-      → r ≡ numberIn (map (octetsOf text) (entries (stringAt (tableOf t) w) (768 * t) (getD c t 0))) (octetsOf text (stretch a b))
+  pub held-stretch : (f : StringForm) (p n r : ℕ) → x ≡ Stretch f p n → t < 8
+      → r ≡ numberIn (map (octetsOf text) (entries (stringAt (tableOf t) w) (768 * t) (getD c t 0))) (octetsOf text (stretch f p n))
       → (r ≡ heldAs text (tableOf t) (tablesIn c w) x) × (r ≤ 256)
   unfolding heldAs
-  held-stretch p n a b r e ea eb small is =
-      let q : r ≡ numberIn (map (octetsOf text) (strings (tablesIn c w) (tableOf t))) (octetsOf text (stretch p n)) = rw (entries-are c w (order .ten) t small, ← ea, ← eb) is in
-      let l = number-within (map (octetsOf text) (strings (tablesIn c w) (tableOf t))) (octetsOf text (stretch p n)) in
+  held-stretch f p n r e small is =
+      let q : r ≡ numberIn (map (octetsOf text) (strings (tablesIn c w) (tableOf t))) (octetsOf text (stretch f p n)) = rw (entries-are c w (order .ten) t small) is in
+      let l = number-within (map (octetsOf text) (strings (tablesIn c w) (tableOf t))) (octetsOf text (stretch f p n)) in
       let k = length-map (strings (tablesIn c w) (tableOf t)) (octetsOf text) in
       let f = entries-count c w (order .ten) t small in
       let g = counted-at text c w ix t order in
@@ -116,24 +100,48 @@ module _ (text c w ix : List ℕ) (t : ℕ) (order : InOrder text c w ix) (x : E
       let z : t ≡ 1 = rw e at s in
       (rw (e, z) (first-is text builtInNamespace (tablesIn c w .namespaces) (order .more .1)), omega arith)
 
--- what `find` asks
-pub find-ready : (text c w ix : List ℕ) (t : ℕ) → InOrder text c w ix → t < 8 → (x : EventString) (p n : ℕ) → x ≡ Stretch p n → Suits text t x
-    → (length w ≡ 7680) × (length ix ≡ slots) × (t < 8) × (getD c t 0 ≤ 256) × (p + n ≤ length text) × Inside text (entries (stringAt (tableOf t) w) (768 * t) (getD c t 0))
-    × StringsIndexed text w ix t (getD c t 0)
-find-ready text c w ix t order small x p n e s =
-    let q : (0 < n) × (p + n ≤ length text) = rw e at s in
-    let k = count-at c (order .ten) t in
-    let inside = inside-table text (unlisted c) w t small (order .inside) in
-    let indexed = order .indexed .ofStrings t small refl in
-    (order .room, order .indexed .size, small, counted-at text c w ix t order, q .1, rw k at inside, rw k at indexed)
+-- a stretch among the identifying strings is in utf-8
+pub suits-utf8 : (text : List ℕ) (t : ℕ) (x : EventString) (f : StringForm) (p n : ℕ) → x ≡ Stretch f p n → Suits text t x → x ≡ Stretch Utf8 p n
+suits-utf8 text t x f p n e s = let q : (0 < n) × (p + n ≤ length text) × (f ≡ Utf8) = rw e at s in e ∙ rw (q .2)
+
+-- what a search asks
+module _ (text c w ix : List ℕ) (t : ℕ) (order : InOrder text c w ix) (small : t < 8) where
+  inside-table : Inside text (entries (stringAt (tableOf t) w) (768 * t) (getD c t 0))
+  inside-table = rw (count-at c (order .ten) t) at (all-table (Ends text) (unlisted c) w t small (order .inside))
+
+  indexed-table : StringsIndexed text w ix t (getD c t 0)
+  indexed-table = rw (count-at c (order .ten) t) at (order .indexed .ofStrings t small refl)
+
+  pub find-ready : t < 5 → (x : EventString) (f : StringForm) (p n : ℕ) → x ≡ Stretch f p n → Suits text t x
+      → (length w ≡ 7680) × (length ix ≡ slots) × (t < 5) × (getD c t 0 ≤ 256) × (p + n ≤ length text) × Inside text (entries (stringAt (tableOf t) w) (768 * t) (getD c t 0))
+      × StringsIndexed text w ix t (getD c t 0)
+  find-ready few x f p n e s =
+      let q : (0 < n) × (p + n ≤ length text) × (f ≡ Utf8) = rw e at s in
+      (order .room, order .indexed .size, few, counted-at text c w ix t order, q .1, inside-table, indexed-table)
+
+  pub find-said-ready : 5 ≤ t → (x : EventString) (f : StringForm) (p n : ℕ) → Stretched text x f p n → SoughtSaid text w ix t (getD c t 0) f p n
+  find-said-ready other x f p n s = (
+    order .room,
+    order .indexed .size,
+    other,
+    small,
+    counted-at text c w ix t order,
+    s .some,
+    s .lies,
+    order .size,
+    s .sound,
+    inside-table,
+    rw (count-at c (order .ten) t) at (all-table (IsSound text) (unlisted c) w t small (order .more .2)),
+    indexed-table,
+  )
 
 -- a string that has no number is a stretch
 module _ (text c w ix : List ℕ) (t : ℕ) (order : InOrder text c w ix) where
   pub new-stretch : (x : EventString) → Suits text t x → 1 ≤ stringTag x → 0 ≡ heldAs text (tableOf t) (tablesIn c w) x
-      → (x ≡ Stretch (stringPlace x) (stringSize x)) × (0 < stringSize x) × (stringPlace x + stringSize x ≤ length text)
+      → Stretched text x Utf8 (stringPlace x) (stringSize x)
   new-stretch Absent s h e = absurd (omega arith)
   new-stretch Empty s h e = absurd s
-  new-stretch (Stretch p n) s h e = (refl, s .0, s .1)
+  new-stretch (Stretch f p n) s h e = record { is = rw (s .2); some = s .0; lies = s .1; sound = tt }
   new-stretch XmlPrefix s h e = let q = held-prefix text c w ix t order XmlPrefix refl s .0 in absurd (omega arith)
   new-stretch XmlNamespace s h e = let q = held-namespace text c w ix t order XmlNamespace refl s .0 in absurd (omega arith)
 
@@ -141,25 +149,42 @@ pub held-is : (text : List ℕ) (t : StringTable) (v : Vocabulary Located) (x : 
 unfolding heldAs octetsOf
 held-is text t v Absent h = absurd (omega arith)
 held-is text t v Empty h = refl
-held-is text t v (Stretch p n) h = refl
+held-is text t v (Stretch f p n) h = refl
 held-is text t v XmlPrefix h = refl
 held-is text t v XmlNamespace h = refl
 
 -- ---- a spelled string
 pub puts-spelled : (n lead : ℕ) (text : List ℕ) (place size : ℕ) {at r q : ℕ} {out out₁ out₂ : List ℕ} → place + size ≤ length text → length text ≤ 16384
     → Puts out at r out₁ (spell (lengths n) lead size) × (r ≤ at + 5) → Puts out₁ r q out₂ (take size (drop place text))
-    → Puts out at q out₂ (withLength (lengths n) lead (octetsOf text (stretch place size))) × (q ≤ at + stringMost)
+    → Puts out at q out₂ (withLength (lengths n) lead (octetsOf text (stretch Utf8 place size))) × (q ≤ at + stringMost)
 puts-spelled n lead text place size h short a b =
     let l = length-octets text place size h in
-    let c = rw (← octets-stretch text place size) at b in
+    let c = rw (← octets-stretch text Utf8 place size) at b in
     let k = c .behind in
     let m = a .1 in
     (rw l (puts-append (a .0) c), omega arith)
 
--- what `enter_in` asks: a string that has no number is not in its table
-pub added-new : (text c w ix : List ℕ) (t p m : ℕ) → InOrder text c w ix → t < 8 → 0 ≡ numberIn (map (octetsOf text) (strings (tablesIn c w) (tableOf t))) (octetsOf text (stretch p m))
-    → 0 ≡ numberIn (map (octetsOf text) (entries (stringAt (tableOf t) w) (768 * t) (getD c t 0))) (octetsOf text (stretch p m))
-added-new text c w ix t p m order small new = rw (← entries-are c w (order .ten) t small) new
+-- what `enter_in` asks of a string that its table may hold, and has `known` as its number there; k is the word that says its form
+pub enter-ready : (text c w ix : List ℕ) (t : ℕ) (f : StringForm) (p m : ℕ) → InOrder text c w ix → t < 8 → MayHold t f → getD c t 0 < 256 → 0 < m → p + m ≤ length text
+    → (known k h : ℕ) → known ≡ numberIn (map (octetsOf text) (strings (tablesIn c w) (tableOf t))) (octetsOf text (stretch f p m)) → k ≡ formNumber f
+    → (h ≡ bucket (octetsOf text (stretch f p m))) × (h < 128)
+    → (length w ≡ 7680) × (length ix ≡ slots) × (t < 8) × (getD c t 0 < 256) × (1 ≤ m) × (p + m ≤ length text) × (t < 5 → k ≡ 0)
+    × (known ≡ numberIn (map (octetsOf text) (entries (stringAt (tableOf t) w) (768 * t) (getD c t 0))) (octetsOf text (stretch (formOf k) p m)))
+    × (h ≡ bucket (octetsOf text (stretch (formOf k) p m)))
+    × (h < 128)
+enter-ready text c w ix t f p m order small may room full lies known k h is e b =
+    let form = form-of k f e in (
+      order .room,
+      order .indexed .size,
+      small,
+      room,
+      full,
+      lies,
+      λ l. e ∙ ap formNumber (may l),
+      rw (form, ← entries-are c w (order .ten) t small) is,
+      rw form (b .0),
+      b .1,
+    )
 
 -- ---- what was put stands for the definition
 module _ (text c w ix : List ℕ) (order : InOrder text c w ix) {H : Type 0} (d : Wrote H) {out out′ : List ℕ} {at r most : ℕ} where
@@ -167,16 +192,16 @@ module _ (text c w ix : List ℕ) (order : InOrder text c w ix) {H : Type 0} (d 
   stands-put p h e = record { puts = p; few = h; tables = e; order = order }
 
   -- and the string at a place became an entry
-  pub stands-added : (t p n : ℕ) → t < 8 → getD c t 0 < 256 → 0 < n → p + n ≤ length text → (c′ v iv : List ℕ)
-      → Added text t p n c w ix c′ v iv → Puts out at r out′ (d .octets) → r ≤ at + most
-      → adding (tablesIn c w) (tableOf t) (stretch p n) ≡ d .tables → Stands text out at most r out′ c′ v iv d
-  stands-added t p n small room full lies c′ v iv e q l is =
+  pub stands-added : (t : ℕ) (f : StringForm) (p n : ℕ) → t < 8 → MayHold t f → getD c t 0 < 256 → {x : EventString} → Stretched text x f p n → (c′ v iv : List ℕ)
+      → Added text t f p n c w ix c′ v iv → Puts out at r out′ (d .octets) → r ≤ at + most
+      → adding (tablesIn c w) (tableOf t) (locatedOf x) ≡ d .tables → Stands text out at most r out′ c′ v iv d
+  stands-added t f p n small may room s c′ v iv e q l is =
       rw (e .0)
       (record {
         puts = q;
         few = l;
-        tables = rw (e .1 .words) (string-more order t room p n small full) ∙ is;
-        order = order-string text c w ix t order room p n small full lies v iv (e .1);
+        tables = rw (e .1 .words) (string-more order t room f p n small may (s .some)) ∙ sym (ap (adding (tablesIn c w) (tableOf t)) (located s)) ∙ is;
+        order = order-string text c w ix t order room f p n small may (s .some) (s .lies) (s .sound) v iv (e .1);
       })
 
 -- ---- an identifying string: k is its number
@@ -185,7 +210,7 @@ module _ (text : List ℕ) (t : StringTable) (v : Vocabulary Located) (x : Locat
   unfolding writeId
   numbered-is n = rw (← is, ne-eqb k 0 n)
 
-  spelled-is : k ≡ 0 → writeId text t v x ≡ record { octets = withLength (lengths 2) 0 (octetsOf text x); how = spelled true; number = suc (length (strings v t)); tables = adding v t x }
+  spelled-is : k ≡ 0 → writeId text t v x ≡ record { octets = withLength (lengths 2) 0 (octetsOf text x); how = spelled Utf8 true; number = suc (length (strings v t)); tables = adding v t x }
   unfolding writeId
   spelled-is z = rw (← is, z)
 
@@ -206,28 +231,21 @@ module _ (text c w ix : List ℕ) (order : InOrder text c w ix) (x : Sought) (th
       rw (spelled-is text (tableOf (x .table)) (tablesIn c w) (locatedOf (x .string)) (x .number) held-number z) (full-string (tablesIn c w) (x .table) (locatedOf (x .string)) small (omega arith))
 
   module _ (z : x .number ≡ 0) where
-    is-stretch : (x .string ≡ Stretch (stringPlace (x .string)) (stringSize (x .string))) × (0 < stringSize (x .string)) × (stringPlace (x .string) + stringSize (x .string) ≤ length text)
-    is-stretch = new-stretch text c w ix (x .table) order (x .string) (looked .1) there (sym z ∙ looked .2)
-
-    pub id-stretch : (0 < stringSize (x .string)) × (stringPlace (x .string) + stringSize (x .string) ≤ length text)
-    id-stretch = (is-stretch .1, is-stretch .2)
-
     module _ (p n : ℕ) (ep : p ≡ stringPlace (x .string)) (en : n ≡ stringSize (x .string)) where
-      id-located : locatedOf (x .string) ≡ stretch p n
-      id-located = ap locatedOf (is-stretch .0) ∙ rw (ep, en)
+      pub id-stretch : Stretched text (x .string) Utf8 p n
+      id-stretch = rw (ep, en) (new-stretch text c w ix (x .table) order (x .string) (looked .1) there (sym z ∙ looked .2))
 
-      pub id-new : 0 ≡ numberIn (map (octetsOf text) (strings (tablesIn c w) (tableOf (x .table)))) (octetsOf text (stretch p n))
-      id-new = rw (← id-located) (sym z ∙ held-number)
+      pub id-new : 0 ≡ numberIn (map (octetsOf text) (strings (tablesIn c w) (tableOf (x .table)))) (octetsOf text (stretch Utf8 p n))
+      id-new = rw (← located id-stretch) (sym z ∙ held-number)
 
       pub id-added : getD c (x .table) 0 < 256 → (c′ v iv : List ℕ) {out out′ : List ℕ} {at r : ℕ}
-          → Added text (x .table) p n c w ix c′ v iv
-          → Puts out at r out′ (withLength (lengths 2) 0 (octetsOf text (stretch p n))) × (r ≤ at + stringMost)
+          → Added text (x .table) Utf8 p n c w ix c′ v iv
+          → Puts out at r out′ (withLength (lengths 2) 0 (octetsOf text (stretch Utf8 p n))) × (r ≤ at + stringMost)
           → Stands text out at stringMost r out′ c′ v iv (writeId text (tableOf (x .table)) (tablesIn c w) (locatedOf (x .string)))
       id-added room c′ v iv e q =
           let small = looked .0 in
-          let f = id-stretch in
-          rw (spelled-is text (tableOf (x .table)) (tablesIn c w) (locatedOf (x .string)) (x .number) held-number z, id-located)
-          (stands-added text c w ix order _ (x .table) p n (omega arith) room (let a = f .0 in omega arith) (let a = f .1 in omega arith) c′ v iv e (q .0) (q .1) refl)
+          rw (spelled-is text (tableOf (x .table)) (tablesIn c w) (locatedOf (x .string)) (x .number) held-number z)
+          (stands-added text c w ix order _ (x .table) Utf8 p n (omega arith) (λ l. refl) room id-stretch c′ v iv e (rw (← located id-stretch) at (q .0)) (q .1) refl)
 
 -- ---- one that may be absent
 module _ (text c w ix : List ℕ) (t : ℕ) (order : InOrder text c w ix) (x : EventString) where
@@ -245,104 +263,81 @@ module _ (text c w ix : List ℕ) (t : ℕ) (order : InOrder text c w ix) (x : E
 pub fills-empty : (text : List ℕ) (x : EventString) → Fills text x → stringSize x ≡ 0 → x ≡ Empty
 fills-empty text Absent f e = absurd f
 fills-empty text Empty f e = refl
-fills-empty text (Stretch p n) f e = let l = f .0 in absurd (omega arith)
+fills-empty text (Stretch g p n) f e = let l = f .0 in absurd (omega arith)
 fills-empty text XmlPrefix f e = absurd f
 fills-empty text XmlNamespace f e = absurd f
 
 pub fills-spells : (text : List ℕ) (x : EventString) → Fills text x → (stringSize x ≡ 0 → ⊥) → Spells text x
 fills-spells text Absent f n = f
 fills-spells text Empty f n = absurd (n refl)
-fills-spells text (Stretch p m) f n = f
+fills-spells text (Stretch g p m) f n = f
 fills-spells text XmlPrefix f n = f
 fills-spells text XmlNamespace f n = f
 
-pub spells-suits : (text : List ℕ) (t : ℕ) (x : EventString) → Spells text x → Suits text t x
-spells-suits text t Absent f = absurd f
-spells-suits text t Empty f = f
-spells-suits text t (Stretch p m) f = f
-spells-suits text t XmlPrefix f = absurd f
-spells-suits text t XmlNamespace f = absurd f
+pub spells-tagged : (text : List ℕ) (x : EventString) → Spells text x → 1 ≤ stringTag x
+spells-tagged text x spells = tagged x _ _ _ (stretched text x spells refl refl refl .is)
 
-pub spells-stretch : (text : List ℕ) (x : EventString) → Spells text x → (locatedOf x ≡ stretch (stringPlace x) (stringSize x)) × (0 < stringSize x) × (stringPlace x + stringSize x ≤ length text) × (1 ≤ stringTag x)
-spells-stretch text Absent f = absurd f
-spells-stretch text Empty f = absurd f
-spells-stretch text (Stretch p m) f = (refl, f .0, f .1, omega arith)
-spells-stretch text XmlPrefix f = absurd f
-spells-stretch text XmlNamespace f = absurd f
+module _ (text c w ix : List ℕ) (order : InOrder text c w ix) (x : EventString) (spells : Spells text x) where
+  pub literal-new : (t : ℕ) (f : StringForm) (p n : ℕ) → Stretched text x f p n → 0 ≡ heldAs text (tableOf t) (tablesIn c w) x
+      → 0 ≡ numberIn (map (octetsOf text) (strings (tablesIn c w) (tableOf t))) (octetsOf text (stretch f p n))
+  literal-new t f p n s new = rw (← located s) (new ∙ held-is text (tableOf t) (tablesIn c w) x (spells-tagged text x spells))
 
-pub literal-new : (text : List ℕ) (t : StringTable) (v : Vocabulary Located) (x : EventString) → Spells text x → (p n : ℕ) → p ≡ stringPlace x → n ≡ stringSize x → 0 ≡ heldAs text t v x
-    → 0 ≡ numberIn (map (octetsOf text) (strings v t)) (octetsOf text (stretch p n))
-literal-new text t v x spells p n ep en new =
-    let f = spells-stretch text x spells in
-    let y : locatedOf x ≡ stretch p n = f .0 ∙ rw (ep, en) in
-    rw (← y) (new ∙ held-is text t v x (f .3))
+  module _ (q : Spelling) (other : 5 ≤ q .table) (small : q .table < 8) (n : ℕ) (size : n ≡ length (octetsOf text (locatedOf x))) where
+    worth-long : 5 < n → worthAdding link (strings (tablesIn c w) (tableOf (q .table))) (octetsOf text (locatedOf x)) ≡ false
+    unfolding worthAdding
+    worth-long h = rw (← size, lt-leb n 5 h)
 
-module _ (text c w ix : List ℕ) (order : InOrder text c w ix) (x : EventString) (spells : Spells text x) (q : Spelling) (small : q .table < 8)
-    (p n : ℕ) (ep : p ≡ stringPlace x) (en : n ≡ stringSize x) where
-  located : locatedOf x ≡ stretch p n
-  located = spells-stretch text x spells .0 ∙ rw (ep, en)
+    worth-full : n ≤ 5 → 256 ≤ getD c (q .table) 0 → worthAdding link (strings (tablesIn c w) (tableOf (q .table))) (octetsOf text (locatedOf x)) ≡ false
+    unfolding worthAdding link
+    worth-full h full = rw (← size, le-leb n 5 h, entries-count c w (order .ten) (q .table) small, le-ltb _ _ full)
 
-  sized : length (octetsOf text (stretch p n)) ≡ n
-  sized = let f = spells-stretch text x spells in let l = f .2 in length-octets text p n (omega arith)
+    worth-more : n ≤ 5 → getD c (q .table) 0 < 256 → worthAdding link (strings (tablesIn c w) (tableOf (q .table))) (octetsOf text (locatedOf x)) ≡ true
+    unfolding worthAdding link
+    worth-more h room = rw (← size, le-leb n 5 h, entries-count c w (order .ten) (q .table) small, lt-ltb _ _ room)
 
-  worth-long : 5 < n → worthAdding link (strings (tablesIn c w) (tableOf (q .table))) (octetsOf text (stretch p n)) ≡ false
-  unfolding worthAdding
-  worth-long h = rw (sized, lt-leb n 5 h)
+    -- one that is not added
+    pub literal-kept : (n ≤ 5 → 256 ≤ getD c (q .table) 0) → {out out′ : List ℕ} {at r : ℕ}
+        → Puts out at r out′ (chosenField (q .bit) (q .lead) (octetsOf text (locatedOf x))) × (r ≤ at + valueMost)
+        → Stands text out at valueMost r out′ c w ix (spelledAs q text (tablesIn c w) (locatedOf x))
+    unfolding spelledAs
+    literal-kept why g =
+        let z : q .lead + q .add * 0 ≡ q .lead = omega arith in
+        rw (case 5 n worth-long (λ l. worth-full l (why l)), z) (stands-put text c w ix order _ (g .0) (g .1) refl)
 
-  worth-full : n ≤ 5 → 256 ≤ getD c (q .table) 0 → worthAdding link (strings (tablesIn c w) (tableOf (q .table))) (octetsOf text (stretch p n)) ≡ false
-  unfolding worthAdding link
-  worth-full h full = rw (sized, le-leb n 5 h, entries-count c w (order .ten) (q .table) small, le-ltb _ _ full)
-
-  worth-more : n ≤ 5 → getD c (q .table) 0 < 256 → worthAdding link (strings (tablesIn c w) (tableOf (q .table))) (octetsOf text (stretch p n)) ≡ true
-  unfolding worthAdding link
-  worth-more h room = rw (sized, le-leb n 5 h, entries-count c w (order .ten) (q .table) small, lt-ltb _ _ room)
-
-  -- one that is not added
-  pub literal-kept : (n ≤ 5 → 256 ≤ getD c (q .table) 0) → {out out′ : List ℕ} {at r : ℕ}
-      → Puts out at r out′ (withLength (lengths (q .bit)) (q .lead) (octetsOf text (stretch p n))) × (r ≤ at + stringMost)
-      → Stands text out at stringMost r out′ c w ix (spelledAs q text (tablesIn c w) (locatedOf x))
-  unfolding spelledAs
-  literal-kept why g =
-      let z : q .lead + q .add * 0 ≡ q .lead = omega arith in
-      rw (located, case 5 n worth-long (λ l. worth-full l (why l)), z) (stands-put text c w ix order _ (g .0) (g .1) refl)
-
-  pub literal-added : n ≤ 5 → getD c (q .table) 0 < 256 → (b : ℕ) → b ≡ q .lead + q .add → (c′ v iv : List ℕ) {out out′ : List ℕ} {at r : ℕ}
-      → Added text (q .table) p n c w ix c′ v iv
-      → Puts out at r out′ (withLength (lengths (q .bit)) b (octetsOf text (stretch p n))) × (r ≤ at + stringMost)
-      → Stands text out at stringMost r out′ c′ v iv (spelledAs q text (tablesIn c w) (locatedOf x))
-  unfolding spelledAs
-  literal-added l room b eb c′ v iv e g =
-      let z : q .lead + q .add * 1 ≡ b = omega arith in
-      let f = spells-stretch text x spells in
-      rw (located, worth-more l room, z)
-      (stands-added text c w ix order _ (q .table) p n small room (let a = f .1 in omega arith) (let a = f .2 in omega arith) c′ v iv e (g .0) (g .1) refl)
+    pub literal-added : n ≤ 5 → getD c (q .table) 0 < 256 → (f : StringForm) (p m : ℕ) → Stretched text x f p m → (b : ℕ) → b ≡ q .lead + q .add → (c′ v iv : List ℕ) {out out′ : List ℕ} {at r : ℕ}
+        → Added text (q .table) f p m c w ix c′ v iv
+        → Puts out at r out′ (chosenField (q .bit) b (octetsOf text (locatedOf x))) × (r ≤ at + valueMost)
+        → Stands text out at valueMost r out′ c′ v iv (spelledAs q text (tablesIn c w) (locatedOf x))
+    unfolding spelledAs
+    literal-added l room f p m s b eb c′ v iv e g =
+        let z : q .lead + q .add * 1 ≡ b = omega arith in
+        rw (worth-more l room, z) (stands-added text c w ix order _ (q .table) f p m small (holds-any (q .table) f other) room s c′ v iv e (g .0) (g .1) refl)
 
 -- k is the number that the table has for it
 module _ (text c w ix : List ℕ) (t : ℕ) (order : InOrder text c w ix) (x : EventString) (k : ℕ) (held : k ≡ heldAs text (tableOf t) (tablesIn c w) x) where
   module _ (spells : Spells text x) (q : Layout) where
     number-is : k ≡ numberIn (map (octetsOf text) (strings (tablesIn c w) (tableOf t))) (octetsOf text (locatedOf x))
-    number-is = held ∙ held-is text (tableOf t) (tablesIn c w) x (spells-stretch text x spells .3)
+    number-is = held ∙ held-is text (tableOf t) (tablesIn c w) x (spells-tagged text x spells)
 
-    literal-numbered : (k ≡ 0 → ⊥) → {out out′ : List ℕ} {at r : ℕ} → Puts out at r out′ (spell (q .numberForms) (q .numberedBits) k) → r ≤ at + stringMost
-        → Stands text out at stringMost r out′ c w ix (writeLiteral link q text (tableOf t) (tablesIn c w) (locatedOf x))
+    literal-numbered : (k ≡ 0 → ⊥) → {out out′ : List ℕ} {at r : ℕ} → Puts out at r out′ (spell (q .numberForms) (q .numberedBits) k) → r ≤ at + valueMost
+        → Stands text out at valueMost r out′ c w ix (writeLiteral link q text (tableOf t) (tablesIn c w) (locatedOf x))
     unfolding writeLiteral
     literal-numbered n p l = rw (← number-is, ne-eqb k 0 n) (stands-put text c w ix order _ p l refl)
 
     literal-spelled : k ≡ 0
         → spelledAs (record { table = t; bit = q .lengthBit; lead = q .spelledBits; add = q .addBit }) text (tablesIn c w) (locatedOf x) ≡ writeLiteral link q text (tableOf t) (tablesIn c w) (locatedOf x)
-    unfolding writeLiteral spelledAs
+    unfolding writeLiteral spelledAs chosenField
     literal-spelled z = rw (← number-is, z)
 
   module _ (fills : Fills text x) (n : stringSize x ≡ 0 → ⊥) where
     value-is : writeValue link text (tableOf t) (tablesIn c w) (locatedOf x) ≡ writeLiteral link c14 text (tableOf t) (tablesIn c w) (locatedOf x)
     unfolding writeValue
     value-is =
-        let f = spells-stretch text x (fills-spells text x fills n) in
-        let l = f .1 in
-        rw (f .0, length-octets text (stringPlace x) (stringSize x) (f .2), ne-eqb (stringSize x) 0 n)
+        let l = said-length (stretched text x (fills-spells text x fills n) refl refl refl) (order .size) .0 in
+        rw (ne-eqb (length (octetsOf text (locatedOf x))) 0 (omega arith))
 
     pub value-numbered : (k ≡ 0 → ⊥) → {out out′ : List ℕ} {at r : ℕ} → Puts out at r out′ (spell c25 0x80 k) × (r ≤ at + 3)
-        → Stands text out at stringMost r out′ c w ix (writeValue link text (tableOf t) (tablesIn c w) (locatedOf x))
+        → Stands text out at valueMost r out′ c w ix (writeValue link text (tableOf t) (tablesIn c w) (locatedOf x))
     unfolding c14
     value-numbered m p = rw value-is (literal-numbered (fills-spells text x fills n) c14 m (p .0) (let l = p .1 in omega arith))
 
@@ -351,13 +346,13 @@ module _ (text c w ix : List ℕ) (t : ℕ) (order : InOrder text c w ix) (x : E
     value-spelled z = rw value-is (literal-spelled (fills-spells text x fills n) c14 z)
 
 pub value-empty : (text c w ix : List ℕ) (t : ℕ) (order : InOrder text c w ix) (x : EventString) (fills : Fills text x) → stringSize x ≡ 0 → {out out′ : List ℕ} {at : ℕ} → out′ ≡ set out at 0xFF
-    → Stands text out at stringMost (at + 1) out′ c w ix (writeValue link text (tableOf t) (tablesIn c w) (locatedOf x))
+    → Stands text out at valueMost (at + 1) out′ c w ix (writeValue link text (tableOf t) (tablesIn c w) (locatedOf x))
 unfolding writeValue octetsOf
 value-empty text c w ix t order x fills z e = rw (fills-empty text x fills z) (stands-put text c w ix order _ (puts-one e) (omega arith) refl)
 
 module _ (text c w ix : List ℕ) (order : InOrder text c w ix) (x : EventString) (spells : Spells text x) (k : ℕ) (held : k ≡ heldAs text (tableOf 6) (tablesIn c w) x) where
   pub chunk-numbered : (k ≡ 0 → ⊥) → {out out′ : List ℕ} {at r : ℕ} → Puts out at r out′ (spell (numbers 4) 0xA0 k) × (r ≤ at + 4)
-      → Stands text out at stringMost r out′ c w ix (writeLiteral link c15 text CONTENT-CHARACTER-CHUNK (tablesIn c w) (locatedOf x))
+      → Stands text out at valueMost r out′ c w ix (writeLiteral link c15 text CONTENT-CHARACTER-CHUNK (tablesIn c w) (locatedOf x))
   unfolding c15 tableOf
   chunk-numbered n p = literal-numbered text c w ix 6 order x k held spells c15 n (p .0) (let l = p .1 in omega arith)
 

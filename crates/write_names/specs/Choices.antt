@@ -1,15 +1,18 @@
--- The choices that the requirements fix for the writer: the lowest number where the table holds the string, else spelled; and the octets by them.
+-- The choices that the requirements fix for the writer: the lowest number where the table holds the string, else spelled, and in which form; and the octets by them.
 use Prim.Native.Nat.{ℕ, suc, _+_, _*_}
 use mathlib.Core.Bool.{Bool, true, _&&_}
 use mathlib.Core.Option.{Option, none, some}
 use mathlib.Core.List.{List, [], _∷_, _++_, map}
 use lib.ListN.{length}
 use lib.Dec.{eqb, ltb, leb}
+use Rattle.format.specs.declared.StringForm.{StringForm}
+use Rattle.format.specs.declared.StringForm.the-variants.{Utf8}
 use Rattle.format.specs.Octets.{Octets}
 use Rattle.format.specs.Numbers.{pick, lengths, spell, c25}
 use Rattle.format.specs.Events.{Name, How, spelled, numbered, NameHow, inParts, byNumber}
 use Rattle.format.specs.Tables.{StringTable, PREFIX, NAMESPACE-NAME, LOCAL-NAME, Triple, Vocabulary, strings, names, adding, addingName, Version}
-use Rattle.format.specs.Strings.{withLength, bit, Layout, c14, keeping}
+use Rattle.format.specs.Strings.{withLength, inFormat, bit, Layout, c14, keeping}
+use Rattle.forms.specs.Packing.{alphabetFor, inForm}
 use Rattle.format.specs.Names.{has, NameLayout}
 use Rattle.tables.specs.Located.{Located, octetsOf}
 use Rattle.tables.specs.Search.{numberIn, numberOfTriple}
@@ -26,7 +29,7 @@ unfoldable pub writeId : Octets → StringTable → Vocabulary Located → Locat
 writeId text t v x =
     let k : ℕ = numberIn (map (octetsOf text) (strings v t)) (octetsOf text x) in
     pick (eqb k 0)
-    (record { octets = withLength (lengths 2) 0 (octetsOf text x); how = spelled true; number = suc (length (strings v t)); tables = adding v t x })
+    (record { octets = withLength (lengths 2) 0 (octetsOf text x); how = spelled Utf8 true; number = suc (length (strings v t)); tables = adding v t x })
     (record { octets = spell c25 0x80 k; how = numbered k; number = k; tables = v })
 
 unfoldable pub writeOptional : Octets → StringTable → Vocabulary Located → Option Located → Wrote (Option How)
@@ -52,8 +55,15 @@ writeName q lead text v x =
     })
     (record { octets = spell (q .numberForms) lead k; how = byNumber k; number = k; tables = v })
 
+-- A string's field, in a form that the string fits; the form in which it is spelled: an alphabet only where it saves octets over utf-8, all octets of the field counted. utf-16 never saves any.
+unfoldable pub fieldIn : (lengthBit : ℕ) → StringForm → (lead : ℕ) → Octets → Octets
+fieldIn bit form lead x = inFormat bit form lead (inForm form x)
+
+unfoldable pub formFor : (lengthBit : ℕ) → Octets → StringForm
+formFor bit x = pick (ltb (length (fieldIn bit (alphabetFor x) 0 x)) (length (fieldIn bit Utf8 0 x))) (alphabetFor x) Utf8
+
 module _ (ver : Version) where
-  -- A string of up to 5 octets is added where its table has room. (An empty one does not come here.)
+  -- A string of up to 5 octets, in UTF-8, is added where its table has room. (An empty one does not come here.)
   unfoldable pub worthAdding : {S : Type 0} → List S → Octets → Bool
   worthAdding table x = leb (length x) 5 && ltb (length table) (ver .entries)
 
@@ -63,8 +73,9 @@ module _ (ver : Version) where
       let o : Octets = octetsOf text x in
       let k : ℕ = numberIn (map (octetsOf text) (strings v t)) o in
       let added : Bool = worthAdding (strings v t) o in
+      let form : StringForm = formFor (q .lengthBit) o in
       pick (eqb k 0)
-      (record { octets = withLength (lengths (q .lengthBit)) (q .spelledBits + q .addBit * bit added) o; how = spelled added; number = 0; tables = keeping added v t x })
+      (record { octets = fieldIn (q .lengthBit) form (q .spelledBits + q .addBit * bit added) o; how = spelled form added; number = 0; tables = keeping added v t x })
       (record { octets = spell (q .numberForms) (q .numberedBits) k; how = numbered k; number = k; tables = v })
 
   -- A value, comment or content: FF for the empty string.

@@ -11,9 +11,10 @@ use Rattle.format.specs.Events.{Name, Event, Namespace, Start, Attribute, Text,
 use Rattle.format.specs.Events.{Choice, forNamespace, forStart, forAttribute, forText, forComment, forInstruction, forEnd, Item, _by_}
 use Rattle.format.specs.Tables.{StringTable, PREFIX, NAMESPACE-NAME, LOCAL-NAME, OTHER-NCNAME, ATTRIBUTE-VALUE, CONTENT-CHARACTER-CHUNK, OTHER-STRING}
 use Rattle.format.specs.Tables.{NameTable, ELEMENT-NAME, ATTRIBUTE-NAME, Triple, Vocabulary, strings, names, adding, addingName, Version}
-use Rattle.format.specs.Strings.{keeping}
+use Rattle.format.specs.Strings.{Layout, c14, c15, keeping}
+use Rattle.format.specs.declared.StringForm.the-variants.{Utf8}
 use Rattle.tables.specs.Search.{numberIn, numberOfTriple}
-use Rattle.write_names.specs.Choices.{worthAdding}
+use Rattle.write_names.specs.Choices.{worthAdding, formFor}
 
 -- How a string, a name or an event is written, and the tables then; and the number of an identifying string or a name then, 0 for the others.
 pub record Chose (H : Type 0) : Type 0 where
@@ -26,7 +27,7 @@ unfoldable pub chooseId : StringTable → Vocabulary Octets → Octets → Chose
 chooseId t v x =
     let k : ℕ = numberIn (strings v t) x in
     pick (eqb k 0)
-    (record { how = spelled true; number = suc (length (strings v t)); tables = adding v t x })
+    (record { how = spelled Utf8 true; number = suc (length (strings v t)); tables = adding v t x })
     (record { how = numbered k; number = k; tables = v })
 
 unfoldable pub chooseOptional : StringTable → Vocabulary Octets → Option Octets → Chose (Option How)
@@ -48,18 +49,18 @@ chooseName t v x =
     (record { how = byNumber k; number = k; tables = v })
 
 module _ (ver : Version) where
-  -- A chunk, value, comment or content: the lowest number where its table holds it; else spelled, and added if it is short and its table has room.
-  unfoldable pub chooseLiteral : StringTable → Vocabulary Octets → Octets → Chose How
-  chooseLiteral t v x =
+  -- A chunk, value, comment or content: the lowest number where its table holds it; else spelled, in the form for its layout, and added if it is short and its table has room.
+  unfoldable pub chooseLiteral : Layout → StringTable → Vocabulary Octets → Octets → Chose How
+  chooseLiteral q t v x =
       let k : ℕ = numberIn (strings v t) x in
       let added : Bool = worthAdding ver (strings v t) x in
       pick (eqb k 0)
-      (record { how = spelled added; number = 0; tables = keeping added v t x })
+      (record { how = spelled (formFor (q .lengthBit) x) added; number = 0; tables = keeping added v t x })
       (record { how = numbered k; number = k; tables = v })
 
   -- A value, comment or content may be empty: number 0.
   unfoldable pub chooseValue : StringTable → Vocabulary Octets → Octets → Chose How
-  chooseValue t v x = pick (eqb (length x) 0) (record { how = numbered 0; number = 0; tables = v }) (chooseLiteral t v x)
+  chooseValue t v x = pick (eqb (length x) 0) (record { how = numbered 0; number = 0; tables = v }) (chooseLiteral c14 t v x)
 
   unfoldable pub chooseFor : Vocabulary Octets → Event Octets → Chose Choice
   chooseFor v (Namespace p n) =
@@ -74,7 +75,7 @@ module _ (ver : Version) where
       let b : Chose How = chooseValue ATTRIBUTE-VALUE (a .tables) y in
       record { how = forAttribute (a .how) (b .how); number = 0; tables = b .tables }
   chooseFor v (Text y) =
-      let a : Chose How = chooseLiteral CONTENT-CHARACTER-CHUNK v y in
+      let a : Chose How = chooseLiteral c15 CONTENT-CHARACTER-CHUNK v y in
       record { how = forText (a .how); number = 0; tables = a .tables }
   chooseFor v (Comment y) =
       let a : Chose How = chooseValue OTHER-STRING v y in

@@ -7,17 +7,20 @@ use mathlib.Core.List.{List, [], _∷_, _++_, map}
 use lib.ListN.{length, getD, set}
 use lib.Dec.{eqb}
 use Rattle.format.specs.Octets.{Octets, Words}
-use Rattle.format.specs.Numbers.{pick, lengths}
+use Rattle.format.specs.Numbers.{pick}
 use Rattle.format.specs.Events.{Name, How, spelled, Choice, forNamespace}
 use Rattle.format.specs.Tables.{StringTable, PREFIX, NAMESPACE-NAME, LOCAL-NAME, Triple, Vocabulary, strings, names, link}
-use Rattle.format.specs.Strings.{withLength, bit, keeping}
+use Rattle.format.specs.Strings.{bit, keeping}
 use Rattle.format.specs.Names.{has, NameLayout}
+use Rattle.format.specs.declared.StringForm.{StringForm}
+use Rattle.format.specs.declared.StringForm.the-variants.{Utf8}
+use Rattle.format.specs.Forms.{formNumber}
 use Rattle.fields.specs.PutContracts.{Puts}
 use Rattle.tables.specs.declared.Row.{Row}
 use Rattle.tables.specs.Located.{Located, stretch, builtInPrefix, builtInNamespace, octetsOf}
 use Rattle.tables.specs.Search.{numberIn, numberOfTriple}
 use Rattle.tables.specs.Rows.{tableOf, vocabulary}
-use Rattle.tables.specs.Kept.{unlisted, tripleOf, layoutOf}
+use Rattle.tables.specs.Kept.{unlisted, tripleOf, layoutOf, IsSound, AllSound}
 use Rattle.index.specs.Indexed.{StringEntered, NameEntered}
 use Rattle.index.specs.Ordered.{Ordered}
 use Rattle.events.specs.declared.EventString.{EventString}
@@ -30,12 +33,16 @@ use Rattle.write_names.specs.declared.Sought.{Sought}
 use Rattle.write_names.specs.declared.Spelling.{Spelling}
 use Rattle.write_names.specs.declared.QualifiedName.{QualifiedName}
 use Rattle.write_names.specs.declared.naming.Numbers.{Numbers}
-use Rattle.write_names.specs.Choices.{Wrote, writeId, writeOptional, worthAdding, within}
+use Rattle.write_names.specs.Choices.{Wrote, writeId, writeOptional, fieldIn, formFor, worthAdding, within}
 
 -- ---- how many octets
 -- A spelled string has at most 5 octets of length and the 16,384 of a text area; a prefix and a namespace follow an octet, and a name's third string follows these.
 abbrev pub stringMost : ℕ
 stringMost = 16389
+
+-- Another string than an identifying one may be given in a form that takes less octets than its UTF-8: one of two.
+abbrev pub valueMost : ℕ
+valueMost = 5 + 2 * 16384
 
 abbrev pub pairMost : ℕ
 pairMost = 1 + 2 * stringMost
@@ -61,24 +68,24 @@ Begins x (y ∷ ys) = y ≡ x
 abbrev pub every : ℕ → Bool
 every table = true
 
--- The tables of a text area in lent words are in order, all of them indexed, and two begin with their built-in entry: c are the words of the counts, w those of the tables.
+-- The tables of a text area in lent words are in order, all of them indexed, two begin with their built-in entry, and each string is one in its form: c are the words of the counts, w those of the tables.
 abbrev pub InOrder : Octets → (c w : Words) → Octets → Type 0
-InOrder text c w index = Ordered every text c w index (Begins builtInPrefix (tablesIn c w .prefixes) × Begins builtInNamespace (tablesIn c w .namespaces))
+InOrder text c w index = Ordered every text c w index (Begins builtInPrefix (tablesIn c w .prefixes) × Begins builtInNamespace (tablesIn c w .namespaces) × AllSound text (tablesIn c w))
 
 -- ---- strings
--- The string of an event is one that a table of identifying strings may hold: a stretch that is not empty and lies in the text area, or the table's built-in one.
+-- The string of an event is one that a table of identifying strings may hold: a stretch in utf-8 that is not empty and lies in the text area, or the table's built-in one.
 abbrev pub Suits : Octets → ℕ → EventString → Type 0
 Suits text table Absent = Unit {0}
 Suits text table Empty = ⊥
-Suits text table (Stretch p n) = (0 < n) × (p + n ≤ length text)
+Suits text table (Stretch form p n) = (0 < n) × (p + n ≤ length text) × (form ≡ Utf8)
 Suits text table XmlPrefix = table ≡ 0
 Suits text table XmlNamespace = table ≡ 1
 
--- The string may be a value, a comment or a content: empty, or a stretch as above.
+-- The string may be a value, a comment or a content: empty, or a stretch that is a string in its form.
 abbrev pub Fills : Octets → EventString → Type 0
 Fills text Absent = ⊥
 Fills text Empty = Unit {0}
-Fills text (Stretch p n) = (0 < n) × (p + n ≤ length text)
+Fills text (Stretch form p n) = (0 < n) × (p + n ≤ length text) × IsSound text (stretch form p n)
 Fills text XmlPrefix = ⊥
 Fills text XmlNamespace = ⊥
 
@@ -86,7 +93,7 @@ Fills text XmlNamespace = ⊥
 abbrev pub Spells : Octets → EventString → Type 0
 Spells text Absent = ⊥
 Spells text Empty = ⊥
-Spells text (Stretch p n) = (0 < n) × (p + n ≤ length text)
+Spells text (Stretch form p n) = (0 < n) × (p + n ≤ length text) × IsSound text (stretch form p n)
 Spells text XmlPrefix = ⊥
 Spells text XmlNamespace = ⊥
 
@@ -94,31 +101,42 @@ Spells text XmlNamespace = ⊥
 unfoldable pub heldAs : Octets → StringTable → Vocabulary Located → EventString → ℕ
 heldAs text t v Absent = 0
 heldAs text t v Empty = numberIn (map (octetsOf text) (strings v t)) []
-heldAs text t v (Stretch p n) = numberIn (map (octetsOf text) (strings v t)) (octetsOf text (locatedOf (Stretch p n)))
+heldAs text t v (Stretch form p n) = numberIn (map (octetsOf text) (strings v t)) (octetsOf text (stretch form p n))
 heldAs text t v XmlPrefix = numberIn (map (octetsOf text) (strings v t)) (octetsOf text builtInPrefix)
 heldAs text t v XmlNamespace = numberIn (map (octetsOf text) (strings v t)) (octetsOf text builtInNamespace)
+
+-- The bit where a length may start behind a format: that of C.23, or of C.24.
+pub data LayoutBit : ℕ → Type 0 where
+  at-bit-5 : LayoutBit 5
+  at-bit-7 : LayoutBit 7
 
 -- A string was looked up in one of the tables of identifying strings, that of its number.
 abbrev pub Looked : Octets → (c w : Words) → Sought → Type 0
 Looked text c w x = (x .table < 4) × Suits text (x .table) (x .string) × (x .number ≡ heldAs text (tableOf (x .table)) (tablesIn c w) (x .string)) × (x .number ≤ 256)
 
 -- The string at a place may become an entry of its table, which has room and does not hold it; and it became one.
-abbrev pub Enters : Octets → (c w : Words) (table place size : ℕ) → Type 0
-Enters text c w table place size =
-    (table < 8) × (getD c table 0 < 256) × (0 < size) × (place + size ≤ length text) × (0 ≡ numberIn (map (octetsOf text) (strings (tablesIn c w) (tableOf table))) (octetsOf text (stretch place size)))
+abbrev pub Enters : Octets → (c w : Words) (table : ℕ) → StringForm → (place size : ℕ) → Type 0
+Enters text c w table form place size =
+    (table < 8) × (table < 5 → form ≡ Utf8) × (getD c table 0 < 256) × (0 < size) × (place + size ≤ length text) × IsSound text (stretch form place size)
+    × (0 ≡ numberIn (map (octetsOf text) (strings (tablesIn c w) (tableOf table))) (octetsOf text (stretch form place size)))
 
-abbrev pub Added : Octets → (table place size : ℕ) (c w : Words) (index : Octets) (c′ w′ : Words) (index′ : Octets) → Type 0
-Added text table place size c w index c′ w′ index′ = (c′ ≡ set c table (getD c table 0 + 1)) × StringEntered text table (getD c table 0) place size w index w′ index′
+abbrev pub Added : Octets → (table : ℕ) → StringForm → (place size : ℕ) (c w : Words) (index : Octets) (c′ w′ : Words) (index′ : Octets) → Type 0
+Added text table form place size c w index c′ w′ index′ =
+    (c′ ≡ set c table (getD c table 0 + 1)) × StringEntered text table (getD c table 0) (record { a = place; b = size; c = formNumber form }) w index w′ index′
 
--- A spelling leaves the length its bits, the add bit counted.
+-- A spelling leaves the format and the length their bits, the add bit counted; its table is one of other strings.
 abbrev pub Fitting : Spelling → Type 0
-Fitting q = (q .table < 8) × (1 ≤ q .bit) × (q .bit ≤ 7) × (q .lead + q .add + 2 ^ (9 - q .bit) ≤ 256)
+Fitting q = (5 ≤ q .table) × (q .table < 8) × LayoutBit (q .bit) × (q .lead + q .add + 4 * 2 ^ (9 - q .bit) ≤ 256)
+
+-- What a string's field is in the form that the writer chooses.
+unfoldable pub chosenField : (lengthBit : ℕ) → (lead : ℕ) → Octets → Octets
+chosenField bit lead x = fieldIn bit (formFor bit x) lead x
 
 -- A string of C.14 or C.15, spelled so.
 unfoldable pub spelledAs : Spelling → Octets → Vocabulary Located → Located → Wrote How
 spelledAs q text v x =
     let added : Bool = worthAdding link (strings v (tableOf (q .table))) (octetsOf text x) in
-    record { octets = withLength (lengths (q .bit)) (q .lead + q .add * bit added) (octetsOf text x); how = spelled added; number = 0; tables = keeping added v (tableOf (q .table)) x }
+    record { octets = chosenField (q .bit) (q .lead + q .add * bit added) (octetsOf text x); how = spelled (formFor (q .bit) (octetsOf text x)) added; number = 0; tables = keeping added v (tableOf (q .table)) x }
 
 -- ---- names
 -- The name of three strings.

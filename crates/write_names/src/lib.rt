@@ -1,36 +1,40 @@
 // Strings and names as octets, by the choices that the requirements fix: by number where the table holds them, else spelled.
-// May depend on format, fields, tables, index and events.
+// May depend on format, fields, forms, tables, index and events.
 mod naming;
 
 ghost use mathlib.Core.Path.{_≡_};
-ghost use Prim.Native.Nat.{_+_, _^_, _-_, _<_, _≤_};
+ghost use Prim.Native.Nat.{_+_, _*_, _^_, _-_, _<_, _≤_};
 ghost use lib.ListN.{length};
 ghost use Rattle.format.specs.Numbers.{lengths, spell};
 ghost use Rattle.format.specs.Tables.{link, CONTENT-CHARACTER-CHUNK};
 ghost use Rattle.format.specs.Strings.{withLength, c15};
 ghost use Rattle.format.specs.Names.{has};
+ghost use Rattle.format.specs.declared.StringForm.the-variants.{Utf8};
 ghost use Rattle.fields.specs.PutContracts.{Puts};
 ghost use Rattle.tables.specs.Located.{stretch, octetsOf};
 ghost use Rattle.tables.specs.Rows.{tableOf};
 ghost use Rattle.tables.specs.Kept.{layoutOf};
 ghost use Rattle.events.specs.Records.{locatedOf, optionalOf};
 ghost use Rattle.events.specs.Words.{stringTag};
-ghost use Rattle.write_names.specs.Choices.{writeId, writeOptional, writeLiteral, writeValue};
-ghost use Rattle.write_names.specs.Contracts.{stringMost, lastPlace, tablesIn, InOrder, Suits, Fills, heldAs, Looked, Enters, Added, Spells, Fitting, spelledAs, Stands, Meets};
+ghost use Rattle.forms.specs.Packing.{alphabetFor};
+ghost use Rattle.write_names.specs.Choices.{writeId, writeOptional, fieldIn, formFor, writeLiteral, writeValue};
+ghost use Rattle.write_names.specs.Contracts.{stringMost, valueMost, lastPlace, LayoutBit, chosenField, tablesIn, InOrder, Suits, Fills, heldAs, Looked, Enters, Added, Spells, Fitting, spelledAs, Stands, Meets};
 use events::EventString;
 use fields::put::put;
 use fields::put::put_length;
 use fields::put::put_number;
 use fields::put::put_number_at_bit_2;
 use fields::put::put_part;
+use format::StringForm;
 use format::table::CONTENT_CHARACTER_CHUNK;
 use format::table::ELEMENT_NAME;
 pub use naming::declared;
 pub use naming::name;
 use tables::Counts;
+use tables::Row;
 
-// A value, comment, content or chunk that is not longer is added to its table.
-const SHORT: u32 = 5;
+// A value, comment, content or chunk that is not longer in UTF-8 is added to its table.
+const SHORT: usize = 5;
 
 // The place behind what was put; or a table is full that must take an entry more.
 pub enum Wrote {
@@ -45,7 +49,7 @@ pub struct Sought {
     pub number: u32,
 }
 
-// How a string of a table is spelled: its length from bit `bit` behind the bits `lead`, and `add` more where it is added to the table.
+// How a string of a table is spelled: its length from bit `bit` behind the bits `lead` and the format, and `add` more where it is added to the table.
 pub struct Spelling {
     pub table: usize,
     pub bit: u32,
@@ -62,7 +66,7 @@ pub struct QualifiedName {
     pub local: EventString,
 }
 
-// The number of a string in its table; 0 where it has none, or there is no string.
+// The number of an identifying string in its table; 0 where it has none, or there is no string.
 pub fn number_of(
     text: &[u8],
     t: &[u32],
@@ -71,13 +75,13 @@ pub fn number_of(
     table: usize,
     x: EventString,
 ) -> u32
-    requires { ⌜ InOrder (now text) (now counts) (now t) (now index) × (table < 8) × Suits (now text) table x ⌝ }
+    requires { ⌜ InOrder (now text) (now counts) (now t) (now index) × (table < 5) × Suits (now text) table x ⌝ }
     ensures { λ r. ⌜ (r ≡ heldAs (now (text .entry)) (tableOf table) (tablesIn (now (counts .entry)) (now (t .entry))) x) × (r ≤ 256) ⌝ }
 {
     match x {
         EventString::Absent => 0,
         EventString::Empty => 0,
-        EventString::Stretch(place, size) => index::find(
+        EventString::Stretch(_, place, size) => index::find(
             text,
             t,
             index,
@@ -91,6 +95,30 @@ pub fn number_of(
     }
 }
 
+// The same of another string, which is not empty.
+pub fn number_said(
+    text: &[u8],
+    t: &[u32],
+    counts: &[u32],
+    index: &[u8],
+    table: usize,
+    x: EventString,
+) -> u32
+    requires { ⌜ InOrder (now text) (now counts) (now t) (now index) × (5 ≤ table) × (table < 8) × Spells (now text) x ⌝ }
+    ensures { λ r. ⌜ (r ≡ heldAs (now (text .entry)) (tableOf table) (tablesIn (now (counts .entry)) (now (t .entry))) x) × (r ≤ 256) ⌝ }
+{
+    index::find_said(
+        text,
+        t,
+        index,
+        table,
+        counts[table],
+        x.form(),
+        x.place() as usize,
+        x.size() as usize,
+    )
+}
+
 // A length from bit `bit` behind `lead`, and the octets.
 fn spelled(
     out: &mut [u8],
@@ -102,7 +130,7 @@ fn spelled(
     size: u32,
 ) -> usize
     requires { ⌜ (at ≤ lastPlace) × (1 ≤ bit) × (bit ≤ 7) × (lead + 2 ^ (9 - bit) ≤ 256) × (0 < size) × (place + size ≤ length (now text)) × (length (now text) ≤ 16384) ⌝ }
-    ensures { λ r. ⌜ Puts (now (out .entry)) at r (now (out .exit)) (withLength (lengths bit) lead (octetsOf (now (text .entry)) (stretch place size))) × (r ≤ at + stringMost) ⌝ }
+    ensures { λ r. ⌜ Puts (now (out .entry)) at r (now (out .exit)) (withLength (lengths bit) lead (octetsOf (now (text .entry)) (stretch Utf8 place size))) × (r ≤ at + stringMost) ⌝ }
 {
     let n = size as usize;
     let behind = put_length(out, at, bit, lead, n);
@@ -137,15 +165,21 @@ fn added(
     counts: &mut [u32],
     index: &mut [u8],
     table: usize,
+    form: StringForm,
     place: u32,
     size: u32,
 )
-    requires { ⌜ InOrder (now text) (now counts) (now t) (now index) × Enters (now text) (now counts) (now t) table place size ⌝ }
-    ensures { λ _. ⌜ Added (now (text .entry)) table place size (now (counts .entry)) (now (t .entry)) (now (index .entry)) (now (counts .exit)) (now (t .exit)) (now (index .exit)) ⌝ }
+    requires { ⌜ InOrder (now text) (now counts) (now t) (now index) × Enters (now text) (now counts) (now t) table form place size ⌝ }
+    ensures { λ _. ⌜ Added (now (text .entry)) table form place size (now (counts .entry)) (now (t .entry)) (now (index .entry)) (now (counts .exit)) (now (t .exit)) (now (index .exit)) ⌝ }
 {
-    let h = index::bucket_of(text, place as usize, size as usize);
+    let h = index::bucket_said(text, form, place as usize, size as usize);
     let n = counts[table];
-    index::enter_in(text, t, index, table, n, place, size, 0, h);
+    let row = Row {
+        a: place,
+        b: size,
+        c: form.number(),
+    };
+    index::enter_in(text, t, index, table, n, row, 0, h);
     counts[table] = n + 1;
 }
 
@@ -173,7 +207,7 @@ fn id(
     let place = string.place();
     let size = string.size();
     let behind = spelled(out, at, 2, 0, text, place, size);
-    added(text, t, counts, index, table, place, size);
+    added(text, t, counts, index, table, StringForm::Utf8, place, size);
     Wrote::Put(behind)
 }
 
@@ -220,7 +254,119 @@ pub fn identified(
     id(text, t, counts, index, out, at, sought)
 }
 
-// C.14 or C.15, spelled: a string of 1 to 5 octets is added where its table has room, and its add bit says so.
+// How many octets a string has in UTF-8.
+pub fn octets_of(text: &[u8], x: EventString) -> usize
+    requires { ⌜ Spells (now text) x × (length (now text) ≤ 16384) ⌝ }
+    ensures { λ r. ⌜ (r ≡ length (octetsOf (now (text .entry)) (locatedOf x))) × (1 ≤ r) × (r ≤ 32768) ⌝ }
+{
+    let form = x.form();
+    let size = x.size() as usize;
+    if form.number() == 0 {
+        return size;
+    }
+    let from = x.place() as usize;
+    let mut none = [0; 1];
+    forms::put_said(&mut none, 0, text, form, from, from + size)
+}
+
+// The form in which a string of n octets in UTF-8 is spelled. An alphabet saves octets from the fourth on; from the third, where a length starts at bit 7.
+fn form_for(text: &[u8], bit: u32, x: EventString, n: usize) -> StringForm
+    requires { ⌜ Spells (now text) x × (length (now text) ≤ 16384) × LayoutBit bit × (n ≡ length (octetsOf (now text) (locatedOf x))) ⌝ }
+    ensures { λ r. ⌜ r ≡ formFor bit (octetsOf (now (text .entry)) (locatedOf x)) ⌝ }
+{
+    let most = if bit == 7 { 2 } else { 3 };
+    if n <= most {
+        return StringForm::Utf8;
+    }
+    let from = x.place() as usize;
+    forms::alphabet_for(text, x.form(), from, from + x.size() as usize)
+}
+
+// In UTF-8: n octets behind their length.
+fn in_utf8(
+    out: &mut [u8],
+    at: usize,
+    bit: u32,
+    lead: u8,
+    text: &[u8],
+    x: EventString,
+    n: usize,
+) -> usize
+    requires { ⌜ Spells (now text) x × (length (now text) ≤ 16384) × (at < 2 ^ 31) × LayoutBit bit × (lead + 4 * 2 ^ (9 - bit) ≤ 256) × (n ≡ length (octetsOf (now text) (locatedOf x))) ⌝ }
+    ensures { λ r. ⌜ Puts (now (out .entry)) at r (now (out .exit)) (fieldIn bit Utf8 lead (octetsOf (now (text .entry)) (locatedOf x))) × (r ≤ at + valueMost) ⌝ }
+{
+    let form = x.form();
+    let from = x.place() as usize;
+    let size = x.size() as usize;
+    let behind = put_length(out, at, bit, lead, n);
+    if form.number() == 0 {
+        return put_part(out, behind, text, from, size);
+    }
+    forms::put_said(out, behind, text, form, from, from + size)
+}
+
+// What the last bit is worth before a length that starts at `bit`.
+fn unit_before(bit: u32) -> u8
+    requires { ⌜ LayoutBit bit ⌝ }
+    ensures { λ r. ⌜ (r ≡ 2 ^ (9 - bit)) × (1 ≤ r) × (r ≤ 16) ⌝ }
+{
+    if bit == 7 {
+        return 4;
+    }
+    16
+}
+
+// In an alphabet that has all n characters: the bits of the format, those of the alphabet, the length, and the places.
+fn in_alphabet(
+    out: &mut [u8],
+    at: usize,
+    bit: u32,
+    lead: u8,
+    text: &[u8],
+    x: EventString,
+    n: usize,
+    letters: StringForm,
+) -> usize
+    requires { ⌜ Spells (now text) x × (length (now text) ≤ 16384) × (at < 2 ^ 31) × LayoutBit bit × (lead + 4 * 2 ^ (9 - bit) ≤ 256) × (n ≡ length (octetsOf (now text) (locatedOf x))) × (letters ≡ alphabetFor (octetsOf (now text) (locatedOf x))) × (letters ≡ Utf8 → ⊥) ⌝ }
+    ensures { λ r. ⌜ Puts (now (out .entry)) at r (now (out .exit)) (fieldIn bit letters lead (octetsOf (now (text .entry)) (locatedOf x))) × (r ≤ at + valueMost) ⌝ }
+{
+    let unit = unit_before(bit);
+    put(out, at, lead + 2 * unit);
+    let second = if letters.number() == 2 { 0 } else { unit };
+    let behind = put_length(out, at + 1, bit, second, (n + 1) / 2);
+    let from = x.place() as usize;
+    forms::put_packed(
+        out,
+        behind,
+        text,
+        x.form(),
+        from,
+        from + x.size() as usize,
+        letters,
+    )
+}
+
+// A string of n octets in UTF-8 as the writer spells it, its length from bit `bit` behind `lead` and the format.
+pub fn put_string(
+    out: &mut [u8],
+    at: usize,
+    bit: u32,
+    lead: u8,
+    text: &[u8],
+    x: EventString,
+    n: usize,
+) -> usize
+    requires { ⌜ Spells (now text) x × (length (now text) ≤ 16384) × (at < 2 ^ 31) × LayoutBit bit × (lead + 4 * 2 ^ (9 - bit) ≤ 256) × (n ≡ length (octetsOf (now text) (locatedOf x))) ⌝ }
+    ensures { λ r. ⌜ Puts (now (out .entry)) at r (now (out .exit)) (chosenField bit lead (octetsOf (now (text .entry)) (locatedOf x))) × (r ≤ at + valueMost) ⌝ }
+{
+    let form = form_for(text, bit, x, n);
+    if form.number() == 0 {
+        return in_utf8(out, at, bit, lead, text, x, n);
+    }
+    in_alphabet(out, at, bit, lead, text, x, n, form)
+}
+
+// C.14 or C.15, spelled: a string of 1 to 5 octets in UTF-8 is added where its table has room, and its add bit says so.
 fn literal(
     text: &[u8],
     t: &mut [u32],
@@ -232,19 +378,18 @@ fn literal(
     x: EventString,
 ) -> usize
     requires { ⌜ InOrder (now text) (now counts) (now t) (now index) × (at ≤ lastPlace) × Spells (now text) x × (0 ≡ heldAs (now text) (tableOf (q .table)) (tablesIn (now counts) (now t)) x) × Fitting q ⌝ }
-    ensures { λ r. ⌜ Stands (now (text .entry)) (now (out .entry)) at stringMost r (now (out .exit)) (now (counts .exit)) (now (t .exit)) (now (index .exit)) (spelledAs q (now (text .entry)) (tablesIn (now (counts .entry)) (now (t .entry))) (locatedOf x)) ⌝ }
+    ensures { λ r. ⌜ Stands (now (text .entry)) (now (out .entry)) at valueMost r (now (out .exit)) (now (counts .exit)) (now (t .exit)) (now (index .exit)) (spelledAs q (now (text .entry)) (tablesIn (now (counts .entry)) (now (t .entry))) (locatedOf x)) ⌝ }
 {
-    let place = x.place();
-    let size = x.size();
     let table = q.table;
-    if SHORT < size {
-        return spelled(out, at, q.bit, q.lead, text, place, size);
+    let n = octets_of(text, x);
+    if SHORT < n {
+        return put_string(out, at, q.bit, q.lead, text, x, n);
     }
     if Counts::ENTRIES <= counts[table] {
-        return spelled(out, at, q.bit, q.lead, text, place, size);
+        return put_string(out, at, q.bit, q.lead, text, x, n);
     }
-    let behind = spelled(out, at, q.bit, q.lead + q.add, text, place, size);
-    added(text, t, counts, index, table, place, size);
+    let behind = put_string(out, at, q.bit, q.lead + q.add, text, x, n);
+    added(text, t, counts, index, table, x.form(), x.place(), x.size());
     behind
 }
 
@@ -259,14 +404,14 @@ pub fn value(
     table: usize,
     x: EventString,
 ) -> usize
-    requires { ⌜ InOrder (now text) (now counts) (now t) (now index) × (at ≤ lastPlace) × (table < 8) × Fills (now text) x ⌝ }
-    ensures { λ r. ⌜ Stands (now (text .entry)) (now (out .entry)) at stringMost r (now (out .exit)) (now (counts .exit)) (now (t .exit)) (now (index .exit)) (writeValue link (now (text .entry)) (tableOf table) (tablesIn (now (counts .entry)) (now (t .entry))) (locatedOf x)) ⌝ }
+    requires { ⌜ InOrder (now text) (now counts) (now t) (now index) × (at ≤ lastPlace) × (5 ≤ table) × (table < 8) × Fills (now text) x ⌝ }
+    ensures { λ r. ⌜ Stands (now (text .entry)) (now (out .entry)) at valueMost r (now (out .exit)) (now (counts .exit)) (now (t .exit)) (now (index .exit)) (writeValue link (now (text .entry)) (tableOf table) (tablesIn (now (counts .entry)) (now (t .entry))) (locatedOf x)) ⌝ }
 {
     if x.size() == 0 {
         put(out, at, 0xFF);
         return at + 1;
     }
-    let k = number_of(text, t, counts, index, table, x);
+    let k = number_said(text, t, counts, index, table, x);
     if k != 0 {
         return put_number_at_bit_2(out, at, 0x80, k);
     }
@@ -290,10 +435,10 @@ pub fn chunk(
     x: EventString,
 ) -> usize
     requires { ⌜ InOrder (now text) (now counts) (now t) (now index) × (at ≤ lastPlace) × Spells (now text) x ⌝ }
-    ensures { λ r. ⌜ Stands (now (text .entry)) (now (out .entry)) at stringMost r (now (out .exit)) (now (counts .exit)) (now (t .exit)) (now (index .exit)) (writeLiteral link c15 (now (text .entry)) CONTENT-CHARACTER-CHUNK (tablesIn (now (counts .entry)) (now (t .entry))) (locatedOf x)) ⌝ }
+    ensures { λ r. ⌜ Stands (now (text .entry)) (now (out .entry)) at valueMost r (now (out .exit)) (now (counts .exit)) (now (t .exit)) (now (index .exit)) (writeLiteral link c15 (now (text .entry)) CONTENT-CHARACTER-CHUNK (tablesIn (now (counts .entry)) (now (t .entry))) (locatedOf x)) ⌝ }
 {
     let table = CONTENT_CHARACTER_CHUNK;
-    let k = number_of(text, t, counts, index, table, x);
+    let k = number_said(text, t, counts, index, table, x);
     if k != 0 {
         return put_number(out, at, 4, 0xA0, k);
     }

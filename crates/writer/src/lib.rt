@@ -1,5 +1,5 @@
 // Writing a document: tables for its head, events and a text area in, octets and tables out, or a refusal and the event's number.
-// May depend on format, fields, tables, index, states, events, write_names, write_head and write_items.
+// May depend on format, fields, forms, tables, index, states, events, write_names, write_head and write_items.
 mod ahead;
 mod lane;
 mod run;

@@ -3,6 +3,8 @@
 use borrow.Author.Needs.{needs}
 use native.Mathlib.Omega.{arith}
 use mathlib.Core.Path.{refl, sym, _∙_}
+use Rattle.format.specs.declared.StringForm.the-variants.{Utf8}
+use Rattle.tables.proofs.FormLaws.{form-identifying}
 use Rattle.index.proofs.Walks.{string-is, string-none}
 use Rattle.index.proofs.Entered.{string-apart, string-added}
 use Rattle.index.proofs.add_built_in.Statement.{statement}
@@ -20,11 +22,12 @@ returns-3 c =
     let p = at-start .pre in
     let n1 = c .before .before .before .before .narrow .ensures in
     let n2 = c .before .before .before .narrow2 .ensures in
+    let utf8 = form-identifying (at-start .args .table) 0 (p .1) in
     λ index. (
       string-none _ (sym (c .before .before .before .before .before .before .before .before .find-any .ensures) ∙ c .before .before .before .before .before .before .before .if1 .left),
       omega arith,
-      string-added _ _ _ _ _ _ index (p .1) (omega arith) (p .0) (p .4) (p .3) _ _ (rw (n1, n2) at (c .before .before .add .ensures))
-          (string-apart _ _ _ _ _ _ index (p .1) (omega arith) (p .0) (p .4) (p .3) (p .7)),
+      string-added _ _ _ _ _ _ _ Utf8 index (omega arith) (omega arith) (p .0) (p .3) utf8 _ _ (rw (n1, n2) at (c .before .before .add .ensures))
+          (string-apart _ _ _ _ _ _ _ Utf8 index (omega arith) (omega arith) (p .0) (p .3) utf8 (p .7)),
     )
 
 pub add-built-in-spec : {M : Type 1} → statement M

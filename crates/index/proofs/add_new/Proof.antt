@@ -3,6 +3,8 @@
 use borrow.Author.Needs.{needs}
 use native.Mathlib.Omega.{arith}
 use mathlib.Core.Path.{refl, sym, _∙_}
+use Rattle.format.specs.declared.StringForm.the-variants.{Utf8}
+use Rattle.tables.proofs.FormLaws.{form-identifying}
 use Rattle.index.proofs.Walks.{string-new}
 use Rattle.index.proofs.Entered.{string-last, string-entered, string-added}
 use Rattle.index.proofs.add_new.Statement.{statement}
@@ -36,14 +38,15 @@ returns-4 c =
     let at-is-built-in = at-if1 .before in
     let at-start = at-is-built-in .before .before .before .before in
     let p = at-start .pre in
+    let utf8 = form-identifying (at-start .args .table) 0 (p .2) in
     let room = c .before .before .before .before .if4 .taken in
     let n1 = at-narrow .narrow .ensures in
     let n2 = c .before .before .before .before .before .before .before .before .narrow2 .ensures in
     let new = sym (at-is-listed .is-listed .ensures) ∙ at-if2 .if2 .left in (
       new,
       omega (arith, room),
-      string-added _ _ _ _ _ _ _ (p .2) (omega (arith, room)) (p .0) (p .5) (p .4) _ _ (rw (n1, n2) at (c .before .before .before .before .before .before .before .add .ensures))
-          (rw (c .before .before .push .ensures, p .8) (string-entered _ _ _ _ _ _ _ (p .2) (omega (arith, room)) (p .0) (p .5) (p .4) (omega (arith, room)) (string-new _ new) (sym (at-is-built-in .is-built-in .ensures) ∙ at-if1 .if1 .left))),
+      string-added _ _ _ _ _ _ _ Utf8 _ (omega arith) (omega (arith, room)) (p .0) (p .4) utf8 _ _ (rw (n1, n2) at (c .before .before .before .before .before .before .before .add .ensures))
+          (rw (c .before .before .push .ensures, p .8) (string-entered _ _ _ _ _ _ _ Utf8 _ (omega arith) (omega (arith, room)) (p .0) (p .4) utf8 (omega (arith, room)) (string-new _ new) (sym (at-is-built-in .is-built-in .ensures) ∙ at-if1 .if1 .left))),
     )
 
 returns-5 : tie.Need-returns-5
@@ -51,11 +54,12 @@ returns-5 c =
     let at-is-listed = c .before .before .before .before .before .before .before .before .before in
     let at-start = at-is-listed .before .before .before .before .before .before .before .before in
     let p = at-start .pre in
+    let utf8 = form-identifying (at-start .args .table) 0 (p .2) in
     let n1 = c .before .before .before .before .before .narrow .ensures in
     let n2 = c .before .before .before .before .narrow2 .ensures in (
       sym (at-is-listed .is-listed .ensures) ∙ c .before .before .before .before .before .before .before .before .if2 .left,
       omega arith,
-      string-added _ _ _ _ _ _ _ (p .2) (omega arith) (p .0) (p .5) (p .4) _ _ (rw (n1, n2) at (c .before .before .before .add .ensures)) (string-last _ _ _ _ _ _ _ (p .2) (omega arith) (p .0) (p .5) (p .4) (omega arith)),
+      string-added _ _ _ _ _ _ _ Utf8 _ (omega arith) (omega arith) (p .0) (p .4) utf8 _ _ (rw (n1, n2) at (c .before .before .before .add .ensures)) (string-last _ _ _ _ _ _ _ Utf8 _ (omega arith) (omega arith) (p .0) (p .4) utf8 (omega arith)),
     )
 
 pub add-new-spec : {M : Type 1} → statement M

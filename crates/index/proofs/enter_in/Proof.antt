@@ -3,6 +3,8 @@
 use borrow.Author.Needs.{needs}
 use native.Mathlib.Omega.{arith}
 use mathlib.Core.Path.{sym, _∙_}
+use Rattle.tables.proofs.FormLaws.{form-in}
+use Rattle.tables.proofs.SaidLaws.{built-in-said}
 use Rattle.index.proofs.Entered.{string-known, string-last, string-apart, string-entered, string-added}
 use Rattle.index.proofs.enter_in.Statement.{statement}
 use Rattle.index.proofs.enter_in.Tie as tie
@@ -10,28 +12,30 @@ use Rattle.index.proofs.enter_in.Tie as tie
 returns : tie.Need-returns
 returns c =
     let p = c .before .before .before .before .before .before .before .before .pre in
-    string-added _ _ _ _ _ _ _ (p .2) (p .3) (p .0) (p .5) (p .4) _ _ (c .before .before .before .add .ensures) (string-known _ _ _ _ _ _ _ (p .2) (p .3) (p .0) (p .5) (p .4) (λ e. c .if1 .taken (p .6 ∙ e)))
+    let form = form-in _ _ (p .2) (p .6) in
+    string-added _ _ _ _ _ _ _ _ _ (p .2) (p .3) (p .0) (p .4) form _ _ (c .before .before .before .add .ensures) (string-known _ _ _ _ _ _ _ _ _ (p .2) (p .3) (p .0) (p .4) form (λ e. c .if1 .taken (p .7 ∙ e)))
 
 returns-2 : tie.Need-returns-2
 returns-2 c =
     let p = c .before .before .before .before .before .before .before .before .before .pre in
-    string-added _ _ _ _ _ _ _ (p .2) (p .3) (p .0) (p .5) (p .4) _ _ (c .before .before .before .before .add .ensures) (string-last _ _ _ _ _ _ _ (p .2) (p .3) (p .0) (p .5) (p .4) (omega arith))
+    let form = form-in _ _ (p .2) (p .6) in
+    string-added _ _ _ _ _ _ _ _ _ (p .2) (p .3) (p .0) (p .4) form _ _ (c .before .before .before .before .add .ensures) (string-last _ _ _ _ _ _ _ _ _ (p .2) (p .3) (p .0) (p .4) form (omega arith))
 
 returns-3 : tie.Need-returns-3
 returns-3 c =
     let p = c .before .before .before .before .before .before .before .before .before .before .before .before .before .pre in
-    string-added _ _ _ _ _ _ _ (p .2) (p .3) (p .0) (p .5) (p .4) _ _ (c .before .before .before .before .before .before .before .before .add .ensures)
-    (string-apart _ _ _ _ _ _ _ (p .2) (p .3) (p .0) (p .5) (p .4) (rw (c .before .before .before .wide .ensures, c .before .before .wide2 .ensures) at (sym (c .before .is-built-in .ensures) ∙ c .if3 .taken)))
+    let form = form-in _ _ (p .2) (p .6) in
+    let built-in = rw (c .before .before .before .wide .ensures, c .before .before .wide2 .ensures) at (sym (c .before .is-built-in .ensures) ∙ c .if3 .taken) in
+    string-added _ _ _ _ _ _ _ _ _ (p .2) (p .3) (p .0) (p .4) form _ _ (c .before .before .before .before .before .before .before .before .add .ensures) (string-apart _ _ _ _ _ _ _ _ _ (p .2) (p .3) (p .0) (p .4) form (sym (built-in-said _ _ _ _ _ (p .6) (p .5) (p .4)) ∙ built-in))
 
 returns-4 : tie.Need-returns-4
 returns-4 c =
-    let branch = c .before .before .before .before .before .before .before .before .before .if1 in
-    let add = c .before .before .before .before .before .before .before .before .before .before .before .before .add in
     let p = c .before .before .before .before .before .before .before .before .before .before .before .before .before .before .before .before .before .pre in
-    string-added _ _ _ _ _ _ _ (p .2) (p .3) (p .0) (p .5) (p .4) _ _ (add .ensures)
-    (rw (c .before .before .push .ensures, p .7)
-    (string-entered _ _ _ _ _ _ _ (p .2) (p .3) (p .0) (p .5) (p .4) (omega arith) (sym (p .6) ∙ branch .left)
-    (rw (c .before .before .before .before .before .before .before .wide .ensures, c .before .before .before .before .before .before .wide2 .ensures) at (sym (c .before .before .before .before .before .is-built-in .ensures) ∙ c .before .before .before .before .if3 .left))))
+    let form = form-in _ _ (p .2) (p .6) in
+    let built-in = rw (c .before .before .before .before .before .before .before .wide .ensures, c .before .before .before .before .before .before .wide2 .ensures) at (sym (c .before .before .before .before .before .is-built-in .ensures) ∙ c .before .before .before .before .if3 .left) in
+    string-added _ _ _ _ _ _ _ _ _ (p .2) (p .3) (p .0) (p .4) form _ _ (c .before .before .before .before .before .before .before .before .before .before .before .before .add .ensures)
+    (rw (c .before .before .push .ensures, p .8)
+    (string-entered _ _ _ _ _ _ _ _ _ (p .2) (p .3) (p .0) (p .4) form (omega arith) (sym (p .7) ∙ c .before .before .before .before .before .before .before .before .before .if1 .left) (sym (built-in-said _ _ _ _ _ (p .6) (p .5) (p .4)) ∙ built-in)))
 
 pub enter-in-spec : {M : Type 1} → statement M
 enter-in-spec =

@@ -3,7 +3,7 @@
 use native.Mathlib.Omega.{arith}
 use mathlib.Core.Path.{sym, _∙_}
 use borrow.Author.Tests.{eq-eqb, ne-eqb}
-use Rattle.tables.proofs.Search.{inside-at}
+use Rattle.tables.proofs.Search.{all-at}
 use Rattle.index.specs.Chain.{lastRow}
 use Rattle.index.specs.Indexed.{strings, stringsAt}
 use Rattle.index.proofs.find_last.Statement.{statement}
@@ -14,7 +14,7 @@ unfolding lastRow
 returns c = rw (ne-eqb (c .before .before .before .args .n) 256 (omega arith))
 
 is-string-requires : tie.Need-is-string-requires
-is-string-requires c κs = (omega arith, omega arith, omega arith, omega arith, inside-at _ _ _ _ 255 (c .before .before .before .pre .4) (omega arith))
+is-string-requires c κs = (omega arith, omega arith, omega arith, omega arith, all-at _ _ _ _ 255 (c .before .before .before .pre .4) (omega arith))
 
 returns-2 : tie.Need-returns-2
 unfolding lastRow strings stringsAt

@@ -31,7 +31,7 @@ put-counts-requires c κs = search needs
 
 add-tables-requires : tie.Need-add-tables-requires
 unfolding addTables
-add-tables-requires c κs = let s = c .before .before .before .before .before .before .before .before .before .before .before .before .before .before .before .before in let j = c .before .before .before .before .before .before .before .before .before .fault .ensures in let e = c .before .before .before .before .before .put-counts .ensures ∙ ap listed (c .before .before .before .before .before .before .start .ensures) in (order-begun _ (s .pre .0) e (s .pre .2) (s .pre .4), s .pre .5, j .right (omega arith), j .few (omega arith), tables-begun (s .args .text .now) (s .pre .0) e (s .pre .2) (s .pre .4), λ k. rw e (start-counts k))
+add-tables-requires c κs = let s = c .before .before .before .before .before .before .before .before .before .before .before .before .before .before .before .before in let j = c .before .before .before .before .before .before .before .before .before .fault .ensures in let e = c .before .before .before .before .before .put-counts .ensures ∙ ap listed (c .before .before .before .before .before .before .start .ensures) in (order-begun _ (s .pre .0) e (s .pre .2) (s .pre .4), s .pre .5, j .right (omega arith), j .few (omega arith), tables-begun (s .args .text .now) (s .pre .0) e (s .pre .2) (s .pre .4), λ k. rw e (start-counts k), j .texts (omega arith))
 
 same-length : tie.Need-same-length
 same-length c = search needs
@@ -46,7 +46,7 @@ returns-2 : tie.Need-returns-2
 returns-2 c = entry-repeats _ _ _ _ (c .before .before .before .before .before .before .before .before .before .before .before .before .before .before .before .before .before .before .before .before .before .before .before .before .pre .5) (c .before .before .before .before .before .before .before .before .before .before .before .before .before .before .before .before .before .fault .ensures) (omega arith) (sym (not-true _ (c .if2 .taken)) ∙ c .before .before .before .before .before .before .before .add-tables .ensures .0)
 
 put-head-requires : tie.Need-put-head-requires
-put-head-requires c κs = let s = c .before .before .before .before .before .before .before .before .before .before .before .before .before .before .before .before .before .before .before .before .before .before .before .before .before in let j = c .before .before .before .before .before .before .before .before .before .before .before .before .before .before .before .before .before .before .fault .ensures in (s .pre .5, j .right (omega arith), j .few (omega arith), s .pre .0)
+put-head-requires c κs = let s = c .before .before .before .before .before .before .before .before .before .before .before .before .before .before .before .before .before .before .before .before .before .before .before .before .before in let j = c .before .before .before .before .before .before .before .before .before .before .before .before .before .before .before .before .before .before .fault .ensures in (s .pre .5, j .right (omega arith), j .few (omega arith), s .pre .0, j .texts (omega arith))
 
 same-length-4 : tie.Need-same-length-4
 same-length-4 c = search needs

@@ -1,17 +1,19 @@
 -- `added` meets its contract: a law for each way out.
 -- Assumes nothing.
 use borrow.Author.Needs.{needs}
-use Rattle.write_names.proofs.StringLaws.{added-new}
-use Rattle.write_names.proofs.added.Statement.{statement}
+use mathlib.Core.Path.{refl}
+use Rattle.write_names.proofs.StringLaws.{enter-ready}
 use Rattle.write_names.proofs.added.Tie as tie
+use Rattle.write_names.proofs.added.Statement.{statement}
 
 enter-in-requires : tie.Need-enter-in-requires
 enter-in-requires c κs =
-    let at-start = c .before .before .before .before .before .before .before .before in
-    let order = at-start .pre .0 in
+    let at-start = c .before .before .before .before .before .before .before .before .before in
     let enters = at-start .pre .1 in
-    let h = c .before .before .before .bucket-of .ensures in
-    (order .room, order .indexed .size, enters .0, enters .1, enters .2, enters .3, added-new _ _ _ _ _ _ _ order (enters .0) (enters .4), h .0, h .1)
+    enter-ready _ _ _ _ _ _ _ _ (at-start .pre .0) (enters .0) (enters .1) (enters .2) (enters .3) (enters .4) _ _ _ (enters .6) (c .before .before .number .ensures .0) (c .before .before .before .before .bucket-said .ensures)
+
+returns : tie.Need-returns
+returns c = (refl, rw (← c .before .before .before .before .before .before .before .number .ensures .0) (c .before .before .before .before .enter-in .ensures))
 
 pub added-spec : {M : Type 1} → statement M
 added-spec =
@@ -20,6 +22,7 @@ added-spec =
     (λ c κs. search needs)
     (λ c. search needs)
     (λ c. search needs)
+    (λ c κs. search needs)
     enter-in-requires
     (λ c. search needs)
     (λ c. search needs)
@@ -27,4 +30,4 @@ added-spec =
     (λ c. search needs)
     (λ c. search needs)
     (λ c. search needs)
-    (λ c. search needs))
+    returns)

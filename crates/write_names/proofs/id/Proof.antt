@@ -2,9 +2,10 @@
 -- Assumes nothing.
 use borrow.Author.Needs.{needs}
 use native.Mathlib.Omega.{arith}
+use mathlib.Core.Path.{refl}
 use Rattle.write_names.proofs.StringLaws.{id-numbered, id-full, id-stretch, id-new, id-added}
-use Rattle.write_names.proofs.id.Statement.{statement}
 use Rattle.write_names.proofs.id.Tie as tie
+use Rattle.write_names.proofs.id.Statement.{statement}
 
 returns : tie.Need-returns
 returns c =
@@ -23,19 +24,16 @@ spelled-requires c κs =
     let at-start = c .before .before .before .before .before .before .before .before .before .before .before .before in
     let looked = at-start .pre .3 in
     let none = c .before .before .before .before .before .if1 .left in
-    omega (arith, id-stretch _ _ _ _ (at-start .pre .0) (at-start .args .x) (at-start .pre .2) looked (omega (arith, none)), at-start .pre .0 .size)
+    let s = id-stretch _ _ _ _ (at-start .pre .0) (at-start .args .x) (at-start .pre .2) looked (omega (arith, none)) _ _ (c .before .before .place .ensures) (c .before .size .ensures) in
+    omega (arith, s .some, s .lies, at-start .pre .0 .size)
 
 added-requires : tie.Need-added-requires
 added-requires c κs =
-    let at-if2 = c .before .before .before .before .before .before .before .before .before in
-    let at-if1 = at-if2 .before .before in
-    let at-start = at-if1 .before .before .before .before .before .before .before in
+    let at-start = c .before .before .before .before .before .before .before .before .before .before .before .before .before .before .before .before .before .before in
     let looked = at-start .pre .3 in
-    let none = at-if1 .if1 .left in
-    let lies = id-stretch _ _ _ _ (at-start .pre .0) (at-start .args .x) (at-start .pre .2) looked (omega (arith, none)) in
-    let place = c .before .before .before .before .before .before .before .before .place .ensures in
-    let size = c .before .before .before .before .before .before .before .size .ensures in
-    (at-start .pre .0, (omega (arith, looked .0), omega (arith, at-if2 .if2 .left), omega arith, omega arith, id-new _ _ _ _ (at-start .pre .0) (at-start .args .x) (at-start .pre .2) looked (omega (arith, none)) _ _ place size))
+    let none = c .before .before .before .before .before .before .before .before .before .before .before .if1 .left in
+    let s = id-stretch _ _ _ _ (at-start .pre .0) (at-start .args .x) (at-start .pre .2) looked (omega (arith, none)) _ _ (c .before .before .before .before .before .before .before .before .place .ensures) (c .before .before .before .before .before .before .before .size .ensures) in
+    (at-start .pre .0, (omega (arith, looked .0), λ l. refl, omega (arith, c .before .before .before .before .before .before .before .before .before .if2 .left), s .some, s .lies, s .sound, id-new _ _ _ _ (at-start .pre .0) (at-start .args .x) (at-start .pre .2) looked (omega (arith, none)) _ _ (c .before .before .before .before .before .before .before .before .place .ensures) (c .before .before .before .before .before .before .before .size .ensures)))
 
 returns-3 : tie.Need-returns-3
 returns-3 c =

@@ -3,35 +3,35 @@
 use native.Mathlib.Omega.{arith}
 use borrow.Author.Needs.{needs}
 use borrow.Author.Tests.{not-true, not-false}
-use Rattle.read_names.proofs.StringLaws.{begins, table-small, table-inside, table-indexed, fresh-refused, fresh-past, fresh-bad, new-known, new-full, new-done}
+use Rattle.read_names.proofs.StringLaws.{length-read, begins, table-small, table-inside, table-indexed, fresh-refused, fresh-past, fresh-bad, new-known, new-full, new-done}
 use Rattle.read_names.proofs.strings.fresh.Statement.{statement}
 use Rattle.read_names.proofs.strings.fresh.Tie as tie
 
 sub-if1 : tie.Need-sub-if1
-sub-if1 c = begins _ _ _ 2 _ _ (c .before .before .before .length .ensures) (c .before .n .given .1) .1
+sub-if1 c = begins _ _ _ _ (c .before .n .given .1) (length-read _ _ 2 _ (c .before .before .before .length .ensures)) .1
 
 returns : tie.Need-returns
 returns c =
     let at-start = c .before .before .before .before .before .before .before .before .before in
-    let b = begins _ _ _ 2 _ _ (c .before .before .before .before .length .ensures) (c .before .before .n .given .1) in
+    let b = begins _ _ _ _ (c .before .before .n .given .1) (length-read _ _ 2 _ (c .before .before .before .before .length .ensures)) in
     fresh-past _ _ _ _ _ _ (at-start .pre .0) (let l = at-start .pre .1 in omega arith) (at-start .pre .2) _ (c .before .before .before .before .length .ensures) _ _ (c .before .before .n .given .1) (omega arith)
 
 mark-requires : tie.Need-mark-requires
 mark-requires c κs =
-    let b = begins _ _ _ 2 _ _ (c .before .before .before .before .length .ensures) (c .before .before .n .given .1) in
+    let b = begins _ _ _ _ (c .before .before .n .given .1) (length-read _ _ 2 _ (c .before .before .before .before .length .ensures)) in
     (b .0, omega arith)
 
 returns-2 : tie.Need-returns-2
 returns-2 c =
     let at-start = c .before .before .before .before .before .before .before .before .before .before .before .before in
-    let b = begins _ _ _ 2 _ _ (c .before .before .before .before .before .before .before .length .ensures) (c .before .before .before .before .before .n .given .1) in
+    let b = begins _ _ _ _ (c .before .before .before .before .before .n .given .1) (length-read _ _ 2 _ (c .before .before .before .before .before .before .before .length .ensures)) in
     fresh-bad _ _ _ _ _ _ (at-start .pre .0) (let l = at-start .pre .1 in omega arith) (at-start .pre .2) _ (c .before .before .before .before .before .before .before .length .ensures) _ _ (c .before .before .before .before .before .n .given .1) _ (omega arith) (c .before .before .mark .ensures .2) (not-true _ (c .if2 .taken))
 
 add-new-requires : tie.Need-add-new-requires
 add-new-requires c κs =
     let at-length = c .before .before .before .before .before .before .before .before .before .before in
     let at-start = at-length .before .before .before .before .before in
-    let b = begins _ _ _ 2 _ _ (at-length .length .ensures) (c .before .before .before .before .before .before .before .before .n .given .1) in
+    let b = begins _ _ _ _ (c .before .before .before .before .before .before .before .before .n .given .1) (length-read _ _ 2 _ (at-length .length .ensures)) in
     let z = at-start .pre .0 .size in (
       at-start .pre .0 .room,
       at-start .pre .0 .indexed .size,
@@ -68,7 +68,7 @@ returns-4 c =
     let at-n = at-mark .before .before .before in
     let at-length = at-n .before .before in
     let at-start = at-length .before .before .before .before .before in
-    let b = begins _ _ _ 2 _ _ (at-length .length .ensures) (at-n .n .given .1) in
+    let b = begins _ _ _ _ (at-n .n .given .1) (length-read _ _ 2 _ (at-length .length .ensures)) in
     new-known _ _ _ _ _ _ (at-start .pre .0) (let l = at-start .pre .1 in omega arith) (at-start .pre .2) _ (at-length .length .ensures) _ _ (at-n .n .given .1) _ (omega arith) (at-mark .mark .ensures .2) (not-false _ (at-if2 .if2 .left)) _ _ (rw (c .enum-told .given .1) at (c .before .before .before .before .before .before .add-new .ensures))
 
 returns-5 : tie.Need-returns-5
@@ -78,7 +78,7 @@ returns-5 c =
     let at-n = at-mark .before .before .before in
     let at-length = at-n .before .before in
     let at-start = at-length .before .before .before .before .before in
-    let b = begins _ _ _ 2 _ _ (at-length .length .ensures) (at-n .n .given .1) in
+    let b = begins _ _ _ _ (at-n .n .given .1) (length-read _ _ 2 _ (at-length .length .ensures)) in
     new-full _ _ _ _ _ _ (at-start .pre .0) (let l = at-start .pre .1 in omega arith) (at-start .pre .2) _ (at-length .length .ensures) _ _ (at-n .n .given .1) _ (omega arith) (at-mark .mark .ensures .2) (not-false _ (at-if2 .if2 .left)) _ _ (rw (c .enum-told2 .given .1) at (c .before .before .before .before .before .before .add-new .ensures))
 
 returns-6 : tie.Need-returns-6
@@ -88,7 +88,7 @@ returns-6 c =
     let at-n = at-mark .before .before .before in
     let at-length = at-n .before .before in
     let at-start = at-length .before .before .before .before .before in
-    let b = begins _ _ _ 2 _ _ (at-length .length .ensures) (at-n .n .given .1) in
+    let b = begins _ _ _ _ (at-n .n .given .1) (length-read _ _ 2 _ (at-length .length .ensures)) in
     new-done _ _ _ _ _ _ (at-start .pre .0) (let l = at-start .pre .1 in omega arith) (at-start .pre .2) _ (at-length .length .ensures) _ _ (at-n .n .given .1) _ (omega arith) (at-mark .mark .ensures .2) (not-false _ (at-if2 .if2 .left)) _ _ (rw (c .enum-told3 .given .1) at (c .before .before .before .before .before .before .add-new .ensures))
 
 pub fresh-spec : {M : Type 1} → statement M

@@ -6,22 +6,28 @@ use Rattle.read_names.proofs.StringLaws.{said-number, said-not, said-en
 use Rattle.read_names.proofs.strings.said.Statement.{statement}
 use Rattle.read_names.proofs.strings.said.Tie as tie
 
-sub-string-of : tie.Need-sub-string-of
-sub-string-of c = said-number _ _ _ (c .before .r2 .given .1) (c .before .before .before .before .pre .2) .0
+sub-other-string-of : tie.Need-sub-other-string-of
+sub-other-string-of c = said-number _ _ _ (c .before .r2 .given .1) (c .before .before .before .before .pre .3) .0
 
-string-of-requires : tie.Need-string-of-requires
-string-of-requires c κs =
+other-string-of-requires : tie.Need-other-string-of-requires
+other-string-of-requires c κs =
     let at-start = c .before .before .before .before in
-    let b = said-number _ _ _ (c .before .r2 .given .1) (at-start .pre .2) in
-    (at-start .pre .0, at-start .pre .1, omega arith)
+    let b = said-number _ _ _ (c .before .r2 .given .1) (at-start .pre .3) in
+    (at-start .pre .0, at-start .pre .1, at-start .pre .2, omega arith)
 
 returns : tie.Need-returns
 returns c = said-not _ _ _ _ _ (c .before .r .given .1)
 
 returns-2 : tie.Need-returns-2
-returns-2 c = said-entry _ _ _ _ _ _ (c .before .before .r2 .given .1) (c .string-of .ensures)
+returns-2 c = said-entry _ _ _ _ _ _ (c .before .before .r2 .given .1) (c .other-string-of .ensures)
 
 pub said-spec : {M : Type 1} → statement M
 said-spec =
     tie.close
-    (tie.spec (λ c. search needs) (λ c. search needs) sub-string-of string-of-requires returns returns-2)
+    (tie.spec
+    (λ c. search needs)
+    (λ c. search needs)
+    sub-other-string-of
+    other-string-of-requires
+    returns
+    returns-2)

@@ -2,35 +2,35 @@
 -- Assumes nothing.
 use native.Mathlib.Omega.{arith}
 use borrow.Author.Needs.{needs}
-use Rattle.read_names.proofs.StringLaws.{starts-within, stretch-not, stretch-past, stretch-bad, stretch-text}
+use Rattle.read_names.proofs.StringLaws.{begins, stretch-not, stretch-past, stretch-bad, stretch-text}
 use Rattle.read_names.proofs.strings.stretch.Statement.{statement}
 use Rattle.read_names.proofs.strings.stretch.Tie as tie
 
 returns : tie.Need-returns
-returns c = stretch-not _ _ _ _ _ (c .enum-told .given .1)
+returns c = stretch-not _ _ _ _ _ _ (c .enum-told .given .1)
 
 sub-if1 : tie.Need-sub-if1
-sub-if1 c = starts-within _ _ _ _ (c .before .r .given .1) (c .before .before .before .before .pre)
+sub-if1 c = begins _ _ _ _ (c .before .r .given .1) (c .before .before .before .before .pre) .1
 
 returns-2 : tie.Need-returns-2
 returns-2 c =
-    let w = starts-within _ _ _ _ (c .before .before .r .given .1) (c .before .before .before .before .before .pre) in
-    stretch-past _ _ _ _ _ (c .before .before .r .given .1) (omega arith)
+    let w = begins _ _ _ _ (c .before .before .r .given .1) (c .before .before .before .before .before .pre) in
+    stretch-past _ _ _ _ _ _ (c .before .before .r .given .1) (omega arith)
 
 is-text-requires : tie.Need-is-text-requires
 is-text-requires c κs =
-    let w = starts-within _ _ _ _ (c .before .before .r .given .1) (c .before .before .before .before .before .pre) in
+    let w = begins _ _ _ _ (c .before .before .r .given .1) (c .before .before .before .before .before .pre) in
     omega arith
 
 returns-3 : tie.Need-returns-3
 returns-3 c =
-    let w = starts-within _ _ _ _ (c .before .before .before .before .r .given .1) (c .before .before .before .before .before .before .before .pre) in
-    stretch-text _ _ _ _ _ (c .before .before .before .before .r .given .1) _ _ (omega arith) (omega arith) (c .before .is-text .ensures) (c .if2 .taken)
+    let w = begins _ _ _ _ (c .before .before .before .before .r .given .1) (c .before .before .before .before .before .before .before .pre) in
+    stretch-text _ _ _ _ _ _ (c .before .before .before .before .r .given .1) _ _ (omega arith) (omega arith) (c .before .is-text .ensures .0) (c .if2 .taken)
 
 returns-4 : tie.Need-returns-4
 returns-4 c =
-    let w = starts-within _ _ _ _ (c .before .before .before .before .r .given .1) (c .before .before .before .before .before .before .before .pre) in
-    stretch-bad _ _ _ _ _ (c .before .before .before .before .r .given .1) _ _ (omega arith) (omega arith) (c .before .is-text .ensures) (c .if2 .left)
+    let w = begins _ _ _ _ (c .before .before .before .before .r .given .1) (c .before .before .before .before .before .before .before .pre) in
+    stretch-bad _ _ _ _ _ _ (c .before .before .before .before .r .given .1) _ _ (omega arith) (omega arith) (c .before .is-text .ensures .0) (c .if2 .left)
 
 pub stretch-spec : {M : Type 1} → statement M
 stretch-spec =

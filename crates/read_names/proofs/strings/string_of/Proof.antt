@@ -7,7 +7,7 @@ use Rattle.read_names.proofs.strings.string_of.Statement.{statement}
 use Rattle.read_names.proofs.strings.string_of.Tie as tie
 
 returns : tie.Need-returns
-returns c = entry-octets _ _ _ _ (c .before .before .entry .ensures) (omega arith)
+returns c = entry-octets _ _ _ _ (c .before .before .entry .ensures) (omega arith) (omega arith)
 
 returns-2 : tie.Need-returns-2
 returns-2 c = entry-built-in _ _ _ _ (c .before .before .before .entry .ensures) _ (omega arith) (built-in-prefix _ (omega arith))
@@ -19,4 +19,11 @@ returns-4 : tie.Need-returns-4
 returns-4 c = entry-built-in _ _ _ _ (c .before .before .before .entry .ensures) _ (omega arith) (built-in-none _ (omega arith) (omega arith) (omega arith))
 
 pub string-of-spec : {M : Type 1} → statement M
-string-of-spec = tie.close (tie.spec (λ c κs. search needs) returns returns-2 returns-3 returns-4)
+string-of-spec =
+    tie.close
+    (tie.spec
+    (λ c κs. search needs)
+    returns
+    returns-2
+    returns-3
+    returns-4)

@@ -9,10 +9,10 @@ use Rattle.reader.proofs.lane.added.Statement.{statement}
 use Rattle.reader.proofs.lane.added.Tie as tie
 
 returns : tie.Need-returns
-returns c = λ k. added-not _ _ 6 k _ _ _ _ _ refl refl (not-true _ (c .if1 .taken))
+returns c = λ k. added-not _ _ 6 k _ _ _ _ _ _ refl refl (not-true _ (c .if1 .taken))
 
 returns-3 : tie.Need-returns-3
-returns-3 c = λ k. added-more _ _ 6 k _ _ _ _ _ refl refl (not-false _ (c .before .before .before .before .before .before .if1 .left)) (omega arith) _ (c .before .before .add .ensures)
+returns-3 c = λ k. added-more _ _ 6 k _ _ _ _ _ _ refl refl (not-false _ (c .before .before .before .before .before .before .if1 .left)) (omega arith) _ refl _ (c .before .before .add .ensures)
 
 pub added-spec : {M : Type 1} → statement M
 added-spec =

@@ -11,7 +11,7 @@ use Rattle.write_head.proofs.adding.add_name.Reads as add-name-reads
 use Rattle.write_head.proofs.adding.add_string.Reads as add-string-reads
 
 add-string-requires : tie.Need-add-string-requires
-add-string-requires c κs = let s = c .before .before .before .before .before .before .before .before .before in let f = s .pre .4 (omega arith) in (s .pre .0, omega arith, s .pre .2, s .pre .3, f .0, f .1)
+add-string-requires c κs = let s = c .before .before .before .before .before .before .before .before .before in (s .pre .0, omega arith, s .pre .2, s .pre .3, s .pre .4 (omega arith))
 
 same-length : tie.Need-same-length
 same-length c = search needs

@@ -11,7 +11,7 @@ use Rattle.tables.proofs.Found.{clash}
 use Rattle.write_names.specs.Contracts.{tablesIn}
 use Rattle.write_head.specs.Given.{rowsOf}
 use Rattle.write_head.specs.RowContracts.{below, keepsRow, addRows, Grown}
-use Rattle.write_head.proofs.RowLaws.{right-lies, below-none, below-more, table-keeps, table-breaks}
+use Rattle.write_head.proofs.RowLaws.{right-row, below-none, below-more, table-keeps, table-breaks}
 use Rattle.write_head.proofs.AddLaws.{rows-none, rows-more}
 use Rattle.write_head.proofs.NewLaws.{row-told}
 use Rattle.write_head.proofs.adding.add_rows.Statement.{statement}
@@ -50,7 +50,7 @@ add-add-row : tie.Need-add-add-row Inv-loop μ-loop
 add-add-row c = search needs
 
 add-row-requires : tie.Need-add-row-requires Inv-loop μ-loop
-add-row-requires c κs = let s = c .before .before .before .before .before .before .before .before .before .before .before .before .before in let l = c .before .before .before .before .loop in let e = l .inv .3 in let h = l .inv .0 .here in (l .inv .0 .order, s .pre .1, omega arith, omega arith, λ k. rw e (right-lies _ _ (s .pre .3) _ _ (s .pre .1) (omega arith) k))
+add-row-requires c κs = let s = c .before .before .before .before .before .before .before .before .before .before .before .before .before in let l = c .before .before .before .before .loop in let e = l .inv .3 in let h = l .inv .0 .here in (l .inv .0 .order, s .pre .1, omega arith, omega arith, λ k. rw e (right-row _ _ (s .pre .3) _ _ (s .pre .1) (omega arith) (s .pre .6) k))
 
 same-length : tie.Need-same-length Inv-loop μ-loop
 same-length c = search needs

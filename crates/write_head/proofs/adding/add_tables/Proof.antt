@@ -26,7 +26,7 @@ loop-holds : tie.Need-loop-holds Inv-loop μ-loop
 loop-holds c = let s = c .before .before .before .before .before in (record { order = s .pre .0; tables = s .pre .4; fresh = λ j h. s .pre .5 j }, omega arith, below-none _)
 
 add-rows-requires : tie.Need-add-rows-requires Inv-loop μ-loop
-add-rows-requires c κs = let s = c .before .before .before .before .before .before .before .before .before .before in let l = c .before .before .before .before .loop in let f = l .inv .0 .fresh (l .table) (omega arith) in let k = few-at (s .args .given .now) (l .table) (s .pre .3) (omega arith) in (l .inv .0 .order, omega arith, s .pre .1, s .pre .2, omega arith, l .inv .0 .tables)
+add-rows-requires c κs = let s = c .before .before .before .before .before .before .before .before .before .before in let l = c .before .before .before .before .loop in let f = l .inv .0 .fresh (l .table) (omega arith) in let k = few-at (s .args .given .now) (l .table) (s .pre .3) (omega arith) in (l .inv .0 .order, omega arith, s .pre .1, s .pre .2, omega arith, l .inv .0 .tables, s .pre .6)
 
 same-length : tie.Need-same-length Inv-loop μ-loop
 same-length c = search needs

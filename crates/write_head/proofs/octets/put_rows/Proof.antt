@@ -47,7 +47,7 @@ add-put-row : tie.Need-add-put-row Inv-loop μ-loop
 add-put-row c = omega arith
 
 put-row-requires : tie.Need-put-row-requires Inv-loop μ-loop
-put-row-requires c κs = let s = c .before .before .before .before .before .before .before .before .before in let l = c .before .before .loop in let e = l .inv .5 in (omega arith, s .pre .1, omega arith, s .pre .5, rw e (right-fits _ _ (s .pre .3) _ _ (s .pre .1) (omega arith) (s .pre .4)))
+put-row-requires c κs = let s = c .before .before .before .before .before .before .before .before .before in let l = c .before .before .loop in let e = l .inv .5 in (omega arith, s .pre .1, omega arith, s .pre .5, rw e (right-fits _ _ (s .pre .3) _ _ (s .pre .1) (omega arith) (s .pre .6) (s .pre .4)))
 
 add-i : tie.Need-add-i Inv-loop μ-loop
 add-i c = omega arith

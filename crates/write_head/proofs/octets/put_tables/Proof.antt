@@ -24,7 +24,7 @@ loop-holds : tie.Need-loop-holds Inv-loop μ-loop
 loop-holds c = (joins-none _, omega arith, omega arith)
 
 put-table-requires : tie.Need-put-table-requires Inv-loop μ-loop
-put-table-requires c κs = let s = c .before .before .before .before .before .before in (omega arith, omega arith, s .pre .1, s .pre .2, s .pre .3, s .pre .4)
+put-table-requires c κs = let s = c .before .before .before .before .before .before in (omega arith, omega arith, s .pre .1, s .pre .2, s .pre .3, s .pre .4, s .pre .5)
 
 add-table : tie.Need-add-table Inv-loop μ-loop
 add-table c = search needs

@@ -41,7 +41,7 @@ is-built-in-requires : tie.Need-is-built-in-requires
 is-built-in-requires c κs = let p = c .before .before .before .before .before .before .before .pre .1 (omega arith) in omega arith
 
 returns-2 : tie.Need-returns-2
-returns-2 c = starts-string _ _ _ _ _ _ (omega arith) (c .before .before .before .wide .ensures .0) (c .before .wide2 .ensures .0) _ (c .is-built-in .ensures)
+returns-2 c = starts-string _ _ _ _ _ _ (omega arith) (c .before .before .before .before .before .before .before .before .pre .1 (omega arith) .0) (c .before .before .before .wide .ensures .0) (c .before .wide2 .ensures .0) _ (c .is-built-in .ensures)
 
 pub is-built-in-spec : {M : Type 1} → statement M
 is-built-in-spec =

@@ -7,7 +7,7 @@ use mathlib.Core.Bool.{false}
 use Prim.Native.Nat.{ℕ, _+_, _-_, _*_, _≤_}
 use Rattle.write_head.specs.RowContracts.{someBelow, sameRow, startsRow}
 use Rattle.write_head.specs.Given.{rowsOf}
-use Rattle.write_head.proofs.RowLaws.{some-none, some-more, held-start, held-before, held-not, right-lies}
+use Rattle.write_head.proofs.RowLaws.{some-none, some-more, held-start, held-before, held-not, right-tag, right-lies}
 use Rattle.write_head.proofs.repeats.is_held.Statement.{statement}
 use Rattle.write_head.proofs.repeats.is_held.Tie as tie
 use Rattle.write_head.proofs.repeats.is_held.Reads as reads
@@ -32,7 +32,7 @@ add-is-built-in : tie.Need-add-is-built-in Inv-loop μ-loop
 add-is-built-in c = search needs
 
 is-built-in-requires : tie.Need-is-built-in-requires Inv-loop μ-loop
-is-built-in-requires c κs = let s = c .before .before .before in let e = c .rows-of .ensures .0 in (omega arith, λ k. rw e (right-lies _ _ (s .pre .3) _ _ (s .pre .1) (s .pre .2) k .1))
+is-built-in-requires c κs = let s = c .before .before .before in let e = c .rows-of .ensures .0 in (omega arith, λ k. rw e (right-tag _ _ (s .pre .3) _ _ (s .pre .1) (s .pre .2) (s .pre .4 k), right-lies _ _ (s .pre .3) _ _ (s .pre .1) (s .pre .2) k .1))
 
 returns : tie.Need-returns Inv-loop μ-loop
 returns c = let e = c .before .before .rows-of .ensures .0 in held-start _ _ _ _ (rw (← e) (sym (c .if1 .taken) ∙ c .before .is-built-in .ensures))
@@ -53,7 +53,7 @@ add-is-same-2 : tie.Need-add-is-same-2 Inv-loop μ-loop
 add-is-same-2 c = search needs
 
 is-same-requires : tie.Need-is-same-requires Inv-loop μ-loop
-is-same-requires c κs = let s = c .before .before .before .before .before .before .before in let l = c .before .loop in let e = c .before .before .before .before .rows-of .ensures .0 in (omega arith, omega arith, λ k. rw e (right-lies _ _ (s .pre .3) _ (l .j) (s .pre .1) (omega arith) k .1, right-lies _ _ (s .pre .3) _ _ (s .pre .1) (s .pre .2) k .1))
+is-same-requires c κs = let s = c .before .before .before .before .before .before .before in let l = c .before .loop in let e = c .before .before .before .before .rows-of .ensures .0 in (omega arith, omega arith, λ k. rw e (right-tag _ _ (s .pre .3) _ (l .j) (s .pre .1) (omega arith) (s .pre .4 k), right-lies _ _ (s .pre .3) _ (l .j) (s .pre .1) (omega arith) k .1, right-tag _ _ (s .pre .3) _ _ (s .pre .1) (s .pre .2) (s .pre .4 k), right-lies _ _ (s .pre .3) _ _ (s .pre .1) (s .pre .2) k .1))
 
 returns-2 : tie.Need-returns-2 Inv-loop μ-loop
 returns-2 c = let e = c .before .before .before .before .before .before .rows-of .ensures .0 in held-before _ _ _ _ (c .before .before .before .loop .j) (omega arith) (rw (← e) (sym (c .if2 .taken) ∙ c .before .is-same .ensures))

@@ -62,7 +62,7 @@ same-octets-requires : tie.Need-same-octets-requires
 same-octets-requires c κs = let p = c .before .before .before .before .before .before .before .before .before .before .before .pre .2 (omega arith) in omega arith
 
 returns : tie.Need-returns
-returns c = same-string _ _ _ _ _ (omega arith) _ _ _ _ (c .before .before .before .before .before .before .before .wide .ensures .0) (c .before .before .before .before .before .wide2 .ensures .0) (c .before .before .before .wide3 .ensures .0) (c .before .wide4 .ensures .0) _ (c .same-octets .ensures)
+returns c = let p = c .before .before .before .before .before .before .before .before .before .before .before .before .pre .2 (omega arith) in same-string _ _ _ _ _ (omega arith) (p .0) (p .2) _ _ _ _ (c .before .before .before .before .before .before .before .wide .ensures .0) (c .before .before .before .before .before .wide2 .ensures .0) (c .before .before .before .wide3 .ensures .0) (c .before .wide4 .ensures .0) _ (c .same-octets .ensures)
 
 mul-if2 : tie.Need-mul-if2
 mul-if2 c = search needs

@@ -5,7 +5,8 @@ use native.Mathlib.Omega.{arith}
 use mathlib.Core.Path.{refl}
 use Rattle.events.specs.declared.Kind.the-variants.{Attribute}
 use Rattle.write_items.proofs.WellMade.{by-kind}
-use Rattle.write_items.proofs.ItemLaws.{value-fills, name-ready, attribute-full, attribute-lands}
+use Rattle.write_items.proofs.Strings.{attribute-fills}
+use Rattle.write_items.proofs.ItemLaws.{name-ready, attribute-full, attribute-lands}
 use Rattle.write_items.proofs.items.attribute.Statement.{statement}
 use Rattle.write_items.proofs.items.attribute.Tie as tie
 
@@ -29,7 +30,7 @@ value-requires c κs =
     let stands = rw (c .before .before .before .before .before .behind .given .1) at (at-name .name .ensures) in
     let low = at-octet .octet .ensures .1 in
     let few = stands .few in
-    (stands .order, omega arith, omega arith, value-fills (at-start .args .text .now) (at-start .args .e .value) (by-kind (at-start .args .text .now) (at-start .args .e) Attribute (at-start .pre .made) .1))
+    (stands .order, omega arith, omega arith, omega arith, attribute-fills (at-start .args .text .now) (at-start .args .e) (at-start .pre .made) (at-start .pre .texts))
 
 landed-requires : tie.Need-landed-requires
 landed-requires c κs =

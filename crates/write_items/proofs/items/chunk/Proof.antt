@@ -2,16 +2,15 @@
 -- Assumes nothing.
 use borrow.Author.Needs.{needs}
 use native.Mathlib.Omega.{arith}
-use Rattle.events.specs.declared.Kind.the-variants.{Chunk}
-use Rattle.write_items.proofs.WellMade.{by-kind}
-use Rattle.write_items.proofs.ItemLaws.{stretch-spells, chunk-lands}
+use Rattle.write_items.proofs.Strings.{chunk-spells}
+use Rattle.write_items.proofs.ItemLaws.{chunk-lands}
 use Rattle.write_items.proofs.items.chunk.Statement.{statement}
 use Rattle.write_items.proofs.items.chunk.Tie as tie
 
 chunk-requires : tie.Need-chunk-requires
 chunk-requires c κs =
     let at-start = c .before .before .before .before .before .before .before .before .before .before in
-    (at-start .pre .order, omega arith, stretch-spells (at-start .args .text .now) (at-start .args .e .value) (by-kind (at-start .args .text .now) (at-start .args .e) Chunk (at-start .pre .made) .2))
+    (at-start .pre .order, omega arith, chunk-spells (at-start .args .text .now) (at-start .args .e) (at-start .pre .made) (at-start .pre .texts))
 
 returns : tie.Need-returns
 returns c =

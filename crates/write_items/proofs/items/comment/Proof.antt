@@ -2,16 +2,15 @@
 -- Assumes nothing.
 use borrow.Author.Needs.{needs}
 use native.Mathlib.Omega.{arith}
-use Rattle.events.specs.declared.Kind.the-variants.{Comment}
-use Rattle.write_items.proofs.WellMade.{by-kind}
-use Rattle.write_items.proofs.ItemLaws.{value-fills, comment-lands}
+use Rattle.write_items.proofs.Strings.{comment-fills}
+use Rattle.write_items.proofs.ItemLaws.{comment-lands}
 use Rattle.write_items.proofs.items.comment.Statement.{statement}
 use Rattle.write_items.proofs.items.comment.Tie as tie
 
 value-requires : tie.Need-value-requires
 value-requires c κs =
     let at-start = c .before .before .before .before .before .before .before .before .before .before .before .before .before .before in
-    (at-start .pre .order, omega arith, omega arith, value-fills (at-start .args .text .now) (at-start .args .e .value) (by-kind (at-start .args .text .now) (at-start .args .e) Comment (at-start .pre .made) .2))
+    (at-start .pre .order, omega arith, omega arith, omega arith, comment-fills (at-start .args .text .now) (at-start .args .e) (at-start .pre .made) (at-start .pre .texts))
 
 returns : tie.Need-returns
 returns c =

@@ -5,7 +5,8 @@ use native.Mathlib.Omega.{arith}
 use Rattle.events.specs.declared.Kind.the-variants.{Namespace}
 use Rattle.write_names.specs.Contracts.{pairMost}
 use Rattle.write_items.proofs.WellMade.{by-kind}
-use Rattle.write_items.proofs.ItemLaws.{prefix-suits, namespace-suits, meets-near, declare-lands}
+use Rattle.write_items.proofs.Strings.{prefix-suits, namespace-suits}
+use Rattle.write_items.proofs.ItemLaws.{meets-near, declare-lands}
 use Rattle.write_items.proofs.items.declare.Statement.{statement}
 use Rattle.write_items.proofs.items.declare.Tie as tie
 

@@ -4,17 +4,17 @@ use borrow.Author.Needs.{needs}
 use native.Mathlib.Omega.{arith}
 use mathlib.Core.Path.{refl}
 use Rattle.events.specs.declared.Kind.the-variants.{Instruction}
-use Rattle.write_names.proofs.StringLaws.{spells-suits, spells-stretch}
 use Rattle.write_items.proofs.WellMade.{by-kind}
-use Rattle.write_items.proofs.ItemLaws.{stretch-spells, value-fills, instruction-full, instruction-lands}
+use Rattle.write_items.proofs.Strings.{stretch-suits, instruction-fills}
+use Rattle.write_items.proofs.ItemLaws.{instruction-full, instruction-lands}
 use Rattle.write_items.proofs.items.instruction.Statement.{statement}
 use Rattle.write_items.proofs.items.instruction.Tie as tie
 
 identified-requires : tie.Need-identified-requires
 identified-requires c κs =
     let at-start = c .before .before .before .before .before .before .before .before .before .before .before .before .before .before in
-    let s = stretch-spells (at-start .args .text .now) (at-start .args .e .name) (by-kind (at-start .args .text .now) (at-start .args .e) Instruction (at-start .pre .made) .1) in
-    (at-start .pre .order, omega arith, spells-stretch (at-start .args .text .now) (at-start .args .e .name) s .3, omega arith, spells-suits (at-start .args .text .now) 3 (at-start .args .e .name) s)
+    let s = stretch-suits (at-start .args .text .now) 3 (at-start .args .e .name) (by-kind (at-start .args .text .now) (at-start .args .e) Instruction (at-start .pre .made) .1) in
+    (at-start .pre .order, omega arith, s .1, omega arith, s .0)
 
 returns : tie.Need-returns
 returns c =
@@ -30,7 +30,7 @@ value-requires c κs =
     let stands = rw (c .before .before .before .before .before .behind .given .1) at (at-identified .identified .ensures) in
     let low = at-octet .octet .ensures .1 in
     let few = stands .few in
-    (stands .order, omega arith, omega arith, value-fills (at-start .args .text .now) (at-start .args .e .value) (by-kind (at-start .args .text .now) (at-start .args .e) Instruction (at-start .pre .made) .2))
+    (stands .order, omega arith, omega arith, omega arith, instruction-fills (at-start .args .text .now) (at-start .args .e) (at-start .pre .made) (at-start .pre .texts))
 
 landed-requires : tie.Need-landed-requires
 landed-requires c κs =

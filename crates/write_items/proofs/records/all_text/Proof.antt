@@ -22,7 +22,7 @@ returns-4 c = rw (c .before .enum-told3 .given .1, ← c .name-text .ensures)
 
 returns-5 : tie.Need-returns-5
 unfolding eventOf allText
-returns-5 c = rw (c .before .before .before .enum-told4 .given .1, ← c .before .before .name-text2 .ensures, c .before .if2 .taken, ← c .is-text-string3 .ensures)
+returns-5 c = rw (c .before .before .before .enum-told4 .given .1, ← c .before .before .name-text2 .ensures, c .before .if2 .taken, ← c .is-text-value .ensures)
 
 returns-6 : tie.Need-returns-6
 unfolding eventOf allText
@@ -30,19 +30,19 @@ returns-6 c = rw (c .before .before .enum-told4 .given .1, ← c .before .name-t
 
 returns-7 : tie.Need-returns-7
 unfolding eventOf allText
-returns-7 c = rw (c .before .enum-told5 .given .1, ← c .is-text-string4 .ensures)
+returns-7 c = rw (c .before .enum-told5 .given .1, ← c .is-text-value2 .ensures)
 
 returns-8 : tie.Need-returns-8
 unfolding eventOf allText
-returns-8 c = rw (c .before .enum-told6 .given .1, ← c .is-text-string5 .ensures)
+returns-8 c = rw (c .before .enum-told6 .given .1, ← c .is-text-value3 .ensures)
 
 returns-9 : tie.Need-returns-9
 unfolding eventOf allText
-returns-9 c = rw (c .before .before .before .enum-told7 .given .1, ← c .before .before .is-text-string6 .ensures, c .before .if3 .taken, ← c .is-text-string7 .ensures)
+returns-9 c = rw (c .before .before .before .enum-told7 .given .1, ← c .before .before .is-text-string3 .ensures, c .before .if3 .taken, ← c .is-text-value4 .ensures)
 
 returns-10 : tie.Need-returns-10
 unfolding eventOf allText
-returns-10 c = rw (c .before .before .enum-told7 .given .1, ← c .before .is-text-string6 .ensures, c .if3 .left)
+returns-10 c = rw (c .before .before .enum-told7 .given .1, ← c .before .is-text-string3 .ensures, c .if3 .left)
 
 returns-11 : tie.Need-returns-11
 unfolding eventOf allText

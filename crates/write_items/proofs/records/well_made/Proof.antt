@@ -48,7 +48,7 @@ returns-9 c = rw (c .before .before .enum-told4 .given .1, ← c .before .is-nam
 
 returns-10 : tie.Need-returns-10
 unfolding wellMade noName
-returns-10 c = rw (c .before .before .before .before .before .enum-told5 .given .1, ← c .before .before .before .before .no-name .ensures, c .before .before .before .if6 .taken, ← c .before .before .is-absent4 .ensures, c .before .if7 .taken, ← c .is-stretch .ensures)
+returns-10 c = rw (c .before .before .before .before .before .enum-told5 .given .1, ← c .before .before .before .before .no-name .ensures, c .before .before .before .if6 .taken, ← c .before .before .is-absent4 .ensures, c .before .if7 .taken, ← c .is-string .ensures)
 
 returns-11 : tie.Need-returns-11
 unfolding wellMade noName
@@ -72,11 +72,11 @@ returns-15 c = rw (c .before .before .enum-told6 .given .1, ← c .before .no-na
 
 returns-16 : tie.Need-returns-16
 unfolding wellMade noName
-returns-16 c = rw (c .before .before .before .before .before .enum-told7 .given .1, ← c .before .before .before .before .no-name3 .ensures, c .before .before .before .if10 .taken, ← c .before .before .is-stretch2 .ensures, c .before .if11 .taken, ← c .is-value3 .ensures)
+returns-16 c = rw (c .before .before .before .before .before .enum-told7 .given .1, ← c .before .before .before .before .no-name3 .ensures, c .before .before .before .if10 .taken, ← c .before .before .is-stretch .ensures, c .before .if11 .taken, ← c .is-value3 .ensures)
 
 returns-17 : tie.Need-returns-17
 unfolding wellMade noName
-returns-17 c = rw (c .before .before .before .before .enum-told7 .given .1, ← c .before .before .before .no-name3 .ensures, c .before .before .if10 .taken, ← c .before .is-stretch2 .ensures, c .if11 .left)
+returns-17 c = rw (c .before .before .before .before .enum-told7 .given .1, ← c .before .before .before .no-name3 .ensures, c .before .before .if10 .taken, ← c .before .is-stretch .ensures, c .if11 .left)
 
 returns-18 : tie.Need-returns-18
 unfolding wellMade noName

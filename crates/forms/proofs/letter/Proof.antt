@@ -1,0 +1,35 @@
+-- `letter` meets its contract: the byte strings are the alphabets.
+-- Assumes nothing.
+use borrow.Author.Needs.{needs}
+use Rattle.format.specs.Forms.{numeric, dates}
+use Rattle.forms.proofs.letter.Statement.{statement}
+use Rattle.forms.proofs.letter.Tie as tie
+
+returns : tie.Need-returns
+returns c = rw (c .enum-told .given .1)
+
+returns-2 : tie.Need-returns-2
+returns-2 c = rw (c .enum-told2 .given .1)
+
+returns-3 : tie.Need-returns-3
+unfolding numeric
+returns-3 c = rw (c .before .before .enum-told3 .given .1)
+
+returns-4 : tie.Need-returns-4
+unfolding dates
+returns-4 c = rw (c .before .before .enum-told4 .given .1)
+
+pub letter-spec : {M : Type 1} → statement M
+letter-spec =
+    tie.close
+    (tie.spec
+    (λ c. search needs)
+    (λ c. search needs)
+    (λ c. search needs)
+    (λ c. search needs)
+    (λ c. search needs)
+    (λ c. search needs)
+    returns
+    returns-2
+    returns-3
+    returns-4)

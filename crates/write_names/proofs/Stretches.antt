@@ -1,0 +1,104 @@
+-- A string that may be spelled is a stretch of the text area: where it lies, what it says, and how long that is.
+-- Assumes nothing.
+use mathlib.Core.Path.{_≡_, refl, sym, ap, _∙_}
+use mathlib.Core.Option.{some}
+use mathlib.Core.List.{List}
+use Prim.Native.Nat.{ℕ, _+_, _≤_, _<_}
+use native.Mathlib.Omega.{arith}
+use lib.ListN.{length, take, drop}
+use Rattle.format.specs.declared.StringForm.{StringForm}
+use Rattle.format.specs.declared.StringForm.the-variants.{Utf8, Utf16, Numeric, Dates}
+use Rattle.format.specs.Forms.{formNumber}
+use Rattle.fields.specs.PutContracts.{Puts}
+use Rattle.forms.specs.Reading.{said}
+use Rattle.forms.specs.Streams as S
+use Rattle.forms.proofs.Forms.{sound-most}
+use Rattle.tables.specs.Located.{stretch, octetsOf}
+use Rattle.tables.specs.Kept.{IsSound}
+use Rattle.tables.proofs.FormLaws.{form-zero}
+use Rattle.tables.proofs.Search.{octets-stretch, length-octets}
+use Rattle.tables.proofs.SaidLaws.{octets-part, sound-part, says-some}
+use Rattle.events.specs.declared.EventString.{EventString}
+use Rattle.events.specs.declared.EventString.the-variants.{Absent, Empty, Stretch, XmlPrefix, XmlNamespace}
+use Rattle.events.specs.Records.{locatedOf, optionalOf}
+use Rattle.events.specs.Words.{formTag, stringTag, stringForm, stringPlace, stringSize}
+use Rattle.write_names.specs.Contracts.{Spells}
+
+some-tag : (f : StringForm) → 1 ≤ formTag f
+some-tag Utf8 = omega arith
+some-tag Utf16 = omega arith
+some-tag Numeric = omega arith
+some-tag Dates = omega arith
+
+-- ---- there, or absent
+pub there : (x : EventString) → 1 ≤ stringTag x → optionalOf x ≡ some (locatedOf x)
+there Absent h = absurd (omega arith)
+there Empty h = refl
+there (Stretch f p n) h = refl
+there XmlPrefix h = refl
+there XmlNamespace h = refl
+
+pub absent : (x : EventString) → stringTag x ≡ 0 → x ≡ Absent
+absent Absent e = refl
+absent Empty e = absurd (omega arith)
+absent (Stretch f p n) e = let l = some-tag f in absurd (omega arith)
+absent XmlPrefix e = absurd (omega arith)
+absent XmlNamespace e = absurd (omega arith)
+
+-- ---- a stretch
+pub tagged : (x : EventString) → (f : StringForm) (p n : ℕ) → x ≡ Stretch f p n → 1 ≤ stringTag x
+tagged x f p n e = rw e (some-tag f)
+
+-- the string x is the n octets at p in the form f
+pub record Stretched (text : List ℕ) (x : EventString) (f : StringForm) (p n : ℕ) : Type 0 where
+  pub is : x ≡ Stretch f p n
+  pub some : 0 < n
+  pub lies : p + n ≤ length text
+  pub sound : IsSound text (stretch f p n)
+
+spelled-so : (text : List ℕ) (x : EventString) → Spells text x → Stretched text x (stringForm x) (stringPlace x) (stringSize x)
+spelled-so text Absent h = absurd h
+spelled-so text Empty h = absurd h
+spelled-so text (Stretch f p n) h = record { is = refl; some = h .0; lies = h .1; sound = h .2 }
+spelled-so text XmlPrefix h = absurd h
+spelled-so text XmlNamespace h = absurd h
+
+pub stretched : (text : List ℕ) (x : EventString) → Spells text x → {f : StringForm} {p n : ℕ} → f ≡ stringForm x → p ≡ stringPlace x → n ≡ stringSize x → Stretched text x f p n
+stretched text x h ef ep en = rw (ef, ep, en) (spelled-so text x h)
+
+module _ {text : List ℕ} {x : EventString} {f : StringForm} {p n : ℕ} (s : Stretched text x f p n) where
+  pub located : locatedOf x ≡ stretch f p n
+  located = ap locatedOf (s .is)
+
+  pub says : octetsOf text (locatedOf x) ≡ said f (S.part text p (p + n))
+  says = rw located (octets-part text f p n)
+
+  pub part-sound : S.Sound f (S.part text p (p + n))
+  part-sound = sound-part text f p n (s .sound)
+
+  pub said-length : length text ≤ 16384 → (1 ≤ length (octetsOf text (locatedOf x))) × (length (octetsOf text (locatedOf x)) ≤ 32768)
+  said-length h =
+      let k = s .some in
+      let l = s .lies in
+      let a = says-some text f p n l k in
+      let b = sound-most f (take n (drop p text)) (s .sound) in
+      let c : length (take n (drop p text)) ≡ n = rw (octets-stretch text Utf8 p n) at (length-octets text p n l) in
+      rw (located, octets-stretch text f p n) (rw (octets-stretch text f p n) at a, omega arith)
+
+  -- in utf-8 it says its own octets
+  pub plain-says : formNumber f ≡ 0 → octetsOf text (locatedOf x) ≡ take n (drop p text)
+  plain-says z = rw (located, form-zero f z) (octets-stretch text Utf8 p n)
+
+  pub plain-length : formNumber f ≡ 0 → length (octetsOf text (locatedOf x)) ≡ n
+  plain-length z = rw (located, form-zero f z) (length-octets text p n (s .lies))
+
+  -- ---- how many octets that are, counted or put
+  module _ (short : length text ≤ 16384) {r : ℕ} where
+    counted : r ≡ length (octetsOf text (locatedOf x)) → (r ≡ length (octetsOf text (locatedOf x))) × (1 ≤ r) × (r ≤ 32768)
+    counted e = let l = said-length short in (e, omega arith, omega arith)
+
+    pub octets-plain : formNumber f ≡ 0 → r ≡ n → (r ≡ length (octetsOf text (locatedOf x))) × (1 ≤ r) × (r ≤ 32768)
+    octets-plain z e = counted (e ∙ sym (plain-length z))
+
+    pub octets-put : {out out′ : List ℕ} → Puts out 0 r out′ (said f (S.part text p (p + n))) → (r ≡ length (octetsOf text (locatedOf x))) × (1 ≤ r) × (r ≤ 32768)
+    octets-put put = let b = put .behind in counted (rw says (omega arith))
