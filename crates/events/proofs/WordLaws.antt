@@ -1,21 +1,28 @@
 -- What words say, by each way out of the code.
 -- Assumes nothing.
-use mathlib.Core.Path.{_≡_, sym}
-use mathlib.Core.Logic.{_⊎_, ⊎-elim}
-use mathlib.Core.Bool.{false, _&&_, and-false}
+use mathlib.Core.Path.{_≡_, refl, sym, ap, _∙_}
+use mathlib.Core.Logic.{inl, inr}
+use mathlib.Core.Bool.{Bool, true, false, _&&_, and-false}
 use mathlib.Core.List.{List}
 use Prim.Native.Nat.{ℕ, _+_, _-_, _≤_, _<_}
 use native.Mathlib.Omega.{arith}
+use native.Mathlib.Decide.{decLt}
 use borrow.Author.Tests.{eq-eqb, ne-eqb, le-leb, lt-leb}
-use lib.Dec.{leb}
+use lib.Dec.{leb, eqb}
 use lib.ListN.{getD, List·getD-eq-default}
+use Rattle.format.specs.Numbers.{pick}
+use Rattle.format.specs.declared.StringForm.{StringForm}
 use Rattle.format.specs.declared.StringForm.the-variants.{Utf8}
-use Rattle.format.specs.Forms.{formOf}
+use Rattle.format.specs.Forms.{formNumber, formOf}
+use Rattle.tables.proofs.ByNumber.{by-number}
 use Rattle.events.specs.declared.EventString.the-variants.{Stretch}
+use Rattle.events.specs.declared.Kind.{Kind}
 use Rattle.events.specs.declared.Kind.the-variants.{Blank}
+use Rattle.events.specs.declared.words.Told.{Told}
 use Rattle.events.specs.declared.words.Told.the-variants.{Said, Not}
 use Rattle.events.specs.Records.{blank}
-use Rattle.events.specs.FromWords.{kinds, kindOf, tags, toldByTag, toldBy, toldAt, framed, recordAt}
+use Rattle.events.specs.Words.{stringForm}
+use Rattle.events.specs.FromWords.{kinds, kindOf, tags, toldByTag, toldBy, toldAt, framed, recordAt, isSaid, Misnamed}
 
 pub kind-at : (n k : ℕ) → n ≡ k → getD kinds k Blank ≡ kindOf n
 unfolding kindOf
@@ -33,6 +40,19 @@ pub tag-none : (n : ℕ) → 5 ≤ n → Not ≡ toldByTag n
 unfolding toldByTag
 tag-none n h = sym (List·getD-eq-default tags Not h)
 
+none-picked : (b : Bool) → pick b Not Not ≡ Not
+none-picked true = refl
+none-picked false = refl
+
+said-picked : (b : Bool) (x : Told) → true ≡ isSaid x → b ≡ isSaid (pick b x Not)
+said-picked true x e = e
+said-picked false x e = refl
+
+-- each tag below 5 says a string, but that of a stretch
+pub tag-said : (n : ℕ) → n < 5 → (n ≡ 2 → ⊥) → true ≡ isSaid (toldByTag n)
+unfolding toldByTag
+tag-said n h = by-number (λ (k : ℕ). (k ≡ 2 → ⊥) → true ≡ isSaid (toldByTag k)) 0 5 ((λ z. refl), ((λ z. refl), ((λ z. absurd (z refl)), ((λ z. refl), ((λ z. refl), tt))))) n (omega arith) (omega arith)
+
 module _ (tag place size : ℕ) where
   pub told-stretch : tag ≡ 2 → Said (Stretch Utf8 place size) ≡ toldBy tag place size
   unfolding toldBy
@@ -42,10 +62,15 @@ module _ (tag place size : ℕ) where
   unfolding toldBy
   told-formed l h = rw (ne-eqb tag 2 (omega arith), le-leb 5 tag l, le-leb tag 7 h)
 
+  -- a tag that no string has, whatever stands beside it
+  pub told-none : 7 < tag → Not ≡ toldBy tag place size
+  unfolding toldBy
+  told-none h = rw (ne-eqb tag 2 (omega arith), lt-leb tag 7 h, and-false (leb 5 tag), ← tag-none tag (omega arith), none-picked (eqb place 0 && eqb size 0))
+
   -- no stretch
-  module _ (t : tag ≡ 2 → ⊥) (f : (tag < 5) ⊎ (7 < tag)) where
+  module _ (t : tag ≡ 2 → ⊥) (l : tag < 5) where
     no-form : (leb 5 tag && leb tag 7) ≡ false
-    no-form = ⊎-elim (λ l. rw (lt-leb 5 tag l)) (λ h. rw (lt-leb tag 7 h) (and-false (leb 5 tag))) f
+    no-form = rw (lt-leb 5 tag l)
 
     pub told-placed : (place ≡ 0 → ⊥) → Not ≡ toldBy tag place size
     unfolding toldBy
@@ -58,6 +83,21 @@ module _ (tag place size : ℕ) where
     pub told-tagged : place ≡ 0 → size ≡ 0 → toldByTag tag ≡ toldBy tag place size
     unfolding toldBy
     told-tagged p s = rw (ne-eqb tag 2 t, no-form, eq-eqb place 0 p, eq-eqb size 0 s)
+
+    -- whether three words say a string, told without making it
+    pub plain-said : place ≡ 0 → eqb size 0 ≡ isSaid (toldBy tag place size)
+    unfolding toldBy
+    plain-said p = rw (ne-eqb tag 2 t, no-form, eq-eqb place 0 p) (said-picked (eqb size 0) (toldByTag tag) (tag-said tag l t))
+
+    pub placed-said : (place ≡ 0 → ⊥) → false ≡ isSaid (toldBy tag place size)
+    placed-said p = ap isSaid (told-placed p)
+
+  pub formed-said : 5 ≤ tag → leb tag 7 ≡ isSaid (toldBy tag place size)
+  formed-said l =
+      elim (decLt 7 tag) [
+        | yes h ↦ (lt-leb tag 7 h ∙ ap isSaid (told-none h))
+        | no h ↦ (le-leb tag 7 (omega arith) ∙ ap isSaid (told-formed l (omega arith)))
+      ]
 
 module _ (w : List ℕ) (at : ℕ) where
   pub record-low : getD w at 0 < 1 → blank ≡ recordAt w at
@@ -72,3 +112,63 @@ module _ (w : List ℕ) (at : ℕ) where
       → framed (kindOf (getD w at 0)) (toldAt w (at + 1)) (toldAt w (at + 4)) (toldAt w (at + 7)) (toldAt w (at + 10)) ≡ recordAt w at
   unfolding recordAt
   record-framed l h = rw (le-leb 1 (getD w at 0) l, le-leb (getD w at 0) 7 h)
+
+-- ---- identifying strings in another form
+abbrev Other : Told → Type 0
+Other Not = Unit {0}
+Other (Said x) = stringForm x ≡ Utf8 → ⊥
+
+-- the forms 1, 2 and 3
+numbered : (f : StringForm) → 1 ≤ formNumber f → f ≡ Utf8 → ⊥
+numbered f l e = let z : formNumber f ≡ 0 = ap formNumber e in omega arith
+
+other-form : (n : ℕ) → 1 ≤ n → n ≤ 3 → formOf n ≡ Utf8 → ⊥
+unfolding formOf
+other-form n l h = numbered (formOf n) (by-number (λ (k : ℕ). 1 ≤ formNumber (formOf k)) 1 3 (omega arith, (omega arith, (omega arith, tt))) n l (omega arith))
+
+pub told-other : (w : List ℕ) (at : ℕ) → 5 ≤ getD w at 0 → Other (toldAt w at)
+told-other w at l =
+    elim (decLt 7 (getD w at 0)) [
+      | yes h ↦ (rw (← told-none (getD w at 0) (getD w (at + 1) 0) (getD w (at + 2) 0) h) tt)
+      | no h ↦ (rw (← told-formed (getD w at 0) (getD w (at + 1) 0) (getD w (at + 2) 0) l (omega arith)) (other-form (getD w at 0 - 4) (omega arith) (omega arith)))
+    ]
+
+module _ (k : Kind) where
+  prefix-other : (p n l v : Told) → Other p → Misnamed (framed k p n l v)
+  prefix-other Not n l v h = inl refl
+  prefix-other (Said p) Not l v h = inl refl
+  prefix-other (Said p) (Said n) Not v h = inl refl
+  prefix-other (Said p) (Said n) (Said l) Not h = inl refl
+  prefix-other (Said p) (Said n) (Said l) (Said v) h = inr (inl h)
+
+  namespace-other : (p n l v : Told) → Other n → Misnamed (framed k p n l v)
+  namespace-other Not n l v h = inl refl
+  namespace-other (Said p) Not l v h = inl refl
+  namespace-other (Said p) (Said n) Not v h = inl refl
+  namespace-other (Said p) (Said n) (Said l) Not h = inl refl
+  namespace-other (Said p) (Said n) (Said l) (Said v) h = inr (inr (inl h))
+
+  name-other : (p n l v : Told) → Other l → Misnamed (framed k p n l v)
+  name-other Not n l v h = inl refl
+  name-other (Said p) Not l v h = inl refl
+  name-other (Said p) (Said n) Not v h = inl refl
+  name-other (Said p) (Said n) (Said l) Not h = inl refl
+  name-other (Said p) (Said n) (Said l) (Said v) h = inr (inr (inr h))
+
+module _ (w : List ℕ) (at : ℕ) where
+  misnamed : ((k : Kind) → Misnamed (framed k (toldAt w (at + 1)) (toldAt w (at + 4)) (toldAt w (at + 7)) (toldAt w (at + 10)))) → Misnamed (recordAt w at)
+  unfolding recordAt
+  misnamed f = picked (leb 1 (getD w at 0) && leb (getD w at 0) 7)
+    where
+      picked : (b : Bool) → Misnamed (pick b (framed (kindOf (getD w at 0)) (toldAt w (at + 1)) (toldAt w (at + 4)) (toldAt w (at + 7)) (toldAt w (at + 10))) blank)
+      picked true = f (kindOf (getD w at 0))
+      picked false = inl refl
+
+  pub other-prefix : 5 ≤ getD w (at + 1) 0 → Misnamed (recordAt w at)
+  other-prefix h = misnamed (λ k. prefix-other k (toldAt w (at + 1)) (toldAt w (at + 4)) (toldAt w (at + 7)) (toldAt w (at + 10)) (told-other w (at + 1) h))
+
+  pub other-namespace : 5 ≤ getD w (at + 4) 0 → Misnamed (recordAt w at)
+  other-namespace h = misnamed (λ k. namespace-other k (toldAt w (at + 1)) (toldAt w (at + 4)) (toldAt w (at + 7)) (toldAt w (at + 10)) (told-other w (at + 4) h))
+
+  pub other-name : 5 ≤ getD w (at + 7) 0 → Misnamed (recordAt w at)
+  other-name h = misnamed (λ k. name-other k (toldAt w (at + 1)) (toldAt w (at + 4)) (toldAt w (at + 7)) (toldAt w (at + 10)) (told-other w (at + 7) h))

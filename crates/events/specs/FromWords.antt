@@ -1,5 +1,6 @@
 -- Event records read back from words: which record 13 words stand for, and the records of a list of words.
 use mathlib.Core.Path.{_≡_}
+use mathlib.Core.Logic.{_⊎_}
 use Prim.Native.Nat.{ℕ, zero, suc, _+_, _-_, _/_}
 use mathlib.Core.Bool.{Bool, true, false, _&&_}
 use mathlib.Core.List.{List, [], _∷_}
@@ -17,7 +18,7 @@ use Rattle.events.specs.declared.Event.{Event}
 use Rattle.events.specs.declared.words.Told.{Told}
 use Rattle.events.specs.declared.words.Told.the-variants.{Said, Not}
 use Rattle.events.specs.Records.{blank}
-use Rattle.events.specs.Words.{kindNumber}
+use Rattle.events.specs.Words.{kindNumber, stringForm}
 
 -- The kinds by number, from 0.
 abbrev pub kinds : List Kind
@@ -90,3 +91,7 @@ isSaid Not = false
 abbrev pub beginsWith : (number : ℕ) → List Event → Bool
 beginsWith number [] = false
 beginsWith number (e ∷ es) = eqb (kindNumber (e .kind)) number
+
+-- And: a record that is blank, or has an identifying string in another form than utf-8.
+abbrev pub Misnamed : Event → Type 0
+Misnamed e = (e .kind ≡ Blank) ⊎ ((stringForm (e .prefix) ≡ Utf8 → ⊥) ⊎ ((stringForm (e .namespace) ≡ Utf8 → ⊥) ⊎ (stringForm (e .name) ≡ Utf8 → ⊥)))

@@ -9,7 +9,7 @@ ghost use mathlib.Core.Path.{_≡_};
 ghost use mathlib.Core.Bool.{_&&_};
 ghost use Prim.Native.Nat.{_<_, _+_, _-_};
 ghost use mathlib.Core.List.{_++_};
-ghost use lib.Dec.{ltb, leb};
+ghost use lib.Dec.{eqb, ltb, leb};
 ghost use lib.ListN.{length, set, getD, take, replicate};
 ghost use Rattle.events.specs.Records.{blank, namespaceRecord, startRecord, attributeRecord, chunkRecord, commentRecord, instructionRecord, endRecord};
 ghost use Rattle.events.specs.Words.{kindNumber, stringTag, stringForm, stringPlace, stringSize};
@@ -18,6 +18,7 @@ pub use words::from_words;
 pub use words::has_record;
 pub use words::is_kind;
 pub use words::keep;
+pub use words::names_in_utf8;
 
 // Words of a record: one for the kind, and three for each of the four strings.
 pub const RECORD: usize = 13;
@@ -85,6 +86,19 @@ impl EventString {
             EventString::Stretch(_, _, _) => tags::STRETCH,
             EventString::XmlPrefix => tags::XML_PREFIX,
             EventString::XmlNamespace => tags::XML_NAMESPACE,
+        }
+    }
+
+    // There is no string: told by the variant alone, where the tag asks the form too.
+    pub fn is_absent(self) -> bool
+        ensures { λ r. ⌜ r ≡ eqb (stringTag self) 0 ⌝ }
+    {
+        match self {
+            EventString::Absent => true,
+            EventString::Empty => false,
+            EventString::Stretch(_, _, _) => false,
+            EventString::XmlPrefix => false,
+            EventString::XmlNamespace => false,
         }
     }
 

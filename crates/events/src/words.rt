@@ -1,12 +1,13 @@
 // Event records from words and into words, for callers that have no enums.
 ghost use mathlib.Core.Path.{_≡_};
+ghost use mathlib.Core.Bool.{false};
 ghost use Prim.Native.Nat.{_+_, _*_, _/_, _≤_, _<_};
 ghost use lib.ListN.{length, drop};
 ghost use lib.Seq.{sets};
 ghost use lib.Dec.{ltb};
 ghost use Rattle.events.specs.Words.{stringWords};
 ghost use Rattle.events.specs.Kept.{kept};
-ghost use Rattle.events.specs.FromWords.{kindOf, toldByTag, toldBy, toldAt, framed, recordAt, recordsOf, isSaid, beginsWith};
+ghost use Rattle.events.specs.FromWords.{kindOf, toldByTag, toldBy, toldAt, framed, recordAt, recordsOf, isSaid, beginsWith, Misnamed};
 use crate::Event;
 use crate::EventString;
 use crate::Kind;
@@ -59,17 +60,20 @@ fn told_by(tag: u32, place: u32, size: u32) -> Told
     if tag == tags::STRETCH {
         return Told::Said(EventString::Stretch(StringForm::Utf8, place, size));
     }
-    if tags::UTF16 <= tag && tag <= tags::DATES {
+    if tag < tags::UTF16 {
+        if place != 0 || size != 0 {
+            return Told::Not;
+        }
+        return told_by_tag(tag);
+    }
+    if tag <= tags::DATES {
         return Told::Said(EventString::Stretch(
             StringForm::of(tag - tags::BEFORE_FORMS),
             place,
             size,
         ));
     }
-    if place != 0 || size != 0 {
-        return Told::Not;
-    }
-    told_by_tag(tag)
+    Told::Not
 }
 
 fn told_at(w: &[u32], at: usize) -> Told
@@ -123,6 +127,16 @@ pub fn from_words(w: &[u32], n: usize) -> Event
     )
 }
 
+// None of the three strings of a name is in another form than utf-8, by their tags. A record where one is stands for no event; one that is told apart here needs no form for them.
+pub fn names_in_utf8(w: &[u32], n: usize) -> bool
+    requires { ⌜ 13 * n + 13 ≤ length (now w) ⌝ }
+    ensures { λ r. ⌜ (r ≡ false → Misnamed (recordAt (now (w .entry)) (13 * n))) ⌝ }
+{
+    let at = RECORD * n;
+    w[at + strings::PREFIX] < tags::UTF16
+        && (w[at + strings::NAMESPACE] < tags::UTF16 && w[at + strings::NAME] < tags::UTF16)
+}
+
 // There is a record n in the words.
 pub fn has_record(w: &[u32], n: usize) -> bool
     ensures { λ r. ⌜ r ≡ ltb n (length (now (w .entry)) / 13) ⌝ }
@@ -164,10 +178,14 @@ fn is_told(w: &[u32], at: usize) -> bool
     requires { ⌜ at + 3 ≤ length (now w) ⌝ }
     ensures { λ r. ⌜ r ≡ isSaid (toldAt (now (w .entry)) at) ⌝ }
 {
-    let Told::Said(_) = told_at(w, at) else {
-        return false;
-    };
-    true
+    let tag = w[at];
+    if tag == tags::STRETCH {
+        return true;
+    }
+    if tag < tags::UTF16 {
+        return w[at + 1] == 0 && w[at + 2] == 0;
+    }
+    tag <= tags::DATES
 }
 
 // There is a record n in the words, and it is well formed and of the kind that has this number: what a look ahead asks, so no record is made.

@@ -63,6 +63,13 @@ module _ (o : ℕ) (h : o < 256) where
   unfolding every dates isLetter
   dates-letters = agree-eq _ _ (below (λ n. agree (letterBy 0x3A 0x54 0x5A n) (isLetter dates n)) 256 refl o h)
 
+  -- an octet that is none of either
+  pub no-letter : 0x3B ≤ o → (o ≡ 0x54 → ⊥) → (o ≡ 0x5A → ⊥) → (o ≡ 0x65 → ⊥) → (isLetter numeric o ≡ false) × (isLetter dates o ≡ false)
+  no-letter l t z e = (
+    sym numeric-letters ∙ rw (lt-leb o 0x39 (omega arith), le-leb 0x30 o (omega arith), ne-eqb o 0x2D (omega arith), ne-eqb o 0x20 (omega arith), ne-eqb o 0x2B (omega arith), ne-eqb o 0x2E (omega arith), ne-eqb o 0x65 e),
+    sym dates-letters ∙ rw (lt-leb o 0x39 (omega arith), le-leb 0x30 o (omega arith), ne-eqb o 0x2D (omega arith), ne-eqb o 0x20 (omega arith), ne-eqb o 0x3A (omega arith), ne-eqb o 0x54 t, ne-eqb o 0x5A z),
+  )
+
 -- ---- the place of a letter
 -- a letter that is at place r of each alphabet that has it
 abbrev pub lies : List ℕ → (k r : ℕ) → Bool

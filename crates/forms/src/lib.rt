@@ -18,6 +18,7 @@ pub use deciding::is_text;
 use fields::put::put;
 use format::StringForm;
 pub use packing::alphabet_for;
+pub use packing::may_begin;
 pub use packing::put_packed;
 
 // A string of which the octets from `at` to `to` are still to be read. Of what was read, `left` octets wait, the first of a, b, c.

@@ -1,6 +1,6 @@
 // A string's octets in an alphabet: which alphabet has all its characters, and their places, two in an octet.
 ghost use mathlib.Core.Path.{_≡_};
-ghost use mathlib.Core.Bool.{true};
+ghost use mathlib.Core.Bool.{true, false};
 ghost use Prim.Native.Nat.{_+_, _-_, _<_, _≤_};
 ghost use lib.ListN.{length};
 ghost use Rattle.format.specs.Forms.{numeric, dates};
@@ -28,6 +28,22 @@ fn fit_octet(o: u8) -> Fit
         numeric: both || o == 0x2B || o == 0x2E || o == 0x65,
         dates: both || o == 0x3A || o == 0x54 || o == 0x5A,
     }
+}
+
+// A string that begins with another octet has no alphabet: most strings are told by this.
+pub fn may_begin(o: u8) -> bool
+    ensures { λ r. ⌜ (r ≡ false → (isLetter numeric o ≡ false) × (isLetter dates o ≡ false)) ⌝ }
+{
+    if o < 0x3B {
+        return true;
+    }
+    if o == 0x54 {
+        return true;
+    }
+    if o == 0x5A {
+        return true;
+    }
+    o == 0x65
 }
 
 // The place of a character of an alphabet.

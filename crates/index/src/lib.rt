@@ -4,7 +4,7 @@ ghost use mathlib.Core.Path.{_≡_};
 ghost use mathlib.Core.Bool.{true};
 ghost use mathlib.Core.List.{List, map};
 ghost use Prim.Native.Nat.{ℕ, _+_, _-_, _*_, _/_, _<_, _≤_};
-ghost use lib.ListN.{length};
+ghost use lib.ListN.{length, getD};
 ghost use Rattle.format.specs.Tables.{same};
 ghost use Rattle.format.specs.declared.StringForm.the-variants.{Utf8};
 ghost use Rattle.fields.specs.WeightContracts.{Plain};
@@ -342,7 +342,20 @@ pub fn enter_in(
     push(index, table, h, n);
 }
 
-// The bucket of what the octets of s at place say in their form. A string in another form is put in UTF-8 as far as it counts.
+// The bucket of what the octets of s at place say in another form than utf-8: they are put in UTF-8 as far as they count.
+fn bucket_other(s: &[u8], form: StringForm, place: usize, len: usize) -> usize
+    requires { ⌜ (1 ≤ len) × (place + len ≤ length (now s)) × (length (now s) ≤ 16384) × IsSound (now s) (stretch form place len) ⌝ }
+    ensures { λ r. ⌜ (r ≡ bucket (octetsOf (now (s .entry)) (stretch form place len))) × (r < 128) ⌝ }
+{
+    let mut first = [0; COUNTED];
+    let n = forms::put_said(&mut first, 0, s, form, place, place + len);
+    if n < COUNTED {
+        return bucket_of(&first, 0, n);
+    }
+    bucket_of(&first, 0, COUNTED)
+}
+
+// The same in any form.
 pub fn bucket_said(s: &[u8], form: StringForm, place: usize, len: usize) -> usize
     requires { ⌜ (1 ≤ len) × (place + len ≤ length (now s)) × (length (now s) ≤ 16384) × IsSound (now s) (stretch form place len) ⌝ }
     ensures { λ r. ⌜ (r ≡ bucket (octetsOf (now (s .entry)) (stretch form place len))) × (r < 128) ⌝ }
@@ -350,12 +363,7 @@ pub fn bucket_said(s: &[u8], form: StringForm, place: usize, len: usize) -> usiz
     if form.number() == 0 {
         return bucket_of(s, place, len);
     }
-    let mut first = [0; COUNTED];
-    let n = forms::put_said(&mut first, 0, s, form, place, place + len);
-    if n < COUNTED {
-        return bucket_of(&first, 0, n);
-    }
-    bucket_of(&first, 0, COUNTED)
+    bucket_other(s, form, place, len)
 }
 
 // The number of what a string says in row 255 of a full table of other strings, 0 elsewhere.
@@ -380,6 +388,25 @@ fn find_last_said(
     0
 }
 
+// Whether the row at word j, of a table of other strings, says what the octets of s at place say in their form, of which `last` is the last. Most rows are in that form, and are told by length and last octet.
+fn is_alike(
+    s: &[u8],
+    t: &[u32],
+    j: usize,
+    form: StringForm,
+    place: usize,
+    len: usize,
+    last: u8,
+) -> bool
+    requires { ⌜ (length (now t) ≡ tableWords) × (j + 3 ≤ tableWords) × (1 ≤ len) × (place + len ≤ length (now s)) × (last ≡ getD (now s) (place + (len - 1)) 0) × IsSound (now s) (stretch form place len) × ((getD (now t) (j + 1) 0 ≡ 0 → ⊥) → (getD (now t) j 0 + getD (now t) (j + 1) 0 ≤ length (now s)) × IsSound (now s) (stretch (formOf (getD (now t) (j + 2) 0)) (getD (now t) j 0) (getD (now t) (j + 1) 0))) ⌝ }
+    ensures { λ r. ⌜ r ≡ same (octetsOf (now (s .entry)) (stretch (formOf (getD (now (t .entry)) (j + 2) 0)) (getD (now (t .entry)) j 0) (getD (now (t .entry)) (j + 1) 0))) (octetsOf (now (s .entry)) (stretch form place len)) ⌝ }
+{
+    if t[j + 2] == form.number() {
+        return tables::is_spelled(s, t, j, place, len, last);
+    }
+    tables::is_said(s, t, j, form, place, len)
+}
+
 // The lowest number of the first n entries of a table of other strings that say what the octets of s at place say in their form; 0 if none does.
 pub fn find_said(
     s: &[u8],
@@ -394,10 +421,16 @@ pub fn find_said(
     requires { ⌜ SoughtSaid (now s) (now t) (now index) table n form place len ⌝ }
     ensures { λ r. ⌜ r ≡ numberIn (map (octetsOf (now (s .entry))) (entries (stringAt (tableOf table) (now (t .entry))) (768 * table) n)) (octetsOf (now (s .entry)) (stretch form place len)) ⌝ }
 {
-    let head = PART * table + bucket_said(s, form, place, len);
+    let h = if form.number() == 0 {
+        bucket_of(s, place, len)
+    } else {
+        bucket_other(s, form, place, len)
+    };
+    let last = s[place + (len - 1)];
+    let head = PART * table + h;
     let mut i = number(index[head]);
     while 0 < i {
-        if tables::is_said(s, t, 768 * table + 3 * (i - 1), form, place, len) {
+        if is_alike(s, t, 768 * table + 3 * (i - 1), form, place, len, last) {
             return i as u32;
         }
         i = number(index[PART * table + HEADS + (i - 1)]);

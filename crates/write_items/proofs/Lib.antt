@@ -2,6 +2,7 @@ pub mod RecordLaws
 pub mod WellMade
 pub mod Strings
 pub mod Faults
+pub mod Misnamed
 pub mod ModeLaws
 pub mod KindLaws
 pub mod OutputLaws

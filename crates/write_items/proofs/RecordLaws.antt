@@ -1,7 +1,7 @@
 -- Event records: a law for each way out of the functions that judge one, on plain values.
 -- Assumes nothing.
 use mathlib.Core.Path.{_≡_, refl, sym, ap, _∙_}
-use mathlib.Core.Bool.{true, false, _&&_, _||_}
+use mathlib.Core.Bool.{true, false, _&&_}
 use mathlib.Core.List.{List}
 use Prim.Native.Nat.{ℕ, _+_, _-_, _≤_, _<_}
 use native.Mathlib.Omega.{arith}
@@ -20,7 +20,7 @@ use Rattle.events.specs.declared.EventString.the-variants.{Absent, Empty, Stret
 use Rattle.events.specs.declared.Kind.the-variants.{Namespace}
 use Rattle.events.specs.declared.Event.{Event}
 use Rattle.events.specs.Words.{formTag, stringTag, stringForm, stringPlace, stringSize}
-use Rattle.write_items.specs.Events.{isAbsent, isStretch, isString, isPrefix, isNamespace, isValue, locatedOf, optionalOf, nameOf, eventOf, optionalText, nameText, allText}
+use Rattle.write_items.specs.Events.{isAbsent, isStretch, isPrefix, isNamespace, locatedOf, optionalOf, nameOf, eventOf, optionalText, nameText, allText}
 use Rattle.write_items.specs.Contracts.{Lies}
 use Rattle.write_items.specs.RecordContracts.{isOne}
 
@@ -39,18 +39,12 @@ module _ (text : List ℕ) (x : EventString) (a b t : ℕ) (e : t ≡ stringTag 
     unfolding isOne
     one-second k = rw (← e, ne-eqb _ _ h, ne-eqb _ _ k)
 
--- the tags of the forms: 2 is utf-8's, the others' are the last
-abbrev pub Formed : ℕ → Type 0
-Formed tag = (tag ≡ 2 → ⊥) → tag < 5 → ⊥
-
-form-tag : (f : StringForm) → Formed (formTag f)
-form-tag Utf8 h l = h refl
-form-tag Utf16 h l = omega arith
-form-tag Numeric h l = omega arith
-form-tag Dates h l = omega arith
-
-form-not : (f : StringForm) (n : ℕ) → n < 2 → eqb (formTag f) n ≡ false
-form-not f n l = ne-eqb (formTag f) n λ e. form-tag f (omega arith) (omega arith)
+-- no form has the tag of an absent string
+form-there : (f : StringForm) → eqb (formTag f) 0 ≡ false
+form-there Utf8 = refl
+form-there Utf16 = refl
+form-there Numeric = refl
+form-there Dates = refl
 
 module _ (text : List ℕ) where
   one-form : (f : StringForm) (p n a b : ℕ) → a < 5 → b < 5 → isOne text (Stretch f p n) a b ≡ isStretch text (Stretch f p n)
@@ -84,32 +78,10 @@ module _ (text : List ℕ) where
   one-namespace XmlPrefix = refl
   one-namespace XmlNamespace = refl
 
-  -- a string of any form, by its tag
-  pub string-lies : (x : EventString) (p n : ℕ) → Formed (stringTag x) → p ≡ stringPlace x → n ≡ stringSize x → (ltb 0 n && leb (p + n) (length text)) ≡ isString text x
-  string-lies Absent p n k g h = absurd (k (omega arith) (omega arith))
-  string-lies Empty p n k g h = absurd (k (omega arith) (omega arith))
-  string-lies (Stretch f a b) p n k g h = rw (g, h)
-  string-lies XmlPrefix p n k g h = absurd (k (omega arith) (omega arith))
-  string-lies XmlNamespace p n k g h = absurd (k (omega arith) (omega arith))
-
-  pub string-not : (x : EventString) → (stringTag x ≡ 2 → ⊥) → stringTag x < 5 → false ≡ isString text x
-  string-not Absent h l = refl
-  string-not Empty h l = refl
-  string-not (Stretch f p n) h l = absurd (form-tag f h l)
-  string-not XmlPrefix h l = refl
-  string-not XmlNamespace h l = refl
-
-  pub tag-value : (x : EventString) → (eqb (stringTag x) 1 || isString text x) ≡ isValue text x
-  tag-value Absent = refl
-  tag-value Empty = refl
-  tag-value (Stretch f p n) = rw (form-not f 1 (omega arith))
-  tag-value XmlPrefix = refl
-  tag-value XmlNamespace = refl
-
 pub tag-absent : (x : EventString) → eqb (stringTag x) 0 ≡ isAbsent x
 tag-absent Absent = refl
 tag-absent Empty = refl
-tag-absent (Stretch f p n) = form-not f 0 (omega arith)
+tag-absent (Stretch f p n) = form-there f
 tag-absent XmlPrefix = refl
 tag-absent XmlNamespace = refl
 

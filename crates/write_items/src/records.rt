@@ -28,7 +28,7 @@ use states::State;
 fn is_absent(x: EventString) -> bool
     ensures { λ r. ⌜ r ≡ isAbsent x ⌝ }
 {
-    x.tag() == tags::ABSENT
+    x.is_absent()
 }
 
 // A string in the text area, or one with either of two tags.
@@ -60,21 +60,29 @@ fn is_namespace(text: &[u8], x: EventString) -> bool
     is_one(text, x, tags::ABSENT, tags::XML_NAMESPACE)
 }
 
-// The same in any form; the tags of the other forms are the last.
+// The same in any form, told by the variant alone.
 fn is_string(text: &[u8], x: EventString) -> bool
     ensures { λ r. ⌜ r ≡ isString (now (text .entry)) x ⌝ }
 {
-    let tag = x.tag();
-    if tag == tags::STRETCH || tags::UTF16 <= tag {
-        return lies_in(text, x.place(), x.size());
+    match x {
+        EventString::Absent => false,
+        EventString::Empty => false,
+        EventString::Stretch(_, place, size) => lies_in(text, place, size),
+        EventString::XmlPrefix => false,
+        EventString::XmlNamespace => false,
     }
-    false
 }
 
 fn is_value(text: &[u8], x: EventString) -> bool
     ensures { λ r. ⌜ r ≡ isValue (now (text .entry)) x ⌝ }
 {
-    x.tag() == tags::EMPTY || is_string(text, x)
+    match x {
+        EventString::Absent => false,
+        EventString::Empty => true,
+        EventString::Stretch(_, place, size) => lies_in(text, place, size),
+        EventString::XmlPrefix => false,
+        EventString::XmlNamespace => false,
+    }
 }
 
 // A name's strings: a prefix only with a namespace.
@@ -141,6 +149,9 @@ fn is_text_value(text: &[u8], x: EventString) -> bool
     match x {
         EventString::Stretch(form, place, size) => {
             let from = place as usize;
+            if form.number() == 0 {
+                return is_text(text, from, from + size as usize);
+            }
             forms::is_text(text, form, from, from + size as usize)
         }
         _ => true,

@@ -2,13 +2,13 @@
 -- string in a form.
 -- Assumes nothing.
 use mathlib.Core.Path.{_≡_, refl, ap, _∙_}
-use mathlib.Core.Bool.{true}
+use mathlib.Core.Bool.{Bool, true, false}
 use mathlib.Core.List.{List, [], _∷_}
 use Prim.Native.Nat.{ℕ, suc, _+_, _-_, _*_, _/_, _^_, _≤_, _<_}
 use native.Mathlib.Omega.{arith}
 use borrow.Author.Tests.{le-ltb, lt-ltb}
 use lib.Dec.{ltb}
-use lib.ListN.{length, set, take, drop, length-append}
+use lib.ListN.{length, getD, set, take, drop, length-append}
 use Rattle.format.specs.Octets.{Octets}
 use Rattle.format.specs.Numbers.{pick, Form, form, spell, lengths, behindFirst, octets}
 use Rattle.format.specs.Forms.{formNumber, numeric, dates, Spelled}
@@ -21,9 +21,11 @@ use Rattle.fields.proofs.Puts.{puts-append, puts-octet}
 use Rattle.fields.proofs.Utf8.{told}
 use Rattle.forms.specs.Reading.{said}
 use Rattle.forms.specs.Streams.{part}
-use Rattle.forms.specs.Packing.{alphabet, allLetters, packedBy, alphabetFor, inForm}
+use Rattle.forms.specs.Packing.{alphabet, isLetter, allLetters, packedBy, alphabetFor, inForm}
 use Rattle.forms.proofs.Forms.{IsAlphabet, packed-length, packed-spelled, spelled-letters}
+use Rattle.forms.proofs.Streams.{part-cons}
 use Rattle.tables.specs.Located.{octetsOf}
+use Rattle.tables.proofs.FormLaws.{form-zero}
 use Rattle.events.specs.declared.EventString.{EventString}
 use Rattle.events.specs.Records.{locatedOf}
 use Rattle.write_names.specs.Choices.{fieldIn, formFor}
@@ -174,6 +176,25 @@ form-short at-bit-7 x a b = short-utf8 at-bit-7 x (b refl)
 pub form-long : {bit : ℕ} → LayoutBit bit → (x : Octets) → length x ≤ 32768 → (bit ≡ 5 → 3 < length x) → (bit ≡ 7 → 2 < length x) → alphabetFor x ≡ formFor bit x
 form-long at-bit-5 x h a b = long-alphabet at-bit-5 x h (a refl)
 form-long at-bit-7 x h a b = long-alphabet at-bit-7 x h (b refl)
+
+-- ---- a string whose first octet is a letter of no alphabet
+no-alphabet : (o : ℕ) (more : Octets) → isLetter numeric o ≡ false → isLetter dates o ≡ false → alphabetFor (o ∷ more) ≡ Utf8
+unfolding alphabetFor allLetters
+no-alphabet o more n d = rw (n, d)
+
+either-utf8 : (b : Bool) → Utf8 ≡ pick b Utf8 Utf8
+either-utf8 true = refl
+either-utf8 false = refl
+
+no-form : (bit : ℕ) (x : Octets) → alphabetFor x ≡ Utf8 → Utf8 ≡ formFor bit x
+unfolding formFor
+no-form bit x e = rw e (either-utf8 (ltb (length (fieldIn bit Utf8 0 x)) (length (fieldIn bit Utf8 0 x))))
+
+pub begins-plain : (bit : ℕ) {text : List ℕ} {x : EventString} {g : StringForm} {p m : ℕ} → Stretched text x g p m → formNumber g ≡ 0 → (isLetter numeric (getD text p 0) ≡ false) × (isLetter dates (getD text p 0) ≡ false)
+    → Utf8 ≡ formFor bit (octetsOf text (locatedOf x))
+begins-plain bit {text} {x} {g} {p} {m} s z l =
+    let some = s .some in
+    no-form bit _ (rw (says s, form-zero g z, part-cons text p (p + m) (omega arith) (s .lies)) (no-alphabet (getD text p 0) (part text (p + 1) (p + m)) (l .0) (l .1)))
 
 pub is-alphabet : (x : Octets) (f : StringForm) → f ≡ alphabetFor x → (f ≡ Utf8 → ⊥) → IsAlphabet f × (allLetters (alphabet f) x ≡ true)
 is-alphabet x f e n = rw e (alphabet-by (λ (g : StringForm). (g ≡ Utf8 → ⊥) → IsAlphabet g × (allLetters (alphabet g) x ≡ true)) x (λ g a l u. (a, l)) (λ u. absurd (u refl)) (λ u. n (e ∙ u)))

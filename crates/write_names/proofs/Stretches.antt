@@ -66,6 +66,13 @@ spelled-so text XmlNamespace h = absurd h
 pub stretched : (text : List ℕ) (x : EventString) → Spells text x → {f : StringForm} {p n : ℕ} → f ≡ stringForm x → p ≡ stringPlace x → n ≡ stringSize x → Stretched text x f p n
 stretched text x h ef ep en = rw (ef, ep, en) (spelled-so text x h)
 
+-- and one that is known to be a stretch
+pub as-given : (text : List ℕ) (x : EventString) → Spells text x → {f : StringForm} {p n : ℕ} → x ≡ Stretch f p n → Stretched text x f p n
+as-given text x h e = stretched text x h (sym (ap stringForm e)) (sym (ap stringPlace e)) (sym (ap stringSize e))
+
+pub no-stretch : (text : List ℕ) (x : EventString) → Spells text x → ((f : StringForm) (p n : ℕ) → x ≡ Stretch f p n → ⊥) → ⊥
+no-stretch text x h none = none _ _ _ (spelled-so text x h .is)
+
 module _ {text : List ℕ} {x : EventString} {f : StringForm} {p n : ℕ} (s : Stretched text x f p n) where
   pub located : locatedOf x ≡ stretch f p n
   located = ap locatedOf (s .is)

@@ -107,15 +107,18 @@ pub fn number_said(
     requires { ⌜ InOrder (now text) (now counts) (now t) (now index) × (5 ≤ table) × (table < 8) × Spells (now text) x ⌝ }
     ensures { λ r. ⌜ (r ≡ heldAs (now (text .entry)) (tableOf table) (tablesIn (now (counts .entry)) (now (t .entry))) x) × (r ≤ 256) ⌝ }
 {
+    let EventString::Stretch(form, place, size) = x else {
+        return 0;
+    };
     index::find_said(
         text,
         t,
         index,
         table,
         counts[table],
-        x.form(),
-        x.place() as usize,
-        x.size() as usize,
+        form,
+        place as usize,
+        size as usize,
     )
 }
 
@@ -141,7 +144,7 @@ fn spelled(
 fn has(x: EventString) -> u8
     ensures { λ r. ⌜ (r ≡ has (optionalOf x)) × (r ≤ 1) ⌝ }
 {
-    if x.tag() == 0 {
+    if x.is_absent() {
         return 0;
     }
     1
@@ -225,7 +228,7 @@ fn optional(
     ensures { λ r. ⌜ Meets (now (text .entry)) (now (out .entry)) at stringMost r (now (out .exit)) (now (counts .exit)) (now (t .exit)) (now (index .exit)) (writeOptional (now (text .entry)) (tableOf (x .table)) (tablesIn (now (counts .entry)) (now (t .entry))) (optionalOf (x .string))) ⌝ }
 {
     let string = x.string;
-    if string.tag() == 0 {
+    if string.is_absent() {
         return Wrote::Put(at);
     }
     id(text, t, counts, index, out, at, x)
@@ -346,8 +349,8 @@ fn in_alphabet(
     )
 }
 
-// A string of n octets in UTF-8 as the writer spells it, its length from bit `bit` behind `lead` and the format.
-pub fn put_string(
+// A string of n octets in UTF-8 in the form that is chosen by all its characters, its length from bit `bit` behind `lead` and the format.
+fn put_formed(
     out: &mut [u8],
     at: usize,
     bit: u32,
@@ -364,6 +367,31 @@ pub fn put_string(
         return in_utf8(out, at, bit, lead, text, x, n);
     }
     in_alphabet(out, at, bit, lead, text, x, n, form)
+}
+
+// A string of n octets in UTF-8 as the writer spells it, its length from bit `bit` behind `lead` and the format. Most strings are given in utf-8 and stay so, which their first octet tells.
+pub fn put_string(
+    out: &mut [u8],
+    at: usize,
+    bit: u32,
+    lead: u8,
+    text: &[u8],
+    x: EventString,
+    n: usize,
+) -> usize
+    requires { ⌜ Spells (now text) x × (length (now text) ≤ 16384) × (at < 2 ^ 31) × LayoutBit bit × (lead + 4 * 2 ^ (9 - bit) ≤ 256) × (n ≡ length (octetsOf (now text) (locatedOf x))) ⌝ }
+    ensures { λ r. ⌜ Puts (now (out .entry)) at r (now (out .exit)) (chosenField bit lead (octetsOf (now (text .entry)) (locatedOf x))) × (r ≤ at + valueMost) ⌝ }
+{
+    let form = x.form();
+    if form.number() != 0 {
+        return put_formed(out, at, bit, lead, text, x, n);
+    }
+    let from = x.place() as usize;
+    if forms::may_begin(text[from]) {
+        return put_formed(out, at, bit, lead, text, x, n);
+    }
+    let behind = put_length(out, at, bit, lead, n);
+    put_part(out, behind, text, from, n)
 }
 
 // C.14 or C.15, spelled: a string of 1 to 5 octets in UTF-8 is added where its table has room, and its add bit says so.

@@ -47,7 +47,7 @@ fn number_then(n: u32, x: EventString, k: u32) -> u32
     if k != 0 {
         return k;
     }
-    if x.tag() == 0 {
+    if x.is_absent() {
         return 0;
     }
     n + 1

@@ -22,7 +22,7 @@ use Rattle.events.specs.declared.Kind.{Kind}
 use Rattle.events.specs.declared.Kind.the-variants.{Blank, Namespace, Start, Attribute, Chunk, Comment, Instruction, End}
 use Rattle.events.specs.declared.Event.{Event}
 use Rattle.events.specs.Words.{kindNumber}
-use Rattle.events.specs.FromWords.{recordAt, recordsOf, beginsWith}
+use Rattle.events.specs.FromWords.{recordAt, recordsOf, beginsWith, Misnamed}
 use Rattle.events.proofs.FromWords.{records-length, record-nth, records-drop}
 use Rattle.write_names.specs.Contracts.{tablesIn}
 use Rattle.write_names.proofs.Order.{triples-count, counted-at, within-order}
@@ -30,6 +30,8 @@ use Rattle.write_items.specs.declared.Step.{Step}
 use Rattle.write_items.specs.declared.Step.the-variants.{On, Stop}
 use Rattle.write_items.specs.Steps.{announced}
 use Rattle.write_items.specs.StepContracts.{Ready, Steps, known, itemOf, Went}
+use Rattle.write_items.proofs.Misnamed.{fault-misnamed}
+use Rattle.write_items.proofs.StepLaws.{step-fault}
 use Rattle.writer.specs.declared.Answer.{Answer}
 use Rattle.writer.specs.declared.lane.Lane.{Lane}
 use Rattle.writer.specs.declared.run.Phase.{Phase}
@@ -195,6 +197,14 @@ module _ {From : Outcome → Type 0} {w text : List ℕ} {room table i : ℕ} {s
 
     pub step-stopped : {k : ℕ} → r ≡ Stop k → length out′ ≡ length out → (o : Outcome) → From o → Going o (recordsOf w) text room table (length (recordsOf w)) (Halted k i) out′ t′ ix′
     step-stopped q kept o m = moving-stop o (recordsOf w) text room table i st c out t ix (s .moving o m) e next-is a told-is b bit r out′ c′ t′ ix′ step q kept
+
+  -- a record that is told apart before it is made, since the step would refuse it
+  pub misnamed-stopped : i < length w / 13 → {n : ℕ} → n ≡ fromMode (modeOf (st .mode)) i (length w / 13) → {a : Bool} → a ≡ announced (drop n (recordsOf w)) → Misnamed (recordAt w (13 * i))
+      → (o : Outcome) → From o → Going o (recordsOf w) text room table (length (recordsOf w)) (Halted 16 i) out t ix
+  misnamed-stopped there look {a} told m =
+      let e = recordAt w (13 * i) in
+      let b = bitOf (modeOf (st .mode)) a in
+      step-stopped there look told {e = e} refl {b = b} refl (Stop 16) out c t ix (step-fault text room b st c t e 16 (fault-misnamed text e (known st c t) m) (λ z. omega arith)) refl refl
 
 -- the quick lane behind it
 module _ {From : Outcome → Type 0} {w text : List ℕ} {room table i before : ℕ} {st : State} {c out t ix memory : List ℕ} (s : Stepped From w text room table i before st c out t ix memory) where

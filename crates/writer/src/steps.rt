@@ -17,6 +17,8 @@ use crate::run::look_from;
 use events::RECORD;
 use events::is_kind;
 use events::kinds;
+use events::names_in_utf8;
+use format::refusals::EVENT;
 use format::table::ELEMENT_NAME;
 use states::State;
 use tables::Counts;
@@ -107,6 +109,9 @@ pub fn steps(
     let mut i = 0;
     while i < records.len() / RECORD {
         let a = ahead::announced_words(records, look_from(st.mode, i, records.len() / RECORD));
+        if !names_in_utf8(records, i) {
+            return Phase::Halted(EVENT, i as u32);
+        }
         let e = events::from_words(records, i);
         let before = counts[ELEMENT_NAME];
         let b = bit(st.mode, a);

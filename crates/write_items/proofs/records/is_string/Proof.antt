@@ -1,22 +1,37 @@
--- `is_string` meets its contract: by the tag.
+-- `is_string` meets its contract: each variant is a case of the definition.
 -- Assumes nothing.
-use mathlib.Core.Path.{_∙_, sym}
-use mathlib.Core.Logic.{⊎-elim}
-use native.Mathlib.Omega.{arith}
+use mathlib.Core.Path.{_∙_}
 use borrow.Author.Needs.{needs}
-use borrow.Author.Tests.{leb-true, leb-false}
-use Rattle.write_items.proofs.RecordLaws.{string-lies, string-not}
 use Rattle.write_items.proofs.records.is_string.Statement.{statement}
 use Rattle.write_items.proofs.records.is_string.Tie as tie
 
 returns : tie.Need-returns
-returns c =
-    let at-if1 = c .before .before .before in
-    let is = at-if1 .before .tag .ensures in
-    c .lies-in .ensures ∙ string-lies _ (at-if1 .before .before .before .args .x) _ _ (λ h l. ⊎-elim (λ w. h (sym is ∙ w .taken)) (λ w. omega (arith, leb-true)) (at-if1 .if1 .came)) (c .before .before .place .ensures) (c .before .size .ensures)
+returns c = rw (c .enum-told .given .1)
 
 returns-2 : tie.Need-returns-2
-returns-2 c = let is = c .before .before .tag .ensures in string-not _ (c .before .before .before .before .args .x) (λ e. c .before .if1 .left (is ∙ e)) (omega (arith, leb-false))
+returns-2 c = rw (c .enum-told2 .given .1)
+
+returns-3 : tie.Need-returns-3
+returns-3 c = c .lies-in .ensures ∙ rw (c .before .before .x .given .1)
+
+returns-4 : tie.Need-returns-4
+returns-4 c = rw (c .enum-told3 .given .1)
+
+returns-5 : tie.Need-returns-5
+returns-5 c = rw (c .enum-told4 .given .1)
 
 pub is-string-spec : {M : Type 1} → statement M
-is-string-spec = tie.close (tie.spec (λ c κs. search needs) (λ c κs. search needs) (λ c κs. search needs) (λ c κs. search needs) returns returns-2)
+is-string-spec =
+    tie.close
+    (tie.spec
+    (λ c. search needs)
+    (λ c. search needs)
+    (λ c. search needs)
+    (λ c κs. search needs)
+    (λ c. search needs)
+    (λ c. search needs)
+    returns
+    returns-2
+    returns-3
+    returns-4
+    returns-5)
