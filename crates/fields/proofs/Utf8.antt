@@ -2,18 +2,18 @@
 -- Assumes nothing.
 use mathlib.Core.Path.{_≡_, refl, sym, ap, _∙_}
 use mathlib.Core.Bool.{Bool, true, false, _&&_, _||_, and-false, or-true, true≢false}
-use mathlib.Core.List.{List, [], _∷_}
-use Prim.Native.Nat.{ℕ, zero, suc, _+_, _-_, _≤_, _<_}
+use mathlib.Core.List.{List, [], _∷_, _++_, append-nil}
+use Prim.Native.Nat.{ℕ, zero, suc, _+_, _-_, _*_, _≤_, _<_}
 use native.Mathlib.Omega.{arith}
 use native.Mathlib.Numerals.{add-one}
-use borrow.Author.Tests.{le-leb, lt-leb, ltb-true, eq-eqb, ne-eqb}
-use lib.Dec.{leb, ltb, eqb}
-use lib.ListN.{length, getD, take, drop, length-take, length-drop}
+use borrow.Author.Tests.{le-leb, lt-leb, le-ltb, ltb-true, ne-eqb}
+use lib.Dec.{leb, ltb}
+use lib.ListN.{length, getD, take, drop, length-take, length-drop, take-append-drop}
 use lib.Seq.{drop-cons, drop-drop, take-nil}
 use Rattle.format.specs.Numbers.{pick}
 use Rattle.format.specs.Characters.{Range, _‥_}
 use Rattle.format.specs.Tables.{xmlPrefix, xmlNamespace}
-use Rattle.fields.specs.Utf8.{rows, fits, startedBy, fromFirst, character, textBehind, isText, alone, tails}
+use Rattle.fields.specs.Utf8.{rows, fits, startedBy, fromFirst, character, textBehind, isText, alone, ranges, each, Holds, byRows}
 use Rattle.fields.specs.WeightContracts.{Plain, Alone}
 use Rattle.fields.proofs.Laws.{case}
 
@@ -44,53 +44,46 @@ unfolding fromFirst
 first-long [] x = omega arith
 first-long (r ∷ rs) x = told (fits r x) (λ e. let l = fits-long r x e in rw e (omega arith)) (λ e. rw e (first-long rs x))
 
--- of one row
-module _ (r : List Range) (x : List ℕ) where
-  pub fitting : (k : ℕ) → k ≡ length r + 1 → fits r x ≡ true → k ≡ fromFirst (r ∷ []) x
-  unfolding fromFirst
-  fitting k h e = rw e h
+fits-take : (r : List Range) (m : ℕ) (x : List ℕ) → length r ≤ m → fits r (take m x) ≡ fits r x
+unfolding fits
+fits-take [] m x h = refl
+fits-take (r ∷ rs) zero x h = absurd (omega arith)
+fits-take (r ∷ rs) (suc m) [] h = refl
+fits-take (a ‥ z ∷ rs) (suc m) (b ∷ x) h = ap (λ t. (leb a b && leb b z) && t) (fits-take rs m x (omega arith))
 
-  pub not-fitting : fits r x ≡ false → 0 ≡ fromFirst (r ∷ []) x
-  unfolding fromFirst
-  not-fitting e = rw e
+-- ---- rows of the code's table
 
-  fitted : (k : ℕ) → k ≡ fromFirst (r ∷ []) x → (k ≡ 0 → ⊥) → length r ≤ length x
-  unfolding fromFirst
-  fitted k e h = told (fits r x) (λ t. fits-long r x t) (λ t. absurd (h (rw t at e)))
+length-ranges : (k n : ℕ) (row : List ℕ) → length (ranges k n row) ≡ n
+unfolding ranges
+length-ranges k zero row = refl
+length-ranges k (suc n) row = ap suc (length-ranges (suc k) n row)
 
-pub length-tails : (n : ℕ) → length (tails n) ≡ n
-unfolding tails
-length-tails zero = refl
-length-tails (suc n) = ap suc (length-tails n)
+-- octet i is tested by range k of n, and those behind it by those behind it
+pub range-next : (row x : List ℕ) (k n i j : ℕ) (t : Bool) → k < n → i < length x → j ≡ i + 1
+    → t ≡ (leb (getD row (2 * k) 0) (getD x i 0) && leb (getD x i 0) (getD row (2 * k + 1) 0))
+    → fits (ranges k (n - k) row) (drop i x) ≡ (t && fits (ranges (k + 1) (n - (k + 1)) row) (drop j x))
+unfolding ranges fits
+range-next row x k n i j t h l f e = let m : n - k ≡ suc (n - (k + 1)) = omega arith in rw (m, drop-cons x i 0 l, f, add-one i, add-one k, e)
 
-pub no-tails : (n : ℕ) (x : List ℕ) → n ≡ 0 → fits (tails n) x ≡ true
-unfolding tails fits
-no-tails n x e = rw e
+pub no-ranges : (row x : List ℕ) (k n : ℕ) → n ≤ k → fits (ranges k (n - k) row) x ≡ true
+unfolding ranges fits
+no-ranges row x k n h = let m : n - k ≡ 0 = omega arith in rw m
 
--- behind EF: both rows are one, without what would be FFFE and FFFF
-abbrev lastRows : List (List Range)
-lastRows = (0x80 ‥ 0xBE ∷ 0x80 ‥ 0xBF ∷ []) ∷ (0xBF ‥ 0xBF ∷ 0x80 ‥ 0xBD ∷ []) ∷ []
+pub no-row : (n : ℕ) (rs : List (List ℕ)) (x : List ℕ) → length x < n → 0 ≡ byRows n rs x
+unfolding byRows
+no-row n [] x h = refl
+no-row n (row ∷ rs) x h =
+    told (fits (ranges 0 n row) x) (λ e. absurd (let l = fits-long _ _ e in omega (arith, length-ranges 0 n row))) (λ e. rw e (no-row n rs x h))
 
-abbrev oneRow : List Range
-oneRow = 0x80 ‥ 0xBF ∷ 0x80 ‥ 0xBF ∷ []
+part-next : {A : Type 0} (s : List A) (d : A) (to i : ℕ) → i < to → to ≤ length s → take (to - i) (drop i s) ≡ getD s i d ∷ take (to - (i + 1)) (drop (i + 1) s)
+part-next s d to i h l = let m : to - i ≡ suc (to - (i + 1)) = omega arith in rw (m, drop-cons s i d (omega arith), add-one i)
 
-last-rows : (x : List ℕ) → fromFirst lastRows x ≡ pick (eqb (getD x 0 0) 0xBF && leb 0xBE (getD x 1 0)) 0 (fromFirst (oneRow ∷ []) x)
-unfolding fromFirst fits
-last-rows [] = refl
-last-rows (b ∷ []) = rw (and-false (leb 0x80 b && leb b 0xBE), and-false (leb 0xBF b && leb b 0xBF), and-false (leb 0x80 b && leb b 0xBF), and-false (eqb b 0xBF))
-last-rows (b ∷ c ∷ x) =
-    case b 0xBF
-    (λ h. rw (le-leb b 0xBE (omega arith), le-leb b 0xBF (omega arith), lt-leb 0xBF b h, ne-eqb b 0xBF (λ e. omega arith)))
-    (λ h. rw (lt-leb b 0xBE (omega arith), le-leb 0x80 b (omega arith), le-leb 0xBF b h)
-    (case b 0xC0
-    (λ k. rw (le-leb b 0xBF (omega arith), eq-eqb b 0xBF (omega arith))
-    (case c 0xBE
-    (λ l. rw (lt-leb 0xBE c l, le-leb c 0xBD (omega arith), le-leb c 0xBF (omega arith)))
-    (λ l. rw (le-leb 0xBE c l, lt-leb c 0xBD (omega arith), le-leb 0x80 c (omega arith)))))
-    (λ k. rw (lt-leb b 0xBF (omega arith), ne-eqb b 0xBF (λ e. omega arith)))))
-
-pub last-none : (x : List ℕ) → 0 ≡ fromFirst (oneRow ∷ []) x → 0 ≡ fromFirst lastRows x
-last-none x e = sym (last-rows x ∙ rw (← e) (told (eqb (getD x 0 0) 0xBF && leb 0xBE (getD x 1 0)) (λ t. rw t) (λ t. rw t)))
+pub row-next : (n : ℕ) (rows : List (List ℕ)) (d : List ℕ) (end r m : ℕ) (x : List ℕ) (t : Bool) → r < end → end ≤ length rows → n ≤ m
+    → t ≡ fits (ranges 0 n (getD rows r d)) x → byRows n (take (end - r) (drop r rows)) (take m x) ≡ pick t n (byRows n (take (end - (r + 1)) (drop (r + 1) rows)) (take m x))
+unfolding byRows
+row-next n rows d end r m x t h l k e =
+    let row = ranges 0 n (getD rows r d) in
+    rw (part-next rows d end r h l, fits-take row m x (omega (arith, length-ranges 0 n (getD rows r d))), e)
 
 -- ---- rows that an octet starts
 
@@ -121,6 +114,44 @@ module _ (b lo hi : ℕ) (l : lo ≤ b) (h : b ≤ hi) where
       let p = both ((leb a lo || ltb hi a) && (leb hi z || ltb z lo)) (alike lo hi rs) e in
       let q = both (leb a lo || ltb hi a) (leb hi z || ltb z lo) (p .0) in
       rw (alike-low a (q .0), alike-high z (q .1), started rs (p .1))
+
+-- no octet from lo to hi starts one of these rows
+unfoldable pub apart : ℕ → ℕ → List (List Range) → Bool
+apart lo hi [] = true
+apart lo hi ([] ∷ rs) = apart lo hi rs
+apart lo hi ((a ‥ z ∷ r) ∷ rs) = (ltb z lo || ltb hi a) && apart lo hi rs
+
+module _ (b lo hi : ℕ) (l : lo ≤ b) (h : b ≤ hi) where
+  outside : (a z : ℕ) → (ltb z lo || ltb hi a) ≡ true → (leb a b && leb b z) ≡ false
+  outside a z e =
+      case z lo
+      (λ k. rw (lt-leb b z (omega arith), and-false (leb a b)))
+      (λ k. let m = ltb-true hi a (rw (le-ltb z lo k) at e) in rw (lt-leb a b (omega arith)))
+
+  skipped : (rs qs : List (List Range)) → apart lo hi rs ≡ true → startedBy b (rs ++ qs) ≡ startedBy b qs
+  unfolding apart startedBy
+  skipped [] qs e = refl
+  skipped ([] ∷ rs) qs e = skipped rs qs e
+  skipped ((a ‥ z ∷ r) ∷ rs) qs e = let p = both (ltb z lo || ltb hi a) (apart lo hi rs) e in rw (outside a z (p .0)) (skipped rs qs (p .1))
+
+  -- between rows that are apart
+  between : (ps rs qs : List (List Range)) → apart lo hi ps ≡ true → apart lo hi qs ≡ true → startedBy b (ps ++ (rs ++ qs)) ≡ startedBy b rs
+  unfolding startedBy
+  between ps rs qs e f = skipped ps (rs ++ qs) e ∙ last rs
+    where
+      last : (rs : List (List Range)) → startedBy b (rs ++ qs) ≡ startedBy b rs
+      last [] = ap (startedBy b) (sym (append-nil qs)) ∙ skipped qs [] f
+      last ([] ∷ rs) = last rs
+      last ((a ‥ z ∷ r) ∷ rs) = rw (last rs)
+
+-- rows of the code's table, one octet at least
+by-each : (n : ℕ) (rs : List (List ℕ)) (b : ℕ) (x : List ℕ) → fromFirst (startedBy b (each (suc n) rs)) x ≡ byRows (suc n) rs (b ∷ x)
+unfolding each ranges startedBy fromFirst byRows fits
+by-each n [] b x = refl
+by-each n (row ∷ rs) b x =
+    told (leb (getD row 0 0) b && leb b (getD row 1 0))
+    (λ e. rw (e, length-ranges 1 n row, add-one n, by-each n rs b x))
+    (λ e. rw (e, by-each n rs b x))
 
 -- ---- octets that are characters by themselves
 
@@ -166,12 +197,6 @@ plain-alone b l h =
 alone-character : (b : ℕ) (x : List ℕ) → alone b ≡ true → 1 ≡ character (b ∷ x)
 alone-character b x e = let s = alone-single b ∙ e in sym (by-single b x ∙ rw s)
 
-no-control : (b : ℕ) (x : List ℕ) → b < 0x80 → alone b ≡ false → 0 ≡ character (b ∷ x)
-no-control b x h e =
-    let s = alone-single b ∙ e in
-    let t = started b 0 0x7F (omega arith) (omega arith) (drop 3 rows) (unfold alike rows in refl) in
-    sym (by-single b x ∙ rw (s, t) (unfold startedBy rows fromFirst in refl))
-
 -- ---- one character
 
 character-long : (x : List ℕ) → character x ≤ length x
@@ -215,27 +240,20 @@ module _ (s : List ℕ) (to : ℕ) where
 
   module _ (i : ℕ) (h : i < to) (l : to ≤ length s) where
     part : rest i ≡ getD s i 0 ∷ rest (i + 1)
-    part =
-        let h′ : i < length s = omega arith in
-        let m : to - i ≡ suc (to - (i + 1)) = omega arith in
-        rw (m, drop-cons s i 0 h′, add-one i)
+    part = part-next s 0 to i h l
 
-    -- one more octet of a row: it is tested, and those behind it
-    pub fits-next : (a z : ℕ) (r : List Range) (j : ℕ) (t : Bool) → j ≡ i + 1 → t ≡ (leb a (getD s i 0) && leb (getD s i 0) z)
-        → fits (a ‥ z ∷ r) (rest i) ≡ (t && fits r (rest j))
-    unfolding fits
-    fits-next a z r j t e f = rw (part, e, f)
-
-    pub tail-next : (n k j : ℕ) (t : Bool) → n ≡ suc k → j ≡ i + 1 → t ≡ (leb 0x80 (getD s i 0) && leb (getD s i 0) 0xBF)
-        → fits (tails n) (rest i) ≡ (t && fits (tails k) (rest j))
-    unfolding tails
-    tail-next n k j t m e f = rw m (fits-next 0x80 0xBF (tails k) j t e f)
-
-    -- the first octet is one from lo to hi, which the table does not tell apart
-    pub by-row : (r lo hi : ℕ) → r ≡ fromFirst (startedBy lo rows) (rest (i + 1)) → alike lo hi rows ≡ true
-        → lo ≤ getD s i 0 → getD s i 0 ≤ hi → r ≡ character (rest i)
-    unfolding character
-    by-row r lo hi e t p q = rw part (rw (started _ lo hi p q rows t) e)
+    -- the first octet is one from lo to hi, with which the rows of the table from `first` to before `end` start, and no others
+    pub by-group : (t : List (List ℕ)) (r n first end lo hi : ℕ) → r ≡ byRows (suc n) (take (end - first) (drop first t)) (rest i) → Holds t (suc n) first end
+        → apart lo hi (take first rows) ≡ true → apart lo hi (drop (end - first) (drop first rows)) ≡ true → lo ≤ getD s i 0 → getD s i 0 ≤ hi → r ≡ character (rest i)
+    unfolding character Holds
+    by-group t r n first end lo hi e k f g p q =
+        let b = getD s i 0 in
+        let ps = take first rows in
+        let rs = take (end - first) (drop first rows) in
+        let qs = drop (end - first) (drop first rows) in
+        let w : ps ++ (rs ++ qs) ≡ rows = ap (λ l. ps ++ l) (take-append-drop (end - first) (drop first rows)) ∙ take-append-drop first rows in
+        let o : startedBy b rows ≡ startedBy b rs = ap (startedBy b) (sym w) ∙ between b lo hi p q ps rs qs f g in
+        rw part (rw (o, ← k, by-each n (take (end - first) (drop first t)) b (rest (i + 1))) (rw part at e))
 
     pub text-character : (n : ℕ) → n ≡ character (rest i) → (n ≡ 0 → ⊥) → (i + n ≤ to) × (isText (rest i) ≡ isText (rest (i + n)))
     text-character n e z =
@@ -247,25 +265,8 @@ module _ (s : List ℕ) (to : ℕ) where
     pub text-none : 0 ≡ character (rest i) → isText (rest i) ≡ false
     text-none e = rw part (no-character _ _ (rw part at e))
 
-    pub text-alone : alone (getD s i 0) ≡ true → isText (rest i) ≡ isText (rest (i + 1))
+    text-alone : alone (getD s i 0) ≡ true → isText (rest i) ≡ isText (rest (i + 1))
     text-alone e = text-character 1 (rw part (alone-character _ _ e)) (λ z. omega arith) .1
-
-    pub text-control : getD s i 0 < 0x80 → alone (getD s i 0) ≡ false → isText (rest i) ≡ false
-    text-control k e = text-none (rw part (no-control _ _ k e))
-
-  -- behind EF at the place before i
-  module _ (i n : ℕ) (l : to ≤ length s) (e : n ≡ fromFirst (oneRow ∷ []) (rest i)) (z : n ≡ 0 → ⊥) where
-    pub last-there : i + 1 < to
-    last-there = let f = rw (length-take (to - i) (drop i s)) at (fitted oneRow (rest i) n e z) in omega arith
-
-    pub last-one : (j : ℕ) → j ≡ i + 1 → pick (eqb (getD s i 0) 0xBF && leb 0xBE (getD s j 0)) 0 n ≡ fromFirst lastRows (rest i)
-    last-one j f =
-        let h = last-there in
-        let p : rest i ≡ getD s i 0 ∷ getD s j 0 ∷ rest (j + 1) = part i (omega arith) l ∙ rw f (ap (λ x. getD s i 0 ∷ x) (part (i + 1) h l)) in
-        rw (e, p) (sym (last-rows (getD s i 0 ∷ getD s j 0 ∷ rest (j + 1))))
-
-  pub too-short : (r : List Range) (i : ℕ) → to - i < length r → fits r (rest i) ≡ false
-  too-short r i h = told (fits r (rest i)) (λ e. absurd (let l = rw (length-take (to - i) (drop i s)) at (fits-long r (rest i) e) in omega arith)) (λ e. e)
 
   pub text-end : (i : ℕ) → to ≤ i → isText (rest i) ≡ true
   unfolding isText textBehind

@@ -4,16 +4,14 @@ pub mod put;
 
 ghost use mathlib.Core.Path.{_≡_};
 ghost use mathlib.Core.Bool.{true, _&&_};
-ghost use mathlib.Core.List.{[], _∷_};
 ghost use Prim.Native.Nat.{ℕ, _+_, _-_, _*_, _/_, _^_, _<_, _≤_};
 ghost use lib.Bits.{bitAnd};
 ghost use lib.Dec.{leb};
 ghost use lib.ListN.{length, getD, take, drop};
-ghost use Rattle.format.specs.Characters.{_‥_};
 ghost use Rattle.format.specs.Numbers.{lengths, numbers, c21, c25, top};
 ghost use Rattle.fields.specs.Fields.{bitsOf, valueFrom, behind, fieldAt, noTop};
 ghost use Rattle.fields.specs.WeightContracts.{weight, Small, highBits, notPlain, Plain, Alone};
-ghost use Rattle.fields.specs.Utf8.{alone, tails, fromFirst, character, isText};
+ghost use Rattle.fields.specs.Utf8.{alone, fits, ranges, Holds, byRows, character, isText};
 
 // The link's version: the octets before the body, which are E0 00 (12.6), version 1 (12.7, 12.9) and no optional part (12.8); where the body starts; octets of the longest document.
 pub const HEADER: [u8; 5] = [0xE0, 0x00, 0x00, 0x01, 0x00];
@@ -236,71 +234,90 @@ pub fn is_plain(b: u8) -> bool
     among(b, 0x20, 0x7F)
 }
 
-// The octet is a character by itself: plain, or the tab, a line feed or a carriage return.
-fn is_alone(b: u8) -> bool
-    ensures { λ r. ⌜ r ≡ alone b ⌝ }
+// Text, as the grammar of RFC 3629, section 4, prints it: a row for each alternative of UTF8-1 to UTF8-4. In a row stand the lowest and the highest that the first octet may be,
+// then the same of the second, the third and the fourth: 80 and BF are the grammar's UTF8-tail, and 00 and 00 stand where the character has no such octet. docs/READING-TEXT.md
+// takes octets through it. Two things are XML's and not the grammar's: UTF8-1 has 9, A, D and 20 to 7F alone; and EF stands in two rows, by its second octet, so that EF BF BE and
+// EF BF BF, which would be FFFE and FFFF, are in none.
+const ROWS: [[u8; 8]; 13] = [
+    // first     second      third       fourth
+    // UTF8-1
+    [0x09, 0x0A, 0x00, 0x00, 0x00, 0x00, 0x00, 0x00],
+    [0x0D, 0x0D, 0x00, 0x00, 0x00, 0x00, 0x00, 0x00],
+    [0x20, 0x7F, 0x00, 0x00, 0x00, 0x00, 0x00, 0x00],
+    // UTF8-2
+    [0xC2, 0xDF, 0x80, 0xBF, 0x00, 0x00, 0x00, 0x00],
+    // UTF8-3
+    [0xE0, 0xE0, 0xA0, 0xBF, 0x80, 0xBF, 0x00, 0x00],
+    [0xE1, 0xEC, 0x80, 0xBF, 0x80, 0xBF, 0x00, 0x00],
+    [0xED, 0xED, 0x80, 0x9F, 0x80, 0xBF, 0x00, 0x00],
+    [0xEE, 0xEE, 0x80, 0xBF, 0x80, 0xBF, 0x00, 0x00],
+    [0xEF, 0xEF, 0x80, 0xBE, 0x80, 0xBF, 0x00, 0x00],
+    [0xEF, 0xEF, 0xBF, 0xBF, 0x80, 0xBD, 0x00, 0x00],
+    // UTF8-4
+    [0xF0, 0xF0, 0x90, 0xBF, 0x80, 0xBF, 0x80, 0xBF],
+    [0xF1, 0xF3, 0x80, 0xBF, 0x80, 0xBF, 0x80, 0xBF],
+    [0xF4, 0xF4, 0x80, 0x8F, 0x80, 0xBF, 0x80, 0xBF],
+];
+
+// The table, with its rule, which is proved once, by a computation over all rows: rows 0 to 2 are UTF8-1, row 3 is UTF8-2, rows 4 to 9 are UTF8-3, rows 10 to 12 are UTF8-4.
+fn table() -> [[u8; 8]; 13]
+    ensures { λ r. ⌜ Holds r 1 0 3 × Holds r 2 3 4 × Holds r 3 4 10 × Holds r 4 10 13 ⌝ }
 {
-    among(b, 0x09, 0x0A) || (b == 0x0D || is_plain(b))
+    ROWS
 }
 
-// How many octets the character has whose first stands at i and has `left` behind it, the next of them from `low` to `high`; 0 where one is missing or may not
-// follow. Without a loop: where `left` is known, as in `character`, only the comparisons that it needs are left.
-fn from_first(s: &[u8], i: usize, to: usize, left: usize, low: u8, high: u8) -> usize
-    requires { ⌜ (i < to) × (to ≤ length (now s)) × (1 ≤ left) × (left ≤ 3) ⌝ }
-    ensures { λ r. ⌜ r ≡ fromFirst ((low ‥ high ∷ tails (left - 1)) ∷ []) (take (to - (i + 1)) (drop (i + 1) (now (s .entry)))) ⌝ }
+// Each of the n octets from i on is in its range of the row.
+fn fits(row: [u8; 8], s: &[u8], i: usize, n: usize) -> bool
+    requires { ⌜ (n ≤ 4) × (i + n ≤ length (now s)) ⌝ }
+    ensures { λ r. ⌜ r ≡ fits (ranges 0 n row) (drop i (now (s .entry))) ⌝ }
 {
-    if to <= i + left {
-        return 0;
+    let mut k = 0;
+    while k < n {
+        if !among(s[i + k], row[2 * k], row[2 * k + 1]) {
+            return false;
+        }
+        k += 1;
     }
-    if !among(s[i + 1], low, high) {
-        return 0;
-    }
-    if left == 1 {
-        return 2;
-    }
-    if !among(s[i + 2], 0x80, 0xBF) {
-        return 0;
-    }
-    if left == 2 {
-        return 3;
-    }
-    if !among(s[i + 3], 0x80, 0xBF) {
-        return 0;
-    }
-    4
+    true
 }
 
-// The same where the first is EF: EF BF BE and EF BF BF would be FFFE and FFFF.
-fn from_last_first(s: &[u8], i: usize, to: usize) -> usize
-    requires { ⌜ (i < to) × (to ≤ length (now s)) ⌝ }
-    ensures { λ r. ⌜ r ≡ fromFirst ((0x80 ‥ 0xBE ∷ 0x80 ‥ 0xBF ∷ []) ∷ (0xBF ‥ 0xBF ∷ 0x80 ‥ 0xBD ∷ []) ∷ []) (take (to - (i + 1)) (drop (i + 1) (now (s .entry)))) ⌝ }
+// n, where n octets from i on are there and fit one of the rows from `first` to before `end`; 0 where they fit none.
+fn by_rows(
+    rows: &[[u8; 8]],
+    first: usize,
+    end: usize,
+    s: &[u8],
+    i: usize,
+    to: usize,
+    n: usize,
+) -> usize
+    requires { ⌜ (first ≤ end) × (end ≤ length (now rows)) × (i ≤ to) × (to ≤ length (now s)) × (n ≤ 4) ⌝ }
+    ensures { λ r. ⌜ r ≡ byRows n (take (end - first) (drop first (now (rows .entry)))) (take (to - i) (drop i (now (s .entry)))) ⌝ }
 {
-    let n = from_first(s, i, to, 2, 0x80, 0xBF);
-    if n == 0 {
+    if to - i < n {
         return 0;
     }
-    if s[i + 1] == 0xBF && 0xBE <= s[i + 2] {
-        return 0;
+    let mut r = first;
+    while r < end {
+        if fits(rows[r], s, i, n) {
+            return n;
+        }
+        r += 1;
     }
-    n
+    0
 }
 
-// How many octets the character at i has, whose first is no character by itself; 0 where none is: the rows of RFC 3629.
+// How many octets the character at i has, 0 where none is. Its first octet tells which of UTF8-1 to UTF8-4 it can be, so that only their rows are gone through.
 fn character(s: &[u8], i: usize, to: usize) -> usize
-    requires { ⌜ (i < to) × (to ≤ length (now s)) × (0x80 ≤ getD (now s) i 0) ⌝ }
+    requires { ⌜ (i < to) × (to ≤ length (now s)) ⌝ }
     ensures { λ r. ⌜ r ≡ character (take (to - i) (drop i (now (s .entry)))) ⌝ }
 {
+    let rows = table();
     match s[i] {
-        0xC2..=0xDF => from_first(s, i, to, 1, 0x80, 0xBF),
-        0xE0 => from_first(s, i, to, 2, 0xA0, 0xBF),
-        0xE1..=0xEC => from_first(s, i, to, 2, 0x80, 0xBF),
-        0xED => from_first(s, i, to, 2, 0x80, 0x9F),
-        0xEE => from_first(s, i, to, 2, 0x80, 0xBF),
-        0xEF => from_last_first(s, i, to),
-        0xF0 => from_first(s, i, to, 3, 0x90, 0xBF),
-        0xF1..=0xF3 => from_first(s, i, to, 3, 0x80, 0xBF),
-        0xF4 => from_first(s, i, to, 3, 0x80, 0x8F),
-        _ => 0,
+        0x00..=0x7F => by_rows(&rows, 0, 3, s, i, to, 1),
+        0x80..=0xDF => by_rows(&rows, 3, 4, s, i, to, 2),
+        0xE0..=0xEF => by_rows(&rows, 4, 10, s, i, to, 3),
+        _ => by_rows(&rows, 10, 13, s, i, to, 4),
     }
 }
 
@@ -475,13 +492,6 @@ fn by_characters(s: &[u8], from: usize, to: usize) -> bool
     }
     let mut i = from;
     while i < to {
-        if s[i] < 0x80 {
-            if !is_alone(s[i]) {
-                return false;
-            }
-            i += 1;
-            continue;
-        }
         let n = character(s, i, to);
         if n == 0 {
             return false;

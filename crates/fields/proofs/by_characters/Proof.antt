@@ -4,10 +4,9 @@ use mathlib.Core.Path.{_≡_, refl, sym, _∙_}
 use Prim.Native.Nat.{_-_, _≤_}
 use native.Mathlib.Omega.{arith}
 use borrow.Author.Needs.{needs}
-use borrow.Author.Tests.{not-true, not-false}
 use lib.ListN.{take, drop}
 use Rattle.fields.specs.Utf8.{isText}
-use Rattle.fields.proofs.Utf8.{alone-text, text-alone, text-control, text-character, text-none, text-end}
+use Rattle.fields.proofs.Utf8.{alone-text, text-character, text-none, text-end}
 use Rattle.fields.proofs.by_characters.Statement.{statement}
 use Rattle.fields.proofs.by_characters.Tie as tie
 
@@ -25,46 +24,33 @@ loop-holds c = (omega arith, refl)
 
 returns-2 : tie.Need-returns-2 Inv-loop μ-loop
 returns-2 c =
-    let a = c .before .before .before .before .before .before .before .before .before .args in
-    let l = c .before .before .before .before .before .before .loop in
-    sym (l .inv .1 ∙ text-control (a .s .now) (a .to) (l .i) (omega arith) (omega arith) (omega arith)
-    (sym (c .before .is-alone .ensures) ∙ not-true _ (c .if4 .taken)))
+    let a = c .before .before .before .before .before .before .args in
+    let l = c .before .before .before .loop in
+    sym (l .inv .1 ∙ text-none (a .s .now) (a .to) (l .i) (omega arith) (omega arith) (sym (c .if3 .taken) ∙ c .before .character .ensures))
+
+add-i : tie.Need-add-i Inv-loop μ-loop
+add-i c =
+    let a = c .before .before .before .before .before .before .args in
+    let l = c .before .before .before .loop in
+    let p = text-character (a .s .now) (a .to) (l .i) (omega arith) (omega arith) _ (c .before .character .ensures) (λ z. omega arith) in
+    omega arith
+
+loop-less : tie.Need-loop-less Inv-loop μ-loop
+loop-less c =
+    let a = c .before .before .before .before .before .before .args in
+    let l = c .before .before .before .loop in
+    let p = text-character (a .s .now) (a .to) (l .i) (omega arith) (omega arith) _ (c .before .character .ensures) (λ z. omega arith) in
+    omega arith
 
 loop-again : tie.Need-loop-again Inv-loop μ-loop
 loop-again c =
-    let a = c .before .before .before .before .before .before .before .before .before .args in
-    let l = c .before .before .before .before .before .before .loop in
-    (omega arith, l .inv .1 ∙ text-alone (a .s .now) (a .to) (l .i) (omega arith) (omega arith) (sym (c .before .is-alone .ensures) ∙ not-false _ (c .if4 .left)))
-
-returns-3 : tie.Need-returns-3 Inv-loop μ-loop
-returns-3 c =
-    let a = c .before .before .before .before .before .before .before .before .args in
-    let l = c .before .before .before .before .before .loop in
-    sym (l .inv .1 ∙ text-none (a .s .now) (a .to) (l .i) (omega arith) (omega arith) (sym (c .if5 .taken) ∙ c .before .character .ensures))
-
-add-i-2 : tie.Need-add-i-2 Inv-loop μ-loop
-add-i-2 c =
-    let a = c .before .before .before .before .before .before .before .before .args in
-    let l = c .before .before .before .before .before .loop in
-    let p = text-character (a .s .now) (a .to) (l .i) (omega arith) (omega arith) _ (c .before .character .ensures) (λ z. omega arith) in
-    omega arith
-
-loop-less-2 : tie.Need-loop-less-2 Inv-loop μ-loop
-loop-less-2 c =
-    let a = c .before .before .before .before .before .before .before .before .args in
-    let l = c .before .before .before .before .before .loop in
-    let p = text-character (a .s .now) (a .to) (l .i) (omega arith) (omega arith) _ (c .before .character .ensures) (λ z. omega arith) in
-    omega arith
-
-loop-again-2 : tie.Need-loop-again-2 Inv-loop μ-loop
-loop-again-2 c =
-    let a = c .before .before .before .before .before .before .before .before .args in
-    let l = c .before .before .before .before .before .loop in
+    let a = c .before .before .before .before .before .before .args in
+    let l = c .before .before .before .loop in
     let p = text-character (a .s .now) (a .to) (l .i) (omega arith) (omega arith) _ (c .before .character .ensures) (λ z. omega arith) in
     (p .0, l .inv .1 ∙ p .1)
 
-returns-4 : tie.Need-returns-4 Inv-loop μ-loop
-returns-4 c =
+returns-3 : tie.Need-returns-3 Inv-loop μ-loop
+returns-3 c =
     let a = c .before .before .before .before .args in
     let l = c .before .loop in
     sym (l .inv .1 ∙ text-end (a .s .now) (a .to) (l .i) (omega arith))
@@ -79,16 +65,9 @@ by-characters-spec =
     (λ c κs. search needs)
     returns
     loop-holds
-    (λ c. search needs)
-    (λ c. search needs)
     (λ c κs. search needs)
     returns-2
-    (λ c. search needs)
-    (λ c. search needs)
+    add-i
+    loop-less
     loop-again
-    (λ c κs. search needs)
-    returns-3
-    add-i-2
-    loop-less-2
-    loop-again-2
-    returns-4)
+    returns-3)
