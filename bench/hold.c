@@ -13,7 +13,7 @@
 #include <stdlib.h>
 #include <string.h>
 
-enum { RECORD = LOMPHACHIT_RECORD, LONGEST = 2 * LOMPHACHIT_OCTETS, MOST = LOMPHACHIT_EVENTS + 64, BEHIND = 16, SHOWN = 10, LIST_SHARE = 2 };
+enum { RECORD = LOMPHACHIT_RECORD, LONGEST = 2 * LOMPHACHIT_OCTETS, MOST = LOMPHACHIT_EVENTS + 64, BEHIND = 16, SHOWN = 10, LIST_SHARE = 2, FORMS = 7 };
 
 /* Room with some more behind it, which nobody may touch. */
 struct room {
@@ -95,7 +95,7 @@ static void change_given(uint32_t *g, size_t words, size_t n) {
     size_t entries = (words - LOMPHACHIT_COUNTS) / LOMPHACHIT_ROW;
     uint32_t *entry = g + LOMPHACHIT_COUNTS + LOMPHACHIT_ROW * dice(entries);
     switch (dice(7)) {
-    case 5: entry[0] = lomphachit_tag_of((uint32_t)dice(4)); break;
+    case 5: entry[0] = lomphachit_tag_of((uint32_t)dice(FORMS)); break;
     case 0: g[dice(words)] = (uint32_t)dice(9); break;
     case 1: g[dice(words)]++; break;
     case 2: memcpy(entry, g + LOMPHACHIT_COUNTS + LOMPHACHIT_ROW * dice(entries), LOMPHACHIT_ROW * sizeof *entry); break;
@@ -120,11 +120,11 @@ static void change_event(uint32_t *records, size_t events, size_t n) {
     uint32_t *record = records + RECORD * dice(events), *string = record + 1 + 3 * dice(4);
     switch (dice(8)) {
     case 0: record[dice(RECORD)] = (uint32_t)dice(9); break;
-    case 6: if (record[LOMPHACHIT_AT_VALUE + 2]) record[LOMPHACHIT_AT_VALUE] = lomphachit_tag_of((uint32_t)dice(4)); break;
+    case 6: if (record[LOMPHACHIT_AT_VALUE + 2]) record[LOMPHACHIT_AT_VALUE] = lomphachit_tag_of((uint32_t)dice(FORMS)); break;
     case 1: record[dice(RECORD)] = (uint32_t)dice(n + 3); break;
     case 2: record[dice(RECORD)]++; break;
     case 3: memcpy(record, records + RECORD * dice(events), RECORD * sizeof *record); break;
-    case 4: string[0] = (uint32_t)dice(9); break;
+    case 4: string[0] = (uint32_t)dice(LOMPHACHIT_TAG_LONG + 2); break;
     case 5: if (string[2] > 1) string[2] -= 1 + (uint32_t)dice(string[2] - 1); break;
     default: if (string[2]) string[1 + dice(2)] += (uint32_t)dice(3) - 1;
     }
@@ -152,7 +152,7 @@ static void hold_list(const uint32_t *records, size_t events, const uint8_t *tex
 
 /* One change of a document: an octet, a bit, an octet that says much, an end, some octets out, in, or over others. */
 static size_t change_octets(uint8_t *octets, size_t n) {
-    static const uint8_t telling[] = {0x00, 0x3C, 0x3D, 0x3E, 0x3F, 0x38, 0x40, 0x20, 0x60, 0x10, 0x30, 0x78, 0x7B, 0x7C, 0x80, 0x81, 0x84, 0x85, 0x88, 0x8C, 0x90, 0x98, 0xA0, 0xB0, 0xCC, 0xCF, 0xE1, 0xE2, 0xED, 0xF0, 0xF1, 0xF4, 0xFF};
+    static const uint8_t telling[] = {0x00, 0x09, 0x21, 0x33, 0x3C, 0x3D, 0x3E, 0x3F, 0x38, 0x40, 0x20, 0x60, 0x10, 0x30, 0x78, 0x7B, 0x7C, 0x80, 0x81, 0x84, 0x85, 0x88, 0x8C, 0x90, 0x98, 0x9C, 0xA0, 0xB0, 0xCC, 0xCF, 0xE1, 0xE2, 0xED, 0xF0, 0xF1, 0xF4, 0xFF};
     size_t at = dice(n + 1), from = dice(n + 1), some = 1 + dice(8);
     if (at + some > n || from + some > n) return dice(8) ? n : at;
     switch (dice(8)) {

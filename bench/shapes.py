@@ -10,14 +10,17 @@ ENTRIES = 256
 EMULATOR = ['qemu-x86_64', '-cpu', 'max,-erms']
 
 
-# The forms of a stretch by tag, with the two format bits; the alphabets by tag.
-UTF_8, UTF_16, NUMERIC, DATES = 2, 5, 6, 7
-FORMATS = {UTF_8: 0, UTF_16: 1, NUMERIC: 2, DATES: 2}
+# The forms of a stretch by tag, with the two format bits and, behind formats 10 and 11, the number less one; the alphabets and the octets of an integer by tag.
+UTF_8, UTF_16, NUMERIC, DATES, SHORT, INT, LONG = 2, 5, 6, 7, 8, 9, 10
+FORMATS = {UTF_8: (0, None), UTF_16: (1, None), NUMERIC: (2, 0), DATES: (2, 1), SHORT: (3, 2), INT: (3, 3), LONG: (3, 4)}
 ALPHABETS = {NUMERIC: '0123456789-+.e ', DATES: '0123456789-:TZ '}
+WIDTHS = {SHORT: 2, INT: 4, LONG: 8}
 
 
 def packed(text, form):
     """The octets of a string in a form."""
+    if form in WIDTHS:
+        return b''.join(int(word).to_bytes(WIDTHS[form], 'big', signed=True) for word in text.split(' '))
     if form not in ALPHABETS:
         return text.encode('utf-16-be' if form == UTF_16 else 'utf-8')
     places = [ALPHABETS[form].index(c) for c in text] + [15] * (len(text) % 2)
@@ -26,6 +29,8 @@ def packed(text, form):
 
 def said(octets, form):
     """The string that they are, in UTF-8."""
+    if form in WIDTHS:
+        return b' '.join(b'%d' % int.from_bytes(octets[at:at + WIDTHS[form]], 'big', signed=True) for at in range(0, len(octets), WIDTHS[form]))
     if form not in ALPHABETS:
         return octets.decode('utf-16-be').encode() if form == UTF_16 else octets
     places = [half for octet in octets for half in divmod(octet, 16)]
@@ -41,12 +46,12 @@ def length(n, bit, lead):
 
 
 def in_form(text, bit, lead, form):
-    """C.19, C.20: the format, in an alphabet its number, the length and the octets."""
-    unit = 1 << 9 - bit
-    lead |= FORMATS[form] * unit
-    if form in ALPHABETS:
-        return bytes([lead]) + length(len(text), bit, (form == DATES) * unit) + text
-    return length(len(text), bit, lead) + text
+    """C.19, C.20: the format, the number of an alphabet or algorithm, the length and the octets."""
+    unit, (format, number) = 1 << 9 - bit, FORMATS[form]
+    lead |= format * unit
+    if number is None:
+        return length(len(text), bit, lead) + text
+    return bytes([lead]) + length(len(text), bit, number * unit) + text
 
 
 def chunk(text, added, form=UTF_8):
@@ -147,15 +152,16 @@ def full_head(size):
         body, j = body + item + b'\xf0', j + 1
 
 
-def records_of(size, form, fields):
-    """Elements with an attribute and a chunk, none added, as templates have them: serial numbers, counters, times. Element and attribute by number; `fields` gives the two strings of element k."""
-    text = lambda k: [packed(field, form) for field in fields(k)]
-    first = OPEN[:5] + bytes([0x3C, 0]) + b'a' + bytes([0x7C, 0]) + b'b' + bytes([0x78, 0]) + b'c'
-    body, k = first + value(text(0)[0], form) + b'\xf0' + chunk(text(0)[1], False, form), 1
+def records_of(size, forms, fields):
+    """Elements with an attribute and a chunk, none added, as templates have them: serial numbers, counters, times. Element and attribute by number; `forms` and `fields` give the forms of
+    the two strings of element k, and the strings."""
+    def strings(k):
+        (v, c), (of_value, of_chunk) = fields(k), forms(k)
+        return value(packed(v, of_value), of_value) + b'\xf0' + chunk(packed(c, of_chunk), False, of_chunk)
+    body, k = OPEN[:5] + bytes([0x3C, 0]) + b'a' + bytes([0x7C, 0]) + b'b' + bytes([0x78, 0]) + b'c' + strings(0), 1
     while True:
-        v, c = text(k)
         # The element b with its attribute c.
-        item = b'\xf0' + bytes([0x41, 0]) + value(v, form) + b'\xf0' + chunk(c, False, form)
+        item = b'\xf0' + bytes([0x41, 0]) + strings(k)
         if len(body + item) + 2 > size:
             return body + ENDS
         body, k = body + item, k + 1
@@ -163,17 +169,29 @@ def records_of(size, form, fields):
 
 def digits(size):
     """A serial number of twelve digits and a measure of fifteen characters, in alphabet 1."""
-    return records_of(size, NUMERIC, lambda k: ('%012d' % (k * 7919 % 10**12), '-%d.%03de+%02d %04d' % (k % 10, k % 1000, k % 100, k % 10000)))
+    return records_of(size, lambda k: (NUMERIC, NUMERIC), lambda k: ('%012d' % (k * 7919 % 10**12), '-%d.%03de+%02d %04d' % (k % 10, k % 1000, k % 100, k % 10000)))
 
 
 def dates(size):
     """A time of the day and a date with one, in alphabet 2."""
-    return records_of(size, DATES, lambda k: ('%02d:%02d:%02d' % (k % 24, k % 60, k * 7 % 60), '2026-%02d-%02dT%02d:%02d:00Z' % (1 + k % 12, 1 + k % 28, k % 24, k % 60)))
+    return records_of(size, lambda k: (DATES, DATES), lambda k: ('%02d:%02d:%02d' % (k % 24, k % 60, k * 7 % 60), '2026-%02d-%02dT%02d:%02d:00Z' % (1 + k % 12, 1 + k % 28, k % 24, k % 60)))
 
 
 def utf_16(size):
     """Names of places: a value of six characters and a chunk of twenty, in utf-16. It is read; our writer is given these and writes utf-8."""
-    return records_of(size, UTF_16, lambda k: ('门%04d号' % (k % 10000), '航站楼端口 %04d à l’étage' % (k % 10000)))
+    return records_of(size, lambda k: (UTF_16, UTF_16), lambda k: ('门%04d号' % (k % 10000), '航站楼端口 %04d à l’étage' % (k % 10000)))
+
+
+def counters(size):
+    """Counters of a port: a value of four shorts, of which one is below 0, and a chunk of six shorts, four ints or two longs, in turn. These take the fewest octets, so that they are
+    written as they are read."""
+    def some(k, count, low, high):
+        return ' '.join(str(low + (k * count + i) * 2654435761 % (high - low)) for i in range(count))
+
+    def fields(k):
+        chunks = (some(k, 6, 10000, 1 << 15), some(k, 4, 10 ** 9, 1 << 31), some(k, 2, 10 ** 18, 1 << 63))
+        return some(k, 3, 10000, 1 << 15) + ' -%d' % (10000 + k % 20000), chunks[k % 3]
+    return records_of(size, lambda k: (SHORT, (SHORT, INT, LONG)[k % 3]), fields)
 
 
 # Names that are unlike in the last octets cost most where octets are compared from the first on. Those that are unlike in the middle tell whether another order only
@@ -184,7 +202,7 @@ SHAPES = [
     ('long texts, not ASCII', lambda size: long_texts(size, '机场端口')),
     ('new names', new_names), ('repeated names', repeated_names), ('full head', full_head),
     ('new names, middle', lambda size: new_names(size, True)), ('repeated names, middle', lambda size: repeated_names(size, True)),
-    ('digits', digits), ('dates', dates), ('utf-16', utf_16),
+    ('digits', digits), ('dates', dates), ('utf-16', utf_16), ('counters', counters),
 ]
 SIZES = [1024, 4096, 16384]
 

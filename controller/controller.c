@@ -22,8 +22,8 @@ static const char *why(uint32_t refusal, size_t n) {
     case LOMPHACHIT_REFUSED_CODE: return "these bits mean nothing at this place";
     case LOMPHACHIT_REFUSED_PADDING: return "padding bits are wrong, or an end stands elsewhere than it should";
     case LOMPHACHIT_REFUSED_RANGE: return "a number, or how many entries a table lists, is over 1,048,576";
-    case LOMPHACHIT_REFUSED_FORMAT: return "a string is in an alphabet or algorithm that is not read, or this is an entity reference or a type declaration";
-    case LOMPHACHIT_REFUSED_TEXT: return "the octets of the string that starts here are no text in its form, or it has a character that XML does not have";
+    case LOMPHACHIT_REFUSED_FORMAT: return "a string is in another alphabet than 1 and 2 or by another algorithm than 3, 4 and 5, or this is an entity reference or a type declaration";
+    case LOMPHACHIT_REFUSED_TEXT: return "the octets of the string that starts here are no text in its form, or not whole integers, or it has a character that XML does not have";
     case LOMPHACHIT_REFUSED_INDEX: return "a number is beyond its table";
     case LOMPHACHIT_REFUSED_REPEAT: return "a string or name is spelled though its table holds it";
     case LOMPHACHIT_REFUSED_FULL: return "a table would get more than 256 entries";

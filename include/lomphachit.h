@@ -74,7 +74,7 @@ extern "C" {
 #define LOMPHACHIT_COUNTS 10    /* words of the counts, one for each table */
 #define LOMPHACHIT_ROWS 256     /* rows of a table, which are the most entries it can have */
 #define LOMPHACHIT_ROW 3        /* words of a row */
-#define LOMPHACHIT_SAID 2       /* the most octets of UTF-8 that one octet of a string stands for */
+#define LOMPHACHIT_SAID 4       /* the most octets of UTF-8 that one octet of a string stands for */
 
 /* An event record: word 0 is its kind, then come four strings of three words each: a tag, a place
    and a length. The strings that a kind does not have are absent. */
@@ -115,14 +115,21 @@ enum lomphachit_tag {
        characters in an octet, the first in the higher half, each by its place in the alphabet, from
        0. A lower half of 15 in the last octet is no character. */
     LOMPHACHIT_TAG_ALPHABET_1 = 6,
-    LOMPHACHIT_TAG_ALPHABET_2 = 7
+    LOMPHACHIT_TAG_ALPHABET_2 = 7,
+    /* Stretches of integers of 2, 4 and 8 octets, by the encoding algorithms 3, 4 and 5: the
+       highest octet first, in two's complement. Their characters are the integers in decimal, with
+       single spaces between, a minus sign before a negative one, and no zero in front. */
+    LOMPHACHIT_TAG_SHORT = 8,
+    LOMPHACHIT_TAG_INT = 9,
+    LOMPHACHIT_TAG_LONG = 10
 };
 
 /* The ten tables in the order of their counts. Entry number n (from 1) of table t has the three
    words from lomphachit_row(t, n) on. In the first eight tables they are place, length and form,
    all 0 for a built-in entry. The form is that in which the entry came: 0 utf-8, 1 utf-16, 2 and 3
-   the alphabets 1 and 2; lomphachit_tag_of gives the tag. It is 0 in the first five. In the last
-   two tables the words are the numbers of a name's prefix, namespace and local name, 0 for none. */
+   the alphabets 1 and 2, 4, 5 and 6 short, int and long; lomphachit_tag_of gives the tag. It is 0
+   in the first five. In the last two tables the words are the numbers of a name's prefix, namespace
+   and local name, 0 for none. */
 enum lomphachit_table {
     LOMPHACHIT_TABLE_PREFIX = 0,
     LOMPHACHIT_TABLE_NAMESPACE_NAME = 1,
@@ -154,12 +161,12 @@ enum lomphachit_refusal {
     LOMPHACHIT_REFUSED_PADDING = 6,
     /* Number, or count of listed entries, over 1,048,576. */
     LOMPHACHIT_REFUSED_RANGE = 7,
-    /* A string in an encoding algorithm or in another alphabet than 1 and 2, entity reference, type
-       declaration. */
+    /* A string in another alphabet than 1 and 2 or by another encoding algorithm than 3, 4 and 5,
+       entity reference, type declaration. */
     LOMPHACHIT_REFUSED_FORMAT = 8,
     /* Octets that are no text in their form: not well-formed UTF-8 or utf-16, a half of 15 that
-       does not fill up the last octet of a string in an alphabet, or a character that XML 1.0 does
-       not have, such as a null. */
+       does not fill up the last octet of a string in an alphabet, a part of an integer, or a
+       character that XML 1.0 does not have, such as a null. */
     LOMPHACHIT_REFUSED_TEXT = 9,
     /* Number beyond its table. */
     LOMPHACHIT_REFUSED_INDEX = 10,
@@ -257,11 +264,13 @@ uint64_t lomphachit_measure(const uint32_t *given, size_t given_len,
    numbers count them. What is wrong with the given tables is refused at place 0, before event 0:
    EVENT, TEXT, REPEAT, FULL, ROOM, the first of these that is due for any of them.
 
-   A value may be given in any form; how it is written does not depend on that. It is written in
-   alphabet 1 if that has all its characters and takes fewer octets than utf-8, length and all; else
-   in alphabet 2, if so; else in utf-8, and never in utf-16. One that no number names is added to
-   its table if it has 5 octets or fewer in UTF-8. A row of a table has the form in which the string
-   was given.
+   A value may be given in any form; how it is written does not depend on that. Of utf-8, alphabets
+   1 and 2, short, int and long, it is written in the one that takes the fewest octets, length and
+   all, among those that have its characters; of two that take as many, in the one that stands
+   earlier here; and never in utf-16. Short, int and long have the characters of a value that is
+   integers of so many octets in decimal, exactly as they are read: "7 -2" is, and "07", "+7", "-0"
+   and "7  2" are not. One that no number names is added to its table if it has 5 octets or fewer in
+   UTF-8. A row of a table has the form in which the string was given.
 
    Promised:
    - It accepts every list that none of the refusals below is due for: those that lomphachit_measure
@@ -318,6 +327,21 @@ static inline size_t lomphachit_put_character(uint8_t *out, uint32_t character) 
     return more + 1;
 }
 
+/* Puts an integer of so many octets, the highest first, in two's complement, as decimal text: up to
+   20 octets, and how many. */
+static inline size_t lomphachit_put_integer(uint8_t *out, const uint8_t *at, size_t width) {
+    uint64_t number = at[0] < 128 ? 0 : ~(uint64_t)0;
+    size_t n = 0, digits = 1;
+    for (size_t i = 0; i < width; i++) number = number << 8 | at[i];
+    if (at[0] >= 128) {
+        out[n++] = '-';
+        number = 0 - number;
+    }
+    for (uint64_t rest = number / 10; rest > 0; rest /= 10) digits++;
+    for (size_t i = digits; i > 0; i--, number /= 10) out[n + i - 1] = (uint8_t)('0' + number % 10);
+    return n + digits;
+}
+
 /* Puts the characters of a stretch that was read, in UTF-8, and says how many octets that are:
    LOMPHACHIT_SAID times its length at most, and 0 where the string is no stretch. `octets` is the
    document, and `string` the three words of the string in a record. It is plain C of this header,
@@ -337,6 +361,11 @@ static inline size_t lomphachit_say(const uint8_t *octets, const uint32_t *strin
                 at += 2;
             }
             n += lomphachit_put_character(out + n, unit);
+        } else if (string[0] >= LOMPHACHIT_TAG_SHORT) {
+            size_t width = (size_t)2 << (string[0] - (uint32_t)LOMPHACHIT_TAG_SHORT);
+            if (n > 0) out[n++] = ' ';
+            n += lomphachit_put_integer(out + n, at, width);
+            at += width - 1;
         } else {
             out[n++] = (uint8_t)letters[*at / 16];
             if (*at % 16 < 15) out[n++] = (uint8_t)letters[*at % 16];

@@ -1,4 +1,7 @@
 import com.sun.xml.fastinfoset.sax.SAXDocumentSerializer;
+import java.math.BigInteger;
+import java.util.Arrays;
+import org.jvnet.fastinfoset.EncodingAlgorithmIndexes;
 import org.jvnet.fastinfoset.RestrictedAlphabet;
 import org.jvnet.fastinfoset.sax.helpers.EncodingAlgorithmAttributesImpl;
 import org.xml.sax.Attributes;
@@ -11,15 +14,17 @@ final class SaxTee extends DefaultHandler2 {
     private final SAXDocumentSerializer serializer;
     private final boolean marks;
     private final boolean packs;
+    private final boolean counts;
 
     /**
      * With `marks` the serializer is also told where CDATA sections and the type declaration are, which no event of the link has. With `packs` it is told to write chunks and
-     * values in an alphabet that has all their characters.
+     * values in an alphabet that has all their characters, with `counts` as integers where they are a list of these.
      */
-    SaxTee(SAXDocumentSerializer serializer, boolean marks, boolean packs) {
+    SaxTee(SAXDocumentSerializer serializer, boolean marks, boolean packs, boolean counts) {
         this.serializer = serializer;
         this.marks = marks;
         this.packs = packs;
+        this.counts = counts;
     }
 
     /** The lower of the two that are built in, by the library's own characters; null where neither has all. */
@@ -30,6 +35,57 @@ final class SaxTee extends DefaultHandler2 {
             }
         }
         return null;
+    }
+
+    /** The integers that a text is in decimal, as an array of the narrowest type that has them all; null where it is no list of them. */
+    private static Object integers(String text) {
+        if (!text.matches("(0|-?[1-9][0-9]*)( (0|-?[1-9][0-9]*))*")) {
+            return null;
+        }
+        BigInteger[] all = Arrays.stream(text.split(" ")).map(BigInteger::new).toArray(BigInteger[]::new);
+        int bits = Arrays.stream(all).mapToInt(BigInteger::bitLength).max().getAsInt();
+        if (bits >= Long.SIZE) {
+            return null;
+        }
+        if (bits >= Integer.SIZE) {
+            return Arrays.stream(all).mapToLong(BigInteger::longValueExact).toArray();
+        }
+        int[] ints = Arrays.stream(all).mapToInt(BigInteger::intValueExact).toArray();
+        if (bits >= Short.SIZE) {
+            return ints;
+        }
+        short[] shorts = new short[ints.length];
+        for (int i = 0; i < ints.length; i++) {
+            shorts[i] = (short) ints[i];
+        }
+        return shorts;
+    }
+
+    private static int algorithm(Object integers) {
+        return integers instanceof short[] ? EncodingAlgorithmIndexes.SHORT : integers instanceof int[] ? EncodingAlgorithmIndexes.INT : EncodingAlgorithmIndexes.LONG;
+    }
+
+    private static Attributes counted(Attributes attributes) {
+        EncodingAlgorithmAttributesImpl counted = new EncodingAlgorithmAttributesImpl();
+        for (int i = 0; i < attributes.getLength(); i++) {
+            Object integers = integers(attributes.getValue(i));
+            if (integers == null) {
+                counted.addAttribute(attributes.getURI(i), attributes.getLocalName(i), attributes.getQName(i), attributes.getType(i), attributes.getValue(i));
+            } else {
+                counted.addAttributeWithBuiltInAlgorithmData(attributes.getURI(i), attributes.getLocalName(i), attributes.getQName(i), algorithm(integers), integers);
+            }
+        }
+        return counted;
+    }
+
+    private void count(Object integers) throws SAXException {
+        if (integers instanceof short[] shorts) {
+            serializer.shorts(shorts, 0, shorts.length);
+        } else if (integers instanceof int[] ints) {
+            serializer.ints(ints, 0, ints.length);
+        } else {
+            serializer.longs((long[]) integers, 0, ((long[]) integers).length);
+        }
     }
 
     private static Attributes packed(Attributes attributes) {
@@ -60,7 +116,7 @@ final class SaxTee extends DefaultHandler2 {
     @Override
     public void startElement(String namespace, String local, String qualified, Attributes attributes) throws SAXException {
         events.startElement(namespace, local, qualified, attributes);
-        serializer.startElement(namespace, local, qualified, packs ? packed(attributes) : attributes);
+        serializer.startElement(namespace, local, qualified, packs ? packed(attributes) : counts ? counted(attributes) : attributes);
     }
 
     @Override
@@ -72,8 +128,12 @@ final class SaxTee extends DefaultHandler2 {
     @Override
     public void characters(char[] characters, int start, int length) throws SAXException {
         events.characters(characters, start, length);
-        String letters = packs ? alphabet(new String(characters, start, length)) : null;
-        if (letters == null) {
+        String text = new String(characters, start, length);
+        String letters = packs ? alphabet(text) : null;
+        Object integers = counts ? integers(text) : null;
+        if (integers != null) {
+            count(integers);
+        } else if (letters == null) {
             serializer.characters(characters, start, length);
         } else if (letters.equals(RestrictedAlphabet.NUMERIC_CHARACTERS)) {
             serializer.numericCharacters(characters, start, length);

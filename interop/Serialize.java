@@ -21,10 +21,10 @@ import org.xml.sax.XMLReader;
 final class Serialize {
     /**
      * What the serializer adds to its tables; whether it is told of CDATA sections and the type declaration, to write utf-16, and, by SAX calls alone, to write what an alphabet
-     * has in that alphabet.
+     * has in that alphabet, or lists of integers as integers.
      */
     private enum Setting {
-        DEFAULTS(32, false), ADDS_ALL(Integer.MAX_VALUE, false), ADDS_NONE(0, false), MARKS(32, true), UTF_16(32, false), ALPHABETS(32, false);
+        DEFAULTS(32, false), ADDS_ALL(Integer.MAX_VALUE, false), ADDS_NONE(0, false), MARKS(32, true), UTF_16(32, false), ALPHABETS(32, false), INTEGERS(32, false);
 
         final int most;
         final boolean marks;
@@ -56,7 +56,7 @@ final class Serialize {
         setting.apply(serializer);
         ByteArrayOutputStream octets = new ByteArrayOutputStream();
         serializer.setOutputStream(octets);
-        SaxTee tee = new SaxTee(serializer, setting.marks, setting == Setting.ALPHABETS);
+        SaxTee tee = new SaxTee(serializer, setting.marks, setting == Setting.ALPHABETS, setting == Setting.INTEGERS);
         XMLReader reader = SAXParserFactory.newDefaultNSInstance().newSAXParser().getXMLReader();
         reader.setContentHandler(tee);
         reader.setProperty("http://xml.org/sax/properties/lexical-handler", tee);
@@ -82,7 +82,7 @@ final class Serialize {
         for (String file : files) {
             for (Setting setting : Setting.values()) {
                 bySax(Path.of(file), setting);
-                if (setting != Setting.ALPHABETS) {
+                if (setting != Setting.ALPHABETS && setting != Setting.INTEGERS) {
                     byStax(Path.of(file), setting);
                 }
             }

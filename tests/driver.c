@@ -12,7 +12,7 @@
 uint32_t lomphachit_check(const uint8_t *octets, size_t n);
 uint64_t lomphachit_read(const uint8_t *octets, size_t n, uint32_t *records, size_t r, uint32_t *tables, size_t t, uint32_t *counts, size_t c);
 
-enum { RECORD = 13, TABLES = 7680, COUNTS = 10, ROWS = 256, MOST = 1 << 16, IDENTIFYING = 5, NAMES = 8, FORMS = 4 };
+enum { RECORD = 13, TABLES = 7680, COUNTS = 10, ROWS = 256, MOST = 1 << 16, IDENTIFYING = 5, NAMES = 8, FORMS = 7 };
 static const char *const KINDS = ".NSATCPE";
 
 static int faults;
@@ -35,16 +35,16 @@ static void hex(const uint8_t *x, size_t n) {
 static void string(const uint8_t *s, const uint32_t *w) {
     static uint8_t utf_8[LONGER * MOST];
     putchar(' ');
-    if (w[0] > TAG_ALPHABET_2) fault("a string has a tag that none has");
+    if (w[0] > TAG_LONG) fault("a string has a tag that none has");
     if (w[0]) hex(utf_8, said(s, w, utf_8));
     else putchar('-');
 }
 
 /* The same as vectors/README.md writes it, with place, length and form. */
 static void stretch(const uint32_t *w) {
-    static const char *const marks[] = {"-", "0", "", "X", "U", "/u", "/1", "/2"};
+    static const char *const marks[] = {"-", "0", "", "X", "U", "/u", "/1", "/2", "/3", "/4", "/5"};
     if (w[0] == TAG_UTF_8 || w[0] >= TAG_UTF_16) printf("%u+%u", w[1], w[2]);
-    printf("%s", w[0] <= TAG_ALPHABET_2 ? marks[w[0]] : "?");
+    printf("%s", w[0] <= TAG_LONG ? marks[w[0]] : "?");
 }
 
 static void whole_event(const uint32_t *r) {

@@ -2,10 +2,13 @@
 #ifndef FORMS_H
 #define FORMS_H
 #include <stddef.h>
+#include <inttypes.h>
 #include <stdint.h>
+#include <stdio.h>
 #include <string.h>
 
-enum { TAG_UTF_8 = 2, TAG_XML = 3, TAG_XMLNS = 4, TAG_UTF_16 = 5, TAG_ALPHABET_1 = 6, TAG_ALPHABET_2 = 7, LONGER = 2 /* octets that one octet of any form can say */ };
+enum { TAG_UTF_8 = 2, TAG_XML = 3, TAG_XMLNS = 4, TAG_UTF_16 = 5, TAG_ALPHABET_1 = 6, TAG_ALPHABET_2 = 7, TAG_SHORT = 8, TAG_INT = 9, TAG_LONG = 10 };
+enum { LONGER = 4 /* octets that one octet of any form can say */ };
 
 static size_t put_character(uint8_t *out, uint32_t c) {
     size_t more = (c > 0x7F) + (c > 0x7FF) + (c > 0xFFFF);
@@ -37,6 +40,20 @@ static size_t from_alphabet(const char *letters, const uint8_t *x, size_t n, uin
     return made;
 }
 
+/* Integers of so many octets, by the C library. */
+static size_t from_integers(size_t width, const uint8_t *x, size_t n, uint8_t *out) {
+    size_t made = 0;
+    for (size_t i = 0; i + width <= n; i += width) {
+        uint64_t z = 0;
+        for (size_t k = 0; k < width; k++) z = z << 8 | x[i + k];
+        char word[24];
+        const size_t letters = (size_t)sprintf(word, "%" PRId64, width == 2 ? (int16_t)z : width == 4 ? (int32_t)z : (int64_t)z);
+        if (i) out[made++] = ' ';
+        memcpy(out + made, word, letters), made += letters;
+    }
+    return made;
+}
+
 /* How many octets of UTF-8 the string of these three words, tag, place and length, puts into `out`. */
 static size_t said(const uint8_t *from, const uint32_t *w, uint8_t *out) {
     const uint8_t *x = from + w[1];
@@ -46,6 +63,9 @@ static size_t said(const uint8_t *from, const uint32_t *w, uint8_t *out) {
     case TAG_UTF_16: return from_utf_16(x, w[2], out);
     case TAG_ALPHABET_1: return from_alphabet("0123456789-+.e ", x, w[2], out);
     case TAG_ALPHABET_2: return from_alphabet("0123456789-:TZ ", x, w[2], out);
+    case TAG_SHORT: return from_integers(2, x, w[2], out);
+    case TAG_INT: return from_integers(4, x, w[2], out);
+    case TAG_LONG: return from_integers(8, x, w[2], out);
     default: memcpy(out, built_in, strlen(built_in)); return strlen(built_in);
     }
 }

@@ -61,8 +61,12 @@ static void rest(void) {
     is("the count of NAMESPACE NAME", counts[LOMPHACHIT_TABLE_NAMESPACE_NAME], 1), is("the count of ATTRIBUTE VALUE", counts[LOMPHACHIT_TABLE_ATTRIBUTE_VALUE], 0);
 }
 
-/* <a>1234<!--T-->&#x1F600;</a>: a chunk in alphabet 1, a comment in alphabet 2 and a chunk in utf-16, each added to its table. */
-static const uint8_t FORMS[] = {0xE0, 0, 0, 1, 0, 0x3C, 0, 'a', 0x98, 1, 0x12, 0x34, 0xE2, 0x60, 0x10, 0xCF, 0x96, 1, 0xD8, 0x3D, 0xDE, 0, 0xFF};
+/* <a>1234<!--T-->&#x1F600; and behind that integers: chunks "-32768 0 9" in shorts and "-2147483648" in ints, and a comment of a long, the lowest of its width, and a chunk of the
+   highest. The others are a chunk in alphabet 1, a comment in alphabet 2 and a chunk in utf-16. Each is added to its table. */
+static const uint8_t FORMS[] = {0xE0, 0, 0, 1, 0, 0x3C, 0, 'a', 0x98, 1, 0x12, 0x34, 0xE2, 0x60, 0x10, 0xCF, 0x96, 1, 0xD8, 0x3D, 0xDE, 0,
+                                0x9C, 0x0A, 3, 0x80, 0, 0, 0, 0, 9, 0x9C, 0x0E, 1, 0x80, 0, 0, 0, 0xE2, 0x70, 0x47, 0x80, 0, 0, 0, 0, 0, 0, 0,
+                                0x9C, 0x12, 5, 0x7F, 0xFF, 0xFF, 0xFF, 0xFF, 0xFF, 0xFF, 0xFF, 0xFF};
+enum { IN_FORMS = 9 };
 
 static void said(const uint32_t *record, const char *wanted) {
     uint8_t utf_8[LOMPHACHIT_SAID * sizeof FORMS];
@@ -70,11 +74,24 @@ static void said(const uint32_t *record, const char *wanted) {
     is("octets said", n, strlen(wanted)), is("a difference of what is said", (uint64_t)!!memcmp(utf_8, wanted, n < strlen(wanted) ? n : strlen(wanted)), 0);
 }
 
+/* The last four of these: in short, int, long and long. */
+static void integers(const uint32_t *row) {
+    string("the chunk in shorts", row + LOMPHACHIT_AT_VALUE, LOMPHACHIT_TAG_SHORT, 25, 6);
+    string("the chunk in ints", row + LOMPHACHIT_RECORD + LOMPHACHIT_AT_VALUE, LOMPHACHIT_TAG_INT, 34, 4);
+    string("the comment in longs", row + 2 * LOMPHACHIT_RECORD + LOMPHACHIT_AT_VALUE, LOMPHACHIT_TAG_LONG, 41, 8);
+    string("CONTENT CHARACTER CHUNK 3 in shorts", tables + lomphachit_row(LOMPHACHIT_TABLE_CONTENT_CHARACTER_CHUNK, 3), 25, 6, 4);
+    string("CONTENT CHARACTER CHUNK 4 in ints", tables + lomphachit_row(LOMPHACHIT_TABLE_CONTENT_CHARACTER_CHUNK, 4), 34, 4, 5);
+    string("OTHER STRING 2 in longs", tables + lomphachit_row(LOMPHACHIT_TABLE_OTHER_STRING, 2), 41, 8, 6);
+    is("the tag of form 4", lomphachit_tag_of(4), LOMPHACHIT_TAG_SHORT), is("the tag of form 6", lomphachit_tag_of(6), LOMPHACHIT_TAG_LONG);
+    said(row, "-32768 0 9"), said(row + LOMPHACHIT_RECORD, "-2147483648"), said(row + 2 * LOMPHACHIT_RECORD, "-9223372036854775808");
+    said(row + 3 * LOMPHACHIT_RECORD, "9223372036854775807");
+}
+
 static void forms(void) {
-    static uint32_t row[5 * LOMPHACHIT_RECORD];
-    uint64_t a = lomphachit_read(FORMS, sizeof FORMS, row, 5 * LOMPHACHIT_RECORD, tables, LOMPHACHIT_TABLES, counts, LOMPHACHIT_COUNTS);
+    static uint32_t row[IN_FORMS * LOMPHACHIT_RECORD];
+    uint64_t a = lomphachit_read(FORMS, sizeof FORMS, row, IN_FORMS * LOMPHACHIT_RECORD, tables, LOMPHACHIT_TABLES, counts, LOMPHACHIT_COUNTS);
     const uint32_t *in_2 = tables + lomphachit_row(LOMPHACHIT_TABLE_OTHER_STRING, 1), *in_utf_16 = tables + lomphachit_row(LOMPHACHIT_TABLE_CONTENT_CHARACTER_CHUNK, 2);
-    is("the answer of forms", lomphachit_refusal_of(a), LOMPHACHIT_ACCEPTED), is("its count", lomphachit_count_of(a), 5);
+    is("the answer of forms", lomphachit_refusal_of(a), LOMPHACHIT_ACCEPTED), is("its count", lomphachit_count_of(a), IN_FORMS);
     string("the chunk in alphabet 1", row + LOMPHACHIT_RECORD + LOMPHACHIT_AT_VALUE, LOMPHACHIT_TAG_ALPHABET_1, 10, 2);
     string("the comment in alphabet 2", row + 2 * LOMPHACHIT_RECORD + LOMPHACHIT_AT_VALUE, LOMPHACHIT_TAG_ALPHABET_2, 15, 1);
     string("the chunk in utf-16", row + 3 * LOMPHACHIT_RECORD + LOMPHACHIT_AT_VALUE, LOMPHACHIT_TAG_UTF_16, 18, 4);
@@ -82,6 +99,7 @@ static void forms(void) {
     is("the tag of form 0", lomphachit_tag_of(0), LOMPHACHIT_TAG_STRETCH), is("the tag of form 2", lomphachit_tag_of(2), LOMPHACHIT_TAG_ALPHABET_1);
     is("the tag of a row", lomphachit_tag_of(in_2[2]), LOMPHACHIT_TAG_ALPHABET_2), is("the tag of another", lomphachit_tag_of(in_utf_16[2]), LOMPHACHIT_TAG_UTF_16);
     said(row + LOMPHACHIT_RECORD, "1234"), said(row + 2 * LOMPHACHIT_RECORD, "T"), said(row + 3 * LOMPHACHIT_RECORD, "\xF0\x9F\x98\x80"), said(row, "");
+    integers(row + 4 * LOMPHACHIT_RECORD);
 }
 
 /* A pointer is never null, even where nothing is given. */

@@ -1,6 +1,8 @@
 """Builds documents and event lists: fields, and the places where they can stand.  The answers come from oracle.py, or from what a case is called."""
-from oracle import (ALPHABETS, ATTRIBUTE, CHUNK, COUNTS, ELEMENT, HEAD, IDENTIFIED, LENGTHS, LOCAL, NAMESPACE, NCNAME, NUMBERS, PREFIX, STRING, UTF_8,
-                    UTF_16, VALUE, read)
+import re
+
+from oracle import (ALPHABETS, ATTRIBUTE, CHUNK, COUNTS, ELEMENT, HEAD, IDENTIFIED, INTEGERS, LENGTHS, LOCAL, NAMESPACE, NCNAME, NUMBERED, NUMBERS, PREFIX, STRING,
+                    UTF_8, UTF_16, VALUE, read)
 
 # A document <a> is made of items (where, octets); END ends a child element.
 BEFORE, DECLARED, ATTRIBUTED, INSIDE = range(4)
@@ -50,7 +52,7 @@ def numbered_form(format, number):
 
 
 # The bits between the add bit and the length.
-FORMATS = {UTF_8: "00", UTF_16: "01"} | {form: numbered_form("10", i + 1) for i, form in enumerate(ALPHABETS)}
+FORMATS = {UTF_8: "00", UTF_16: "01"} | {form: numbered_form(format, number) for format in NUMBERED for number, form in NUMBERED[format].items()}
 
 
 def encoded(octets, add=True, form=UTF_8):
@@ -68,23 +70,43 @@ def halves(codes):
     return bytes(high << 4 | low for high, low in zip(codes[::2], codes[1::2]))
 
 
+# The word of an integer, and words with single blanks between.
+WORD = "(0|-?[1-9][0-9]*)"
+WORDS = re.compile(f"{WORD}( {WORD})*")
+
+
+def edges(width):
+    """The lowest and the highest integer of so many octets."""
+    half = 1 << 8 * width - 1
+    return -half, half - 1
+
+
 def says(form, text):
     """Whether characters can be said in a form."""
+    if form in INTEGERS:
+        low, high = edges(INTEGERS[form])
+        return bool(WORDS.fullmatch(text)) and all(low <= int(word) <= high for word in text.split(" "))
     return form not in ALPHABETS or set(text) <= set(ALPHABETS[form])
 
 
 def in_form(form, text):
     """The octets that say these characters."""
+    if form in INTEGERS:
+        return integers(INTEGERS[form], map(int, text.split(" ")))
     if form in ALPHABETS:
         return halves([ALPHABETS[form].index(c) for c in text])
     return text.encode("utf-16-be" if form == UTF_16 else "utf-8")
 
 
+def integers(width, some):
+    return b"".join(integer.to_bytes(width, "big", signed=True) for integer in some)
+
+
 def by_writer(spell, text, room=True):
-    """The field that the writer makes of these characters: of the fewest octets, on a tie the first of utf-8, alphabet 1, alphabet 2; added if they are 1 to 5 octets in utf-8
-    and the table has room."""
+    """The field that the writer makes of these characters: of the fewest octets, on a tie the first of utf-8, the alphabets, the algorithms, each by number; added if they are 1
+    to 5 octets in utf-8 and the table has room."""
     add = room and len(text.encode()) <= 5
-    return min((spell(in_form(form, text), add, form) for form in (UTF_8, *ALPHABETS) if says(form, text)), key=len)
+    return min((spell(in_form(form, text), add, form) for form in (UTF_8, *ALPHABETS, *INTEGERS) if says(form, text)), key=len)
 
 
 def string_number(number):

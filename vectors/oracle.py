@@ -47,9 +47,13 @@ def judge(place, *findings):
             raise Refusal(number, place)
 
 
-# The forms: format bits 00, format bits 01, alphabets 1 and 2 with the characters of their codes.
+# The forms: format bits 00, format bits 01, alphabets 1 and 2 with the characters of their codes, algorithms 3, 4 and 5 with the octets of an integer.
 UTF_8, UTF_16 = "", "/u"
 ALPHABETS = {"/1": "0123456789-+.e ", "/2": "0123456789-:TZ "}
+INTEGERS = {"/3": 2, "/4": 4, "/5": 8}
+
+# Format bits with a number behind them, and the forms of the numbers that are read.
+NUMBERED = {"10": {1: "/1", 2: "/2"}, "11": {3: "/3", 4: "/4", 5: "/5"}}
 
 # XML 1.0, clause 2.2.
 CHARACTERS = re.compile("[\x09\x0a\x0d\x20-\ud7ff\ue000-\ufffd\U00010000-\U0010ffff]*")
@@ -63,10 +67,19 @@ def unpacked(letters, octets):
     return None if 15 in codes else "".join(letters[code] for code in codes)
 
 
+def listed_integers(width, octets):
+    """Integers of so many octets each, the highest first, in two's complement, as decimal text with single blanks between."""
+    if len(octets) % width:
+        return None
+    return " ".join(str(int.from_bytes(octets[at:at + width], "big", signed=True)) for at in range(0, len(octets), width))
+
+
 def said(form, octets):
     """The characters that octets in a form say, or None.  Python's strict decoders follow RFC 3629, and take surrogates in pairs alone."""
     if form in ALPHABETS:
         return unpacked(ALPHABETS[form], octets)
+    if form in INTEGERS:
+        return listed_integers(INTEGERS[form], octets)
     try:
         text = octets.decode("utf-16-be" if form == UTF_16 else "utf-8")
     except UnicodeDecodeError:
@@ -150,28 +163,26 @@ class Reader:
               (not said(form, self.octets[start:self.at]), TEXT))
         return start, length, form
 
-    def packed(self, bit):
-        """Eight bits from this bit on, an alphabet's number less one, then a length from the same bit of the second octet on.  The field is judged
-        when all its octets are there: the alphabet, the length's zero bits, the text."""
+    def packed(self, bit, forms):
+        """Eight bits from this bit on, the number less one of an alphabet or algorithm, then a length from the same bit of the second octet on.  The field
+        is judged when all its octets are there: which form it is, the length's zero bits, the text."""
         place, end = self.at, len(self.octets)
         judge(place, (place + 2 > end, TRUNCATED))
         code, zeros, field, lowest = form_at(LENGTHS, bit, self.octets[place + 1])
         start = place + 1 + (bit - 1 + len(code) + zeros + field) // 8
         judge(place, (start > end, TRUNCATED))
         bits = "".join(f"{octet:08b}" for octet in self.octets[place:start])
-        number, behind = int(bits[bit - 1:bit + 7], 2), bits[bit + 7 + len(code):]
+        form, behind = forms.get(int(bits[bit - 1:bit + 7], 2) + 1), bits[bit + 7 + len(code):]
         length = lowest + int(behind[zeros:], 2)
         self.at = start + length
-        judge(place, (self.at > end, TRUNCATED), (number >= len(ALPHABETS), FORMAT), ("1" in behind[:zeros], PADDING))
-        form = list(ALPHABETS)[number]
+        judge(place, (self.at > end, TRUNCATED), (not form, FORMAT), ("1" in behind[:zeros], PADDING))
         judge(place, (not said(form, self.octets[start:self.at]), TEXT))
         return start, length, form
 
     def literal(self, bit):
         """C.19 and C.20: two format bits from this bit on, and the string."""
         form = f"{self.first():08b}"[bit - 1:bit + 1]
-        judge(self.at, (form == "11", FORMAT))
-        return self.packed(bit + 2) if form == "10" else self.spelled(bit + 2, UTF_16 if form == "01" else UTF_8)
+        return self.packed(bit + 2, NUMBERED[form]) if form in NUMBERED else self.spelled(bit + 2, UTF_16 if form == "01" else UTF_8)
 
     def identifying(self, table):
         """C.13; answers the string's number."""

@@ -3,6 +3,7 @@
 #ifndef LIMIT_EVENTS_H
 #define LIMIT_EVENTS_H
 
+#include "integers.h"
 #include "tables.h"
 
 enum {
@@ -226,11 +227,26 @@ NEVER uint8_t *spell_packed(uint8_t *to, uint32_t first, uint32_t bit, const uin
     return KEEP ? pack(to, octets, n) : to + length;
 }
 
-/* In the form that takes the fewest octets: an alphabet saves some from the fourth character on; from the third, where the length starts at bit 7. */
+/* In integers, where they are so many octets; algorithms 3, 4 and 5 are for widths 2, 4 and 8. */
+NEVER uint8_t *spell_integers(uint8_t *to, uint32_t first, uint32_t bit, const uint8_t *octets, uint32_t n, uint32_t length, uint32_t width) {
+    uint32_t unit = 1u << (9 - bit);
+    to = put_length(put(to, first | 3 * unit), unit * (1 + (uint32_t)__builtin_ctz(width)), bit, length);
+    return KEEP ? put_integers(to, octets, n, width) : to + length;
+}
+
+/* In an alphabet, or in integers where these are fewer octets than halves: their characters are in both. */
+NEVER uint8_t *spell_shorter(uint8_t *to, uint32_t first, uint32_t bit, const uint8_t *octets, uint32_t n, uint32_t some) {
+    uint32_t width, length = some == (NUMERIC | DATES) ? integers(octets, n, &width) : 0;
+    if (length && length < (n + 1) / 2) return spell_integers(to, first, bit, octets, n, length, width);
+    return spell_packed(to, first, bit, octets, n, some);
+}
+
+/* In the form that takes the fewest octets: an alphabet saves some from the fourth character on; from the third, where the length starts at bit 7. Integers save nothing before
+   that. */
 ALWAYS uint8_t *spell_shortest(const struct run *run, uint8_t *to, uint32_t first, uint32_t bit, const struct string *x) {
     const uint8_t *from = octets_of(run, x);
     uint32_t some = x->octets > (bit == 7 ? 2 : 3) ? alphabets(from, x->octets) : 0;
-    return unlikely(some) ? spell_packed(to, first, bit, from, x->octets, some) : spell(to, first, bit, from, x->octets, end_of(run, x));
+    return unlikely(some) ? spell_shorter(to, first, bit, from, x->octets, some) : spell(to, first, bit, from, x->octets, end_of(run, x));
 }
 
 /* C.13; null where the table is full. */

@@ -151,8 +151,14 @@ ALWAYS uint32_t identifying(struct run *run, const uint8_t **at, const uint8_t *
     return 0;
 }
 
-/* The length behind the number of an alphabet, whose octets are all there before the number is looked at. */
-ALWAYS uint32_t alphabet_from(const uint8_t *at, const uint8_t *end, uint32_t bit, const uint8_t **text, size_t *length, uint32_t *tag) {
+/* The tag of an alphabet (format 2) or of an algorithm, by its number less one; 0 for one that is not read. */
+ALWAYS uint32_t numbered_tag(uint32_t format, uint32_t number) {
+    if (format == 2) return number < 2 ? TAG(ALPHABET_1) + number : 0;
+    return number - 2 < 3 ? TAG(SHORT) + number - 2 : 0;
+}
+
+/* The length behind the number of an alphabet or algorithm, whose octets are all there before the number is looked at. */
+ALWAYS uint32_t numbered_from(const uint8_t *at, const uint8_t *end, uint32_t bit, uint32_t format, const uint8_t **text, size_t *length, uint32_t *tag) {
     if (end - at < 2) return REFUSED(TRUNCATED);
     uint32_t octet = at[1], shorter = 1u << (8 - bit), number = (uint32_t)(at[0] & (2 * shorter - 1)) << (bit - 1) | octet >> (9 - bit), padding = 0;
     if (!(octet & shorter)) *length = (octet & (shorter - 1)) + 1, *text = at + 2;
@@ -163,8 +169,8 @@ ALWAYS uint32_t alphabet_from(const uint8_t *at, const uint8_t *end, uint32_t bi
         *length = octet & shorter >> 1 ? (size_t)shorter + 257 + __builtin_bswap32(four(at + 2)) : shorter + 1 + at[2];
     }
     if ((size_t)(end - *text) < *length) return REFUSED(TRUNCATED);
-    *tag = TAG(ALPHABET_1) + number;
-    return number > 1 ? REFUSED(FORMAT) : padding ? REFUSED(PADDING) : 0;
+    *tag = numbered_tag(format, number);
+    return !*tag ? REFUSED(FORMAT) : padding ? REFUSED(PADDING) : 0;
 }
 
 /* One in another form than utf-8. */
@@ -172,9 +178,8 @@ NEVER uint32_t formed(struct run *run, const uint8_t **at, const uint8_t *end, u
     uint32_t format = **at >> (9 - bit) & 3, refusal;
     const uint8_t *text;
     size_t n;
-    if (format == 3) return REFUSED(FORMAT);
     x->tag = TAG(UTF_16);
-    if ((refusal = format == 1 ? length_from(*at, end, bit, &text, &n) : alphabet_from(*at, end, bit, &text, &n, &x->tag))) return refusal;
+    if ((refusal = format == 1 ? length_from(*at, end, bit, &text, &n) : numbered_from(*at, end, bit, format, &text, &n, &x->tag))) return refusal;
     if (!is_text_in(x->tag, text, n)) return REFUSED(TEXT);
     x->stretch = stretch_of(run, text, n), x->number = 0, x->fresh = 0;
     if (adds && unlikely(refusal = add(run, table, x->stretch, form_of(x->tag)))) return refusal;

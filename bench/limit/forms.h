@@ -8,7 +8,7 @@
 #define TAG(x) LOMPHACHIT_TAG_##x
 enum { SAID = LOMPHACHIT_SAID * LOMPHACHIT_OCTETS }; /* octets that a string can say */
 
-ALWAYS int is_formed(uint32_t tag) { return tag - TAG(UTF_16) <= TAG(ALPHABET_2) - TAG(UTF_16); }
+ALWAYS int is_formed(uint32_t tag) { return tag - TAG(UTF_16) <= TAG(LONG) - TAG(UTF_16); }
 ALWAYS uint32_t form_of(uint32_t tag) { return is_formed(tag) ? tag - TAG(XML_NAMESPACE) : 0; }
 
 /* One character at least, each sixteen bits from 20 to D7FF in most texts: eight of them at once. */
@@ -48,7 +48,13 @@ NEVER int are_places(const uint8_t *at, size_t n) {
     return *last < 0xF0;
 }
 
-ALWAYS int is_text_in(uint32_t tag, const uint8_t *at, size_t n) { return tag == TAG(UTF_16) ? is_text_16(at, n) : are_places(at, n); }
+/* The octets of an integer in a form of integers, whose tags are the last. */
+ALWAYS uint32_t width_of(uint32_t tag) { return 2u << (tag - TAG(SHORT)); }
+
+ALWAYS int is_text_in(uint32_t tag, const uint8_t *at, size_t n) {
+    if (tag >= TAG(SHORT)) return !(n & (width_of(tag) - 1));
+    return tag == TAG(UTF_16) ? is_text_16(at, n) : are_places(at, n);
+}
 
 /* The characters by alphabet: a bit for each that has one, and its place there. */
 enum { NUMERIC = 1, DATES = 2 };

@@ -1,5 +1,5 @@
 //! Seeded choices (splitmix64): the same seed and number give the same input on every machine.
-use crate::text::StringForm;
+use crate::text::{StringForm, STRING_FORMS};
 
 pub struct Dice(u64);
 
@@ -62,23 +62,49 @@ impl Dice {
         text
     }
 
+    /// An integer: small, at an edge of a width or one beyond it, or any of a few octets.
+    fn integer(&mut self) -> i128 {
+        let half = 1i128 << self.pick(&[7, 15, 15, 31, 63]);
+        match self.below(8) {
+            0 => self.pick(&[-half, half - 1]),
+            1 => self.pick(&[-half - 1, half]),
+            2..=4 => self.below(20000) as i128 - 10000,
+            _ => i128::from(self.next() as i64 >> self.pick(&[0, 32, 47, 48, 48, 48, 56])),
+        }
+    }
+
+    /// A list of integers of about so many octets, most of them of few octets; now and then one letter of it is wrong or too many.
+    pub fn integers(&mut self, length: usize) -> Vec<u8> {
+        let small = self.percent(70);
+        let mut text = Vec::new();
+        while text.is_empty() || text.len() + 4 < length {
+            let z = if small { i128::from(self.next() as i16) } else { self.integer() };
+            text.extend_from_slice(format!("{}{z}", if text.is_empty() { "" } else { " " }).as_bytes());
+        }
+        if self.percent(12) {
+            let (i, letter) = (self.below(text.len() + 1), self.pick(b"00-+  .:1e"));
+            text.insert(i, letter);
+        }
+        text
+    }
+
     /// A text, and a form in which it can be said.
     pub fn formed(&mut self, length: usize) -> (Vec<u8>, StringForm) {
-        let text = if self.percent(40) { self.packable(length) } else { self.text(length) };
+        let text = match self.below(100) {
+            0..=24 => self.packable(length),
+            25..=49 => self.integers(length),
+            _ => self.text(length),
+        };
         (text.clone(), self.form_for(&text))
     }
 
     pub fn form_for(&mut self, text: &[u8]) -> StringForm {
-        let form = self.pick(&[StringForm::Utf8, StringForm::Utf8, StringForm::Utf16, StringForm::Numeric, StringForm::Dates]);
-        let says = std::str::from_utf8(text).map_or(false, |text| form.spelled(text).is_some());
-        if says {
-            form
-        } else {
-            self.pick(&[StringForm::Utf8, StringForm::Utf8, StringForm::Utf16])
-        }
+        let says = |form: &StringForm| *form == StringForm::Utf8 || std::str::from_utf8(text).map_or(false, |text| form.spelled(text).is_some());
+        let forms: Vec<StringForm> = STRING_FORMS.into_iter().chain([StringForm::Utf8]).filter(says).collect();
+        self.pick(&forms)
     }
 
-    /// Octets of a form that are to say nothing: a surrogate alone, half a unit, a character that XML does not have, fill that is not at the end.
+    /// Octets of a form that are to say nothing: a surrogate alone, half a unit, a character that XML does not have, fill that is not at the end, a part of an integer.
     pub fn spoil(&mut self, octets: &mut Vec<u8>, form: StringForm) {
         let i = self.below(octets.len());
         match form {
@@ -86,6 +112,7 @@ impl Dice {
             StringForm::Utf16 if self.percent(20) => drop(octets.pop()),
             StringForm::Utf16 => octets[i & !1] = self.pick(&[0xD8, 0xDB, 0xDC, 0xDF, 0xFF, 0]),
             StringForm::Numeric | StringForm::Dates => octets[i] |= self.pick(&[0xF0, 0x0F, 0xFF]),
+            StringForm::Short | StringForm::Int | StringForm::Long => octets.truncate(octets.len() - 1 - self.below(form.width().unwrap_or(2) - 1)),
         }
         if octets.is_empty() {
             octets.push(0);

@@ -11,10 +11,10 @@ pub fn faults(kind: &str) -> Vec<&'static [u8]> {
     let kind = kind.split(", ").next().unwrap_or(kind);
     match kind {
         "prefix" | "namespace" | "local name" | "target" => [of_kind(kind), NUMBERS].concat(),
-        "value" | "content" | "comment" => [VALUE, FORMED, FORMED, NUMBERS].concat(),
-        "chunk" => [CHUNK, FORMED_CHUNK, FORMED_CHUNK].concat(),
+        "value" | "content" | "comment" => [VALUE, FORMED, FORMED, COUNTED, COUNTED, NUMBERS].concat(),
+        "chunk" => [CHUNK, FORMED_CHUNK, FORMED_CHUNK, COUNTED_CHUNK, COUNTED_CHUNK].concat(),
         "listed prefix" | "listed namespace" | "listed local name" | "listed target" | "listed uri" => [IDENTIFYING, LISTED].concat(),
-        "listed value" | "listed chunk" | "listed other string" => [VALUE, FORMED, FORMED, LISTED].concat(),
+        "listed value" | "listed chunk" | "listed other string" => [VALUE, FORMED, FORMED, COUNTED, COUNTED, LISTED].concat(),
         _ => of_kind(kind).to_vec(),
     }
 }
@@ -233,7 +233,7 @@ const VALUE: Faults = &[
 ];
 
 /// Values in other formats: in utf-16 a surrogate alone or before the wrong one, an odd count, a character that XML does not have, wrong zero bits, cut; in an alphabet fill that
-/// is not at the end, wrong zero bits, cut; alphabets that are not read, with and without these; algorithms. Some are right, so that they fill a table or stand before a fault.
+/// is not at the end, wrong zero bits, cut; alphabets that are not read, with and without these. Some are right, so that they fill a table or stand before a fault.
 const FORMED: Faults = &[
     &[0x11, 0xD8, 0],
     &[0x51, 0xDF, 0xFF],
@@ -284,9 +284,48 @@ const FORMED: Faults = &[
     &[0x61, 0x10, 0x1F],
     &[0x28, 0, 0xFF],
     &[0x6F, 0xFF],
-    &[0x30, 0x21, 0, 7],
+];
+
+/// Values by algorithms: octets that the width does not divide, wrong zero bits, cut, algorithms that are not read, and several of these. Some are right.
+const COUNTED: Faults = &[
+    &[0x30],
     &[0x70],
     &[0x3A, 0xFF],
+    &[0x30, 0x20, 7],
+    &[0x70, 0x21, 0, 7],
+    &[0x30, 0x22, 0, 7, 0],
+    &[0x70, 0x20, 0xFF],
+    &[0x30, 0x21, 0],
+    &[0x70, 0x31, 0, 7],
+    &[0x70, 0x33, 0x80, 0, 0, 0],
+    &[0x30, 0x35, 0, 0, 0, 7, 0, 0],
+    &[0x30, 0x32, 0, 0, 7],
+    &[0x70, 0x33, 0, 0, 0],
+    &[0x70, 0x47, 0x80, 0, 0, 0, 0, 0, 0, 0],
+    &[0x30, 0x43, 0, 0, 0, 7],
+    &[0x70, 0x46, 0, 0, 0, 0, 0, 0, 7],
+    &[0x30, 0x47, 0, 0, 0, 0, 0, 0, 0],
+    &[0x30, 0x28],
+    &[0x70, 0x28, 1, 0, 1, 0, 2, 0, 3, 0, 4, 0, 5],
+    &[0x30, 0x29, 0, 0, 1, 0, 2, 0, 3, 0, 4, 0],
+    &[0x70, 0x2A, 1, 0, 1, 0, 2, 0, 3, 0, 4, 0, 5],
+    &[0x30, 0x3B, 3, 0, 0, 0, 1, 0, 0, 0, 2, 0, 0, 0, 3],
+    &[0x30, 0x49, 7, 0, 0, 0, 0, 0, 0, 0, 1, 0, 0, 0, 0, 0, 0, 0, 2],
+    &[0x70, 0x39, 7, 0, 0, 0, 1, 0, 0, 0, 2, 0, 0, 0, 3, 0, 0, 0, 4],
+    &[0x70, 0x3A, 0, 0, 0, 0, 1, 0, 0, 0, 2, 0],
+    &[0x30, 0x4A, 7, 0, 0, 0, 0, 0, 0, 0, 1, 0, 0, 0, 0, 0, 0, 0, 2],
+    &[0x70, 0x4B, 0, 0, 0, 0, 0, 0, 0, 0, 0],
+    &[0x30, 0x2B, 0, 0x11],
+    &[0x70, 0x2C, 0xFF, 0xFF, 0xFF, 0xFF],
+    &[0x30, 0x3D, 0, 0],
+    &[0x30, 1, 0, 7],
+    &[0x70, 0x11, 0, 7],
+    &[0x30, 0x50, 7],
+    &[0x70, 0x59, 0, 0, 1, 0, 2, 0, 3, 0, 4, 0],
+    &[0x31, 0x21, 0, 7],
+    &[0x3F, 0xF1, 0, 7],
+    &[0x7F, 0xFB, 0],
+    &[0x3F, 0xF1, 0],
 ];
 
 /// The same of chunks, whose lengths have no zero bits.
@@ -324,8 +363,33 @@ const FORMED_CHUNK: Faults = &[
     &[0x9B, 0xFF],
     &[0x89, 0, 0x11],
     &[0x8A, 1, 0x11, 0x11],
-    &[0x8C, 8, 0x11],
+];
+
+const COUNTED_CHUNK: Faults = &[
+    &[0x8C],
     &[0x9E],
+    &[0x8C, 8, 7],
+    &[0x9C, 9, 0, 7],
+    &[0x8C, 0x0A, 0, 0, 7, 0],
+    &[0x9C, 0x0A, 1, 0x80, 0, 0xFF, 0xFE],
+    &[0x8C, 9, 0],
+    &[0x9C, 0x0E, 1, 0x80, 0, 0, 0],
+    &[0x8C, 0x0D, 0, 7],
+    &[0x9C, 0x0E, 3, 0, 0, 0, 7, 0, 0],
+    &[0x8C, 0x0E, 1, 0, 0, 0],
+    &[0x9C, 0x12, 5, 0x80, 0, 0, 0, 0, 0, 0, 0],
+    &[0x8C, 0x12, 1, 0, 0, 0, 7],
+    &[0x9C, 0x11, 0, 7],
+    &[0x8C, 0x12, 5, 0, 0, 0, 0, 0, 0, 0],
+    &[0x8C, 0x0A],
+    &[0x9C, 0x0B, 0xFF, 0xFF, 0xFF, 0xFF],
+    &[0x8C, 0x13, 0, 0],
+    &[0x8C, 1, 0, 7],
+    &[0x9C, 5, 0, 7],
+    &[0x8C, 0x14, 7],
+    &[0x9D, 9, 0, 7],
+    &[0x8F, 0xFD, 0, 7],
+    &[0x8F, 0xFD, 0],
 ];
 
 const CHUNK: Faults = &[

@@ -5,7 +5,7 @@ use compare::{heads, inputs, kept, tails};
 use std::process::exit;
 
 const USAGE: &str = "usage: compare inputs SEED FIRST COUNT     inputs FIRST and up, COUNT of them, each made from SEED and its number
-       compare tails START                   all tails of one and two octets behind a start (0 to 34)
+       compare tails START                   all tails of one and two octets behind a start (0 to 40)
        compare heads DOCUMENT                 a document with a head, cut before every octet and with every octet of its head replaced (0 to 23)
        compare files FILE..                  inputs that the fuzzer kept";
 

@@ -18,17 +18,18 @@ const CHARACTERS: &str = include_str!("../../vectors/characters_read.tsv");
 const READ_1: &str = include_str!("../../vectors/items/read_1.tsv");
 const READ_2: &str = include_str!("../../vectors/items/read_2.tsv");
 const READ_4: &str = include_str!("../../vectors/items/read_4.tsv");
+const READ_6: &str = include_str!("../../vectors/items/read_6.tsv");
 const FORMS: &str = include_str!("../../vectors/forms_read.tsv");
 const WRITE_1: &str = include_str!("../../vectors/items/write_1.tsv");
 const WRITE_2: &str = include_str!("../../vectors/items/write_2.tsv");
 const WRITE_4: &str = include_str!("../../vectors/items/write_4.tsv");
+const WRITE_6: &str = include_str!("../../vectors/items/write_6.tsv");
 const FORMS_WRITE: &str = include_str!("../../vectors/forms_write.tsv");
 const CHARACTERS_WRITE: &str = include_str!("../../vectors/characters_write.tsv");
 const EVENTS: &str = include_str!("../../vectors/events.tsv");
 
-/// What stands behind a stretch, by its form, and behind those of the algorithms, which no string has.
+/// What stands behind a stretch, by its form.
 const MARKS: [&str; 7] = ["", "/u", "/1", "/2", "/3", "/4", "/5"];
-const MARKED: [u32; 7] = [2, 5, 6, 7, 8, 9, 10];
 
 /// The three words of a string.
 fn words_of(s: &str) -> [u32; 3] {
@@ -40,7 +41,7 @@ fn words_of(s: &str) -> [u32; 3] {
         _ => {
             let (stretch, form) = s.split_at(s.find('/').unwrap_or(s.len()));
             let (place, length) = stretch.split_once('+').unwrap();
-            let tag = MARKED[MARKS.iter().position(|m| *m == form).unwrap()];
+            let tag = TAGS[MARKS.iter().position(|m| *m == form).unwrap()];
             return [tag, place.parse().unwrap(), length.parse().unwrap()];
         }
     };
@@ -128,7 +129,7 @@ fn check(octets: &[u8]) -> u64 {
 }
 
 fn read_rows() -> Vec<Vec<&'static str>> {
-    [READ, READ_1, READ_2, READ_4, FORMS].into_iter().flat_map(rows).collect()
+    [READ, READ_1, READ_2, READ_4, READ_6, FORMS].into_iter().flat_map(rows).collect()
 }
 
 #[test]
@@ -221,7 +222,7 @@ fn lists_of_write_tsv() {
     for (i, r) in rows(WRITE).iter().enumerate() {
         assert_eq!(written(&[], r[1], r[2], r[3]), r[4], "line {}, {}", i + 1, r[0]);
     }
-    for r in [WRITE_1, WRITE_2, WRITE_4, CHARACTERS_WRITE, FORMS_WRITE].into_iter().flat_map(rows) {
+    for r in [WRITE_1, WRITE_2, WRITE_4, WRITE_6, CHARACTERS_WRITE, FORMS_WRITE].into_iter().flat_map(rows) {
         assert_eq!(written(&given(r[4]), r[1], r[2], r[5]), r[6], "{}, {}", r[0], r[5]);
     }
 }
@@ -254,6 +255,24 @@ fn shrinking_finds_the_shortest() {
     assert_eq!(crate::shrink::octets(&input, &[], &differs).len(), 2);
     let pairs = |s: &[u8]| s.len() % 2 == 0 && s.contains(&50);
     assert_eq!(crate::shrink::shorter(&input, &pairs).len(), 2);
+}
+
+#[test]
+fn every_short_and_the_edges_of_every_width() {
+    for z in i16::MIN..=i16::MAX {
+        let text = z.to_string();
+        assert_eq!(StringForm::Short.spelled(&text), Some(z.to_be_bytes().to_vec()));
+        assert_eq!(StringForm::Short.said(&z.to_be_bytes()).unwrap(), text.as_bytes());
+    }
+    for (form, width) in [(StringForm::Short, 2), (StringForm::Int, 4), (StringForm::Long, 8)] {
+        let half = 1i128 << (8 * width - 1);
+        for (z, held) in [(-half - 1, false), (-half, true), (half - 1, true), (half, false)] {
+            assert_eq!(form.spelled(&z.to_string()).map(|octets| octets.len()), held.then_some(width), "{z}");
+        }
+        for wrong in ["", "-", "+1", "01", "-0", "-01", "00", " 1", "1 ", "1  2", "1,2", "1\t2", "1.0", "1e2", "- 1", "--1"] {
+            assert_eq!(form.spelled(wrong), None, "{wrong}");
+        }
+    }
 }
 
 #[test]

@@ -58,7 +58,7 @@ impl Refusal {
 pub type Record = [u32; RECORD];
 
 /// The tags of stretches, by their forms.
-pub const TAGS: [u32; 4] = [2, 5, 6, 7];
+pub const TAGS: [u32; 7] = [2, 5, 6, 7, 8, 9, 10];
 
 impl Text {
     pub fn words(self) -> [u32; 3] {

@@ -57,7 +57,8 @@ fn bend(dice: &mut Dice, l: &mut List, i: usize) {
 fn reform(dice: &mut Dice, l: &mut List, i: usize) {
     if let Some(r) = l.records[i..].iter_mut().find(|r| TAGS.contains(&r[10])) {
         r[10] = dice.pick(&TAGS);
-        r[12] = if dice.percent(50) { r[12] } else { r[12].max(2) & !1 };
+        let width = dice.pick(&[1, 1, 1, 2, 4, 8]);
+        r[12] = r[12].max(width) / width * width;
     }
 }
 

@@ -180,7 +180,7 @@ fn bad_string(dice: &mut Dice, l: &mut List, from: &[[u32; 3]]) {
 
 fn bad_stretch(dice: &mut Dice, l: &mut List) {
     let n = l.text.len() as u32;
-    let tag = dice.pick(&[2, 2, 5, 6, 7]);
+    let tag = dice.pick(&[2, 2, 5, 6, 7, 8, 9, 10]);
     bad_string(dice, l, &[[tag, 0, 0], [tag, n, 1], [tag, n, 0], [tag, 0, n + 1], [tag, 1, 0xFFFF_FFFF], [tag, 0xFFFF_FFFF, 2], [tag, 0x8000_0000, 0x8000_0001]]);
 }
 
@@ -206,6 +206,9 @@ fn bad_text(dice: &mut Dice, l: &mut List) {
         StringForm::Utf8 => dice.pick(&[&[0x80], &[0xC3], &[0x61, 0xFF], &[0xED, 0xA0, 0x80], &[0xF4, 0x90, 0x80, 0x80], &[0xC0, 0x80]]),
         StringForm::Utf16 => dice.pick(&[&[0], &[0, 0x61, 0], &[0xD8, 0], &[0xDC, 0], &[0xDB, 0xFF, 0, 0x61], &[0xDC, 0, 0xD8, 0], &[0xFF, 0xFE], &[0, 0], &[0, 0x1F, 0, 0x61]]),
         StringForm::Numeric | StringForm::Dates => dice.pick(&[&[0xFF], &[0xF1], &[0x1F, 0x11], &[0x11, 0xFF], &[0x11, 0xF1], &[0x1F, 0x1F]]),
+        StringForm::Short => dice.pick(&[&[0], &[0xFF], &[0, 1, 0], &[0x80, 0, 0, 7, 0]]),
+        StringForm::Int => dice.pick(&[&[0], &[0xFF, 0xFE], &[0, 0, 1], &[0, 0, 0, 1, 0], &[0, 0, 0, 1, 0, 2], &[0, 0, 0, 1, 0, 0, 2]]),
+        StringForm::Long => dice.pick(&[&[0], &[0, 0, 0, 1], &[0, 0, 0, 0, 0, 0, 1], &[0, 0, 0, 0, 0, 0, 0, 1, 2], &[0x80, 0, 0, 0, 0, 0, 0, 1, 0, 0, 0, 2]]),
     };
     if let Some(entry) = append_as(l, bad, form) {
         put(dice, l, table, entry);

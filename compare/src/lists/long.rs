@@ -28,6 +28,8 @@ fn octets(dice: &mut Dice, n: usize, form: StringForm) -> Vec<u8> {
     if form == StringForm::Utf8 {
         dice.text(n)
     } else {
+        // An octet less where integers of two would not divide so many.
+        let n = if form == StringForm::Short { n & !1 } else { n };
         (0..n).map(|_| dice.pick(&[0x12, 0x90, 0xDB])).collect()
     }
 }
@@ -48,7 +50,7 @@ pub fn lengthen(dice: &mut Dice, l: &mut List) {
     let at = if dice.percent(75) { Where::Chunk(dice.pick(&ends)) } else { Where::Listed(dice.percent(50)) };
     let wanted = MOST + 3 - dice.below(7);
     // In these forms a string is written in as many octets as it is given.
-    let form = dice.pick(&[StringForm::Utf8, StringForm::Numeric]);
+    let form = dice.pick(&[StringForm::Utf8, StringForm::Numeric, StringForm::Short]);
     let short = with(l, &at, &octets(dice, FIRST, form), form);
     let times = if let Where::Listed(_) = at { 2 } else { 1 };
     let more = octets_of(&short, &at).and_then(|octets| wanted.checked_sub(octets)).map(|octets| FIRST + octets / times);

@@ -56,7 +56,12 @@ impl<'d> Maker<'d> {
             }
             5..=7 => {
                 let count = self.strings[table].len();
-                let old = if count > 0 && self.dice.percent(20) { Some(self.strings[table][self.dice.below(count)].clone()) } else { None };
+                let old = match self.dice.below(10) {
+                    0..=1 if count > 0 => Some(self.strings[table][self.dice.below(count)].clone()),
+                    // One too many is rare, and is to come in every form.
+                    2..=7 if count >= ROWS => Some(self.dice.integers(1)),
+                    _ => None,
+                };
                 self.bits.code("00");
                 let s = self.formed(old, C23);
                 self.strings[table].push(s);

@@ -46,7 +46,7 @@ impl Style {
     pub fn any(dice: &mut Dice) -> Style {
         let head = Head { listed: dice.pick(&[0, 0, 0, 15, 40, 100]), ..NO_HEAD };
         let usual = Style { items: 2 + dice.below(14), deepest: 32, entries: ROWS, fresh: 50, down: 40, on: 93, short: false, head, fill: None, wrong: 0 };
-        let large = Style { short: true, head: Head { listed: dice.pick(&[0, 20]), large: Some(dice.below(10)) }, ..usual };
+        let large = Style { short: true, head: Head { listed: dice.pick(&[0, 20]), large: Some(dice.pick(&[0, 1, 2, 3, 4, 5, 5, 5, 6, 6, 6, 7, 7, 7, 8, 9])) }, ..usual };
         let many = Style { items: 1100, head: NO_HEAD, fresh: 95, down: dice.pick(&[5, 60, 90]), on: 100, short: true, ..usual };
         match dice.below(200) {
             0 => many,
@@ -105,9 +105,9 @@ pub fn long_document(dice: &mut Dice) -> Vec<u8> {
     };
     bits.text(before);
     bits.code(code);
-    let form = if code == "0" { "" } else { dice.pick(&["00", "00", "01", "1000000000", "1000000001"]) };
+    let form = if code == "0" { "" } else { dice.pick(&["00", "00", "01", "1000000000", "1000000001", "1100000010", "1100000011", "1100000100"]) };
     bits.code(form);
-    // The field's octets before the text: those of the length, and one more for an alphabet's number.
+    // The field's octets before the text: those of the length, and one more for the number of an alphabet or algorithm.
     let lead = if form.len() > 2 { 6 } else { 5 };
     let length = wanted - 5 - before.len() - lead - behind.len();
     bits.number(length as u64, forms);

@@ -143,28 +143,28 @@ impl<'d> Maker<'d> {
             None => self.dice.formed(length),
         };
         let mut octets = std::str::from_utf8(&s).ok().and_then(|s| form.spelled(s)).unwrap_or(s.clone());
-        let number = self.alphabet(form);
+        self.put_format(form);
         if self.wrong() {
             self.dice.spoil(&mut octets, form);
         }
-        self.bits.code(match form {
-            StringForm::Utf8 => "00",
-            StringForm::Utf16 => "01",
-            StringForm::Numeric | StringForm::Dates => "10",
-        });
-        number.map(|n| self.bits.put(n - 1, 8));
         self.bits.number(octets.len() as u64, lengths);
         self.bits.text(&octets);
         s
     }
 
-    /// The number of an alphabet, now and then of one that is not read.
-    fn alphabet(&mut self, form: StringForm) -> Option<u64> {
-        let number = match form {
-            StringForm::Utf8 | StringForm::Utf16 => return None,
-            StringForm::Numeric => 1,
-            StringForm::Dates => 2,
+    /// The bits of a format, and the number of an alphabet or algorithm, now and then of one that is not read.
+    fn put_format(&mut self, form: StringForm) {
+        let (code, number, others): (_, _, &[u64]) = match form {
+            StringForm::Utf8 => return self.bits.code("00"),
+            StringForm::Utf16 => return self.bits.code("01"),
+            StringForm::Numeric => ("10", 1, &[3, 4, 5, 17, 256]),
+            StringForm::Dates => ("10", 2, &[3, 4, 5, 18, 256]),
+            StringForm::Short => ("11", 3, &[1, 2, 6, 19, 256]),
+            StringForm::Int => ("11", 4, &[1, 2, 7, 20, 256]),
+            StringForm::Long => ("11", 5, &[1, 2, 10, 21, 256]),
         };
-        Some(if self.wrong() { 3 + self.dice.below(254) as u64 } else { number })
+        let number = if self.wrong() { self.dice.pick(others) } else { number };
+        self.bits.code(code);
+        self.bits.put(number - 1, 8);
     }
 }

@@ -121,25 +121,23 @@ impl<'a> Reader<'a> {
         match format {
             0 => self.spelled(f, f.place, start + 2, lengths, StringForm::Utf8),
             1 => self.spelled(f, f.place, start + 2, lengths, StringForm::Utf16),
-            2 => self.by_alphabet(f, start + 2, lengths),
-            _ => {
-                f.fault_if(true, Fault::Format);
-                Text::Absent
-            }
+            _ => self.by_number(f, format, start + 2, lengths),
         }
     }
 
-    /// C.29 from this bit on, eight bits, so that the length starts at the same bit of the next octet.
-    fn by_alphabet(&self, f: &mut Field, start: usize, lengths: &'static [Form]) -> Text {
+    /// C.29 from this bit on, eight bits, so that the length starts at the same bit of the next octet. The number is that of an alphabet (10) or of an algorithm (11).
+    fn by_number(&self, f: &mut Field, format: usize, start: usize, lengths: &'static [Form]) -> Text {
         let second = f.place + 1;
         if second >= self.octets.len() {
             f.fault_if(true, Fault::Missing);
             return Text::Absent;
         }
         let number = 1 + bits(self.octets, f.place * 8 + start - 1, 8);
-        let form = if number == 2 { StringForm::Dates } else { StringForm::Numeric };
-        f.fault_if(number > 2, Fault::LateFormat);
-        self.spelled(f, second, start, lengths, form)
+        let form = STRING_FORMS.into_iter().find(|form| NUMBERED[*form as usize] == Some((format, number)));
+        f.kind = in_format(f.kind, form.filter(|form| form.width().is_some()).map_or(format, |form| form as usize));
+        f.fault_if(form.is_none(), Fault::LateFormat);
+        // Another number is answered before the text, so that any form will do.
+        self.spelled(f, second, start, lengths, form.unwrap_or(StringForm::Utf8))
     }
 
     pub(super) fn close_behind(&mut self, f: Field, text: Text) -> Got<()> {
@@ -179,17 +177,27 @@ impl<'a> Reader<'a> {
     }
 }
 
-/// A kind of field in each format, for the counts that are printed.
-const IN_FORMATS: [[&str; 4]; 7] = [
-    ["value", "value, utf-16", "value, alphabet", "value, algorithm"],
-    ["comment", "comment, utf-16", "comment, alphabet", "comment, algorithm"],
-    ["content", "content, utf-16", "content, alphabet", "content, algorithm"],
-    ["chunk", "chunk, utf-16", "chunk, alphabet", "chunk, algorithm"],
-    ["listed value", "listed value, utf-16", "listed value, alphabet", "listed value, algorithm"],
-    ["listed chunk", "listed chunk, utf-16", "listed chunk, alphabet", "listed chunk, algorithm"],
-    ["listed other string", "listed other string, utf-16", "listed other string, alphabet", "listed other string, algorithm"],
+/// The format bits and the number of each form; those without a number have none.
+const NUMBERED: [Option<(usize, u64)>; 7] = [None, None, Some((2, 1)), Some((2, 2)), Some((3, 3)), Some((3, 4)), Some((3, 5))];
+
+/// A kind of field in each format and, by the numbers of their forms, by each algorithm that is read.
+macro_rules! in_formats {
+    ($kind:expr) => {
+        [$kind, concat!($kind, ", utf-16"), concat!($kind, ", alphabet"), concat!($kind, ", algorithm"), concat!($kind, ", short"), concat!($kind, ", int"), concat!($kind, ", long")]
+    };
+}
+
+/// For the counts that are printed.
+const IN_FORMATS: [[&str; 7]; 7] = [
+    in_formats!("value"),
+    in_formats!("comment"),
+    in_formats!("content"),
+    in_formats!("chunk"),
+    in_formats!("listed value"),
+    in_formats!("listed chunk"),
+    in_formats!("listed other string"),
 ];
 
 fn in_format(kind: &'static str, format: usize) -> &'static str {
-    IN_FORMATS.iter().find(|k| k[0] == kind).map_or(kind, |k| k[format])
+    IN_FORMATS.iter().find(|k| k.contains(&kind)).map_or(kind, |k| k[format])
 }

@@ -6,7 +6,15 @@ use crate::words::*;
 type Listed = [Vec<[u32; 3]>; 10];
 
 /// What a given string at fault is called, by its form.
-const GIVEN: [&str; 4] = ["given string", "given string, utf-16", "given string, alphabet 1", "given string, alphabet 2"];
+const GIVEN: [&str; 7] = [
+    "given string",
+    "given string, utf-16",
+    "given string, alphabet 1",
+    "given string, alphabet 2",
+    "given string, short",
+    "given string, int",
+    "given string, long",
+];
 
 /// The entries of each table; None where there are not ten counts and so many entries. No words at all are ten empty tables.
 fn listed(words: &[u32]) -> Option<Listed> {

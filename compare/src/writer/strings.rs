@@ -5,7 +5,14 @@ use crate::words::*;
 use std::borrow::Cow;
 
 /// The forms that are written, the first of them where two make a field equally short, with what is between the add bit and the length.
-const WRITTEN: [(StringForm, &str); 3] = [(StringForm::Utf8, "00"), (StringForm::Numeric, "1000000000"), (StringForm::Dates, "1000000001")];
+const WRITTEN: [(StringForm, &str); 6] = [
+    (StringForm::Utf8, "00"),
+    (StringForm::Numeric, "1000000000"),
+    (StringForm::Dates, "1000000001"),
+    (StringForm::Short, "1100000010"),
+    (StringForm::Int, "1100000011"),
+    (StringForm::Long, "1100000100"),
+];
 
 /// Bits of a length.
 fn bits_of(length: usize, lengths: &[Form]) -> usize {

@@ -9,7 +9,7 @@ use native.Mathlib.Nat.{add-assoc}
 use lib.Dec.{leb}
 use lib.ListN.{length, getD, drop, length-append}
 use lib.Seq.{drop-cons, getD-append-add}
-use Rattle.format.specs.declared.StringForm.the-variants.{Utf8, Utf16, Numeric, Dates}
+use Rattle.format.specs.declared.StringForm.the-variants.{Utf8, Utf16, Numeric, Dates, Short, Int, Long}
 use Rattle.format.specs.Forms.{formOf}
 use Rattle.events.specs.declared.EventString.{EventString}
 use Rattle.events.specs.declared.EventString.the-variants.{Absent, Empty, Stretch, XmlPrefix, XmlNamespace}
@@ -64,6 +64,9 @@ text-back (Stretch Utf8 place size) = refl
 text-back (Stretch Utf16 place size) = refl
 text-back (Stretch Numeric place size) = refl
 text-back (Stretch Dates place size) = refl
+text-back (Stretch Short place size) = refl
+text-back (Stretch Int place size) = refl
+text-back (Stretch Long place size) = refl
 text-back XmlPrefix = refl
 text-back XmlNamespace = refl
 

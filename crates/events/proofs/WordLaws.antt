@@ -58,18 +58,18 @@ module _ (tag place size : ℕ) where
   unfolding toldBy
   told-stretch e = rw (eq-eqb tag 2 e)
 
-  pub told-formed : 5 ≤ tag → tag ≤ 7 → Said (Stretch (formOf (tag - 4)) place size) ≡ toldBy tag place size
+  pub told-formed : 5 ≤ tag → tag ≤ 10 → Said (Stretch (formOf (tag - 4)) place size) ≡ toldBy tag place size
   unfolding toldBy
-  told-formed l h = rw (ne-eqb tag 2 (omega arith), le-leb 5 tag l, le-leb tag 7 h)
+  told-formed l h = rw (ne-eqb tag 2 (omega arith), le-leb 5 tag l, le-leb tag 10 h)
 
   -- a tag that no string has, whatever stands beside it
-  pub told-none : 7 < tag → Not ≡ toldBy tag place size
+  pub told-none : 10 < tag → Not ≡ toldBy tag place size
   unfolding toldBy
-  told-none h = rw (ne-eqb tag 2 (omega arith), lt-leb tag 7 h, and-false (leb 5 tag), ← tag-none tag (omega arith), none-picked (eqb place 0 && eqb size 0))
+  told-none h = rw (ne-eqb tag 2 (omega arith), lt-leb tag 10 h, and-false (leb 5 tag), ← tag-none tag (omega arith), none-picked (eqb place 0 && eqb size 0))
 
   -- no stretch
   module _ (t : tag ≡ 2 → ⊥) (l : tag < 5) where
-    no-form : (leb 5 tag && leb tag 7) ≡ false
+    no-form : (leb 5 tag && leb tag 10) ≡ false
     no-form = rw (lt-leb 5 tag l)
 
     pub told-placed : (place ≡ 0 → ⊥) → Not ≡ toldBy tag place size
@@ -92,11 +92,11 @@ module _ (tag place size : ℕ) where
     pub placed-said : (place ≡ 0 → ⊥) → false ≡ isSaid (toldBy tag place size)
     placed-said p = ap isSaid (told-placed p)
 
-  pub formed-said : 5 ≤ tag → leb tag 7 ≡ isSaid (toldBy tag place size)
+  pub formed-said : 5 ≤ tag → leb tag 10 ≡ isSaid (toldBy tag place size)
   formed-said l =
-      elim (decLt 7 tag) [
-        | yes h ↦ (lt-leb tag 7 h ∙ ap isSaid (told-none h))
-        | no h ↦ (le-leb tag 7 (omega arith) ∙ ap isSaid (told-formed l (omega arith)))
+      elim (decLt 10 tag) [
+        | yes h ↦ (lt-leb tag 10 h ∙ ap isSaid (told-none h))
+        | no h ↦ (le-leb tag 10 (omega arith) ∙ ap isSaid (told-formed l (omega arith)))
       ]
 
 module _ (w : List ℕ) (at : ℕ) where
@@ -118,17 +118,17 @@ abbrev Other : Told → Type 0
 Other Not = Unit {0}
 Other (Said x) = stringForm x ≡ Utf8 → ⊥
 
--- the forms 1, 2 and 3
+-- the forms 1 to 6
 numbered : (f : StringForm) → 1 ≤ formNumber f → f ≡ Utf8 → ⊥
 numbered f l e = let z : formNumber f ≡ 0 = ap formNumber e in omega arith
 
-other-form : (n : ℕ) → 1 ≤ n → n ≤ 3 → formOf n ≡ Utf8 → ⊥
+other-form : (n : ℕ) → 1 ≤ n → n ≤ 6 → formOf n ≡ Utf8 → ⊥
 unfolding formOf
-other-form n l h = numbered (formOf n) (by-number (λ (k : ℕ). 1 ≤ formNumber (formOf k)) 1 3 (omega arith, (omega arith, (omega arith, tt))) n l (omega arith))
+other-form n l h = numbered (formOf n) (by-number (λ (k : ℕ). 1 ≤ formNumber (formOf k)) 1 6 (omega arith, (omega arith, (omega arith, (omega arith, (omega arith, (omega arith, tt)))))) n l (omega arith))
 
 pub told-other : (w : List ℕ) (at : ℕ) → 5 ≤ getD w at 0 → Other (toldAt w at)
 told-other w at l =
-    elim (decLt 7 (getD w at 0)) [
+    elim (decLt 10 (getD w at 0)) [
       | yes h ↦ (rw (← told-none (getD w at 0) (getD w (at + 1) 0) (getD w (at + 2) 0) h) tt)
       | no h ↦ (rw (← told-formed (getD w at 0) (getD w (at + 1) 0) (getD w (at + 2) 0) l (omega arith)) (other-form (getD w at 0 - 4) (omega arith) (omega arith)))
     ]

@@ -35,11 +35,11 @@ tags = Said Absent ∷ Said Empty ∷ Not ∷ Said XmlPrefix ∷ Said XmlNamespa
 unfoldable pub toldByTag : ℕ → Told
 toldByTag tag = getD tags tag Not
 
--- Only a stretch has a place and a length: beside another tag both are 0. 2 is utf-8; 5, 6 and 7 are the forms 1, 2 and 3.
+-- Only a stretch has a place and a length: beside another tag both are 0. 2 is utf-8; 5 to 10 are the forms 1 to 6.
 unfoldable pub toldBy : (tag place size : ℕ) → Told
 toldBy tag place size =
     pick (eqb tag 2) (Said (Stretch Utf8 place size))
-    (pick (leb 5 tag && leb tag 7) (Said (Stretch (formOf (tag - 4)) place size))
+    (pick (leb 5 tag && leb tag 10) (Said (Stretch (formOf (tag - 4)) place size))
     (pick (eqb place 0 && eqb size 0) (toldByTag tag) Not))
 
 -- The string of the three words from `at` on.

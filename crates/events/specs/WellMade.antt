@@ -6,7 +6,7 @@ use lib.ListN.{length}
 use lib.Dec.{ltb, leb}
 use Rattle.format.specs.Octets.{Octets}
 use Rattle.format.specs.declared.StringForm.{StringForm}
-use Rattle.format.specs.declared.StringForm.the-variants.{Utf8, Utf16, Numeric, Dates}
+use Rattle.format.specs.declared.StringForm.the-variants.{Utf8, Utf16, Numeric, Dates, Short, Int, Long}
 use Rattle.events.specs.declared.EventString.{EventString}
 use Rattle.events.specs.declared.EventString.the-variants.{Absent, Empty, Stretch, XmlPrefix, XmlNamespace}
 use Rattle.events.specs.declared.Event.{Event}
@@ -24,6 +24,9 @@ isStretch s (Stretch Utf8 place size) = ltb 0 size && leb (place + size) (length
 isStretch s (Stretch Utf16 place size) = false
 isStretch s (Stretch Numeric place size) = false
 isStretch s (Stretch Dates place size) = false
+isStretch s (Stretch Short place size) = false
+isStretch s (Stretch Int place size) = false
+isStretch s (Stretch Long place size) = false
 isStretch s XmlPrefix = false
 isStretch s XmlNamespace = false
 

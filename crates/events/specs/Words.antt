@@ -3,7 +3,7 @@ use Prim.Native.Nat.{ℕ}
 use mathlib.Core.List.{List, [], _∷_, _++_}
 use Rattle.format.specs.Octets.{Words}
 use Rattle.format.specs.declared.StringForm.{StringForm}
-use Rattle.format.specs.declared.StringForm.the-variants.{Utf8, Utf16, Numeric, Dates}
+use Rattle.format.specs.declared.StringForm.the-variants.{Utf8, Utf16, Numeric, Dates, Short, Int, Long}
 use Rattle.events.specs.declared.EventString.{EventString}
 use Rattle.events.specs.declared.EventString.the-variants.{Absent, Empty, Stretch, XmlPrefix, XmlNamespace}
 use Rattle.events.specs.declared.Kind.{Kind}
@@ -26,6 +26,9 @@ formTag Utf8 = 2
 formTag Utf16 = 5
 formTag Numeric = 6
 formTag Dates = 7
+formTag Short = 8
+formTag Int = 9
+formTag Long = 10
 
 abbrev pub stringTag : EventString → ℕ
 stringTag Absent = 0

@@ -17,3 +17,9 @@ pub const UTF16: u32 = 5;
 pub const NUMERIC: u32 = 6;
 
 pub const DATES: u32 = 7;
+
+pub const SHORT: u32 = 8;
+
+pub const INT: u32 = 9;
+
+pub const LONG: u32 = 10;

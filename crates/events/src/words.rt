@@ -66,7 +66,7 @@ fn told_by(tag: u32, place: u32, size: u32) -> Told
         }
         return told_by_tag(tag);
     }
-    if tag <= tags::DATES {
+    if tag <= tags::LONG {
         return Told::Said(EventString::Stretch(
             StringForm::of(tag - tags::BEFORE_FORMS),
             place,
@@ -185,7 +185,7 @@ fn is_told(w: &[u32], at: usize) -> bool
     if tag < tags::UTF16 {
         return w[at + 1] == 0 && w[at + 2] == 0;
     }
-    tag <= tags::DATES
+    tag <= tags::LONG
 }
 
 // There is a record n in the words, and it is well formed and of the kind that has this number: what a look ahead asks, so no record is made.

@@ -26,8 +26,8 @@ fn narrow(x: u64) -> u8
 }
 
 // The `more` lowest octets of v, the highest first.
-fn put_octets(out: &mut [u8], at: usize, v: u64, more: usize) -> usize
-    requires { ⌜ (at ≤ 2 ^ 32) × (more ≤ 4) ⌝ }
+pub fn put_octets(out: &mut [u8], at: usize, v: u64, more: usize) -> usize
+    requires { ⌜ (at ≤ 2 ^ 32) × (more ≤ 8) ⌝ }
     ensures { λ r. ⌜ Puts (now (out .entry)) at r (now (out .exit)) (octets more v) ⌝ }
 {
     let mut i = 0;

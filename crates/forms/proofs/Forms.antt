@@ -1,4 +1,4 @@
--- The laws of the forms: a string has one spelling in a form, octets of a form spell one string, and `said` finds it.
+-- The laws of the forms: a string has one spelling in a form, octets of a form spell one string, and `said` finds it. Those of integers are Lists, over the width.
 -- Assumes nothing.
 use mathlib.Core.Path.{_≡_, refl, sym, ap, ap₂, _∙_}
 use mathlib.Core.Bool.{Bool, true, false}
@@ -11,19 +11,37 @@ use lib.ListN.{length, length-append}
 use Rattle.format.specs.Octets.{Octets}
 use Rattle.format.specs.Numbers.{pick}
 use Rattle.format.specs.Characters.{IsCharacter, All, utf8, utf8s}
-use Rattle.format.specs.Forms.{utf16s, numeric, dates, packed, atPlaces, InUtf16, InAlphabet, Spelled}
+use Rattle.format.specs.Integers.{InIntegers}
+use Rattle.format.specs.Forms.{utf16s, numeric, dates, packed, atPlaces, width, InUtf16, InAlphabet, Spelled}
 use Rattle.format.specs.Tables.{same}
 use Rattle.format.specs.declared.StringForm.{StringForm}
-use Rattle.format.specs.declared.StringForm.the-variants.{Utf8, Utf16, Numeric, Dates}
+use Rattle.format.specs.declared.StringForm.the-variants.{Utf8, Utf16, Numeric, Dates, Short, Int, Long}
 use Rattle.fields.specs.Utf8.{rows, fits, startedBy, fromFirst, character, textBehind, isText}
 use Rattle.fields.proofs.Utf8.{told, never, both}
 use Rattle.fields.proofs.Characters.{text-exact, one-list, long, sized}
-use Rattle.forms.specs.Reading.{isText16, characters16, arePlaces, placesOf, noText, said}
-use Rattle.forms.specs.Packing.{alphabet, allLetters, packedBy, inForm}
-use Rattle.forms.specs.Streams.{plain, Sound}
+use Rattle.decimal.specs.Words.{shape, wordCount}
+use Rattle.decimal.specs.Machine.{leastIn}
+use Rattle.decimal.specs.declared.scanning.Found.{Found}
+use Rattle.decimal.specs.declared.scanning.Found.the-variants.{Integers, NoIntegers}
+use Rattle.decimal.proofs.Said as D
+use Rattle.decimal.proofs.Shapes.{spelled-few, shape-spelled, spelled-shape, length-in}
+use Rattle.forms.specs.Reading.{isText16, characters16, arePlaces, placesOf, areIntegers, noText, said}
+use Rattle.forms.specs.Packing.{alphabet, allLetters, packedBy, alphabetFor, integersFor, inForm}
+use Rattle.forms.specs.Streams.{plain, Sound, Rest}
 use Rattle.forms.proofs.Utf16 as U
 use Rattle.forms.proofs.Alphabets as A
 use Rattle.forms.proofs.Alphabets.{Alphabet}
+use Rattle.forms.proofs.Lists as I
+
+-- what holds in each form of integers
+pub by-integers : (P : StringForm → Type 0) → P Short → P Int → P Long → (f : StringForm) → 0 < width f → P f
+by-integers P a b c Utf8 h = absurd (omega arith)
+by-integers P a b c Utf16 h = absurd (omega arith)
+by-integers P a b c Numeric h = absurd (omega arith)
+by-integers P a b c Dates h = absurd (omega arith)
+by-integers P a b c Short h = a
+by-integers P a b c Int h = b
+by-integers P a b c Long h = c
 
 -- ---- octets that are the same
 pub same-refl : (x : Octets) → same x x ≡ true
@@ -85,6 +103,10 @@ module _ (as′ : List ℕ) (a : Alphabet as′) where
   one-letters : (x o p : Octets) → InAlphabet as′ x o → InAlphabet as′ x p → o ≡ p
   one-letters x o p s t = A.unpacks as′ a x o s .1 ∙ sym (A.unpacks as′ a x p t .1)
 
+-- ---- integers
+text-integers : (w : ℕ) (x o : Octets) → InIntegers w x o → isText x ≡ true
+text-integers w x o s = text-letters numeric A.is-numeric x (packedBy numeric x) (A.packs numeric A.is-numeric x (I.all-letters w x o s))
+
 -- ---- what octets say
 pub said-utf8 : (f : StringForm) (o : Octets) → f ≡ Utf8 → said f o ≡ o
 said-utf8 f o e = rw e
@@ -94,12 +116,28 @@ sound-said Utf8 o e = refl
 sound-said Utf16 o e = rw e
 sound-said Numeric o e = rw e
 sound-said Dates o e = rw e
+sound-said Short o e = rw e
+sound-said Int o e = rw e
+sound-said Long o e = rw e
+
+-- and so is what is still to be read
+pub sound-rest : (f : StringForm) (o : Octets) → Sound f o → Rest f o
+sound-rest Utf8 o e = tt
+sound-rest Utf16 o e = e
+sound-rest Numeric o e = e
+sound-rest Dates o e = e
+sound-rest Short o e = I.whole (width Short) o e
+sound-rest Int o e = I.whole (width Int) o e
+sound-rest Long o e = I.whole (width Long) o e
 
 spelled-sound : (f : StringForm) (x o : Octets) → Spelled f x o → Sound f o × (plain f o ≡ x)
 spelled-sound Utf8 x o s = (tt, s .1)
 spelled-sound Utf16 x o s = says16 x o s
 spelled-sound Numeric x o s = says-letters numeric A.is-numeric x o s
 spelled-sound Dates x o s = says-letters dates A.is-dates x o s
+spelled-sound Short x o s = I.says (width Short) x o s
+spelled-sound Int x o s = I.says (width Int) x o s
+spelled-sound Long x o s = I.says (width Long) x o s
 
 pub spelled-said : (f : StringForm) (x o : Octets) → Spelled f x o → said f o ≡ x
 spelled-said f x o s = let p = spelled-sound f x o s in sound-said f o (p .0) ∙ p .1
@@ -109,6 +147,9 @@ spelled-text Utf8 x o s = text-exact x .1 (s .0)
 spelled-text Utf16 x o s = text16 x o s
 spelled-text Numeric x o s = text-letters numeric A.is-numeric x o s
 spelled-text Dates x o s = text-letters dates A.is-dates x o s
+spelled-text Short x o s = text-integers (width Short) x o s
+spelled-text Int x o s = text-integers (width Int) x o s
+spelled-text Long x o s = text-integers (width Long) x o s
 
 -- ---- each form's test tells whether octets of it say text
 abbrev pub test : StringForm → Octets → Bool
@@ -116,6 +157,9 @@ test Utf8 o = isText o
 test Utf16 o = isText16 o
 test Numeric o = arePlaces o
 test Dates o = arePlaces o
+test Short o = areIntegers (width Short) o
+test Int o = areIntegers (width Int) o
+test Long o = areIntegers (width Long) o
 
 nothing-said : isText noText ≡ false
 unfolding isText textBehind character fromFirst startedBy fits rows
@@ -126,18 +170,27 @@ no-text Utf8 o e = e
 no-text Utf16 o e = rw e nothing-said
 no-text Numeric o e = rw e nothing-said
 no-text Dates o e = rw e nothing-said
+no-text Short o e = rw e nothing-said
+no-text Int o e = rw e nothing-said
+no-text Long o e = rw e nothing-said
 
 tested-sound : (f : StringForm) (o : Octets) → test f o ≡ true → Sound f o
 tested-sound Utf8 o e = tt
 tested-sound Utf16 o e = e
 tested-sound Numeric o e = e
 tested-sound Dates o e = e
+tested-sound Short o e = e
+tested-sound Int o e = e
+tested-sound Long o e = e
 
 tested-spelled : (f : StringForm) (o : Octets) → test f o ≡ true → Spelled f (plain f o) o
 tested-spelled Utf8 o e = (text-exact o .0 e, refl)
 tested-spelled Utf16 o e = spells16 o e
 tested-spelled Numeric o e = spells-letters numeric A.is-numeric o e
 tested-spelled Dates o e = spells-letters dates A.is-dates o e
+tested-spelled Short o e = I.spells (width Short) o e
+tested-spelled Int o e = I.spells (width Int) o e
+tested-spelled Long o e = I.spells (width Long) o e
 
 tested-text : (f : StringForm) (o : Octets) → test f o ≡ true → isText (said f o) ≡ true
 tested-text f o e = rw (sound-said f o (tested-sound f o e)) (spelled-text f (plain f o) o (tested-spelled f o e))
@@ -160,6 +213,9 @@ one-spelling Utf8 x o p s t = s .1 ∙ sym (t .1)
 one-spelling Utf16 x o p s t = one16 x o p s t
 one-spelling Numeric x o p s t = one-letters numeric A.is-numeric x o p s t
 one-spelling Dates x o p s t = one-letters dates A.is-dates x o p s t
+one-spelling Short x o p s t = D.one-spelling (width Short) x o p s t
+one-spelling Int x o p s t = D.one-spelling (width Int) x o p s t
+one-spelling Long x o p s t = D.one-spelling (width Long) x o p s t
 
 -- so strings of one form may be compared by their octets as they stand
 pub same-octets : (f : StringForm) (o p : Octets) → isText (said f o) ≡ true → isText (said f p) ≡ true → same (said f o) (said f p) ≡ same o p
@@ -199,22 +255,31 @@ said-some Utf8 o h = h
 said-some Utf16 o h = picked-some (isText16 o) _ (some16 o h)
 said-some Numeric o h = picked-some (arePlaces o) _ (some-letters o h numeric)
 said-some Dates o h = picked-some (arePlaces o) _ (some-letters o h dates)
+said-some Short o h = picked-some (areIntegers (width Short) o) _ (I.says-some (width Short) o)
+said-some Int o h = picked-some (areIntegers (width Int) o) _ (I.says-some (width Int) o)
+said-some Long o h = picked-some (areIntegers (width Long) o) _ (I.says-some (width Long) o)
 
-pub spelled-most : (f : StringForm) (x o : Octets) → Spelled f x o → length x ≤ 2 * length o
+pub spelled-most : (f : StringForm) (x o : Octets) → Spelled f x o → length x ≤ 4 * length o
 spelled-most Utf8 x o s = rw (s .1) (omega arith)
-spelled-most Utf16 x o s = rw (s .string, s .octets) (most16 (s .says) (s .are))
-spelled-most Numeric x o s = most-letters numeric A.is-numeric x o s
-spelled-most Dates x o s = most-letters dates A.is-dates x o s
+spelled-most Utf16 x o s = let m = most16 (s .says) (s .are) in rw (s .string, s .octets) (omega arith)
+spelled-most Numeric x o s = let m = most-letters numeric A.is-numeric x o s in omega arith
+spelled-most Dates x o s = let m = most-letters dates A.is-dates x o s in omega arith
+spelled-most Short x o s = let m = spelled-few Short x o (omega arith) s in omega arith
+spelled-most Int x o s = let m = spelled-few Int x o (omega arith) s in omega arith
+spelled-most Long x o s = let m = spelled-few Long x o (omega arith) s in omega arith
 
-pub said-most : (f : StringForm) (o : Octets) → isText (said f o) ≡ true → length (said f o) ≤ 2 * length o
+pub said-most : (f : StringForm) (o : Octets) → isText (said f o) ≡ true → length (said f o) ≤ 4 * length o
 said-most f o e = spelled-most f (said f o) o (said-spelled f o e)
 
 -- what is sound, text or not
-pub sound-most : (f : StringForm) (o : Octets) → Sound f o → length (said f o) ≤ 2 * length o
+pub sound-most : (f : StringForm) (o : Octets) → Sound f o → length (said f o) ≤ 4 * length o
 sound-most Utf8 o e = omega arith
 sound-most Utf16 o e = said-most Utf16 o (tested-text Utf16 o e)
 sound-most Numeric o e = said-most Numeric o (tested-text Numeric o e)
 sound-most Dates o e = said-most Dates o (tested-text Dates o e)
+sound-most Short o e = said-most Short o (tested-text Short o e)
+sound-most Int o e = said-most Int o (tested-text Int o e)
+sound-most Long o e = said-most Long o (tested-text Long o e)
 
 pub spelled-some : (f : StringForm) (x o : Octets) → Spelled f x o → 0 < length x → 0 < length o
 spelled-some f x o s h = let l = spelled-most f x o s in omega arith
@@ -228,21 +293,58 @@ IsAlphabet Utf8 = ⊥
 IsAlphabet Utf16 = ⊥
 IsAlphabet Numeric = Unit {0}
 IsAlphabet Dates = Unit {0}
+IsAlphabet Short = ⊥
+IsAlphabet Int = ⊥
+IsAlphabet Long = ⊥
 
 pub packed-spelled : (f : StringForm) (x : Octets) → IsAlphabet f → allLetters (alphabet f) x ≡ true → Spelled f x (inForm f x)
 packed-spelled Utf8 x a e = absurd a
 packed-spelled Utf16 x a e = absurd a
 packed-spelled Numeric x a e = A.packs numeric A.is-numeric x e
 packed-spelled Dates x a e = A.packs dates A.is-dates x e
+packed-spelled Short x a e = absurd a
+packed-spelled Int x a e = absurd a
+packed-spelled Long x a e = absurd a
 
 pub spelled-letters : (f : StringForm) (x o : Octets) → IsAlphabet f → Spelled f x o → (allLetters (alphabet f) x ≡ true) × (o ≡ packedBy (alphabet f) x)
 spelled-letters Utf8 x o a s = absurd a
 spelled-letters Utf16 x o a s = absurd a
 spelled-letters Numeric x o a s = A.unpacks numeric A.is-numeric x o s
 spelled-letters Dates x o a s = A.unpacks dates A.is-dates x o s
+spelled-letters Short x o a s = absurd a
+spelled-letters Int x o a s = absurd a
+spelled-letters Long x o a s = absurd a
 
 pub packed-length : (letters x : Octets) → length (packedBy letters x) ≡ (length x + 1) / 2
 unfolding packedBy
 packed-length letters [] = refl
 packed-length letters (a ∷ []) = refl
 packed-length letters (a ∷ b ∷ x) = let l = packed-length letters x in omega arith
+
+-- ---- integers, as the writer uses them
+module _ (f : StringForm) (x : Octets) (h : 0 < width f) where
+  pub integers-spelled : shape (width f) x ≡ true → Spelled f x (inForm f x)
+  integers-spelled =
+      by-integers (λ f. shape (width f) x ≡ true → Spelled f x (inForm f x)) (shape-spelled (width Short) x) (shape-spelled (width Int) x) (shape-spelled (width Long) x) f h
+
+  pub spelled-integers : (o : Octets) → Spelled f x o → (shape (width f) x ≡ true) × (o ≡ inForm f x)
+  spelled-integers =
+      by-integers (λ f. (o : Octets) → Spelled f x o → (shape (width f) x ≡ true) × (o ≡ inForm f x)) (spelled-shape (width Short) x) (spelled-shape (width Int) x) (spelled-shape (width Long) x) f h
+
+  pub integers-length : shape (width f) x ≡ true → length (inForm f x) ≡ width f * wordCount x
+  integers-length =
+      by-integers (λ f. shape (width f) x ≡ true → length (inForm f x) ≡ width f * wordCount x) (length-in (width Short) x) (length-in (width Int) x) (length-in (width Long) x) f h
+
+-- ---- the forms that the writer may choose for a string
+module _ (x : Octets) where
+  -- what holds of utf-8, and of each alphabet that has all characters, holds of the alphabet for the string
+  pub alphabet-by : (P : StringForm → Type 0) → P Utf8 → (allLetters numeric x ≡ true → P Numeric) → (allLetters dates x ≡ true → P Dates) → P (alphabetFor x)
+  unfolding alphabetFor
+  alphabet-by P u a b = told (allLetters numeric x) (λ n. rw n (a n)) (λ n. told (allLetters dates x) (λ d. rw (n, d) (b d)) (λ d. rw (n, d) u))
+
+  -- and what holds of utf-8 where no integers are found, and of each form of integers where they are
+  pub found-by : (P : StringForm → Found → Type 0) → P Utf8 NoIntegers → ((f : StringForm) → 0 < width f → shape (width f) x ≡ true → P f (Integers (wordCount x) (width f))) → P (integersFor x) (leastIn x)
+  unfolding integersFor leastIn
+  found-by P u a =
+      told (shape 2 x) (λ s. rw s (a Short (omega arith) s))
+      (λ s. told (shape 4 x) (λ i. rw (s, i) (a Int (omega arith) i)) (λ i. told (shape 8 x) (λ l. rw (s, i, l) (a Long (omega arith) l)) (λ l. rw (s, i, l) u)))

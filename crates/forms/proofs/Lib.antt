@@ -1,8 +1,11 @@
 pub mod Rows
 pub mod Utf16
 pub mod Alphabets
+pub mod Lists
 pub mod Forms
+pub mod FieldSizes
 pub mod Streams
 pub mod Sizes
 pub mod Puts
 pub mod Packs
+pub mod Scanned

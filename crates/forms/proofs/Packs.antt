@@ -12,7 +12,7 @@ use Rattle.format.specs.Numbers.{pick}
 use Rattle.format.specs.Characters.{All}
 use Rattle.format.specs.Forms.{numeric, dates}
 use Rattle.format.specs.declared.StringForm.{StringForm}
-use Rattle.format.specs.declared.StringForm.the-variants.{Utf8, Utf16, Numeric, Dates}
+use Rattle.format.specs.declared.StringForm.the-variants.{Utf8, Utf16, Numeric, Dates, Short, Int, Long}
 use Rattle.fields.proofs.Utf8.{told, never, both}
 use Rattle.forms.specs.Packing.{alphabet, isLetter, allLetters, placeIn, packedBy, alphabetFor}
 use Rattle.forms.proofs.Alphabets as A
@@ -91,6 +91,9 @@ module _ (k r : ℕ) (e : ((lies numeric k r && lies dates k r) && ltb r 15) ≡
       let p = both (lies numeric k r && lies dates k r) (ltb r 15) e in
       let q = both (lies numeric k r) (lies dates k r) (p .0) in
       rw d (lies-there dates k r (q .1) (rw d at l), ltb-true r 15 (p .1))
+  known-place Short o d l = never l
+  known-place Int o d l = never l
+  known-place Long o d l = never l
 
 -- the letters that are no digits, and no others are
 abbrev pub others : List ℕ
@@ -124,6 +127,9 @@ module _ (o : ℕ) (n : All (λ k. o ≡ k → ⊥) others) where
   rest-place Utf16 l = never l
   rest-place Numeric l = digit-place numeric A.is-numeric refl l
   rest-place Dates l = digit-place dates A.is-dates refl l
+  rest-place Short l = never l
+  rest-place Int l = never l
+  rest-place Long l = never l
 
 -- ---- all letters, octet by octet
 -- t tells it of those already seen, and these are to come

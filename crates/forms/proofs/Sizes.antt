@@ -1,4 +1,4 @@
--- The laws of the code that decides: the rows that an octet leaves, one more character, one more octet of an alphabet.
+-- The laws of the code that decides: the rows that an octet leaves, one more character, one more octet of an alphabet, how many octets integers have.
 -- Assumes nothing.
 use mathlib.Core.Path.{_≡_, refl, sym, _∙_}
 use mathlib.Core.Bool.{Bool, true, false, _&&_, _||_}
@@ -6,18 +6,20 @@ use mathlib.Core.List.{List, [], _∷_}
 use Prim.Native.Nat.{ℕ, zero, suc, _+_, _-_, _/_, _%_, _≤_, _<_}
 use native.Mathlib.Omega.{arith}
 use borrow.Author.Tests.{lt-ltb, le-ltb, lt-leb, ltb-true, ne-eqb}
-use lib.Dec.{ltb, leb}
+use lib.Dec.{ltb, leb, eqb}
 use lib.ListN.{length, getD, take, drop, length-take}
-use lib.Seq.{drop-drop}
+use Rattle.format.specs.Octets.{AreOctets}
 use Rattle.format.specs.Numbers.{pick}
 use Rattle.format.specs.Characters.{Range, _‥_, All}
 use Rattle.fields.specs.Utf8.{fits}
-use Rattle.fields.proofs.Utf8.{told, never, both, drop-take}
+use Rattle.fields.proofs.Utf8.{told, never, both}
 use Rattle.fields.proofs.Characters.{In, range-in, Fits}
-use Rattle.forms.specs.Reading.{size, whole, rows16, isText16, arePlaces}
+use Rattle.decimal.specs.Reading.{isWhole}
+use Rattle.forms.specs.Reading.{size, whole, rows16, isText16, arePlaces, areIntegers}
 use Rattle.forms.specs.Streams.{part}
 use Rattle.forms.proofs.Rows.{size-is}
-use Rattle.forms.proofs.Streams.{part-cons, part-length}
+use Rattle.forms.proofs.Lists.{part-octets}
+use Rattle.forms.proofs.Streams.{part-cons, part-length, part-drop}
 
 -- ---- octets in ranges
 
@@ -121,9 +123,6 @@ passed rows zero x h = refl
 passed rows (suc k) [] h = absurd (omega arith)
 passed rows (suc k) (b ∷ x) h = passed rows k x (omega arith)
 
-part-drop : (s : List ℕ) (at to n : ℕ) → drop n (part s at to) ≡ part s (at + n) to
-part-drop s at to n = let e : to - at - n ≡ to - (at + n) = omega arith in drop-take n (to - at) (drop at s) ∙ rw (drop-drop n at s, e)
-
 counted : (rows : List (List Range)) (x : List ℕ) (k : ℕ) → size rows x ≡ suc k → (suc k ≤ length x) × (whole rows 0 x ≡ whole rows 0 (drop (suc k) x))
 unfolding whole
 counted rows x k e = go x (let q = size-is (λ o. Unit {0}) rows x k e (each-any rows) .1 in let w = rw (length-take (suc k) x) at q in omega arith) e
@@ -197,3 +196,12 @@ module _ (s : List ℕ) (at to : ℕ) (l : to ≤ length s) (w : Bool) (i : areP
       places-next f =
           let n : ltb (getD s at 0 / 16) 15 ≡ true = lt-ltb (getD s at 0 / 16) 15 (omega arith) in
           rw second (rw (second, n, lt-ltb _ _ f) at front)
+
+-- ---- integers, by how many octets there are
+and-true : (t : Bool) → (t && true) ≡ t
+and-true true = refl
+and-true false = refl
+
+pub integers-told : (s : List ℕ) (at to w : ℕ) (r : Bool) → to ≤ length s → AreOctets s → r ≡ (ltb 0 (to - at) && eqb ((to - at) % w) 0) → r ≡ areIntegers w (part s at to)
+unfolding areIntegers isWhole
+integers-told s at to w r h a e = rw (part-length s at to h, part-octets s at to a) (e ∙ sym (and-true _))

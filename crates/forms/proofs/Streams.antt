@@ -1,37 +1,44 @@
 -- The laws of the stream, one for each `return`.
 -- Assumes nothing.
 use mathlib.Core.Path.{_≡_, refl, sym, ap, _∙_, subst}
-use mathlib.Core.Bool.{Bool, true, false}
+use mathlib.Core.Bool.{Bool, true, false, _&&_}
 use mathlib.Core.List.{List, [], _∷_, _++_}
 use Prim.Native.Nat.{ℕ, zero, suc, _+_, _-_, _*_, _/_, _%_, _≤_, _<_}
-use borrow.Author.Tests.{lt-ltb, le-ltb, eq-eqb, ne-eqb}
-use lib.Dec.{ltb}
+use borrow.Author.Tests.{lt-ltb, le-ltb, ltb-true, ltb-false, eq-eqb, ne-eqb}
+use lib.Dec.{ltb, eqb}
 use native.Mathlib.Omega.{arith}
+use lib.IntN.{ℤ}
 use lib.ListN.{length, getD, take, drop, length-take, length-drop}
-use lib.Seq.{drop-cons}
+use lib.Seq.{drop-cons, drop-drop, take-take}
 use native.Mathlib.Numerals.{add-one}
+use Rattle.format.specs.Numbers.{pick}
 use Rattle.format.specs.Characters.{IsCharacter, utf8, utf8s}
-use Rattle.format.specs.Forms.{utf16, numeric, dates, atPlaces}
+use Rattle.format.specs.Integers.{figures, digits, decimal, joined, listText}
+use Rattle.format.specs.Forms.{utf16, numeric, dates, atPlaces, width}
 use Rattle.format.specs.Tables.{same}
 use Rattle.format.specs.declared.StringForm.{StringForm}
-use Rattle.format.specs.declared.StringForm.the-variants.{Utf8, Utf16, Numeric, Dates}
-use Rattle.fields.proofs.Utf8.{told}
+use Rattle.format.specs.declared.StringForm.the-variants.{Utf8, Utf16, Numeric, Dates, Short, Int, Long}
+use Rattle.fields.proofs.Utf8.{told, drop-take}
 use Rattle.fields.proofs.Characters.{one, two, three, four, long}
+use Rattle.decimal.specs.Reading.{integerOf, integersOf, saidIn}
+use Rattle.decimal.specs.Texts as T
+use Rattle.decimal.specs.declared.printing.Text.{Text}
 use Rattle.forms.specs.declared.Said.{Said}
 use Rattle.forms.specs.declared.Next.{Next}
 use Rattle.forms.specs.declared.Next.the-variants.{Octet, Done}
 use Rattle.forms.specs.Reading.{decoded, isText16, characters16, placesOf, said}
 use Rattle.forms.specs.Packing.{alphabet}
-use Rattle.forms.specs.Streams.{part, plain, letters, given, ahead, Sound, Fine, Gives}
+use Rattle.forms.specs.Streams.{part, plain, letters, given, givenDigit, givenText, unread, withDigits, ahead, Sound, Rest, Fine, Gives}
 use Rattle.forms.proofs.Utf16 as U
 use Rattle.forms.proofs.Utf16.{upper, lower}
 use Rattle.forms.proofs.Alphabets as A
-use Rattle.forms.proofs.Forms.{IsAlphabet, short, sound-said, sound-most}
+use Rattle.forms.proofs.Lists as L
+use Rattle.forms.proofs.Forms.{IsAlphabet, by-integers, short, sound-said, sound-rest, sound-most}
 
 -- ---- a character's octets
 
 abbrev pub waits : StringForm → ℕ → ℕ → ℕ → ℕ → ℕ → ℕ → Said
-waits form at to left a b c = record { form = form; at = at; to = to; left = left; a = a; b = b; c = c }
+waits form at to left a b c = record { form = form; at = at; to = to; left = left; a = a; b = b; c = c; number = 0; count = 0 }
 
 module _ (form : StringForm) (at to n o : ℕ) where
   pub given-1 : n < 0x80 → o ≡ n → Octet o (waits form at to 0 0 0 0) ≡ given form at to (utf8 n)
@@ -67,6 +74,14 @@ part-cons s at to h k =
     let l : at < length s = omega arith in
     let m : to - at ≡ suc (to - (at + 1)) = omega arith in
     rw (m, drop-cons s at 0 l, add-one at)
+
+pub part-drop : (s : List ℕ) (at to n : ℕ) → drop n (part s at to) ≡ part s (at + n) to
+part-drop s at to n = let e : to - at - n ≡ to - (at + n) = omega arith in drop-take n (to - at) (drop at s) ∙ rw (drop-drop n at s, e)
+
+more-there : (s : List ℕ) (at to : ℕ) → to ≤ length s → ltb 0 (length (part s at to)) ≡ ltb at to
+more-there s at to h =
+    let n = part-length s at to h in
+    told (ltb at to) (λ t. let l = ltb-true at to t in lt-ltb 0 (length (part s at to)) (omega arith) ∙ sym t) (λ t. let l = ltb-false at to t in le-ltb 0 (length (part s at to)) (omega arith) ∙ sym t)
 
 -- ---- the first character of UTF-16
 
@@ -180,21 +195,23 @@ module _ (s : List ℕ) (at to : ℕ) (l : at < to) (h : to ≤ length s) (t : i
 -- ---- one step
 
 plain-nil : (f : StringForm) → plain f [] ≡ []
-unfolding utf8s characters16 decoded atPlaces placesOf
+unfolding utf8s characters16 decoded atPlaces placesOf saidIn integersOf listText joined
 plain-nil Utf8 = refl
 plain-nil Utf16 = refl
 plain-nil Numeric = refl
 plain-nil Dates = refl
+plain-nil Short = refl
+plain-nil Int = refl
+plain-nil Long = refl
 
-module _ (s : List ℕ) (u : Said) (at : ℕ) (z : u .left ≡ 0) (h : at ≤ u .to) (l : u .to ≤ length s) (r : Sound (u .form) (part s at (u .to))) where
-  pub gives : (os : List ℕ) → 0 < length os → length os ≤ 4 → plain (u .form) (part s (u .at) (u .to)) ≡ os ++ plain (u .form) (part s at (u .to))
-      → Gives s u (given (u .form) at (u .to) os)
-  unfolding given ahead
+module _ (s : List ℕ) (form : StringForm) (from at to : ℕ) (h : at ≤ to) (l : to ≤ length s) (r : Rest form (part s at to)) where
+  gives : (os : List ℕ) → 0 < length os → length os ≤ 4 → plain form (part s from to) ≡ os ++ plain form (part s at to) → Gives s (unread form from to) (given form at to os)
+  unfolding given ahead withDigits
   gives [] j k e = absurd (omega arith)
-  gives (o ∷ []) j k e = (rw z e, record { sound = h; there = l; few = omega arith; rest = r })
-  gives (o ∷ a ∷ []) j k e = (rw z e, record { sound = h; there = l; few = omega arith; rest = r })
-  gives (o ∷ a ∷ b ∷ []) j k e = (rw z e, record { sound = h; there = l; few = omega arith; rest = r })
-  gives (o ∷ a ∷ b ∷ c ∷ []) j k e = (rw z e, record { sound = h; there = l; few = omega arith; rest = r })
+  gives (o ∷ []) j k e = (e, record { sound = h; there = l; few = omega arith; digits = omega arith; rest = r })
+  gives (o ∷ a ∷ []) j k e = (e, record { sound = h; there = l; few = omega arith; digits = omega arith; rest = r })
+  gives (o ∷ a ∷ b ∷ []) j k e = (e, record { sound = h; there = l; few = omega arith; digits = omega arith; rest = r })
+  gives (o ∷ a ∷ b ∷ c ∷ []) j k e = (e, record { sound = h; there = l; few = omega arith; digits = omega arith; rest = r })
   gives (o ∷ a ∷ b ∷ c ∷ d ∷ os) j k e = absurd (omega arith)
 
 queue : (k a b c : ℕ) → 0 < k → k ≤ 3 → take k (a ∷ b ∷ c ∷ []) ≡ a ∷ take (k - 1) (b ∷ c ∷ 0 ∷ [])
@@ -204,14 +221,61 @@ queue (suc (suc zero)) a b c h l = refl
 queue (suc (suc (suc zero))) a b c h l = refl
 queue (suc (suc (suc (suc k)))) a b c h l = absurd (omega arith)
 
-module _ (s : List ℕ) (u : Said) (f : Fine s u) where
-  pub gives-waiting : 0 < u .left → Gives s u (Octet (u .a) (waits (u .form) (u .at) (u .to) (u .left - 1) (u .b) (u .c) 0))
-  unfolding ahead
-  gives-waiting h = (rw (queue (u .left) (u .a) (u .b) (u .c) h (f .few)), record { sound = f .sound; there = f .there; few = let l = f .few in omega arith; rest = f .rest })
+-- where the same is ahead, the same is given
+carried : (s : List ℕ) (u v : Said) → ahead s u ≡ ahead s v → (r : Next) → Gives s v r → Gives s u r
+carried s u v e (Octet o w) g = (e ∙ g .0, g .1)
+carried s u v e Done g = e ∙ g
 
-  pub gives-done : u .left ≡ 0 → u .to ≤ u .at → Gives s u Done
+module _ (s : List ℕ) (u : Said) (f : Fine s u) where
+  pub gives-waiting : 0 < u .left
+      → Gives s u (Octet (u .a) (record { form = u .form; at = u .at; to = u .to; left = u .left - 1; a = u .b; b = u .c; c = 0; number = u .number; count = u .count }))
   unfolding ahead
-  gives-done z h = let e : u .to - u .at ≡ 0 = omega arith in rw (z, e) (plain-nil (u .form))
+  gives-waiting h = (
+    rw (queue (u .left) (u .a) (u .b) (u .c) h (f .few)),
+    record { sound = f .sound; there = f .there; few = let l = f .few in omega arith; digits = f .digits; rest = f .rest },
+  )
+
+  module _ (z : u .left ≡ 0) where
+    one-digit : (k : ℕ) → u .count ≡ suc k → Gives s u (givenDigit (u .form) (u .at) (u .to) (u .number) (suc k))
+    unfolding ahead withDigits givenDigit figures
+    one-digit zero e =
+        told (ltb (u .at) (u .to))
+        (λ t. rw (z, e, t) (refl, record { sound = f .sound; there = f .there; few = omega arith; digits = omega arith; rest = f .rest }))
+        (λ t. rw (z, e, t) (refl, record { sound = f .sound; there = f .there; few = omega arith; digits = omega arith; rest = f .rest }))
+    one-digit (suc k) e =
+        let m : suc (suc k) - 1 ≡ suc k = omega arith in
+        rw (z, e, m, ne-eqb (suc (suc k)) 1 (λ q. omega arith))
+        (refl, record { sound = f .sound; there = f .there; few = omega arith; digits = let l = f .digits in omega arith; rest = f .rest })
+
+    pub gives-digit : 0 < u .count → (r : Next) → r ≡ givenDigit (u .form) (u .at) (u .to) (u .number) (u .count) → Gives s u r
+    gives-digit h r d = go (u .count) refl
+      where
+        go : (k : ℕ) → u .count ≡ k → Gives s u r
+        go zero e = absurd (omega arith)
+        go (suc k) e = subst (λ (x : Next). Gives s u x) (sym (d ∙ ap (givenDigit (u .form) (u .at) (u .to) (u .number)) e)) (one-digit k e)
+
+    module _ (k : u .count ≡ 0) where
+      all-unread : ahead s u ≡ ahead s (unread (u .form) (u .at) (u .to))
+      unfolding ahead withDigits
+      all-unread = rw (z, k)
+
+      pub gives-done : u .to ≤ u .at → Gives s u Done
+      unfolding ahead withDigits
+      gives-done h = let e : u .to - u .at ≡ 0 = omega arith in rw (z, k, e) (plain-nil (u .form))
+
+      pub gives-read : (r : Next) → Gives s (unread (u .form) (u .at) (u .to)) r → Gives s u r
+      gives-read r g = carried s u (unread (u .form) (u .at) (u .to)) all-unread r g
+
+-- ---- an integer's digit
+module _ (at to count : ℕ) where
+  pub waits-space : count ≡ 1 → ltb at to ≡ true → _≡_ {A = ℕ} 1 (pick (eqb count 1 && ltb at to) 1 0)
+  waits-space e h = rw (eq-eqb _ _ e, h)
+
+  pub waits-end : count ≡ 1 → ltb at to ≡ false → _≡_ {A = ℕ} 0 (pick (eqb count 1 && ltb at to) 1 0)
+  waits-end e h = rw (eq-eqb _ _ e, h)
+
+  pub waits-digit : (count ≡ 1 → ⊥) → _≡_ {A = ℕ} 0 (pick (eqb count 1 && ltb at to) 1 0)
+  waits-digit n = rw (ne-eqb _ _ n)
 
 -- ---- letters
 
@@ -228,63 +292,124 @@ letters-size : (as′ : List ℕ) (o : ℕ) → (0 < length (letters as′ o)) �
 unfolding letters
 letters-size as′ o = told (ltb (o % 16) 15) (λ t. rw t (omega arith)) (λ t. rw t (omega arith))
 
-lettered : (f : StringForm) (o : ℕ) (x : List ℕ) → IsAlphabet f → Sound f (o ∷ x) → (o < 240) × Sound f x × (plain f (o ∷ x) ≡ letters (alphabet f) o ++ plain f x)
+lettered : (f : StringForm) (o : ℕ) (x : List ℕ) → IsAlphabet f → Rest f (o ∷ x) → (o < 240) × Rest f x × (plain f (o ∷ x) ≡ letters (alphabet f) o ++ plain f x)
 lettered Utf8 o x l r = absurd l
 lettered Utf16 o x l r = absurd l
 lettered Numeric o x l r = A.next-letters numeric A.is-numeric o x r
 lettered Dates o x l r = A.next-letters dates A.is-dates o x r
+lettered Short o x l r = absurd l
+lettered Int o x l r = absurd l
+lettered Long o x l r = absurd l
 
 -- ---- the steps that read
 
-module _ (s : List ℕ) (u : Said) (f : Fine s u) (z : u .left ≡ 0) (l : u .at < u .to) where
-  pub gives-utf8 : u .form ≡ Utf8 → Gives s u (Octet (getD s (u .at) 0) (waits (u .form) (u .at + 1) (u .to) 0 0 0 0))
-  unfolding ahead
+module _ (s : List ℕ) (form : StringForm) (at to : ℕ) (l : at < to) (h : to ≤ length s) (r : Rest form (part s at to)) where
+  pub gives-utf8 : form ≡ Utf8 → Gives s (unread form at to) (Octet (getD s at 0) (waits form (at + 1) to 0 0 0 0))
+  unfolding ahead withDigits
   gives-utf8 q = (
-    rw (z, q) (part-cons s (u .at) (u .to) l (f .there)),
-    record { sound = omega arith; there = f .there; few = omega arith; rest = subst (λ (g : StringForm). Sound g (part s (u .at + 1) (u .to))) (sym q) tt },
+    rw q (part-cons s at to l h),
+    record { sound = omega arith; there = h; few = omega arith; digits = omega arith; rest = subst (λ (g : StringForm). Rest g (part s (at + 1) to)) (sym q) tt },
   )
 
-  module _ (q : u .form ≡ Utf16) where
+  module _ (q : form ≡ Utf16) where
     abbrev front16 : ℕ
-    front16 = getD (characters16 (part s (u .at) (u .to))) 0 0
+    front16 = getD (characters16 (part s at to)) 0 0
 
-    pub text16 : isText16 (part s (u .at) (u .to)) ≡ true
-    text16 = subst (λ (g : StringForm). Sound g (part s (u .at) (u .to))) q (f .rest)
+    pub text16 : isText16 (part s at to) ≡ true
+    text16 = subst (λ (g : StringForm). Rest g (part s at to)) q r
 
-    step16 : (k : ℕ) → Behind s (u .at) (u .to) l (f .there) text16 k → Gives s u (given (u .form) (u .at + k) (u .to) (utf8 front16))
+    step16 : (k : ℕ) → Behind s at to l h text16 k → Gives s (unread form at to) (given form (at + k) to (utf8 front16))
     step16 k b =
-        gives s u (u .at + k) z (b .0) (f .there) (subst (λ (g : StringForm). Sound g (part s (u .at + k) (u .to))) (sym q) (b .1)) (utf8 front16) (long front16) (short front16)
-        (subst (λ (g : StringForm). plain g (part s (u .at) (u .to)) ≡ utf8 front16 ++ plain g (part s (u .at + k) (u .to))) (sym q) (b .2))
+        gives s form at (at + k) to (b .0) h (subst (λ (g : StringForm). Rest g (part s (at + k) to)) (sym q) (b .1)) (utf8 front16) (long front16) (short front16)
+        (subst (λ (g : StringForm). plain g (part s at to) ≡ utf8 front16 ++ plain g (part s (at + k) to)) (sym q) (b .2))
 
     module _ (n : ℕ) (e : n ≡ front16) where
       pub in-range16 : n < 0x110000
-      in-range16 = rw e (behind16 s (u .at) (u .to) l (f .there) text16 .0)
+      in-range16 = rw e (behind16 s at to l h text16 .0)
 
-      module _ (r : Next) where
-        pub gives-short : n < 0x10000 → r ≡ given (u .form) (u .at + 2) (u .to) (utf8 n) → Gives s u r
-        gives-short h d = rw (d, e) (step16 2 (behind16 s (u .at) (u .to) l (f .there) text16 .1 (rw e at h)))
+      module _ (x : Next) where
+        pub gives-short : n < 0x10000 → x ≡ given form (at + 2) to (utf8 n) → Gives s (unread form at to) x
+        gives-short i d = rw (d, e) (step16 2 (behind16 s at to l h text16 .1 (rw e at i)))
 
-        pub gives-long : 0x10000 ≤ n → r ≡ given (u .form) (u .at + 4) (u .to) (utf8 n) → Gives s u r
-        gives-long h d = rw (d, e) (step16 4 (behind16 s (u .at) (u .to) l (f .there) text16 .2 (rw e at h)))
+        pub gives-long : 0x10000 ≤ n → x ≡ given form (at + 4) to (utf8 n) → Gives s (unread form at to) x
+        gives-long i d = rw (d, e) (step16 4 (behind16 s at to l h text16 .2 (rw e at i)))
 
-  module _ (q : IsAlphabet (u .form)) where
+  module _ (q : IsAlphabet form) where
     abbrev octet : ℕ
-    octet = getD s (u .at) 0
+    octet = getD s at 0
 
-    step-letters : (octet < 240) × Sound (u .form) (part s (u .at + 1) (u .to)) × (plain (u .form) (part s (u .at) (u .to)) ≡ letters (alphabet (u .form)) octet ++ plain (u .form) (part s (u .at + 1) (u .to)))
+    step-letters : (octet < 240) × Rest form (part s (at + 1) to) × (plain form (part s at to) ≡ letters (alphabet form) octet ++ plain form (part s (at + 1) to))
     step-letters =
-        let p = part-cons s (u .at) (u .to) l (f .there) in
-        let t = lettered (u .form) octet (part s (u .at + 1) (u .to)) q (subst (λ (x : List ℕ). Sound (u .form) x) p (f .rest)) in
-        (t .0, t .1, ap (plain (u .form)) p ∙ t .2)
+        let p = part-cons s at to l h in
+        let t = lettered form octet (part s (at + 1) to) q (subst (λ (x : List ℕ). Rest form x) p r) in
+        (t .0, t .1, ap (plain form) p ∙ t .2)
 
     pub letters-there : octet < 240
     letters-there = step-letters .0
 
-    pub gives-letters : (r : Next) → r ≡ given (u .form) (u .at + 1) (u .to) (letters (alphabet (u .form)) octet) → Gives s u r
-    gives-letters r d =
+    pub gives-letters : (x : Next) → x ≡ given form (at + 1) to (letters (alphabet form) octet) → Gives s (unread form at to) x
+    gives-letters x d =
         let t = step-letters in
-        let k = letters-size (alphabet (u .form)) octet in
-        rw d (gives s u (u .at + 1) z (omega arith) (f .there) (t .1) (letters (alphabet (u .form)) octet) (k .0) (k .1) (t .2))
+        let k = letters-size (alphabet form) octet in
+        rw d (gives s form at (at + 1) to (omega arith) h (t .1) (letters (alphabet form) octet) (k .0) (k .1) (t .2))
+
+  module _ (q : 0 < width form) where
+    -- the integer that comes first, and what is behind it
+    step-integer : L.Next (width form) q (part s at to) (rw (part-length s at to h) (omega arith)) (by-integers (λ f. Rest f (part s at to) → length (part s at to) % width f ≡ 0) (λ r. r) (λ r. r) (λ r. r) form q r)
+    step-integer = L.next (width form) q (part s at to) _ _
+
+    pub integer-there : at + width form ≤ to
+    integer-there = let n = part-length s at to h in let w = step-integer .there in omega arith
+
+    abbrev integer : ℤ
+    integer = integerOf (width form) (take (width form) (drop at s))
+
+    abbrev rest : List ℕ
+    rest = part s (at + width form) to
+
+    rest-is : rest ≡ drop (width form) (part s at to)
+    rest-is = sym (part-drop s at to (width form))
+
+    rest-there : Rest form rest
+    rest-there = by-integers (λ f. (x : List ℕ) → length x % width f ≡ 0 → Rest f x) (λ x e. e) (λ x e. e) (λ x e. e) form q rest (rw rest-is (step-integer .whole))
+
+    as-integers : (x : List ℕ) → plain form x ≡ saidIn (width form) x
+    as-integers = by-integers (λ f. (x : List ℕ) → plain f x ≡ saidIn (width f) x) (λ x. refl) (λ x. refl) (λ x. refl) form q
+
+    said-integer : plain form (part s at to) ≡ decimal integer ++ pick (ltb (at + width form) to) (0x20 ∷ plain form rest) (plain form rest)
+    said-integer =
+        let f : take (width form) (part s at to) ≡ take (width form) (drop at s) = take-take (width form) (to - at) (drop at s) (let i = integer-there in omega arith) in
+        rw (as-integers (part s at to), as-integers rest, ← more-there s (at + width form) to h, rest-is, ← f) (step-integer .said)
+
+    module _ (t : Text) (e : T.left t ≡ decimal integer) (g : T.Good t) where
+      abbrev digits-left : Said
+      digits-left = record { form = form; at = at + width form; to = to; left = 0; a = 0; b = 0; c = 0; number = t .number; count = t .count }
+
+      pub text-some : 1 ≤ t .count
+      text-some = L.text-digits t integer e
+
+      digits-fine : Fine s digits-left
+      digits-fine = record { sound = integer-there; there = h; few = omega arith; digits = g; rest = rest-there }
+
+      digits-ahead : ahead s digits-left ≡ figures 10 0x30 (t .count) (t .number) ++ pick (ltb (at + width form) to) (0x20 ∷ plain form rest) (plain form rest)
+      unfolding ahead withDigits
+      digits-ahead = go (t .count) text-some
+        where
+          go : (k : ℕ) → 1 ≤ k → withDigits k (t .number) (ltb (at + width form) to) (plain form rest) ≡ figures 10 0x30 k (t .number) ++ pick (ltb (at + width form) to) (0x20 ∷ plain form rest) (plain form rest)
+          go zero k = absurd (omega arith)
+          go (suc k) l = refl
+
+      text-ahead : ahead s (unread form at to) ≡ T.left t ++ pick (ltb (at + width form) to) (0x20 ∷ plain form rest) (plain form rest)
+      unfolding ahead withDigits
+      text-ahead = rw e said-integer
+
+      pub gives-text : (w : ℕ) → width form ≡ w → (x : Next) → x ≡ givenText form (at + w) to t → Gives s (unread form at to) x
+      unfolding givenText T.left
+      gives-text w v x c =
+          let d = rw (← v) at c in
+          told (t .minus)
+          (λ m. rw (rw m at d) ((rw m at text-ahead) ∙ rw digits-ahead, digits-fine))
+          (λ m. carried s (unread form at to) digits-left ((rw m at text-ahead) ∙ sym digits-ahead) x (gives-digit s digits-left digits-fine refl text-some x (rw m at d)))
 
 -- what a step gave
 module _ (s : List ℕ) (u : Said) (x : Next) (g : Gives s u x) where
@@ -298,12 +423,11 @@ module _ (s : List ℕ) (u : Said) (x : Next) (g : Gives s u x) where
   ended e = subst (λ (r : Next). Gives s u r) e g
 
 -- ---- a whole string
-pub over : (s : List ℕ) (f : StringForm) (at to : ℕ) → at ≤ to → to ≤ length s → Sound f (part s at to)
-    → Fine s (waits f at to 0 0 0 0) × (said f (part s at to) ≡ ahead s (waits f at to 0 0 0 0))
-unfolding ahead
-over s f at to h l e = (record { sound = h; there = l; few = omega arith; rest = e }, sound-said f (part s at to) e)
+pub over : (s : List ℕ) (f : StringForm) (at to : ℕ) → at ≤ to → to ≤ length s → Sound f (part s at to) → Fine s (unread f at to) × (said f (part s at to) ≡ ahead s (unread f at to))
+unfolding ahead withDigits
+over s f at to h l e = (record { sound = h; there = l; few = omega arith; digits = omega arith; rest = sound-rest f (part s at to) e }, sound-said f (part s at to) e)
 
-pub bounded : (s : List ℕ) (f : StringForm) (at to : ℕ) → to ≤ length s → Sound f (part s at to) → length (said f (part s at to)) ≤ 2 * (to - at)
+pub bounded : (s : List ℕ) (f : StringForm) (at to : ℕ) → to ≤ length s → Sound f (part s at to) → length (said f (part s at to)) ≤ 4 * (to - at)
 bounded s f at to l e = rw (part-length s at to l) at (sound-most f (part s at to) e)
 
 -- ---- two strings

@@ -7,9 +7,10 @@ use lib.ListN.{length, take}
 use Rattle.format.specs.Octets.{Octets}
 use Rattle.format.specs.Numbers.{pick}
 use Rattle.format.specs.Characters.{Range, _‥_, utf8s}
-use Rattle.format.specs.Forms.{numeric, dates, atPlaces}
+use Rattle.format.specs.Forms.{numeric, dates, atPlaces, width}
 use Rattle.format.specs.declared.StringForm.{StringForm}
-use Rattle.format.specs.declared.StringForm.the-variants.{Utf8, Utf16, Numeric, Dates}
+use Rattle.format.specs.declared.StringForm.the-variants.{Utf8, Utf16, Numeric, Dates, Short, Int, Long}
+use Rattle.decimal.specs.Reading.{isWhole, saidIn}
 use Rattle.fields.specs.Utf8.{fits}
 
 -- ---- utf-16
@@ -68,6 +69,16 @@ placesOf [] = []
 placesOf (o ∷ []) = pick (ltb (o % 16) 15) (o / 16 ∷ o % 16 ∷ []) (o / 16 ∷ [])
 placesOf (o ∷ p ∷ x) = o / 16 ∷ o % 16 ∷ placesOf (p ∷ x)
 
+-- ---- integers
+-- These numbers are octets: each is below 256, as those of a document and of a text area always are.
+unfoldable pub areOctets : Octets → Bool
+areOctets [] = true
+areOctets (o ∷ x) = ltb o 256 && areOctets x
+
+-- Octets that are integers of w octets each, at least one.
+unfoldable pub areIntegers : (w : ℕ) → Octets → Bool
+areIntegers w o = isWhole w o && areOctets o
+
 -- ---- what octets say in a form: the string, known by its octets in UTF-8. Octets that are no string in their form say FF, which is no text.
 abbrev pub noText : Octets
 noText = 0xFF ∷ []
@@ -77,3 +88,6 @@ said Utf8 o = o
 said Utf16 o = pick (isText16 o) (utf8s (characters16 o)) noText
 said Numeric o = pick (arePlaces o) (utf8s (atPlaces numeric (placesOf o))) noText
 said Dates o = pick (arePlaces o) (utf8s (atPlaces dates (placesOf o))) noText
+said Short o = pick (areIntegers (width Short) o) (saidIn (width Short) o) noText
+said Int o = pick (areIntegers (width Int) o) (saidIn (width Int) o) noText
+said Long o = pick (areIntegers (width Long) o) (saidIn (width Long) o) noText

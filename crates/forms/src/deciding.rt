@@ -1,10 +1,10 @@
 // Whether octets are text in a form.
 ghost use mathlib.Core.Path.{_≡_};
 ghost use mathlib.Core.List.{_∷_, []};
-ghost use Prim.Native.Nat.{_+_, _<_, _≤_};
+ghost use Prim.Native.Nat.{_+_, _%_, _<_, _≤_};
 ghost use lib.ListN.{length};
 ghost use mathlib.Core.Bool.{true, _&&_};
-ghost use lib.Dec.{leb};
+ghost use lib.Dec.{leb, ltb, eqb};
 ghost use Rattle.format.specs.Numbers.{pick};
 ghost use Rattle.format.specs.Characters.{_‥_};
 ghost use Rattle.fields.specs.Utf8.{fits, isText};
@@ -143,6 +143,14 @@ fn are_places(s: &[u8], from: usize, to: usize) -> bool
     true
 }
 
+// So many octets are integers of w octets each, at least one.
+fn is_whole(n: usize, w: usize) -> bool
+    requires { ⌜ 0 < w ⌝ }
+    ensures { λ r. ⌜ r ≡ (ltb 0 n && eqb (n % w) 0) ⌝ }
+{
+    0 < n && n % w == 0
+}
+
 // The octets from `at` to `to` are text in this form.
 pub fn is_text(s: &[u8], form: StringForm, at: usize, to: usize) -> bool
     requires { ⌜ (at ≤ to) × (to ≤ length (now s)) ⌝ }
@@ -153,5 +161,8 @@ pub fn is_text(s: &[u8], form: StringForm, at: usize, to: usize) -> bool
         StringForm::Utf16 => is_text16(s, at, to),
         StringForm::Numeric => are_places(s, at, to),
         StringForm::Dates => are_places(s, at, to),
+        StringForm::Short => is_whole(to - at, 2),
+        StringForm::Int => is_whole(to - at, 4),
+        StringForm::Long => is_whole(to - at, 8),
     }
 }

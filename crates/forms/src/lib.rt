@@ -1,7 +1,8 @@
-// Strings in the forms that they come in: whether octets are text in a form, two strings compared by their characters, and a string put in UTF-8 or in an alphabet. A string of any form is
-// given octet by octet in UTF-8.
-// May depend on format and fields.
+// Strings in the forms that they come in: whether octets are text in a form, two strings compared by their characters, and a string put in UTF-8, in an alphabet or as integers. A string of any
+// form is given octet by octet in UTF-8.
+// May depend on format, fields and decimal.
 mod deciding;
+mod integers;
 mod packing;
 
 ghost use mathlib.Core.Path.{_≡_};
@@ -13,15 +14,20 @@ ghost use Rattle.format.specs.Tables.{same};
 ghost use Rattle.fields.specs.PutContracts.{Puts};
 ghost use Rattle.forms.specs.Reading.{isText16, characters16, said};
 ghost use Rattle.forms.specs.Packing.{alphabet};
-ghost use Rattle.forms.specs.Streams.{part, letters, given, ahead, Sound, Fine, Gives};
+ghost use Rattle.forms.specs.Streams.{part, letters, given, givenDigit, givenText, unread, ahead, Sound, Rest, Fine, Gives};
 pub use deciding::is_text;
+use decimal::printing::Text;
+use decimal::printing::digit_at;
+use decimal::printing::text_at;
 use fields::put::put;
 use format::StringForm;
+pub use integers::integers_for;
+pub use integers::put_integers;
 pub use packing::alphabet_for;
 pub use packing::may_begin;
 pub use packing::put_packed;
 
-// A string of which the octets from `at` to `to` are still to be read. Of what was read, `left` octets wait, the first of a, b, c.
+// A string of which the octets from `at` to `to` are still to be read. Of what was read, `left` octets wait, the first of a, b, c; and behind them the `count` lowest digits of an integer's number.
 pub struct Said {
     pub form: StringForm,
     pub at: usize,
@@ -30,6 +36,8 @@ pub struct Said {
     pub a: u8,
     pub b: u8,
     pub c: u8,
+    pub number: u64,
+    pub count: u32,
 }
 
 // The string's next octet in UTF-8, and what is then left; or its end.
@@ -97,6 +105,8 @@ fn given(form: StringForm, at: usize, to: usize, n: u32) -> Next
                 a: 0,
                 b: 0,
                 c: 0,
+                number: 0,
+                count: 0,
             },
         );
     }
@@ -111,6 +121,8 @@ fn given(form: StringForm, at: usize, to: usize, n: u32) -> Next
                 a: tail(n),
                 b: 0,
                 c: 0,
+                number: 0,
+                count: 0,
             },
         );
     }
@@ -125,6 +137,8 @@ fn given(form: StringForm, at: usize, to: usize, n: u32) -> Next
                 a: tail(n / 64),
                 b: tail(n),
                 c: 0,
+                number: 0,
+                count: 0,
             },
         );
     }
@@ -138,6 +152,8 @@ fn given(form: StringForm, at: usize, to: usize, n: u32) -> Next
             a: tail(n / 4096),
             b: tail(n / 64),
             c: tail(n),
+            number: 0,
+            count: 0,
         },
     )
 }
@@ -158,6 +174,9 @@ fn letter(form: StringForm, k: usize) -> u8
         StringForm::Utf16 => 0,
         StringForm::Numeric => b"0123456789-+.e "[k],
         StringForm::Dates => b"0123456789-:TZ "[k],
+        StringForm::Short => 0,
+        StringForm::Int => 0,
+        StringForm::Long => 0,
     }
 }
 
@@ -179,6 +198,8 @@ fn letters(form: StringForm, at: usize, to: usize, o: u8) -> Next
                 a: 0,
                 b: 0,
                 c: 0,
+                number: 0,
+                count: 0,
             },
         );
     }
@@ -193,8 +214,92 @@ fn letters(form: StringForm, at: usize, to: usize, o: u8) -> Next
             a: low,
             b: 0,
             c: 0,
+            number: 0,
+            count: 0,
         },
     )
+}
+
+// The first of an integer's digits that are left is given, the others wait.
+fn digit(form: StringForm, at: usize, to: usize, number: u64, count: u32) -> Next
+    requires { ⌜ (1 ≤ count) × (count ≤ 20) ⌝ }
+    ensures { λ r. ⌜ r ≡ givenDigit form at to number count ⌝ }
+{
+    let o = digit_at(number, count - 1);
+    let left = if count == 1 && at < to { 1 } else { 0 };
+    Next::Octet(
+        o,
+        Said {
+            form,
+            at,
+            to,
+            left,
+            a: 0x20,
+            b: 0,
+            c: 0,
+            number,
+            count: count - 1,
+        },
+    )
+}
+
+// An integer's text: its first octet is given, the digits behind it wait.
+fn integer(form: StringForm, at: usize, to: usize, text: Text) -> Next
+    requires { ⌜ (1 ≤ text .count) × (text .count ≤ 20) ⌝ }
+    ensures { λ r. ⌜ r ≡ givenText form at to text ⌝ }
+{
+    if text.minus {
+        return Next::Octet(
+            0x2D,
+            Said {
+                form,
+                at,
+                to,
+                left: 0,
+                a: 0,
+                b: 0,
+                c: 0,
+                number: text.number,
+                count: text.count,
+            },
+        );
+    }
+    digit(form, at, to, text.number, text.count)
+}
+
+// What comes first in octets that are characters in a form: its first octet is given, the others wait.
+fn read(s: &[u8], form: StringForm, at: usize, to: usize) -> Next
+    requires { ⌜ (at < to) × (to ≤ length (now s)) × Rest form (part (now s) at to) ⌝ }
+    ensures { λ r. ⌜ Gives (now (s .entry)) (unread form at to) r ⌝ }
+{
+    match form {
+        StringForm::Utf8 => Next::Octet(
+            s[at],
+            Said {
+                form,
+                at: at + 1,
+                to,
+                left: 0,
+                a: 0,
+                b: 0,
+                c: 0,
+                number: 0,
+                count: 0,
+            },
+        ),
+        StringForm::Utf16 => {
+            let n = character16(s, at, to);
+            if n < 0x10000 {
+                return given(form, at + 2, to, n);
+            }
+            given(form, at + 4, to, n)
+        }
+        StringForm::Numeric => letters(form, at + 1, to, s[at]),
+        StringForm::Dates => letters(form, at + 1, to, s[at]),
+        StringForm::Short => integer(form, at + 2, to, text_at(s, at, form)),
+        StringForm::Int => integer(form, at + 4, to, text_at(s, at, form)),
+        StringForm::Long => integer(form, at + 8, to, text_at(s, at, form)),
+    }
 }
 
 impl Said {
@@ -211,6 +316,8 @@ impl Said {
             a: 0,
             b: 0,
             c: 0,
+            number: 0,
+            count: 0,
         }
     }
 
@@ -223,6 +330,7 @@ impl Said {
         let at = self.at;
         let to = self.to;
         let left = self.left;
+        let count = self.count;
         if 0 < left {
             return Next::Octet(
                 self.a,
@@ -234,35 +342,18 @@ impl Said {
                     a: self.b,
                     b: self.c,
                     c: 0,
+                    number: self.number,
+                    count,
                 },
             );
+        }
+        if 0 < count {
+            return digit(form, at, to, self.number, count);
         }
         if to <= at {
             return Next::Done;
         }
-        match form {
-            StringForm::Utf8 => Next::Octet(
-                s[at],
-                Said {
-                    form,
-                    at: at + 1,
-                    to,
-                    left: 0,
-                    a: 0,
-                    b: 0,
-                    c: 0,
-                },
-            ),
-            StringForm::Utf16 => {
-                let n = character16(s, at, to);
-                if n < 0x10000 {
-                    return given(form, at + 2, to, n);
-                }
-                given(form, at + 4, to, n)
-            }
-            StringForm::Numeric => letters(form, at + 1, to, s[at]),
-            StringForm::Dates => letters(form, at + 1, to, s[at]),
-        }
+        read(s, form, at, to)
     }
 }
 
@@ -333,7 +424,7 @@ pub fn put_said(
     to: usize,
 ) -> usize
     requires { ⌜ (at ≤ 0x1_0000_0000) × (from ≤ to) × (to ≤ length (now s)) × (length (now s) ≤ 0x1_0000_0000) × Sound form (part (now s) from to) ⌝ }
-    ensures { λ r. ⌜ Puts (now (out .entry)) at r (now (out .exit)) (said form (part (now (s .entry)) from to)) × (r ≤ at + 2 * (to - from)) ⌝ }
+    ensures { λ r. ⌜ Puts (now (out .entry)) at r (now (out .exit)) (said form (part (now (s .entry)) from to)) × (r ≤ at + 4 * (to - from)) ⌝ }
 {
     let mut u = Said::over(s, form, from, to);
     let mut i = at;

@@ -5,7 +5,7 @@ ghost use mathlib.Core.Bool.{true};
 ghost use mathlib.Core.List.{List, map};
 ghost use Prim.Native.Nat.{ℕ, _+_, _-_, _*_, _/_, _<_, _≤_};
 ghost use lib.ListN.{length, getD};
-ghost use Rattle.format.specs.Tables.{same};
+ghost use Rattle.format.specs.Tables.{same, OTHER-STRING};
 ghost use Rattle.format.specs.declared.StringForm.the-variants.{Utf8};
 ghost use Rattle.fields.specs.WeightContracts.{Plain};
 ghost use Rattle.fields.specs.Utf8.{isText};
@@ -399,7 +399,7 @@ fn is_alike(
     last: u8,
 ) -> bool
     requires { ⌜ (length (now t) ≡ tableWords) × (j + 3 ≤ tableWords) × (1 ≤ len) × (place + len ≤ length (now s)) × (last ≡ getD (now s) (place + (len - 1)) 0) × IsSound (now s) (stretch form place len) × ((getD (now t) (j + 1) 0 ≡ 0 → ⊥) → (getD (now t) j 0 + getD (now t) (j + 1) 0 ≤ length (now s)) × IsSound (now s) (stretch (formOf (getD (now t) (j + 2) 0)) (getD (now t) j 0) (getD (now t) (j + 1) 0))) ⌝ }
-    ensures { λ r. ⌜ r ≡ same (octetsOf (now (s .entry)) (stretch (formOf (getD (now (t .entry)) (j + 2) 0)) (getD (now (t .entry)) j 0) (getD (now (t .entry)) (j + 1) 0))) (octetsOf (now (s .entry)) (stretch form place len)) ⌝ }
+    ensures { λ r. ⌜ r ≡ same (octetsOf (now (s .entry)) (stringAt OTHER-STRING (now (t .entry)) j)) (octetsOf (now (s .entry)) (stretch form place len)) ⌝ }
 {
     if t[j + 2] == form.number() {
         return tables::is_spelled(s, t, j, place, len, last);

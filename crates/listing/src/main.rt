@@ -122,6 +122,9 @@ fn form_of(tag: u32) -> StringForm {
         tags::UTF16 => StringForm::Utf16,
         tags::NUMERIC => StringForm::Numeric,
         tags::DATES => StringForm::Dates,
+        tags::SHORT => StringForm::Short,
+        tags::INT => StringForm::Int,
+        tags::LONG => StringForm::Long,
         _ => StringForm::Utf8,
     }
 }

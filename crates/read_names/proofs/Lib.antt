@@ -2,4 +2,4 @@ pub mod Grown
 pub mod NameLaws
 pub mod Places
 pub mod StringLaws
-pub mod AlphabetLaws
+pub mod MethodLaws

@@ -13,7 +13,6 @@ use Rattle.fields.specs.Utf8.{isText}
 use Rattle.format.specs.Tables.{StringTable, PREFIX, NAMESPACE-NAME, LOCAL-NAME, Vocabulary, strings, holds, names, holdsName, Version}
 use Rattle.format.specs.Strings.{Layout, c14}
 use Rattle.format.specs.Names.{NameLayout}
-use Rattle.format.specs.Forms.{formOf}
 use Rattle.format.specs.declared.StringForm.{StringForm}
 use Rattle.format.specs.declared.StringForm.the-variants.{Utf8, Utf16}
 use Rattle.fields.specs.declared.Number.{Number}
@@ -21,7 +20,7 @@ use Rattle.fields.specs.declared.Number.the-variants.{Got as Num, Refused as No
 use Rattle.fields.specs.Fields.{fieldAt, noTop}
 use Rattle.fields.proofs.Bounds.{field-got, field-refused}
 use Rattle.tables.specs.Located.{Located, stretch, octetsOf}
-use Rattle.read_names.specs.Strings.{Got, got, refused, then, number, spelling, alphabetAt, alphabetBehind, alphabetLength, idAt, optionalAt, numberBit, formedAt, spelledAt, literalAt, valueAt}
+use Rattle.read_names.specs.Strings.{Got, got, refused, then, number, spelling, methodAt, isRead, formBy, methodBehind, methodLength, idAt, optionalAt, numberBit, formedAt, spelledAt, literalAt, valueAt}
 use Rattle.read_names.specs.Names.{prefixBit, namespaceBit, lonePrefix, nameBit, partsAt, numberedAt, nameAt, declaredAt}
 use Rattle.read_names.proofs.StringLaws.{tests, there-is}
 
@@ -65,18 +64,18 @@ module _ (s : List ℕ) where
       go (Num n c) e = tt
       go (NoNum n p) e = let b = field-refused noTop s k (lengths bit) bit e in omega arith
 
-  behind-judged : (bit k more n : ℕ) (clean : Bool) → k ≤ length s → Judged (alphabetBehind bit s k more n clean)
-  unfolding alphabetBehind
-  behind-judged bit k more n clean h =
+  behind-judged : (bit f k more n : ℕ) (clean : Bool) → k ≤ length s → Judged (methodBehind bit f s k more n clean)
+  unfolding methodBehind
+  behind-judged bit f k more n clean h =
       tests Judged (leb (k + 2 + more + n) (length s)) _ _
-      (λ _. tests Judged (ltb (alphabetAt bit s k) 2) _ _ (λ _. tests Judged clean _ _ (λ _. tt) (λ _. omega arith)) (λ _. omega arith))
+      (λ _. tests Judged (isRead f (methodAt bit s k)) _ _ (λ _. tests Judged clean _ _ (λ _. tt) (λ _. omega arith)) (λ _. omega arith))
       (λ _. omega arith)
 
-  alphabet-judged : (bit k b : ℕ) → k ≤ length s → Judged (alphabetLength bit s k b)
-  unfolding alphabetLength
-  alphabet-judged bit k b h =
-      tests Judged (ltb b (2 ^ (8 - bit))) _ _ (λ _. behind-judged bit k 0 _ _ h)
-      λ _. tests Judged (ltb b (3 * 2 ^ (7 - bit))) _ _ (λ _. behind-judged bit k 1 _ _ h) (λ _. behind-judged bit k 4 _ _ h)
+  method-judged : (bit f k b : ℕ) → k ≤ length s → Judged (methodLength bit f s k b)
+  unfolding methodLength
+  method-judged bit f k b h =
+      tests Judged (ltb b (2 ^ (8 - bit))) _ _ (λ _. behind-judged bit f k 0 _ _ h)
+      λ _. tests Judged (ltb b (3 * 2 ^ (7 - bit))) _ _ (λ _. behind-judged bit f k 1 _ _ h) (λ _. behind-judged bit f k 4 _ _ h)
 
   module _ (ver : Version) where
     pub id-within : (t : StringTable) (k : ℕ) (v : Vocabulary Located) → k ≤ length s → Within (idAt ver s t k v)
@@ -104,9 +103,7 @@ module _ (s : List ℕ) where
     spelled-within bit t k added v h =
         tests Within (eqb (getD s k 0 / 2 ^ (9 - bit) % 4) 0) _ _ (λ _. formed-within Utf8 t k added (fieldAt (lengths bit) noTop bit s k) v h (field-judged bit k h))
         λ _. tests Within (eqb (getD s k 0 / 2 ^ (9 - bit) % 4) 1) _ _ (λ _. formed-within Utf16 t k added (fieldAt (lengths bit) noTop bit s k) v h (field-judged bit k h))
-        λ _. tests Within (eqb (getD s k 0 / 2 ^ (9 - bit) % 4) 2) _ _
-        (λ _. formed-within (formOf (2 + alphabetAt bit s k)) t k added (alphabetLength bit s k (getD s (suc k) 0 % 2 ^ (9 - bit))) v h (alphabet-judged bit k _ h))
-        (λ _. omega arith)
+        λ _. formed-within (formBy (methodAt bit s k)) t k added (methodLength bit (getD s k 0 / 2 ^ (9 - bit) % 4) s k (getD s (suc k) 0 % 2 ^ (9 - bit))) v h (method-judged bit _ k _ h)
 
     pub literal-within : (q : Layout) (t : StringTable) (k : ℕ) (v : Vocabulary Located) → k ≤ length s → Within (literalAt ver q s t k v)
     unfolding literalAt

@@ -46,7 +46,7 @@ use Rattle.read_names.specs.declared.Entry.the-variants.{Got as Numbered
 use Rattle.read_names.specs.declared.Field.{Field}
 use Rattle.read_names.specs.declared.Field.the-variants.{Got, Refused}
 use Rattle.read_names.specs.Strings as S
-use Rattle.read_names.specs.Strings.{got, refused, then, number, spelling, IdRead, StringRead, idAt, optionalAt, numberBit, alphabetAt, alphabetLength, formedAt, spelledAt, literalAt, valueAt}
+use Rattle.read_names.specs.Strings.{got, refused, then, number, spelling, IdRead, StringRead, idAt, optionalAt, numberBit, methodAt, formBy, methodLength, formedAt, spelledAt, literalAt, valueAt}
 use Rattle.read_names.specs.Contracts.{Ranged, searched, Tidy, Left, eventStringAt, Seen, seenId, IdLeft, Positive, seenField, FieldLeft, idSeen, optionalSeen, stringSeen}
 use Rattle.read_names.specs.StringContracts.{LengthRead, stretchOf, NumberPositive, heldOf, saidOf, addedOf, addedCounts, addedWords}
 use Rattle.index.proofs.Counted.{count-at, one-more-words}
@@ -520,14 +520,10 @@ module _ (s c w x : List ℕ) (t k : ℕ) (tidy : Tidy s c w x) (small : t < 8) 
         unfolding spelledAt
         spelled-utf16 e q p = rw (format-is, e, ← q) p
 
-        pub spelled-alphabet : (form : StringForm) → f ≡ 2 → form ≡ formOf (2 + alphabetAt bit s k) → m ≡ alphabetLength bit s k (getD s (suc k) 0 % 2 ^ (9 - bit))
+        pub spelled-method : (form : StringForm) → (f ≡ 0 → ⊥) → (f ≡ 1 → ⊥) → form ≡ formBy (methodAt bit s k) → m ≡ methodLength bit f s k (getD s (suc k) 0 % 2 ^ (9 - bit))
             → FieldAnswers s c w a d v x (stringSeen (formedAt link form s (tableOf t) k add m here)) → FieldAnswers s c w a d v x bySpelled
         unfolding spelledAt
-        spelled-alphabet form e ef q p = rw (format-is, e, ← ef, ← q) p
-
-      pub spelled-other : (f ≡ 0 → ⊥) → (f ≡ 1 → ⊥) → (f ≡ 2 → ⊥) → FieldAnswers s c w (Refused 8 k) c w x bySpelled
-      unfolding spelledAt
-      spelled-other a b d = rw (format-is, ne-eqb _ _ a, ne-eqb _ _ b, ne-eqb _ _ d) (refl, rooms)
+        spelled-method form a₀ a₁ ef q p = rw (format-is, ne-eqb _ _ a₀, ne-eqb _ _ a₁, ← ef, ← q) p
 
   -- which string the first octet says
   module _ (q : Layout) where

@@ -1,6 +1,6 @@
 -- Reading a string: C.13, C.14, C.15 over C.19, C.20. Each field's tests stand in the required order; the first that fails gives the refusal, at the field's first octet.
 use Prim.Native.Nat.{ℕ, suc, _+_, _-_, _*_, _/_, _%_, _^_}
-use mathlib.Core.Bool.{Bool, true, false, not, _||_}
+use mathlib.Core.Bool.{Bool, true, false, not, _||_, _&&_}
 use mathlib.Core.Option.{Option, none, some}
 use mathlib.Core.List.{map}
 use lib.ListN.{length, getD}
@@ -38,27 +38,35 @@ number (NoNum n p) f = refused n p
 unfoldable pub spelling : {C : Type 0} → StringForm → Octets → (k next n : ℕ) → Got C → Got C
 spelling form s k next n a = pick (leb (next + n) (length s)) (pick (isText (octetsOf s (stretch form next n))) a (refused TEXT k)) (refused TRUNCATED k)
 
--- ---- a string in an alphabet, at octet k; its length starts at a bit of the octet behind
--- The eight bits of the alphabet's number less 1: the last ones of the first octet, and those of the second before the length.
-unfoldable pub alphabetAt : (bit : ℕ) → Octets → ℕ → ℕ
-alphabetAt bit s k = getD s k 0 % 2 ^ (9 - bit) * 2 ^ (bit - 1) + getD s (suc k) 0 / 2 ^ (9 - bit)
+-- ---- a string in an alphabet or by an algorithm, at octet k; its length starts at a bit of the octet behind
+-- The eight bits of the alphabet's or algorithm's number less 1: the last ones of the first octet, and those of the second before the length.
+unfoldable pub methodAt : (bit : ℕ) → Octets → ℕ → ℕ
+methodAt bit s k = getD s k 0 % 2 ^ (9 - bit) * 2 ^ (bit - 1) + getD s (suc k) 0 / 2 ^ (9 - bit)
 
--- The length is n and has `more` octets behind the second: an octet of the field is missing (2), another alphabet (8), padding (6).
-unfoldable pub alphabetBehind : (bit : ℕ) → Octets → (k more n : ℕ) → (clean : Bool) → Number
-alphabetBehind bit s k more n clean =
+-- Which of them are read: alphabets 1 and 2 (format 2), and algorithms 3, 4 and 5 (format 3).
+unfoldable pub isRead : (format method : ℕ) → Bool
+isRead format method = pick (eqb format 2) (ltb method 2) (leb 2 method && ltb method 5)
+
+-- The form: alphabets 1 and 2 and algorithms 3, 4 and 5 are the forms 2 to 6. What this gives for one that is not read does not matter.
+unfoldable pub formBy : (method : ℕ) → StringForm
+formBy method = formOf (2 + method)
+
+-- The length is n and has `more` octets behind the second: an octet of the field is missing (2), another alphabet or algorithm (8), padding (6).
+unfoldable pub methodBehind : (bit format : ℕ) → Octets → (k more n : ℕ) → (clean : Bool) → Number
+methodBehind bit format s k more n clean =
     pick (leb (k + 2 + more + n) (length s))
-    (pick (ltb (alphabetAt bit s k) 2)
+    (pick (isRead format (methodAt bit s k))
     (pick clean (Num n (record { at = k + 2 + more })) (NoNum PADDING k))
     (NoNum FORMAT k))
     (NoNum TRUNCATED k)
 
 -- b are the length's bits in the second octet: coded 0 and the length; or 10 or 11, zero bits, and one or four octets. The octets are counted by the code, whatever the zero bits are.
-unfoldable pub alphabetLength : (bit : ℕ) → Octets → (k b : ℕ) → Number
-alphabetLength bit s k b =
-    pick (ltb b (2 ^ (8 - bit))) (alphabetBehind bit s k 0 (1 + b) true)
+unfoldable pub methodLength : (bit format : ℕ) → Octets → (k b : ℕ) → Number
+methodLength bit format s k b =
+    pick (ltb b (2 ^ (8 - bit))) (methodBehind bit format s k 0 (1 + b) true)
     (pick (ltb b (3 * 2 ^ (7 - bit)))
-    (alphabetBehind bit s k 1 (1 + 2 ^ (8 - bit) + valueFrom s (k + 2) 0 1) (eqb b (2 * 2 ^ (7 - bit))))
-    (alphabetBehind bit s k 4 (1 + 2 ^ (8 - bit) + 2 ^ 8 + valueFrom s (k + 2) 0 4) (eqb b (3 * 2 ^ (7 - bit)))))
+    (methodBehind bit format s k 1 (1 + 2 ^ (8 - bit) + valueFrom s (k + 2) 0 1) (eqb b (2 * 2 ^ (7 - bit))))
+    (methodBehind bit format s k 4 (1 + 2 ^ (8 - bit) + 2 ^ 8 + valueFrom s (k + 2) 0 4) (eqb b (3 * 2 ^ (7 - bit)))))
 
 -- An identifying string: what it is, how it was written, and its number in the table.
 pub record IdRead : Type 0 where
@@ -109,14 +117,13 @@ module _ (ver : Version) where
       (got (record { string = stretch form next n; how = spelled form added }) (next + n) (keeping added v t (stretch form next n)))
       (refused FULL k))
 
-  -- By the format, the two bits before the length's: utf-8 or utf-16, whose length is judged first (2, 6, 2); an alphabet (2, 8, 6); another format (8).
+  -- By the format, the two bits before the length's: utf-8 or utf-16, whose length is judged first (2, 6, 2); an alphabet or an algorithm (2, 8, 6).
   unfoldable pub spelledAt : (lengthBit : ℕ) → Octets → StringTable → ℕ → Bool → Vocabulary Located → Got StringRead
   spelledAt bit s t k added v =
       let format : ℕ = getD s k 0 / 2 ^ (9 - bit) % 4 in
       pick (eqb format 0) (formedAt Utf8 s t k added (fieldAt (lengths bit) noTop bit s k) v)
       (pick (eqb format 1) (formedAt Utf16 s t k added (fieldAt (lengths bit) noTop bit s k) v)
-      (pick (eqb format 2) (formedAt (formOf (2 + alphabetAt bit s k)) s t k added (alphabetLength bit s k (getD s (suc k) 0 % 2 ^ (9 - bit))) v)
-      (refused FORMAT k)))
+      (formedAt (formBy (methodAt bit s k)) s t k added (methodLength bit format s k (getD s (suc k) 0 % 2 ^ (9 - bit))) v))
 
   -- C.14 or C.15 by the first octet: spelled and not added, spelled and added, numbered.
   unfoldable pub literalAt : Layout → Octets → StringTable → ℕ → Vocabulary Located → Got StringRead

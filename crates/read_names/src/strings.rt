@@ -9,7 +9,7 @@ ghost use Rattle.tables.specs.Rows.{tableOf, stringAt};
 ghost use Rattle.tables.specs.Kept.{countOf, unlisted};
 ghost use Rattle.events.specs.Records.{eventString};
 ghost use Rattle.fields.specs.Fields.{bitsOf, valueFrom};
-ghost use Rattle.read_names.specs.Strings.{alphabetAt, alphabetBehind, alphabetLength, idAt, optionalAt, literalAt, valueAt};
+ghost use Rattle.read_names.specs.Strings.{methodAt, isRead, methodBehind, methodLength, idAt, optionalAt, literalAt, valueAt};
 ghost use Rattle.read_names.specs.Contracts.{Tidy, ReadsId, ReadsOptional, ReadsField};
 ghost use Rattle.read_names.specs.StringContracts.{LengthRead, stretchOf, NumberPositive, heldOf, saidOf, addedOf, addedCounts, addedWords, ReadsFormed, ReadsSpelled};
 use crate::Entry;
@@ -247,20 +247,41 @@ pub fn formed(
     }
 }
 
-// The eight bits of an alphabet's number less 1, which stand before the length.
-fn alphabet(s: &[u8], at: usize, bit: u32) -> u32
+// The eight bits of the alphabet's or algorithm's number less 1, which stand before the length.
+fn method(s: &[u8], at: usize, bit: u32) -> u32
     requires { ⌜ (5 ≤ bit) × (bit ≤ 7) × (at ≤ 16384) ⌝ }
-    ensures { λ r. ⌜ (r ≡ alphabetAt bit (now (s .entry)) at) × (r < 256) ⌝ }
+    ensures { λ r. ⌜ (r ≡ methodAt bit (now (s .entry)) at) × (r < 256) ⌝ }
 {
     let high = bits(octet(s, at), bit, 8) as u32;
     let low = (octet(s, at + 1) >> (9 - bit)) as u32;
     (high << (bit - 1)) + low
 }
 
-// The length of a string in an alphabet has `more` octets behind the second, from `low` on: all octets of the field are there, the alphabet is one that is read, and the padding is right.
-fn alphabet_behind(s: &[u8], at: usize, bit: u32, more: usize, low: u64, clean: bool) -> Number
+// Alphabets 1 and 2 are read, by format 2, and algorithms 3, 4 and 5.
+fn is_read(format: u8, method: u32) -> bool
+    ensures { λ r. ⌜ r ≡ isRead format method ⌝ }
+{
+    if format == 2 {
+        return method < 2;
+    }
+    if method < 2 {
+        return false;
+    }
+    method < 5
+}
+
+// The length of a string in such a format has `more` octets behind the second, from `low` on: all octets of the field are there, the alphabet or algorithm is one that is read, and the padding is right.
+fn method_behind(
+    s: &[u8],
+    at: usize,
+    bit: u32,
+    format: u8,
+    more: usize,
+    low: u64,
+    clean: bool,
+) -> Number
     requires { ⌜ (5 ≤ bit) × (bit ≤ 7) × (more ≤ 4) × (low < 2 ^ 40) × (at ≤ length (now s)) × (length (now s) ≤ 16384) ⌝ }
-    ensures { λ r. ⌜ r ≡ alphabetBehind bit (now (s .entry)) at more (low + valueFrom (now (s .entry)) (at + 2) 0 more) clean ⌝ }
+    ensures { λ r. ⌜ r ≡ methodBehind bit format (now (s .entry)) at more (low + valueFrom (now (s .entry)) (at + 2) 0 more) clean ⌝ }
 {
     let next = at + 2 + more;
     if s.len() < next {
@@ -270,7 +291,7 @@ fn alphabet_behind(s: &[u8], at: usize, bit: u32, more: usize, low: u64, clean: 
     if ((s.len() - next) as u64) < n {
         return Number::Refused(TRUNCATED, at);
     }
-    if 1 < alphabet(s, at, bit) {
+    if !is_read(format, method(s, at, bit)) {
         return Number::Refused(FORMAT, at);
     }
     if !clean {
@@ -279,20 +300,20 @@ fn alphabet_behind(s: &[u8], at: usize, bit: u32, more: usize, low: u64, clean: 
     Number::Got(n, Cursor { at: next })
 }
 
-// C.19, C.20 behind an alphabet's number: a length from a bit of the second octet, coded 0, 10 or 11. `half` is as many values as the bits behind 10 and 11 have.
-fn alphabet_length(s: &[u8], at: usize, bit: u32) -> Number
+// C.19, C.20 behind that number: a length from a bit of the second octet, coded 0, 10 or 11. `half` is as many values as the bits behind 10 and 11 have.
+fn method_length(s: &[u8], at: usize, bit: u32, format: u8) -> Number
     requires { ⌜ (5 ≤ bit) × (bit ≤ 7) × (at ≤ length (now s)) × (length (now s) ≤ 16384) ⌝ }
-    ensures { λ r. ⌜ r ≡ alphabetLength bit (now (s .entry)) at (getD (now (s .entry)) (suc at) 0 % 2 ^ (9 - bit)) ⌝ }
+    ensures { λ r. ⌜ r ≡ methodLength bit format (now (s .entry)) at (getD (now (s .entry)) (suc at) 0 % 2 ^ (9 - bit)) ⌝ }
 {
     let b = bits(octet(s, at + 1), bit, 8) as u64;
     let half = 1u64 << (7 - bit);
     if b < 2 * half {
-        return alphabet_behind(s, at, bit, 0, 1 + b, true);
+        return method_behind(s, at, bit, format, 0, 1 + b, true);
     }
     if b < 3 * half {
-        return alphabet_behind(s, at, bit, 1, 1 + 2 * half, b == 2 * half);
+        return method_behind(s, at, bit, format, 1, 1 + 2 * half, b == 2 * half);
     }
-    alphabet_behind(s, at, bit, 4, 1 + 2 * half + 256, b == 3 * half)
+    method_behind(s, at, bit, format, 4, 1 + 2 * half + 256, b == 3 * half)
 }
 
 // C.19, C.20 in another form than utf-8, by the format, the two bits before the length.
@@ -308,19 +329,15 @@ pub fn in_form(
     requires { ⌜ (length (now t) ≡ tableWords) × (length (now counts) ≡ 10) × (length (now s) ≤ 16384) × (at ≤ length (now s)) × (table < 8) × (5 ≤ bit) × (bit ≤ 7) × (bitsOf (getD (now s) at 0) (bit - 2) (bit - 1) ≡ 0 → ⊥) ⌝ }
     ensures { λ a. ⌜ ReadsSpelled (now (s .entry)) (now (counts .entry)) (now (t .entry)) table at bit add a (now (counts .exit)) (now (t .exit)) ⌝ }
 {
-    let c = Cursor { at };
-    match bits(octet(s, at), bit - 2, bit - 1) {
-        1 => {
-            let r = c.length(s, bit);
-            formed(s, t, counts, table, at, StringForm::Utf16, r, add)
-        }
-        2 => {
-            let form = StringForm::of(2 + alphabet(s, at, bit));
-            let r = alphabet_length(s, at, bit);
-            formed(s, t, counts, table, at, form, r, add)
-        }
-        _ => Field::Refused(FORMAT, at),
+    let format = bits(octet(s, at), bit - 2, bit - 1);
+    if format == 1 {
+        let c = Cursor { at };
+        let r = c.length(s, bit);
+        return formed(s, t, counts, table, at, StringForm::Utf16, r, add);
     }
+    let form = StringForm::of(2 + method(s, at, bit));
+    let r = method_length(s, at, bit, format);
+    formed(s, t, counts, table, at, form, r, add)
 }
 
 // C.14, spelled: o is the first octet. The length's bits count only where the format is one that is read.

@@ -5,7 +5,7 @@ use Prim.Native.Nat.{ℕ, _≤_, _<_}
 use native.Mathlib.Omega.{arith}
 use native.Mathlib.Decide.{decLt}
 use Rattle.format.specs.declared.StringForm.{StringForm}
-use Rattle.format.specs.declared.StringForm.the-variants.{Utf8, Utf16, Numeric, Dates}
+use Rattle.format.specs.declared.StringForm.the-variants.{Utf8, Utf16, Numeric, Dates, Short, Int, Long}
 use Rattle.format.specs.Forms.{formNumber, formOf}
 use Rattle.tables.specs.Rows.{tableOf, formIn}
 use Rattle.tables.proofs.ByNumber.{by-number}
@@ -16,6 +16,9 @@ form-back Utf8 = refl
 form-back Utf16 = refl
 form-back Numeric = refl
 form-back Dates = refl
+form-back Short = refl
+form-back Int = refl
+form-back Long = refl
 
 pub form-of : (n : ℕ) (f : StringForm) → n ≡ formNumber f → formOf n ≡ f
 form-of n f e = ap formOf e ∙ form-back f

@@ -4,7 +4,7 @@ ghost use mathlib.Core.Path.{_≡_};
 ghost use mathlib.Core.List.{map};
 ghost use Prim.Native.Nat.{_+_, _-_, _*_, _<_, _≤_};
 ghost use lib.ListN.{length, getD, replicate};
-ghost use Rattle.format.specs.Tables.{link, same, sameTriple};
+ghost use Rattle.format.specs.Tables.{OTHER-STRING, link, same, sameTriple};
 ghost use Rattle.format.specs.declared.StringForm.the-variants.{Utf8};
 ghost use Rattle.format.specs.Forms.{formOf};
 ghost use Rattle.tables.specs.Located.{stretch, octetsOf, start};
@@ -301,7 +301,7 @@ pub fn is_spelled(s: &[u8], t: &[u32], j: usize, place: usize, len: usize, last:
 // row that has no length is none of these.
 pub fn is_said(s: &[u8], t: &[u32], j: usize, form: StringForm, place: usize, len: usize) -> bool
     requires { ⌜ (length (now t) ≡ tableWords) × (j + 3 ≤ tableWords) × (1 ≤ len) × (place + len ≤ length (now s)) × IsSound (now s) (stretch form place len) × ((getD (now t) (j + 1) 0 ≡ 0 → ⊥) → (getD (now t) j 0 + getD (now t) (j + 1) 0 ≤ length (now s)) × IsSound (now s) (stretch (formOf (getD (now t) (j + 2) 0)) (getD (now t) j 0) (getD (now t) (j + 1) 0))) ⌝ }
-    ensures { λ r. ⌜ r ≡ same (octetsOf (now (s .entry)) (stretch (formOf (getD (now (t .entry)) (j + 2) 0)) (getD (now (t .entry)) j 0) (getD (now (t .entry)) (j + 1) 0))) (octetsOf (now (s .entry)) (stretch form place len)) ⌝ }
+    ensures { λ r. ⌜ r ≡ same (octetsOf (now (s .entry)) (stringAt OTHER-STRING (now (t .entry)) j)) (octetsOf (now (s .entry)) (stretch form place len)) ⌝ }
 {
     let n = wide(t[j + 1]);
     if n == 0 {

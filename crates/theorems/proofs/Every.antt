@@ -30,7 +30,7 @@ use Rattle.theorems.proofs.Documents.{events}
 use Rattle.theorems.proofs.Begun as B
 use Rattle.theorems.proofs.Chosen.{fits-before}
 use Rattle.theorems.proofs.Produced.{Said}
-use Rattle.theorems.proofs.Sayable.{Short, by-kind, said}
+use Rattle.theorems.proofs.Sayable.{Sayable, by-kind, said}
 use Rattle.theorems.proofs.Step.{Ahead, words-settled, front, next-state, ahead-next}
 use Rattle.theorems.proofs.Joined.{document-of}
 use Rattle.theorems.proofs.HeadKeeps.{few-started, none-started}
@@ -88,9 +88,9 @@ module _ (ver : Version) (small : ver .entries ≤ top) where
 
 -- ---- a whole document
 -- the strings are text and no longer than a length can say
-sayable : (es : List (Event Octets)) → All Allowed es → All (λ e. All Short (stringsOf e)) es → All Said es
+sayable : (es : List (Event Octets)) → All Allowed es → All (λ e. All Sayable (stringsOf e)) es → All Said es
 sayable [] a b = tt
-sayable (e ∷ es) a b = (said e (a .0) (by-kind Short e (b .0)), sayable es (a .1) (b .1))
+sayable (e ∷ es) a b = (said e (a .0) (by-kind Sayable e (b .0)), sayable es (a .1) (b .1))
 
 module _ (ver : Version) (ok : Bounded ver) (h : Head) (right : HeadAllowed ver h) where
   -- what stands before the body
@@ -100,7 +100,7 @@ module _ (ver : Version) (ok : Bounded ver) (h : Head) (right : HeadAllowed ver 
   abbrev opens-it : Opens ver h lead (headed ver h)
   opens-it = every-head ok right .1
 
-  module _ (items : List (Item Octets)) {w : Vocabulary Octets} (doc : IsDocument (events items)) (allowed : All Allowed (events items)) (short : All (λ e. All Short (stringsOf e)) (events items)) (may : PermitsAll (headed ver h) items w) where
+  module _ (items : List (Item Octets)) {w : Vocabulary Octets} (doc : IsDocument (events items)) (allowed : All Allowed (events items)) (short : All (λ e. All Sayable (stringsOf e)) (events items)) (may : PermitsAll (headed ver h) items w) where
     -- within the limits of another version
     from-start : (M : Version) → M .entries ≤ top → deepest 0 (events items) ≤ M .depth → InLimits M w → CanWrite M (2 * length lead) (beginning (headed ver h)) items w
     unfolding beginning
@@ -127,7 +127,7 @@ module _ (ver : Version) (ok : Bounded ver) (h : Head) (right : HeadAllowed ver 
         record { octets = lead ++ joined (c .halves); last = c .last; writes = λ long. document-of opens-it (c .rule) long; known = c .known }
 
   -- So every document is, with the required choices.
-  module _ (es : List (Event Octets)) (doc : IsDocument es) (allowed : All Allowed es) (short : All (λ e. All Short (stringsOf e)) es) where
+  module _ (es : List (Event Octets)) (doc : IsDocument es) (allowed : All Allowed es) (short : All (λ e. All Sayable (stringsOf e)) es) where
     abbrev same : events (itemsOf ver h es) ≡ es
     same = chosen-events ver (headed ver h) es
 
@@ -140,8 +140,8 @@ module _ (ver : Version) (ok : Bounded ver) (h : Head) (right : HeadAllowed ver 
     abbrev allowed′ : All Allowed (events (itemsOf ver h es))
     allowed′ = subst (All Allowed) (sym same) allowed
 
-    abbrev short′ : All (λ e. All Short (stringsOf e)) (events (itemsOf ver h es))
-    short′ = subst (All (λ e. All Short (stringsOf e))) (sym same) short
+    abbrev short′ : All (λ e. All Sayable (stringsOf e)) (events (itemsOf ver h es))
+    short′ = subst (All (λ e. All Sayable (stringsOf e))) (sym same) short
 
     pub every-document : {n : ℕ} → AtMost n (headed ver h) → n + length es ≤ top → WrittenWidely ver h es
     every-document most few =

@@ -2,10 +2,10 @@
 use mathlib.Core.Path.{_≡_, refl, sym, ap, ap₂, _∙_}
 use mathlib.Core.Bool.{Bool, true, false, not, _||_}
 use mathlib.Core.List.{List, _∷_, _++_}
-use Prim.Native.Nat.{ℕ, zero, suc, _+_, _-_, _*_, _/_, _%_, _^_, _≤_, _<_}
+use Prim.Native.Nat.{ℕ, suc, _+_, _-_, _*_, _/_, _%_, _^_, _≤_, _<_}
 use native.Mathlib.Nat.{add-mul, mul-le-mul-right, div-add-mod', le-div-iff-mul-le, div-lt-iff-lt-mul, div-eq-of-lt-le, mul-mod-left}
 use native.Mathlib.Omega.{arith}
-use borrow.Author.Tests.{lt-ltb, ltb-true}
+use borrow.Author.Tests.{lt-ltb, ltb-true, ne-eqb}
 use lib.Dec.{ltb}
 use lib.ListN.{length, getD, take, drop, length-append}
 use lib.Pow.{pow-pos}
@@ -17,7 +17,7 @@ use Rattle.format.specs.Events.{spelled}
 use Rattle.format.specs.Tables.{StringTable, Vocabulary, strings, Version}
 use Rattle.format.specs.Strings.{withLength, Spelling, inFormat, keeping}
 use Rattle.format.specs.declared.StringForm.{StringForm}
-use Rattle.format.specs.declared.StringForm.the-variants.{Utf8, Utf16, Numeric, Dates}
+use Rattle.format.specs.declared.StringForm.the-variants.{Utf8, Utf16, Numeric, Dates, Short, Int, Long}
 use Rattle.fields.specs.declared.Number.{Number}
 use Rattle.fields.specs.declared.Number.the-variants.{Got as Num}
 use Rattle.fields.specs.Fields.{fieldAt, noTop}
@@ -25,11 +25,11 @@ use Rattle.fields.proofs.Laws.{roomsIn}
 use Rattle.fields.proofs.Forms.{rooms}
 use Rattle.fields.proofs.Lengths.{lengths-are, lengths-ordered}
 use Rattle.tables.specs.Located.{Located, stretch, octetsOf}
-use Rattle.read_names.specs.Strings.{Got, got, refused, StringRead, alphabetAt, alphabetLength, formedAt, spelledAt}
+use Rattle.read_names.specs.Strings.{Got, got, refused, StringRead, methodAt, formBy, methodLength, formedAt, spelledAt}
 use Rattle.theorems.proofs.Lists.{Fault, fault, test, either-eq, drop-head}
 use Rattle.theorems.proofs.Numbers.{NumRead, Told, num-sound}
 use Rattle.theorems.proofs.Fields.{on-told, Stands, spelling-sound, Spelt, spelt, says, spelling-is}
-use Rattle.theorems.proofs.Alphabets.{powers, AlphabetRead, alphabet-sound, alphabet-is, alphabet-complete}
+use Rattle.theorems.proofs.Methods.{powers, Method, alphabet-1, alphabet-2, algorithm-3, algorithm-4, algorithm-5, read-method, method-read, LengthRead, method-sound, method-is, method-complete}
 
 -- ---- the format: two bits of the octet o, behind others; u is what the bits behind it can hold
 module _ (o L f u : ℕ) (p : 0 < u) where
@@ -51,7 +51,7 @@ module _ (o L f u : ℕ) (p : 0 < u) where
 
 -- what stands in an octet before the format, where the length behind the format starts at this bit
 pub record Leads (bit base : ℕ) : Type 0 where
-  pub from : 2 ≤ bit
+  pub from : 5 ≤ bit
   pub to : bit ≤ 7
   pub lead : ℕ
   pub base-is : base ≡ 4 * lead * 2 ^ (9 - bit)
@@ -61,7 +61,7 @@ pub long-enough : (bit : ℕ) → longest ≤ sizes (lengths bit)
 unfolding sizes lengths
 long-enough bit = omega arith
 
-rooms-fit : (bit : ℕ) → 2 ≤ bit → bit ≤ 7 → rooms (lengths bit) ≤ 2 ^ (9 - bit)
+rooms-fit : (bit : ℕ) → 5 ≤ bit → bit ≤ 7 → rooms (lengths bit) ≤ 2 ^ (9 - bit)
 unfolding roomsIn
 rooms-fit bit l u =
     let p = powers bit l u in
@@ -78,13 +78,18 @@ field-longer bit Utf8 lead y = length-longer bit lead y
 field-longer bit Utf16 lead y = length-longer bit (lead + 2 ^ (9 - bit)) y
 field-longer bit Numeric lead y = let l = length-longer bit 0 y in omega arith
 field-longer bit Dates lead y = let l = length-longer bit (2 ^ (9 - bit)) y in omega arith
+field-longer bit Short lead y = let l = length-longer bit (2 * 2 ^ (9 - bit)) y in omega arith
+field-longer bit Int lead y = let l = length-longer bit (3 * 2 ^ (9 - bit)) y in omega arith
+field-longer bit Long lead y = let l = length-longer bit (4 * 2 ^ (9 - bit)) y in omega arith
 
--- what the rules write of a string in the alphabet a
-letters-field : (bit a lead : ℕ) (y : Octets) → a < 2 → inFormat bit (formOf (2 + a)) lead y ≡ (lead + 2 * 2 ^ (9 - bit)) ∷ withLength (lengths bit) (a * 2 ^ (9 - bit)) y
-unfolding inFormat formOf
-letters-field bit zero lead y h = ap (λ (n : ℕ). (lead + 2 * 2 ^ (9 - bit)) ∷ withLength (lengths bit) n y) (omega arith)
-letters-field bit (suc zero) lead y h = ap (λ (n : ℕ). (lead + 2 * 2 ^ (9 - bit)) ∷ withLength (lengths bit) n y) (omega arith)
-letters-field bit (suc (suc a)) lead y h = absurd (omega arith)
+-- what the rules write of a string in an alphabet or by an algorithm
+method-field : {f a : ℕ} → Method f a → (bit lead : ℕ) (y : Octets) → inFormat bit (formBy a) lead y ≡ (lead + f * 2 ^ (9 - bit)) ∷ withLength (lengths bit) (a * 2 ^ (9 - bit)) y
+unfolding inFormat formBy formOf
+method-field alphabet-1 bit lead y = ap (λ (n : ℕ). (lead + 2 * 2 ^ (9 - bit)) ∷ withLength (lengths bit) n y) (omega arith)
+method-field alphabet-2 bit lead y = ap (λ (n : ℕ). (lead + 2 * 2 ^ (9 - bit)) ∷ withLength (lengths bit) n y) (omega arith)
+method-field algorithm-3 bit lead y = refl
+method-field algorithm-4 bit lead y = refl
+method-field algorithm-5 bit lead y = refl
 
 or-true : (a b : Bool) → (not a || b) ≡ true → a ≡ true → b ≡ true
 or-true true b e f = e
@@ -127,21 +132,21 @@ module _ (ver : Version) (s : Octets) (t : StringTable) (k : ℕ) (added : Bool)
           (num-sound s bytes (lengths bit) (lengths-ordered bit (omega arith) (g .to)) noTop bit b k kl (omega arith))
           λ n place q st r. h n place st r
 
-      -- an alphabet
-      letters-sound : getD s k 0 / 2 ^ (9 - bit) % 4 ≡ 2
+      -- an alphabet or an algorithm
+      method-read-sound : (f : ℕ) → 2 ≤ f → f < 4 → getD s k 0 / 2 ^ (9 - bit) % 4 ≡ f
           → ((form : StringForm) (n place : ℕ) → Stands s form (inFormat bit form base) k place n → HasRoom → P (reads form place n))
-          → P (formedAt ver (formOf (2 + alphabetAt bit s k)) s t k added (alphabetLength bit s k (getD s (suc k) 0 % 2 ^ (9 - bit))) v)
-      letters-sound e h =
-          let a : ℕ = alphabetAt bit s k in
-          let form : StringForm = formOf (2 + a) in
+          → P (formedAt ver (formBy (methodAt bit s k)) s t k added (methodLength bit f s k (getD s (suc k) 0 % 2 ^ (9 - bit))) v)
+      method-read-sound f from to e h =
+          let a : ℕ = methodAt bit s k in
+          let form : StringForm = formBy a in
           let i = g .base-is in
-          let z = format-sound (getD s k 0) (g .lead) 2 (2 ^ (9 - bit)) (pow-pos (9 - bit)) (omega arith) (omega arith) e in
-          formed-sound form (lengths bit) (a * 2 ^ (9 - bit)) (suc k) (AlphabetRead s bit (g .from) (g .to) k) (λ n place q. q .reads) _
-          (alphabet-sound s bit (g .from) (g .to) k bytes kl)
+          let z = format-sound (getD s k 0) (g .lead) f (2 ^ (9 - bit)) (pow-pos (9 - bit)) (omega arith) (omega arith) e in
+          formed-sound form (lengths bit) (a * 2 ^ (9 - bit)) (suc k) (LengthRead s bit f (g .from) (g .to) k) (λ n place q. q .reads) _
+          (method-sound s bit f (g .from) (g .to) k bytes from to kl)
           λ n place q st r.
           let y : Octets = take n (drop place s) in
-          let w : inFormat bit form base y ≡ (base + 2 * 2 ^ (9 - bit)) ∷ withLength (lengths bit) (a * 2 ^ (9 - bit)) y = letters-field bit a base y (q .known) in
-          let o : getD s k 0 ≡ base + 2 * 2 ^ (9 - bit) = (let f = q .first in omega arith) in
+          let w : inFormat bit form base y ≡ (base + f * 2 ^ (9 - bit)) ∷ withLength (lengths bit) (a * 2 ^ (9 - bit)) y = method-field (read-method f a from to (q .known)) bit base y in
+          let o : getD s k 0 ≡ base + f * 2 ^ (9 - bit) = (let f = q .first in omega arith) in
           let nx = q .reads .next-is in
           let ins = q .reads .inside in
           h form n place
@@ -161,7 +166,7 @@ module _ (ver : Version) (s : Octets) (t : StringTable) (k : ℕ) (added : Bool)
           let one : base + 1 * 2 ^ (9 - bit) ≡ base + 2 ^ (9 - bit) = omega arith in
           either-eq P format 0 _ _ (λ e. plain-sound Utf8 0 e (λ n place st r. h Utf8 n place (rw none at st) r))
           λ n0. either-eq P format 1 _ _ (λ e. plain-sound Utf16 1 e (λ n place st r. h Utf16 n place (rw one at st) r))
-          λ n1. either-eq P format 2 _ _ (λ e. letters-sound e h) (λ n2. nay 8 k (fault s 8 k refl kl))
+          λ n1. method-read-sound format (omega arith) (omega arith) refl h
 
   -- ---- complete
   -- the string x, spelled as the octets y, is read: its octets stand from `place` on, at the end of its field
@@ -205,25 +210,28 @@ module _ (ver : Version) (s : Octets) (t : StringTable) (k : ℕ) (added : Bool)
           here = e .here;
         }
 
-    letters-complete : (a : ℕ) → a < 2 → Spelling (formOf (2 + a)) x y → drop k s ≡ inFormat bit (formOf (2 + a)) base y ++ rest → SpelledHit bit base (formOf (2 + a)) x y
+    method-hit : {f a : ℕ} → Method f a → Spelling (formBy a) x y → drop k s ≡ inFormat bit (formBy a) base y ++ rest → SpelledHit bit base (formBy a) x y
     unfolding spelledAt
-    letters-complete a h sp d =
-        let form : StringForm = formOf (2 + a) in
+    method-hit {f} {a} q sp d =
+        let form : StringForm = formBy a in
+        let known = method-read q in
         let i = g .base-is in
-        let w = letters-field bit a base y h in
-        let c = drop-head s k (base + 2 * 2 ^ (9 - bit)) (withLength (lengths bit) (a * 2 ^ (9 - bit)) y ++ rest) (d ∙ ap (λ (l : Octets). l ++ rest) w) in
+        let w = method-field q bit base y in
+        let c = drop-head s k (base + f * 2 ^ (9 - bit)) (withLength (lengths bit) (a * 2 ^ (9 - bit)) y ++ rest) (d ∙ ap (λ (l : Octets). l ++ rest) w) in
         let o = c .1 in
         let e = length-at form a (a * 2 ^ (9 - bit)) (suc k) refl sp (c .2) in
         let fit = rooms-fit bit (g .from) (g .to) in
-        let m = add-mul (4 * g .lead) 2 (2 ^ (9 - bit)) in
+        let m = add-mul (4 * g .lead) f (2 ^ (9 - bit)) in
+        let few = mul-le-mul-right {m = f + 1} {n = 4} (2 ^ (9 - bit)) (let h = known .2 in omega arith) in
+        let more = add-mul f 1 (2 ^ (9 - bit)) in
         let p = pow-pos (9 - bit) in
-        let z = format-complete (getD s k 0) (g .lead) 2 (2 ^ (9 - bit)) p (omega arith) (omega arith) (omega arith) in
-        let first : getD s k 0 % 2 ^ (9 - bit) ≡ 0 = (let q : getD s k 0 ≡ (4 * g .lead + 2) * 2 ^ (9 - bit) = omega arith in rw q (mul-mod-left (4 * g .lead + 2) (2 ^ (9 - bit)))) in
-        let is = alphabet-is s bit (g .from) (g .to) k a first (e .low) (omega arith) in
-        let num = alphabet-complete s bit (g .from) (g .to) k (length y) (e .next) (e .num) (omega arith) (e .room) in
+        let z = format-complete (getD s k 0) (g .lead) f (2 ^ (9 - bit)) p (known .2) (omega arith) (omega arith) in
+        let first : getD s k 0 % 2 ^ (9 - bit) ≡ 0 = (let r : getD s k 0 ≡ (4 * g .lead + f) * 2 ^ (9 - bit) = omega arith in rw r (mul-mod-left (4 * g .lead + f) (2 ^ (9 - bit)))) in
+        let is = method-is s bit f (g .from) (g .to) k a first (e .low) (omega arith) in
+        let num = method-complete s bit f (g .from) (g .to) k (length y) (e .next) (e .num) (rw is (known .0)) (e .room) in
         record {
           place = e .next;
-          goes = rw (z, is, num) (formed-complete form (e .next) sp (e .octets-are) (e .room));
+          goes = rw (z, ne-eqb f 0 (λ n. let l = known .1 in omega arith), ne-eqb f 1 (λ n. let l = known .1 in omega arith), is, num) (formed-complete form (e .next) sp (e .octets-are) (e .room));
           saying = says s form (e .next) x y (e .octets-are) (sp .formed);
           end-is = let end = e .end-is in let long = ap length w in omega arith;
           low = omega arith;
@@ -232,12 +240,15 @@ module _ (ver : Version) (s : Octets) (t : StringTable) (k : ℕ) (added : Bool)
         }
 
     pub spelled-complete : (form : StringForm) → Spelling form x y → drop k s ≡ inFormat bit form base y ++ rest → SpelledHit bit base form x y
-    unfolding spelledAt inFormat formOf
+    unfolding spelledAt inFormat formOf formBy
     spelled-complete Utf8 sp d = let z : base + 0 * 2 ^ (9 - bit) ≡ base = omega arith in plain-complete Utf8 0 (omega arith) sp (rw z (length-at Utf8 (4 * g .lead) base k (g .base-is) sp d)) (rw z) (λ f. rw f)
     spelled-complete Utf16 sp d =
         let z : base + 1 * 2 ^ (9 - bit) ≡ base + 2 ^ (9 - bit) = omega arith in
         let m = add-mul (4 * g .lead) 1 (2 ^ (9 - bit)) in
         let i = g .base-is in
         plain-complete Utf16 1 (omega arith) sp (rw z (length-at Utf16 (4 * g .lead + 1) (base + 2 ^ (9 - bit)) k (omega arith) sp d)) (rw z) (λ f. rw f)
-    spelled-complete Numeric sp d = letters-complete 0 (omega arith) sp d
-    spelled-complete Dates sp d = letters-complete 1 (omega arith) sp d
+    spelled-complete Numeric sp d = method-hit alphabet-1 sp d
+    spelled-complete Dates sp d = method-hit alphabet-2 sp d
+    spelled-complete Short sp d = method-hit algorithm-3 sp d
+    spelled-complete Int sp d = method-hit algorithm-4 sp d
+    spelled-complete Long sp d = method-hit algorithm-5 sp d

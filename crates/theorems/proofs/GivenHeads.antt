@@ -17,19 +17,20 @@ use Rattle.format.specs.Tables.{NameTable, ELEMENT-NAME, ATTRIBUTE-NAME, Triple
 use Rattle.format.specs.Strings.{Spelling}
 use Rattle.format.specs.Forms.{formNumber, numeric, dates}
 use Rattle.format.specs.declared.StringForm.{StringForm}
-use Rattle.format.specs.declared.StringForm.the-variants.{Utf8, Utf16, Numeric, Dates}
+use Rattle.format.specs.declared.StringForm.the-variants.{Utf8, Utf16, Numeric, Dates, Short, Int, Long}
 use Rattle.format.specs.Head.{Listed, Head, plainHead, isIdentifying, c19, started, Opens}
 use Rattle.format.specs.Allowed.{All}
 use Rattle.fields.specs.Utf8.{isText}
 use Rattle.fields.proofs.Characters.{text-exact}
-use Rattle.forms.specs.Packing.{allLetters, alphabetFor, inForm}
+use Rattle.decimal.specs.Words.{shape}
+use Rattle.forms.specs.Packing.{allLetters, alphabetFor, integersFor, inForm}
 use Rattle.tables.specs.Located.{Located, octetsOf, plainTables, start}
 use Rattle.tables.proofs.Found.{clash, both-true}
 use Rattle.tables.proofs.ByNumber.{by-table}
 use Rattle.events.specs.declared.EventString.{EventString}
 use Rattle.events.specs.Records.{locatedOf}
 use Rattle.events.specs.WellMade.{IsString}
-use Rattle.write_names.specs.Choices.{fieldIn, formFor}
+use Rattle.write_names.specs.Choices.{fieldIn, shorter, formFor}
 use Rattle.write_head.specs.Given.{Given}
 use Rattle.write_head.specs.Head.{isNone, inStrings, every, distinct, distinctNames, isTriple, isEntry, listing, headFor, listedOf, tablesOf, wellGiven, textGiven, newGiven, fewGiven, headOctets, faultOfHead}
 use Rattle.theorems.specs.Bounded.{Bounded}
@@ -110,12 +111,17 @@ other-number : {f : StringForm} → (formNumber f ≡ 1 → ⊥) → f ≡ Utf16
 other-number n e = n (ap formNumber e)
 
 not-utf16 : (t : StringTable) (x : Octets) → listing t x .form ≡ Utf16 → ⊥
-unfolding listing formFor alphabetFor
+unfolding listing formFor shorter alphabetFor integersFor
 not-utf16 t x =
     let bit : ℕ = c19 .lengthBit in
     let utf8 : Utf8 ≡ Utf16 → ⊥ = other-number (λ e. omega arith) in
     let letters = either-form (allLetters numeric x) Numeric (pick (allLetters dates x) Dates Utf8) (other-number (λ e. omega arith)) (either-form (allLetters dates x) Dates Utf8 (other-number (λ e. omega arith)) utf8) in
-    either-form (isIdentifying t) Utf8 (formFor bit x) utf8 (either-form (ltb (length (fieldIn bit (alphabetFor x) 0 x)) (length (fieldIn bit Utf8 0 x))) (alphabetFor x) Utf8 letters utf8)
+    let integers =
+    either-form (shape 2 x) Short (pick (shape 4 x) Int (pick (shape 8 x) Long Utf8)) (other-number (λ e. omega arith))
+    (either-form (shape 4 x) Int (pick (shape 8 x) Long Utf8) (other-number (λ e. omega arith)) (either-form (shape 8 x) Long Utf8 (other-number (λ e. omega arith)) utf8)) in
+    let chosen = either-form (ltb (length (fieldIn bit (alphabetFor x) 0 x)) (length (fieldIn bit Utf8 0 x))) (alphabetFor x) Utf8 letters utf8 in
+    either-form (isIdentifying t) Utf8 (formFor bit x) utf8
+    (either-form (ltb (length (fieldIn bit (integersFor x) 0 x)) (length (fieldIn bit (shorter bit Utf8 (alphabetFor x) x) 0 x))) (integersFor x) (shorter bit Utf8 (alphabetFor x) x) integers chosen)
 
 no-utf16 : (v : Vocabulary Octets) → NoUtf16 (headFor v)
 no-utf16 v t = rw (strings-for v t) (from (strings v t))

@@ -34,15 +34,18 @@ given-none = (refl, refl)
 
 -- ---- one entry: a string that is a stretch has its three words, and so has a name
 -- the tags of the forms but utf-8, from 5
-form-tag : (n : ℕ) → n < 3 → formTag (formOf (n + 1)) ≡ n + 5
+form-tag : (n : ℕ) → n < 6 → formTag (formOf (n + 1)) ≡ n + 5
 unfolding formOf
 form-tag zero h = refl
 form-tag (suc zero) h = refl
 form-tag (suc (suc zero)) h = refl
-form-tag (suc (suc (suc n))) h = absurd (omega arith)
+form-tag (suc (suc (suc zero))) h = refl
+form-tag (suc (suc (suc (suc zero)))) h = refl
+form-tag (suc (suc (suc (suc (suc zero))))) h = refl
+form-tag (suc (suc (suc (suc (suc (suc n)))))) h = absurd (omega arith)
 
 module _ (text : Octets) where
-  no-string : (tag place size : ℕ) (b : Bool) → (eqb place 0 && eqb size 0) ≡ b → eqb tag 2 ≡ false → (leb 5 tag && leb tag 7) ≡ false → isString text (stringFrom (tag ∷ place ∷ size ∷ []) 0) ≡ false
+  no-string : (tag place size : ℕ) (b : Bool) → (eqb place 0 && eqb size 0) ≡ b → eqb tag 2 ≡ false → (leb 5 tag && leb tag 10) ≡ false → isString text (stringFrom (tag ∷ place ∷ size ∷ []) 0) ≡ false
   unfolding stringFrom toldBy toldByTag
   no-string tag place size false e n m = rw (n, m, e)
   no-string zero place size true e n m = rw e
@@ -56,11 +59,11 @@ module _ (text : Octets) where
   unfolding stringFrom toldBy
   three-words tag place size s =
       told (eqb tag 2) (λ e. rw (eqb-true tag 2 e))
-      (λ n. told (leb 5 tag && leb tag 7)
+      (λ n. told (leb 5 tag && leb tag 10)
       (λ m.
-      let r = both-true (leb 5 tag) (leb tag 7) m in
+      let r = both-true (leb 5 tag) (leb tag 10) m in
       let l : 5 ≤ tag = leb-true 5 tag (r .0) in
-      let h : tag ≤ 7 = leb-true tag 7 (r .1) in
+      let h : tag ≤ 10 = leb-true tag 10 (r .1) in
       let k : tag - 4 ≡ tag - 5 + 1 = omega arith in
       let back : tag - 5 + 5 ≡ tag = omega arith in
       rw (n, m, k) (ap (λ (i : ℕ). i ∷ place ∷ size ∷ []) (form-tag (tag - 5) (omega arith) ∙ back)))

@@ -12,12 +12,12 @@ use Rattle.format.specs.Tables.{StringTable, NameTable, Triple, Vocabulary, str
 use Rattle.format.specs.Strings.{withLength, inFormat, id-spelled, literal-spelled}
 use Rattle.format.specs.Forms.{Spelled}
 use Rattle.format.specs.declared.StringForm.{StringForm}
-use Rattle.format.specs.declared.StringForm.the-variants.{Utf8, Utf16, Numeric, Dates}
+use Rattle.format.specs.declared.StringForm.the-variants.{Utf8, Utf16, Numeric, Dates, Short, Int, Long}
 use Rattle.format.specs.Head.{Listed, Head, Table, ofStrings, ofNames, tenTables, isIdentifying, c19, sizeOf, some?, presence, StringListed, an-identifying, another, PartListed, no-part, a-part, NameListed, a-surrogate}
 use Rattle.format.specs.Head.{Each, no-entry, an-entry, Entries, TablesListed, no-table, absent, present, Opens, without-head, with-head}
 use Rattle.format.specs.Allowed.{All}
 use Rattle.forms.specs.Packing.{inForm}
-use Rattle.forms.proofs.Forms.{one-spelling, spelled-letters}
+use Rattle.forms.proofs.Forms.{one-spelling, spelled-letters, spelled-integers}
 use Rattle.tables.proofs.Found.{clash}
 use Rattle.write_names.specs.Choices.{fieldIn}
 use Rattle.write_head.specs.Head.{entryOctets, partOctets, nameOctets, joinedBy, countOctets, tableOctets, isNone, octetsBefore}
@@ -90,6 +90,9 @@ in-form Utf8 x y n s = s .1
 in-form Utf16 x y n s = absurd (n refl)
 in-form Numeric x y n s = spelled-letters Numeric x y tt s .1
 in-form Dates x y n s = spelled-letters Dates x y tt s .1
+in-form Short x y n s = spelled-integers Short x (omega arith) y s .1
+in-form Int x y n s = spelled-integers Int x (omega arith) y s .1
+in-form Long x y n s = spelled-integers Long x (omega arith) y s .1
 
 own-field : (b : Bool) (x : Listed) (o : Octets) → (x .form ≡ Utf16 → ⊥) → FieldOf b x o → o ≡ pick b (withLength (lengths 2) 0 (x .says)) (fieldIn (c19 .lengthBit) (x .form) 0 (x .says))
 unfolding fieldIn

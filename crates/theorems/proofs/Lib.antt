@@ -3,7 +3,7 @@ mod Splits
 mod Words
 mod Numbers
 mod Fields
-mod Alphabets
+mod Methods
 mod Formats
 mod Strings
 mod Names

@@ -18,7 +18,6 @@ use Rattle.format.specs.Strings.{bit, Layout, c14, c15}
 use Rattle.format.specs.Names.{has, NameLayout, ofElement, ofAttribute}
 use Rattle.format.specs.Items.{Mode, content, declaring, listing, State, mayStart}
 use Rattle.format.specs.Document.{aligned, beginning}
-use Rattle.format.specs.Forms.{formOf}
 use Rattle.format.specs.Head.{isIdentifying}
 use Rattle.format.specs.declared.StringForm.{StringForm}
 use Rattle.format.specs.declared.StringForm.the-variants.{Utf8, Utf16}
@@ -29,7 +28,7 @@ use Rattle.fields.proofs.Bounds.{field-got}
 use Rattle.tables.specs.Located.{Located, empty, stretch, formAs, octetsOf}
 use Rattle.events.specs.Records.{eventString}
 use Rattle.events.specs.WellMade.{IsString, inside}
-use Rattle.read_names.specs.Strings.{Got, got, refused, then, number, spelling, alphabetAt, alphabetBehind, alphabetLength, IdRead, OptionalRead, StringRead, idAt, optionalAt, formedAt, spelledAt, literalAt, valueAt, numberBit}
+use Rattle.read_names.specs.Strings.{Got, got, refused, then, number, spelling, methodAt, isRead, formBy, methodBehind, methodLength, IdRead, OptionalRead, StringRead, idAt, optionalAt, formedAt, spelledAt, literalAt, valueAt, numberBit}
 use Rattle.tables.proofs.Found.{clash}
 use Rattle.tables.proofs.EntryLaws.{entry-at}
 use Rattle.read_names.specs.Names.{noTriple, NameRead, DeclaredRead, prefixBit, namespaceBit, lonePrefix, partsAt, numberedAt, nameAt, declaredAt, nameBit}
@@ -73,16 +72,16 @@ module _ (s : Octets) where
       go (Num n c) e = field-got max s k fs bit e .0
       go (NoNum n p) e = tt
 
-  behind-some : (bit k others n : ℕ) (clean : Bool) → 1 ≤ n → Some (alphabetBehind bit s k others n clean)
-  unfolding alphabetBehind
-  behind-some bit k others n clean h =
-      test Some (NoNum 2 k) tt (leb (k + 2 + others + n) (length s)) _ λ t1. test Some (NoNum 8 k) tt (ltb (alphabetAt bit s k) 2) _ λ t2. test Some (NoNum 6 k) tt clean _ λ t3. h
+  behind-some : (bit f k others n : ℕ) (clean : Bool) → 1 ≤ n → Some (methodBehind bit f s k others n clean)
+  unfolding methodBehind
+  behind-some bit f k others n clean h =
+      test Some (NoNum 2 k) tt (leb (k + 2 + others + n) (length s)) _ λ t1. test Some (NoNum 8 k) tt (isRead f (methodAt bit s k)) _ λ t2. test Some (NoNum 6 k) tt clean _ λ t3. h
 
-  alphabet-some : (bit k b : ℕ) → Some (alphabetLength bit s k b)
-  unfolding alphabetLength
-  alphabet-some bit k b =
-      either Some (ltb b (2 ^ (8 - bit))) _ _ (λ e. behind-some bit k 0 _ true (omega arith))
-      λ e. either Some (ltb b (3 * 2 ^ (7 - bit))) _ _ (λ e. behind-some bit k 1 _ _ (omega arith)) (λ e. behind-some bit k 4 _ _ (omega arith))
+  method-some : (bit f k b : ℕ) → Some (methodLength bit f s k b)
+  unfolding methodLength
+  method-some bit f k b =
+      either Some (ltb b (2 ^ (8 - bit))) _ _ (λ e. behind-some bit f k 0 _ true (omega arith))
+      λ e. either Some (ltb b (3 * 2 ^ (7 - bit))) _ _ (λ e. behind-some bit f k 1 _ _ (omega arith)) (λ e. behind-some bit f k 4 _ _ (omega arith))
 
 module _ (s : Octets) {C : Type 0} (Q : C → Vocabulary Located → Type 0) where
   number-did : (a : Number) → Some a → (f : ℕ → ℕ → Got C) → ((n next : ℕ) → Did Q (f (suc n) next)) → Did Q (number a f)
@@ -141,7 +140,7 @@ module _ (ver : Version) (s : Octets) where
         let format : ℕ = getD s k 0 / 2 ^ (9 - bit) % 4 in
         either P (eqb format 0) _ _ (λ e. formed-did Utf8 added _ (field-some s (lengths bit) noTop bit k))
         λ e. either P (eqb format 1) _ _ (λ e. formed-did Utf16 added _ (field-some s (lengths bit) noTop bit k))
-        λ e. test P (refused 8 k) tt (eqb format 2) _ λ e. formed-did (formOf (2 + alphabetAt bit s k)) added _ (alphabet-some s bit k _)
+        λ e. formed-did (formBy (methodAt bit s k)) added _ (method-some s bit format k _)
 
     string-did : (q : Layout) → Did (StringDid t v) (literalAt ver q s t k v)
     unfolding literalAt

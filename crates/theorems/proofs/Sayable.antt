@@ -19,13 +19,14 @@ use Rattle.format.specs.Strings.{Spelling}
 use Rattle.format.specs.Names.{has}
 use Rattle.format.specs.Allowed as A
 use Rattle.format.specs.Allowed.{All, SaidIfAny, AllowedName, Allowed}
+use Rattle.format.specs.Forms.{width}
 use Rattle.format.specs.declared.StringForm.{StringForm}
-use Rattle.format.specs.declared.StringForm.the-variants.{Utf8, Utf16, Numeric, Dates}
+use Rattle.format.specs.declared.StringForm.the-variants.{Utf8, Utf16, Numeric, Dates, Short, Int, Long}
 use Rattle.fields.specs.Utf8.{isText}
 use Rattle.fields.proofs.Utf8.{told}
 use Rattle.fields.proofs.Characters.{text-exact}
 use Rattle.forms.specs.Reading as S
-use Rattle.forms.specs.Reading.{isText16, arePlaces}
+use Rattle.forms.specs.Reading.{isText16, arePlaces, areIntegers}
 use Rattle.forms.proofs.Forms as F
 use Rattle.forms.proofs.Forms.{sound-most}
 use Rattle.events.specs.declared.EventString.{EventString}
@@ -63,6 +64,9 @@ module _ (s : Octets) where
   stretch-is (Stretch Utf16 p n) e = clash e
   stretch-is (Stretch Numeric p n) e = clash e
   stretch-is (Stretch Dates p n) e = clash e
+  stretch-is (Stretch Short p n) e = clash e
+  stretch-is (Stretch Int p n) e = clash e
+  stretch-is (Stretch Long p n) e = clash e
   stretch-is XmlPrefix e = clash e
   stretch-is XmlNamespace e = clash e
 
@@ -283,24 +287,24 @@ module _ (P : Octets → Type 0) where
   in-order E.End a = tt
 
 -- ---- strings that are allowed can be spelled, if they are not too long
-abbrev pub Short : Octets → Type 0
-Short x = length x ≤ longest
+abbrev pub Sayable : Octets → Type 0
+Sayable x = length x ≤ longest
 
-said-one : (x : Octets) → A.Said x → Short x → Spelling Utf8 x x
+said-one : (x : Octets) → A.Said x → Sayable x → Spelling Utf8 x x
 said-one x a b = record { some = a .0; fits = b; formed = (a .1, refl) }
 
-said-some : (x : Octets) → IsText x → Short x → SpellingIfSome x
+said-some : (x : Octets) → IsText x → Sayable x → SpellingIfSome x
 said-some x a b h = record { some = h; fits = b; formed = (a, refl) }
 
-said-any : (x : Option Octets) → SaidIfAny x → IfAny Short x → SpellingIfAny x
+said-any : (x : Option Octets) → SaidIfAny x → IfAny Sayable x → SpellingIfAny x
 said-any none a b = tt
 said-any (some x) a b = said-one x a b
 
-said-name : (x : Name Octets) → AllowedName x → EachOfName Short x → NameSaid x
+said-name : (x : Name Octets) → AllowedName x → EachOfName Sayable x → NameSaid x
 said-name x a b =
     record { prefix = said-any (x .prefix) (a .prefix) (b .0); namespace = said-any (x .namespace) (a .namespace) (b .1); local = said-one (x .local) (a .local) (b .2); pair = a .not-alone }
 
-pub said : (e : E.Event Octets) → Allowed e → Each Short e → Said e
+pub said : (e : E.Event Octets) → Allowed e → Each Sayable e → Said e
 said (E.Namespace p n) a b = (said-any p (a .0) (b .0), said-any n (a .1) (b .1))
 said (E.Start x) a b = said-name x a b
 said (E.Attribute x y) a b = (said-name x (a .0) (b .0), said-some y (a .1) (b .1))
@@ -374,26 +378,29 @@ module _ (text : Octets) where
   text-all (E.Instruction x y) t = both (exact x .1 (t .0)) (exact y .1 (t .1))
   text-all E.End t = refl
 
-  -- none is longer than twice the text area, or than the built-in ones
-  short-said : (form : StringForm) (o : Octets) → 2 * length o ≤ longest → Short (S.said form o)
+  -- none is longer than four times the text area, or than the built-in ones
+  short-said : (form : StringForm) (o : Octets) → 4 * length o ≤ longest → Sayable (S.said form o)
   short-said Utf8 o h = omega arith
   short-said Utf16 o h = told (isText16 o) (λ e. let l = sound-most Utf16 o e in omega arith) (λ e. rw e (omega arith))
   short-said Numeric o h = told (arePlaces o) (λ e. let l = sound-most Numeric o e in omega arith) (λ e. rw e (omega arith))
   short-said Dates o h = told (arePlaces o) (λ e. let l = sound-most Dates o e in omega arith) (λ e. rw e (omega arith))
+  short-said Short o h = told (areIntegers (width Short) o) (λ e. let l = sound-most Short o e in omega arith) (λ e. rw e (omega arith))
+  short-said Int o h = told (areIntegers (width Int) o) (λ e. let l = sound-most Int o e in omega arith) (λ e. rw e (omega arith))
+  short-said Long o h = told (areIntegers (width Long) o) (λ e. let l = sound-most Long o e in omega arith) (λ e. rw e (omega arith))
 
-  module _ (short : 2 * length text ≤ longest) where
-    pub short-one : (x : Located) → Short (f x)
+  module _ (short : 4 * length text ≤ longest) where
+    pub short-one : (x : Located) → Sayable (f x)
     unfolding octetsOf xmlPrefix xmlNamespace
     short-one empty = omega arith
     short-one (stretch form p n) = let a = short-octets text p n in short-said form (take n (drop p text)) (omega arith)
     short-one builtInPrefix = omega arith
     short-one builtInNamespace = omega arith
 
-    short-any : (x : Option Located) → IfAny Short (Option·map f x)
+    short-any : (x : Option Located) → IfAny Sayable (Option·map f x)
     short-any none = tt
     short-any (some x) = short-one x
 
-    pub all-short : (e : E.Event Located) → Each Short (eventMap f e)
+    pub all-short : (e : E.Event Located) → Each Sayable (eventMap f e)
     unfolding eventMap
     all-short (E.Namespace p n) = (short-any p, short-any n)
     all-short (E.Start x) = (short-any (x .prefix), short-any (x .namespace), short-one (x .local))

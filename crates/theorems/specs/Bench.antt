@@ -6,7 +6,7 @@ use lib.ListN.{replicate}
 use Rattle.format.specs.Octets.{Octets}
 use Rattle.format.specs.Events.{Name, Event, Namespace, Start, Attribute, Text, Comment, Instruction, End, eventMap}
 use Rattle.format.specs.Tables.{Triple, Vocabulary, noEntries, xmlPrefix, xmlNamespace, link}
-use Rattle.format.specs.declared.StringForm.the-variants.{Utf8, Numeric}
+use Rattle.format.specs.declared.StringForm.the-variants.{Utf8, Numeric, Short}
 use Rattle.tables.specs.Located.{Located, octetsOf, plainTables}
 use Rattle.events.specs.declared.EventString.{EventString}
 use Rattle.events.specs.declared.EventString.the-variants.{Stretch}
@@ -154,6 +154,10 @@ pair = 0x41 ∷ 0xF0 ∷ 0x9F ∷ 0x98 ∷ 0x80 ∷ []
 abbrev digits : Octets
 digits = 0x31 ∷ 0x32 ∷ 0x33 ∷ 0x34 ∷ []
 
+-- 12345.
+abbrev five : Octets
+five = 0x31 ∷ 0x32 ∷ 0x33 ∷ 0x34 ∷ 0x35 ∷ []
+
 -- <a> and a chunk.
 abbrev inA : Octets → Octets
 inA x = behindHeader (0x3C ∷ 0x00 ∷ 0x61 ∷ x)
@@ -296,7 +300,7 @@ cases =
     -- the same characters in two forms are the same string: the second chunk has the first one's number
     ∷ rewritten (inA (0x92 ∷ 0x01 ∷ (digits ++ (0x88 ∷ 0x01 ∷ 0x12 ∷ 0x34 ∷ 0xFF ∷ [])))) noEntries (Start (local a) ∷ Text digits ∷ Text digits ∷ End ∷ [])
     (tables [] (a ∷ []) [] (digits ∷ []) (triple 0 0 1 ∷ []) []) (inA (0x98 ∷ 0x01 ∷ 0x12 ∷ 0x34 ∷ 0xA0 ∷ 0xFF ∷ []))
-    -- an alphabet: 15 before the end, twice; another alphabet, cut and whole; its number cut; wrong padding, cut, with another alphabet, alone
+    -- an alphabet: 15 before the end, twice; another alphabet, cut and whole; its number cut; wrong padding, cut, with another alphabet, alone, and of four octets that are cut
     ∷ refused (inA (0x88 ∷ 0x00 ∷ 0xFF ∷ 0xFF ∷ [])) 9 8
     ∷ refused (inA (0x88 ∷ 0x01 ∷ 0x1F ∷ 0x1F ∷ 0xFF ∷ [])) 9 8
     ∷ refused (inA (0x88 ∷ 0x09 ∷ 0x11 ∷ [])) 2 8
@@ -305,9 +309,31 @@ cases =
     ∷ refused (inB (0x20 ∷ 0x09 ∷ 0x00 ∷ 0x12 ∷ [])) 2 11
     ∷ refused (inB (0x20 ∷ 0x29 ∷ 0x00 ∷ replicate 9 0x11)) 8 11
     ∷ refused (inB (0x20 ∷ 0x09 ∷ 0x00 ∷ replicate 9 0x11)) 6 11
-    -- utf-16: an odd count, a lone surrogate, FFFE; and the format 11
+    ∷ refused (inB (0x20 ∷ 0x0D ∷ 0x00 ∷ replicate 9 0x11)) 2 11
+    -- utf-16: an odd count, a lone surrogate, FFFE
     ∷ refused (inA (0x84 ∷ 0x41 ∷ [])) 9 8
     ∷ refused (inA (0x85 ∷ 0xD8 ∷ 0x00 ∷ 0xFF ∷ [])) 9 8
     ∷ refused (inA (0x85 ∷ 0xFF ∷ 0xFE ∷ 0xFF ∷ [])) 9 8
-    ∷ refused (inA (0x8C ∷ 0x09 ∷ 0xFF ∷ 0xFE ∷ 0xFF ∷ [])) 8 8
+    -- integers: 12345 is a short, as a chunk that is added, and listed; so is the lowest; two ints, and the lowest long
+    ∷ plain (inA (0x9C ∷ 0x09 ∷ 0x30 ∷ 0x39 ∷ 0xFF ∷ [])) (Start (local a) ∷ Text five ∷ End ∷ []) (tables [] (a ∷ []) [] (five ∷ []) (triple 0 0 1 ∷ []) [])
+    ∷ document (inHead (0x00 ∷ 0x08 ∷ 0x00 ∷ 0x30 ∷ 0x21 ∷ 0x30 ∷ 0x39 ∷ 0x3C ∷ 0x00 ∷ 0x61 ∷ 0xA0 ∷ 0xFF ∷ [])) (listing [] [] (Stretch Short 10 2 ∷ []) []) (Start (local a) ∷ Text five ∷ End ∷ []) (tables [] (a ∷ []) [] (five ∷ []) (triple 0 0 1 ∷ []) [])
+    ∷ plain (inB (0x30 ∷ 0x21 ∷ 0x80 ∷ 0x00 ∷ 0xFF ∷ 0xF0 ∷ [])) (Start (local a) ∷ Attribute (local b) (0x2D ∷ 0x33 ∷ 0x32 ∷ 0x37 ∷ 0x36 ∷ 0x38 ∷ []) ∷ End ∷ []) (tables [] (a ∷ b ∷ []) [] [] (triple 0 0 1 ∷ []) (triple 0 0 2 ∷ []))
+    ∷ plain (inA (0x8C ∷ 0x0E ∷ 0x05 ∷ 0x80 ∷ 0x00 ∷ 0x00 ∷ 0x00 ∷ 0x7F ∷ 0xFF ∷ 0xFF ∷ 0xFF ∷ 0xFF ∷ [])) (Start (local a) ∷ Text (0x2D ∷ 0x32 ∷ 0x31 ∷ 0x34 ∷ 0x37 ∷ 0x34 ∷ 0x38 ∷ 0x33 ∷ 0x36 ∷ 0x34 ∷ 0x38 ∷ 0x20 ∷ 0x32 ∷ 0x31 ∷ 0x34 ∷ 0x37 ∷ 0x34 ∷ 0x38 ∷ 0x33 ∷ 0x36 ∷ 0x34 ∷ 0x37 ∷ []) ∷ End ∷ []) (tables [] (a ∷ []) [] [] (triple 0 0 1 ∷ []) [])
+    ∷ plain (inB (0x30 ∷ 0x47 ∷ 0x80 ∷ 0x00 ∷ 0x00 ∷ 0x00 ∷ 0x00 ∷ 0x00 ∷ 0x00 ∷ 0x00 ∷ 0xFF ∷ 0xF0 ∷ [])) (Start (local a) ∷ Attribute (local b) (0x2D ∷ 0x39 ∷ 0x32 ∷ 0x32 ∷ 0x33 ∷ 0x33 ∷ 0x37 ∷ 0x32 ∷ 0x30 ∷ 0x33 ∷ 0x36 ∷ 0x38 ∷ 0x35 ∷ 0x34 ∷ 0x37 ∷ 0x37 ∷ 0x35 ∷ 0x38 ∷ 0x30 ∷ 0x38 ∷ []) ∷ End ∷ []) (tables [] (a ∷ b ∷ []) [] [] (triple 0 0 1 ∷ []) (triple 0 0 2 ∷ []))
+    -- 0 and -2 are shorter in utf-8; a text with leading zeros is no integer; and the second chunk, a short, has the first one's number
+    ∷ rewritten (inA (0x9C ∷ 0x09 ∷ 0x00 ∷ 0x00 ∷ 0xFF ∷ [])) noEntries (Start (local a) ∷ Text (0x30 ∷ []) ∷ End ∷ []) (tables [] (a ∷ []) [] ((0x30 ∷ []) ∷ []) (triple 0 0 1 ∷ []) []) (inA (0x90 ∷ 0x30 ∷ 0xFF ∷ []))
+    ∷ rewritten (inA (0x9C ∷ 0x09 ∷ 0xFF ∷ 0xFE ∷ 0xFF ∷ [])) noEntries (Start (local a) ∷ Text (0x2D ∷ 0x32 ∷ []) ∷ End ∷ []) (tables [] (a ∷ []) [] ((0x2D ∷ 0x32 ∷ []) ∷ []) (triple 0 0 1 ∷ []) []) (inA (0x91 ∷ 0x2D ∷ 0x32 ∷ 0xFF ∷ []))
+    ∷ plain (inA (0x88 ∷ 0x02 ∷ 0x01 ∷ 0x00 ∷ 0x01 ∷ 0x23 ∷ 0x45 ∷ 0xFF ∷ [])) (Start (local a) ∷ Text (0x30 ∷ 0x30 ∷ 0x30 ∷ 0x31 ∷ 0x32 ∷ 0x33 ∷ 0x34 ∷ 0x35 ∷ []) ∷ End ∷ []) (tables [] (a ∷ []) [] [] (triple 0 0 1 ∷ []) [])
+    ∷ rewritten (inA (0x92 ∷ 0x02 ∷ (five ++ (0x8C ∷ 0x09 ∷ 0x30 ∷ 0x39 ∷ 0xFF ∷ [])))) noEntries (Start (local a) ∷ Text five ∷ Text five ∷ End ∷ []) (tables [] (a ∷ []) [] (five ∷ []) (triple 0 0 1 ∷ []) [])
+    (inA (0x9C ∷ 0x09 ∷ 0x30 ∷ 0x39 ∷ 0xA0 ∷ 0xFF ∷ []))
+    -- an octet under short, six under int; algorithms 1 and 6, and the first of them cut; the number cut; wrong padding, with another algorithm, alone, and of four octets that are cut
+    ∷ refused (inA (0x8C ∷ 0x08 ∷ 0x80 ∷ 0xFF ∷ [])) 9 8
+    ∷ refused (inA (0x8C ∷ 0x0E ∷ 0x03 ∷ 0x00 ∷ 0x00 ∷ 0x00 ∷ 0x00 ∷ 0x00 ∷ 0x00 ∷ 0xFF ∷ [])) 9 8
+    ∷ refused (inA (0x8C ∷ 0x01 ∷ 0x80 ∷ 0x00 ∷ 0xFF ∷ [])) 8 8
+    ∷ refused (inA (0x8C ∷ 0x15 ∷ 0x80 ∷ 0x00 ∷ 0xFF ∷ [])) 8 8
+    ∷ refused (inA (0x8C ∷ 0x01 ∷ 0x80 ∷ [])) 2 8
+    ∷ refused (inA (0x8F ∷ [])) 2 8
+    ∷ refused (inB (0x30 ∷ 0x09 ∷ 0x00 ∷ replicate 9 0x11)) 8 11
+    ∷ refused (inB (0x30 ∷ 0x29 ∷ 0x00 ∷ replicate 9 0x11)) 6 11
+    ∷ refused (inB (0x30 ∷ 0x2D ∷ 0x00 ∷ replicate 9 0x11)) 2 11
     ∷ []

@@ -8,5 +8,5 @@ pub record Bounded (ver : Version) : Type 0 where
   -- a table can hold its built-in entry, and no entry is beyond the highest number
   pub some-entries : 1 ≤ ver .entries
   pub few-entries : ver .entries ≤ top
-  -- no string of a document or of a text area is too long to be spelled; in UTF-8 it has at most twice the octets that it has in another form
-  pub few-octets : 2 * ver .octets ≤ longest
+  -- no string of a document or of a text area is too long to be spelled; in UTF-8 it has at most four times the octets that it has in another form
+  pub few-octets : 4 * ver .octets ≤ longest

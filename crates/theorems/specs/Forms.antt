@@ -10,7 +10,7 @@ use Rattle.format.specs.Characters.{IsCharacter, IsText, All, utf8s}
 use Rattle.format.specs.Forms.{formNumber, Spelled}
 use Rattle.format.specs.Strings.{inFormat}
 use Rattle.format.specs.declared.StringForm.{StringForm}
-use Rattle.format.specs.declared.StringForm.the-variants.{Utf8, Utf16, Numeric, Dates}
+use Rattle.format.specs.declared.StringForm.the-variants.{Utf8, Utf16, Numeric, Dates, Short, Int, Long}
 use Rattle.forms.specs.Reading.{said}
 use Rattle.forms.specs.Packing.{inForm}
 use Rattle.tables.specs.Located.{stretch}
@@ -29,7 +29,7 @@ pub record FormsExact : Type 0 where
   pub spelled-text : (form : StringForm) (x o : Octets) → Spelled form x o → IsText x
   pub finds : (form : StringForm) (x o : Octets) → Spelled form x o ↔ (IsText x × (said form o ≡ x))
 
--- The form that the writer chooses for a text: the string has it; it is not utf-16; no other form but utf-16 gives a shorter field, and one that gives as short a one has a higher number.
+-- The form that the writer chooses for a text: the string has it; it is not utf-16; no other form but utf-16 gives a shorter field, and one that gives as short a one has no lower a number.
 pub record FewestOctets (bit : ℕ) (x : Octets) : Type 0 where
   pub has-it : Spelled (formFor bit x) x (inForm (formFor bit x) x)
   pub not-utf16 : formFor bit x ≡ Utf16 → ⊥
@@ -48,5 +48,8 @@ pub record FormsNumbered : Type 0 where
   pub utf16 : (formNumber Utf16 ≡ 1) × (formTag Utf16 ≡ 5)
   pub numeric : (formNumber Numeric ≡ 2) × (formTag Numeric ≡ 6)
   pub dates : (formNumber Dates ≡ 3) × (formTag Dates ≡ 7)
+  pub short : (formNumber Short ≡ 4) × (formTag Short ≡ 8)
+  pub int : (formNumber Int ≡ 5) × (formTag Int ≡ 9)
+  pub long : (formNumber Long ≡ 6) × (formTag Long ≡ 10)
   pub told : (form : StringForm) (place size : ℕ) → stringFrom (formTag form ∷ place ∷ size ∷ []) 0 ≡ Stretch form place size
   pub kept : (form : StringForm) (place size : ℕ) → entryWords (stretch form place size) ≡ place ∷ size ∷ formNumber form ∷ []

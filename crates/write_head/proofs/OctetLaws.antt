@@ -17,7 +17,7 @@ use Rattle.tables.specs.Located.{octetsOf}
 use Rattle.tables.specs.Rows.{tableOf, tripleAt}
 use Rattle.events.specs.declared.EventString.{EventString}
 use Rattle.events.specs.Records.{locatedOf}
-use Rattle.write_names.specs.Contracts.{valueMost, chosenField}
+use Rattle.write_names.specs.Contracts.{saidMost, valueMost, chosenField}
 use Rattle.write_names.proofs.Stretches.{Stretched, plain-says, plain-length}
 use Rattle.write_head.specs.Given.{rowsOf}
 use Rattle.write_head.specs.Head.{entryOctets, listing, partOctets, nameOctets}
@@ -45,7 +45,7 @@ module _ {out out′ : List ℕ} {at r : ℕ} where
 
   -- a string of n octets in UTF-8: an identifying one, and another
   module _ (t : ℕ) (small : t < 8) (text : List ℕ) (x : EventString) where
-    pub puts-identifying : t < 5 → {f : StringForm} {p m : ℕ} → Stretched text x f p m → formNumber f ≡ 0 → (n : ℕ) → n ≡ length (octetsOf text (locatedOf x)) → n ≤ 32768 → {q : ℕ} {out″ : List ℕ}
+    pub puts-identifying : t < 5 → {f : StringForm} {p m : ℕ} → Stretched text x f p m → formNumber f ≡ 0 → (n : ℕ) → n ≡ length (octetsOf text (locatedOf x)) → n ≤ saidMost → {q : ℕ} {out″ : List ℕ}
         → Puts out at r out′ (spell (lengths 2) 0 n) × (r ≤ at + 5) → Puts out′ r q out″ (take n (drop p text))
         → Puts out at q out″ (entryOctets (tableOf t) (listing (tableOf t) (octetsOf text (locatedOf x)))) × (q ≤ at + rowMost)
     unfolding entryOctets listing

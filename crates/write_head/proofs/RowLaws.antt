@@ -178,7 +178,7 @@ module _ (g : List ℕ) (at : ℕ) where
 -- ---- tags
 -- the tags of a stretch: in utf-8, in another form
 abbrev pub IsTag : ℕ → Type 0
-IsTag k = (k ≡ 2) ⊎ ((5 ≤ k) × (k ≤ 7))
+IsTag k = (k ≡ 2) ⊎ ((5 ≤ k) × (k ≤ 10))
 
 pub form-two : (k : ℕ) → k ≡ 2 → formGiven k ≡ Utf8
 unfolding formGiven formOf
@@ -187,14 +187,14 @@ form-two k e = rw e
 module _ (g : List ℕ) (at : ℕ) where
   pub string-is : IsTag (getD g at 0) → stringFrom g at ≡ Stretch (formGiven (getD g at 0)) (getD g (at + 1) 0) (getD g (at + 2) 0)
   unfolding stringFrom toldBy formGiven formOf
-  string-is = ⊎-elim (λ e. rw e) (λ r. rw (ne-eqb (getD g at 0) 2 (λ e. let l = r .0 in omega arith), le-leb 5 (getD g at 0) (r .0), le-leb (getD g at 0) 7 (r .1)))
+  string-is = ⊎-elim (λ e. rw e) (λ r. rw (ne-eqb (getD g at 0) 2 (λ e. let l = r .0 in omega arith), le-leb 5 (getD g at 0) (r .0), le-leb (getD g at 0) 10 (r .1)))
 
   pub located-utf8 : getD g at 0 ≡ 2 → located g at ≡ stretch Utf8 (getD g (at + 1) 0) (getD g (at + 2) 0)
   located-utf8 e = rw (form-two (getD g at 0) e)
 
   -- a test that no other string passes
   module _ (f : EventString → Bool) (a : f Absent ≡ false) (b : f Empty ≡ false) (c : f XmlPrefix ≡ false) (d : f XmlNamespace ≡ false) where
-    by-tag : (b : Bool) → (eqb (getD g (at + 1) 0) 0 && eqb (getD g (at + 2) 0) 0) ≡ b → (k : ℕ) → getD g at 0 ≡ k → (IsTag k → ⊥) → (leb 5 k && leb k 7) ≡ false → f (stringFrom g at) ≡ false
+    by-tag : (b : Bool) → (eqb (getD g (at + 1) 0) 0 && eqb (getD g (at + 2) 0) 0) ≡ b → (k : ℕ) → getD g at 0 ≡ k → (IsTag k → ⊥) → (leb 5 k && leb k 10) ≡ false → f (stringFrom g at) ≡ false
     unfolding stringFrom toldBy toldByTag
     by-tag false e k q n h = rw (q, ne-eqb k 2 (λ z. n (inl z)), h, e) a
     by-tag true e zero q n h = rw (q, e) a
@@ -204,8 +204,8 @@ module _ (g : List ℕ) (at : ℕ) where
     by-tag true e (suc (suc (suc (suc zero)))) q n h = rw (q, e) d
     by-tag true e (suc (suc (suc (suc (suc k))))) q n h = rw (q, ne-eqb (suc (suc (suc (suc (suc k))))) 2 (λ z. n (inl z)), h, e) a
 
-    no-form : (k : ℕ) → (IsTag k → ⊥) → (leb 5 k && leb k 7) ≡ false
-    no-form k n = case k 5 (λ l. rw (lt-leb 5 k l)) (λ l. case 7 k (λ h. rw (lt-leb k 7 h) (and-false (leb 5 k))) (λ h. absurd (n (inr (l, h)))))
+    no-form : (k : ℕ) → (IsTag k → ⊥) → (leb 5 k && leb k 10) ≡ false
+    no-form k n = case k 5 (λ l. rw (lt-leb 5 k l)) (λ l. case 10 k (λ h. rw (lt-leb k 10 h) (and-false (leb 5 k))) (λ h. absurd (n (inr (l, h)))))
 
     pub no-stretch : (IsTag (getD g at 0) → ⊥) → f (stringFrom g at) ≡ false
     no-stretch n = by-tag (eqb (getD g (at + 1) 0) 0 && eqb (getD g (at + 2) 0) 0) refl (getD g at 0) refl n (no-form (getD g at 0) n)
@@ -226,16 +226,16 @@ unfolding formGiven formOf
 form-low k h = let z : k - 4 ≡ 0 = omega arith in rw z
 
 module _ (text g : List ℕ) where
-  other-form : (k p n : ℕ) → 5 ≤ k → k ≤ 7 → isStretch text (Stretch (formGiven k) p n) ≡ false
+  other-form : (k p n : ℕ) → 5 ≤ k → k ≤ 10 → isStretch text (Stretch (formGiven k) p n) ≡ false
   unfolding formGiven formOf
-  other-form k p n l h = by-number (λ (k : ℕ). isStretch text (Stretch (formGiven k) p n) ≡ false) 5 3 (refl, (refl, (refl, tt))) k l (omega arith)
+  other-form k p n l h = by-number (λ (k : ℕ). isStretch text (Stretch (formGiven k) p n) ≡ false) 5 6 (refl, (refl, (refl, (refl, (refl, (refl, tt)))))) k l (omega arith)
 
   pub other-tag : (at : ℕ) → (getD g at 0 ≡ 2 → ⊥) → false ≡ isStretch text (stringFrom g at)
   other-tag at ne =
       sym
       (case 4 (getD g at 0)
       (λ l.
-      case (getD g at 0) 8 (λ h. rw (string-is g at (inr (omega arith, omega arith))) (other-form (getD g at 0) (getD g (at + 1) 0) (getD g (at + 2) 0) (omega arith) (omega arith)))
+      case (getD g at 0) 11 (λ h. rw (string-is g at (inr (omega arith, omega arith))) (other-form (getD g at 0) (getD g (at + 1) 0) (getD g (at + 2) 0) (omega arith) (omega arith)))
       (λ h. no-stretch g at (isStretch text) refl refl refl refl (⊎-elim ne (λ r. let m = r .1 in omega arith))))
       (λ l. no-stretch g at (isStretch text) refl refl refl refl (⊎-elim ne (λ r. let m = r .0 in omega arith))))
 
@@ -385,7 +385,7 @@ module _ (text g : List ℕ) where
     any-tag l k =
         elim (ℕ-discrete (getD g here 0) 2) [
           | yes e ↦ inl e
-          | no e ↦ inr (case 4 (getD g here 0) (λ a. case (getD g here 0) 8 (λ b. (omega arith, omega arith)) (λ b. not-tag (⊎-elim e (λ r. let m = r .1 in omega arith)))) (λ a. not-tag (⊎-elim e (λ r. let m = r .0 in omega arith))))
+          | no e ↦ inr (case 4 (getD g here 0) (λ a. case (getD g here 0) 11 (λ b. (omega arith, omega arith)) (λ b. not-tag (⊎-elim e (λ r. let m = r .1 in omega arith)))) (λ a. not-tag (⊎-elim e (λ r. let m = r .0 in omega arith))))
         ]
       where
         not-tag : {X : Type 0} → (IsTag (getD g here 0) → ⊥) → X

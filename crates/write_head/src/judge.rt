@@ -36,7 +36,7 @@ fn is_stretch(given: &[u32], text: &[u8], at: usize) -> bool
     lies_in(text, given[at + 1], given[at + 2])
 }
 
-// Another string is one in any form; the tags of the other forms are the last three.
+// Another string is one in any form; the tags of the other forms are the last.
 fn is_string(given: &[u32], text: &[u8], at: usize) -> bool
     requires { ⌜ at + 3 ≤ length (now given) ⌝ }
     ensures { λ r. ⌜ r ≡ isString (now (text .entry)) (stringFrom (now (given .entry)) at) ⌝ }
@@ -46,7 +46,7 @@ fn is_string(given: &[u32], text: &[u8], at: usize) -> bool
         if tag < tags::UTF16 {
             return false;
         }
-        if tags::DATES < tag {
+        if tags::LONG < tag {
             return false;
         }
     }

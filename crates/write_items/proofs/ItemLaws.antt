@@ -19,7 +19,7 @@ use Rattle.format.specs.Names.{NameLayout, ofElement, ofAttribute}
 use Rattle.format.specs.Items as F
 use Rattle.format.specs.Document.{aligned}
 use Rattle.format.specs.declared.StringForm.{StringForm}
-use Rattle.format.specs.declared.StringForm.the-variants.{Utf8, Utf16, Numeric, Dates}
+use Rattle.format.specs.declared.StringForm.the-variants.{Utf8, Utf16, Numeric, Dates, Short, Int, Long}
 use Rattle.fields.specs.PutContracts.{Puts}
 use Rattle.fields.proofs.Forms.{Ordered}
 use Rattle.fields.proofs.Numbers.{numbers-ordered, c25-ordered}
@@ -146,6 +146,9 @@ field-some bit lead Utf8 y = length-some bit lead y
 field-some bit lead Utf16 y = length-some bit (lead + 2 ^ (9 - bit)) y
 field-some bit lead Numeric y = omega arith
 field-some bit lead Dates y = omega arith
+field-some bit lead Short y = omega arith
+field-some bit lead Int y = omega arith
+field-some bit lead Long y = omega arith
 
 module _ (text : List ℕ) (v : Vocabulary Located) (x : Located) (few : length (strings v CONTENT-CHARACTER-CHUNK) ≤ 256) where
   chunk-by : (b : Bool) → eqb (numberIn (map (octetsOf text) (strings v CONTENT-CHARACTER-CHUNK)) (octetsOf text x)) 0 ≡ b

@@ -5,7 +5,7 @@ use mathlib.Core.Logic.{⊎-elim}
 use mathlib.Core.Bool.{false, _&&_, and-false}
 use mathlib.Core.List.{List}
 use Prim.Native.Nat.{ℕ}
-use Rattle.format.specs.declared.StringForm.the-variants.{Utf8, Utf16, Numeric, Dates}
+use Rattle.format.specs.declared.StringForm.the-variants.{Utf8, Utf16, Numeric, Dates, Short, Int, Long}
 use Rattle.format.specs.Items.{State}
 use Rattle.tables.specs.Located.{Located}
 use Rattle.events.specs.declared.EventString.{EventString}
@@ -27,6 +27,9 @@ other text (Stretch Utf8 p n) h = absurd (h refl)
 other text (Stretch Utf16 p n) h = (refl, refl, refl, refl)
 other text (Stretch Numeric p n) h = (refl, refl, refl, refl)
 other text (Stretch Dates p n) h = (refl, refl, refl, refl)
+other text (Stretch Short p n) h = (refl, refl, refl, refl)
+other text (Stretch Int p n) h = (refl, refl, refl, refl)
+other text (Stretch Long p n) h = (refl, refl, refl, refl)
 other text XmlPrefix h = absurd (h refl)
 other text XmlNamespace h = absurd (h refl)
 

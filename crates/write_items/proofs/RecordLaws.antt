@@ -1,7 +1,7 @@
 -- Event records: a law for each way out of the functions that judge one, on plain values.
 -- Assumes nothing.
 use mathlib.Core.Path.{_≡_, refl, sym, ap, _∙_}
-use mathlib.Core.Bool.{true, false, _&&_}
+use mathlib.Core.Bool.{true, false, _&&_, _||_}
 use mathlib.Core.List.{List}
 use Prim.Native.Nat.{ℕ, _+_, _-_, _≤_, _<_}
 use native.Mathlib.Omega.{arith}
@@ -9,7 +9,7 @@ use borrow.Author.Tests.{eq-eqb, ne-eqb}
 use lib.Dec.{eqb, ltb, leb}
 use lib.ListN.{length, take, drop}
 use Rattle.format.specs.declared.StringForm.{StringForm}
-use Rattle.format.specs.declared.StringForm.the-variants.{Utf8, Utf16, Numeric, Dates}
+use Rattle.format.specs.declared.StringForm.the-variants.{Utf8, Utf16, Numeric, Dates, Short, Int, Long}
 use Rattle.fields.specs.Utf8.{isText}
 use Rattle.fields.proofs.Utf8.{none-text, built-in-texts}
 use Rattle.forms.specs.Reading.{said}
@@ -45,14 +45,24 @@ form-there Utf8 = refl
 form-there Utf16 = refl
 form-there Numeric = refl
 form-there Dates = refl
+form-there Short = refl
+form-there Int = refl
+form-there Long = refl
+
+-- the tags of other forms than utf-8 are the last
+neither : (t a b : ℕ) → 5 ≤ t → a < 5 → b < 5 → (eqb t a || eqb t b) ≡ false
+neither t a b l h k = rw (ne-eqb t a (λ e. omega arith), ne-eqb t b (λ e. omega arith))
 
 module _ (text : List ℕ) where
   one-form : (f : StringForm) (p n a b : ℕ) → a < 5 → b < 5 → isOne text (Stretch f p n) a b ≡ isStretch text (Stretch f p n)
   unfolding isOne
   one-form Utf8 p n a b h k = refl
-  one-form Utf16 p n a b h k = rw (ne-eqb 5 a (omega arith), ne-eqb 5 b (omega arith))
-  one-form Numeric p n a b h k = rw (ne-eqb 6 a (omega arith), ne-eqb 6 b (omega arith))
-  one-form Dates p n a b h k = rw (ne-eqb 7 a (omega arith), ne-eqb 7 b (omega arith))
+  one-form Utf16 p n a b h k = neither 5 a b (omega arith) h k
+  one-form Numeric p n a b h k = neither 6 a b (omega arith) h k
+  one-form Dates p n a b h k = neither 7 a b (omega arith) h k
+  one-form Short p n a b h k = neither 8 a b (omega arith) h k
+  one-form Int p n a b h k = neither 9 a b (omega arith) h k
+  one-form Long p n a b h k = neither 10 a b (omega arith) h k
 
   pub one-stretch : (x : EventString) → isOne text x 2 2 ≡ isStretch text x
   unfolding isOne

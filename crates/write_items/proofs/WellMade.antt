@@ -8,7 +8,7 @@ use borrow.Author.Tests.{ltb-true, leb-true}
 use lib.Dec.{ltb, leb}
 use lib.ListN.{length}
 use Rattle.format.specs.declared.StringForm.{StringForm}
-use Rattle.format.specs.declared.StringForm.the-variants.{Utf8, Utf16, Numeric, Dates}
+use Rattle.format.specs.declared.StringForm.the-variants.{Utf8, Utf16, Numeric, Dates, Short, Int, Long}
 use Rattle.events.specs.declared.EventString.{EventString}
 use Rattle.events.specs.declared.EventString.the-variants.{Absent, Empty, Stretch, XmlPrefix, XmlNamespace}
 use Rattle.events.specs.declared.Kind.{Kind}
@@ -28,6 +28,9 @@ module _ (text : List ℕ) where
   stretch-plain Utf16 p n e = clash e
   stretch-plain Numeric p n e = clash e
   stretch-plain Dates p n e = clash e
+  stretch-plain Short p n e = clash e
+  stretch-plain Int p n e = clash e
+  stretch-plain Long p n e = clash e
 
   -- a string that is a stretch only where its test holds
   lies-by : (x : EventString) → ((f : StringForm) (p n : ℕ) → x ≡ Stretch f p n → isString text (Stretch f p n) ≡ true) → Lies text x

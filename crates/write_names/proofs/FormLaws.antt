@@ -1,105 +1,80 @@
--- The form that a string is spelled in: an alphabet saves octets from the fourth on, or from the third where the length starts at bit 7. And a law for each way out of the functions that spell a
--- string in a form.
+-- The form that a string is spelled in: an alphabet saves octets from the fourth on, or from the third where the length starts at bit 7; and integers save some where they have fewer than the alphabet.
 -- Assumes nothing.
-use mathlib.Core.Path.{_≡_, refl, ap, _∙_}
-use mathlib.Core.Bool.{Bool, true, false}
+use mathlib.Core.Path.{_≡_, refl, sym, ap, _∙_}
+use mathlib.Core.Bool.{true, false}
 use mathlib.Core.List.{List, [], _∷_}
 use Prim.Native.Nat.{ℕ, suc, _+_, _-_, _*_, _/_, _^_, _≤_, _<_}
 use native.Mathlib.Omega.{arith}
-use borrow.Author.Tests.{le-ltb, lt-ltb}
+use native.Mathlib.Nat.{mul-le-mul}
+use borrow.Author.Tests.{le-ltb, lt-ltb, ne-eqb}
 use lib.Dec.{ltb}
-use lib.ListN.{length, getD, set, take, drop, length-append}
+use lib.ListN.{length, getD}
 use Rattle.format.specs.Octets.{Octets}
-use Rattle.format.specs.Numbers.{pick, Form, form, spell, lengths, behindFirst, octets}
-use Rattle.format.specs.Forms.{formNumber, numeric, dates, Spelled}
-use Rattle.format.specs.Strings.{withLength, inFormat}
+use Rattle.format.specs.Numbers.{spell, lengths, longest}
+use Rattle.format.specs.Characters.{All}
+use Rattle.format.specs.Integers.{InIntegers}
+use Rattle.format.specs.Forms.{formNumber, width, numeric, dates}
 use Rattle.format.specs.declared.StringForm.{StringForm}
-use Rattle.format.specs.declared.StringForm.the-variants.{Utf8, Utf16, Numeric, Dates}
-use Rattle.fields.specs.PutContracts.{Puts}
+use Rattle.format.specs.declared.StringForm.the-variants.{Utf8, Numeric, Dates, Short, Int, Long}
 use Rattle.fields.proofs.Laws.{case}
-use Rattle.fields.proofs.Puts.{puts-append, puts-octet}
 use Rattle.fields.proofs.Utf8.{told}
-use Rattle.forms.specs.Reading.{said}
+use Rattle.decimal.specs.Words.{shape, wordCount}
+use Rattle.decimal.specs.Machine.{leastIn}
+use Rattle.decimal.specs.declared.scanning.Found.{Found}
+use Rattle.decimal.specs.declared.scanning.Found.the-variants.{Integers, NoIntegers}
+use Rattle.decimal.proofs.Texts.{words-some}
+use Rattle.decimal.proofs.Shapes.{shape-spelled, few-words, letters}
 use Rattle.forms.specs.Streams.{part}
-use Rattle.forms.specs.Packing.{alphabet, isLetter, allLetters, packedBy, alphabetFor, inForm}
-use Rattle.forms.proofs.Forms.{IsAlphabet, packed-length, packed-spelled, spelled-letters}
+use Rattle.forms.specs.Packing.{isLetter, allLetters, alphabetFor, integersFor, inForm}
+use Rattle.forms.proofs.Lists.{all-letters}
+use Rattle.forms.proofs.Forms.{by-integers, packed-length, integers-length, alphabet-by, found-by}
+use Rattle.forms.proofs.Scanned.{width-most}
+use Rattle.forms.proofs.FieldSizes.{size, Sized, one, two, five, none, sized, octetsIn, fieldSize, field-size}
 use Rattle.forms.proofs.Streams.{part-cons}
 use Rattle.tables.specs.Located.{octetsOf}
 use Rattle.tables.proofs.FormLaws.{form-zero}
 use Rattle.events.specs.declared.EventString.{EventString}
 use Rattle.events.specs.Records.{locatedOf}
-use Rattle.write_names.specs.Choices.{fieldIn, formFor}
-use Rattle.write_names.specs.Contracts.{valueMost, LayoutBit, at-bit-5, at-bit-7, chosenField}
-use Rattle.write_names.proofs.Stretches.{Stretched, says, plain-says}
+use Rattle.write_names.specs.declared.Formed.{Formed}
+use Rattle.write_names.specs.Choices.{fieldIn, shorter, formFor}
+use Rattle.write_names.specs.Contracts.{saidMost, LayoutBit, at-bit-5, at-bit-7, plainMost, withWidth, orIntegers, FewIntegers, Fits, Counted, Chosen}
+use Rattle.write_names.proofs.Stretches.{Stretched, says}
 
--- ---- how many octets a field has: the bits before a length are no octets of their own
-lead-free : (fs : List Form) (lead n : ℕ) → length (spell fs lead n) ≡ length (spell fs 0 n)
-unfolding spell
-lead-free [] lead n = refl
-lead-free (form code zeros bits low ∷ fs) lead n = told (ltb n (low + 2 ^ bits)) (λ t. rw t) (λ t. rw t (lead-free fs lead n))
+-- ---- how many octets a length has: at least one, two where the first does not hold it, and no fewer than those of a lower one
+some-octets : {short more n k : ℕ} → n ≤ longest → Sized short more n k → 1 + more ≤ k
+some-octets h (one a p) = omega arith
+some-octets h (two a b p) = omega arith
+some-octets h (five a b p) = omega arith
+some-octets h (none a p) = absurd (omega arith)
 
-module _ (bit : ℕ) (x : Octets) where
-  -- a length and as many octets; the string in utf-8; in an alphabet, two characters in an octet behind the one that names the alphabet
-  abbrev size : ℕ → ℕ
-  size n = length (spell (lengths bit) 0 n) + n
+first-octet : {short more n k : ℕ} → n ≤ short → Sized short more n k → k ≡ 1 + more
+first-octet h (one a p) = p
+first-octet h (two a b p) = absurd (omega arith)
+first-octet h (five a b p) = absurd (omega arith)
+first-octet h (none a p) = absurd (omega arith)
 
-  abbrev pub plainSize : ℕ
-  plainSize = size (length x)
+second-octet : {short more n k : ℕ} → short < n → n ≤ longest → Sized short more n k → 2 + more ≤ k
+second-octet h l (one a p) = absurd (omega arith)
+second-octet h l (two a b p) = omega arith
+second-octet h l (five a b p) = omega arith
+second-octet h l (none a p) = absurd (omega arith)
 
-  abbrev pub packedSize : ℕ
-  packedSize = suc (size ((length x + 1) / 2))
+grows : {short more m n k l : ℕ} → m ≤ n → n ≤ longest → Sized short more m k → Sized short more n l → k ≤ l
+grows h b (one a p) s = omega (arith, some-octets b s)
+grows h b (two a c p) s = omega (arith, second-octet (omega arith) b s)
+grows h b (five a c p) (one d q) = omega arith
+grows h b (five a c p) (two d e q) = omega arith
+grows h b (five a c p) (five d e q) = omega arith
+grows h b (five a c p) (none d q) = omega arith
+grows h b (none a p) s = omega arith
 
-  with-size : (lead : ℕ) (y : Octets) (n : ℕ) → length y ≡ n → length (withLength (lengths bit) lead y) ≡ size n
-  with-size lead y n e = length-append (spell (lengths bit) lead (length y)) y ∙ rw (e, lead-free (lengths bit) lead n)
+module _ (bit : ℕ) where
+  length-grows : (m n : ℕ) → m ≤ n → n ≤ longest → length (spell (lengths bit) 0 m) ≤ length (spell (lengths bit) 0 n)
+  length-grows m n h b = grows h b (sized bit m) (sized bit n)
 
-  pub plain-size : (lead : ℕ) (y : Octets) → y ≡ x → length (inFormat bit Utf8 lead y) ≡ plainSize
-  unfolding inFormat
-  plain-size lead y e = with-size lead y (length x) (ap length e)
-
-  pub packed-size : (form : StringForm) (lead : ℕ) (y : Octets) → IsAlphabet form → Spelled form x y → length (inFormat bit form lead y) ≡ packedSize
-  unfolding inFormat
-  packed-size Utf8 lead y a s = absurd a
-  packed-size Utf16 lead y a s = absurd a
-  packed-size Numeric lead y a s = ap suc (with-size 0 y ((length x + 1) / 2) (ap length (spelled-letters Numeric x y tt s .1) ∙ packed-length numeric x))
-  packed-size Dates lead y a s = ap suc (with-size (2 ^ (9 - bit)) y ((length x + 1) / 2) (ap length (spelled-letters Dates x y tt s .1) ∙ packed-length dates x))
-
--- ---- how many octets a length has, where the first holds those up to `short`
-data Size (short n : ℕ) : ℕ → Type 0 where
-  one : n ≤ short → Size short n 1
-  two : short < n → n ≤ short + 256 → Size short n 2
-  five : short + 256 < n → Size short n 5
-
-length-size : {bit : ℕ} → LayoutBit bit → (n : ℕ) → n ≤ 32768 → Size (2 ^ (8 - bit)) n (length (spell (lengths bit) 0 n))
-unfolding lengths spell behindFirst octets
-length-size at-bit-5 n h =
-    case n 9 (λ a. rw (lt-ltb n 9 a) (one (omega arith)))
-    (λ a. case n 265 (λ b. rw (le-ltb n 9 a, lt-ltb n 265 b) (two (omega arith) (omega arith))) (λ b. rw (le-ltb n 9 a, le-ltb n 265 b, lt-ltb n 4294967561 (omega arith)) (five (omega arith))))
-length-size at-bit-7 n h =
-    case n 3 (λ a. rw (lt-ltb n 3 a) (one (omega arith)))
-    (λ a. case n 259 (λ b. rw (le-ltb n 3 a, lt-ltb n 259 b) (two (omega arith) (omega arith))) (λ b. rw (le-ltb n 3 a, le-ltb n 259 b, lt-ltb n 4294967555 (omega arith)) (five (omega arith))))
-
-some-size : {short n k : ℕ} → Size short n k → 1 ≤ k
-some-size (one a) = omega arith
-some-size (two a b) = omega arith
-some-size (five a) = omega arith
-
--- ---- an alphabet saves octets where a string has more than `most`
-module _ (short most : ℕ) (low : 2 ≤ short) (within : most ≤ short) (three : most ≤ 3) (four : (n : ℕ) → most < n → n ≤ short → 4 ≤ n) where
-  saves : {n k l : ℕ} → Size short n k → Size short ((n + 1) / 2) l → most < n → suc (l + (n + 1) / 2) < k + n
-  saves {n} (one a) (one b) h = let f = four n h a in omega arith
-  saves {n} (one a) (two b c) h = omega arith
-  saves {n} (one a) (five b) h = omega arith
-  saves {n} (two a b) (one c) h = omega arith
-  saves {n} (two a b) (two c d) h = omega arith
-  saves {n} (two a b) (five c) h = omega arith
-  saves {n} (five a) (one b) h = omega arith
-  saves {n} (five a) (two b c) h = omega arith
-  saves {n} (five a) (five b) h = omega arith
-
-  saves-none : {n k l : ℕ} → Size short n k → 1 ≤ l → n ≤ most → k + n ≤ suc (l + (n + 1) / 2)
-  saves-none (one a) s h = omega arith
-  saves-none (two a b) s h = omega arith
-  saves-none (five a) s h = omega arith
+  -- a length in one octet, and at most one octet less behind another format
+  saves-none : (n m : ℕ) → n ≤ 2 ^ (8 - bit) → n ≤ suc m → m ≤ longest → size bit n ≤ suc (size bit m)
+  saves-none n m h l b = omega (arith, first-octet h (sized bit n), some-octets b (sized bit m))
 
 -- ---- the bits of a layout
 pub bit-range : {bit : ℕ} → LayoutBit bit → (5 ≤ bit) × (bit ≤ 7)
@@ -114,81 +89,161 @@ pub unit-five : {bit : ℕ} → LayoutBit bit → (bit ≡ 7 → ⊥) → (16 �
 unit-five at-bit-5 e = (refl, omega arith, omega arith)
 unit-five at-bit-7 e = absurd (e refl)
 
--- how many octets no alphabet saves
-abbrev most : {bit : ℕ} → LayoutBit bit → ℕ
-most at-bit-5 = 3
-most at-bit-7 = 2
+few-plain : {bit : ℕ} → LayoutBit bit → plainMost bit ≤ 3
+few-plain at-bit-5 = omega arith
+few-plain at-bit-7 = omega arith
 
 -- so a string in an alphabet takes less octets than in utf-8 exactly if it has more
-packed-less : {bit : ℕ} (b : LayoutBit bit) (x : Octets) → length x ≤ 32768 → most b < length x → packedSize bit x < plainSize bit x
-packed-less at-bit-5 x h l = saves 8 3 (omega arith) (omega arith) (omega arith) (λ n a c. omega arith) (length-size at-bit-5 _ h) (length-size at-bit-5 _ (omega arith)) l
-packed-less at-bit-7 x h l = saves 2 2 (omega arith) (omega arith) (omega arith) (λ n a c. omega arith) (length-size at-bit-7 _ h) (length-size at-bit-7 _ (omega arith)) l
+packed-less : {bit : ℕ} (b : LayoutBit bit) (n : ℕ) → n ≤ longest → plainMost bit < n → suc (size bit ((n + 1) / 2)) < size bit n
+packed-less at-bit-5 n h l = omega (arith, length-grows 5 ((n + 1) / 2) n (omega arith) h)
+packed-less at-bit-7 n h l =
+    case n 4 (λ t. omega (arith, first-octet {n = (n + 1) / 2} (omega arith) (sized 7 ((n + 1) / 2)), second-octet (omega arith) h (sized 7 n)))
+    (λ t. omega (arith, length-grows 7 ((n + 1) / 2) n (omega arith) h))
 
-packed-more : {bit : ℕ} (b : LayoutBit bit) (x : Octets) → length x ≤ most b → plainSize bit x ≤ packedSize bit x
-packed-more at-bit-5 x h =
-    saves-none 8 3 (omega arith) (omega arith) (omega arith) (λ n a c. omega arith) (length-size at-bit-5 _ (omega arith)) (some-size (length-size at-bit-5 _ (omega arith))) h
-packed-more at-bit-7 x h =
-    saves-none 2 2 (omega arith) (omega arith) (omega arith) (λ n a c. omega arith) (length-size at-bit-7 _ (omega arith)) (some-size (length-size at-bit-7 _ (omega arith))) h
+none-less : {bit : ℕ} (b : LayoutBit bit) (n m : ℕ) → n ≤ plainMost bit → n ≤ suc m → m ≤ longest → size bit n ≤ suc (size bit m)
+none-less at-bit-5 n m h l k = saves-none 5 n m (omega arith) l k
+none-less at-bit-7 n m h l k = saves-none 7 n m (omega arith) l k
+
+-- ---- the alphabet and the integers for a string
+module _ (x : Octets) where
+  first-alphabet : allLetters numeric x ≡ true → alphabetFor x ≡ Numeric
+  unfolding alphabetFor
+  first-alphabet e = rw e
+
+  no-integers : (alphabetFor x ≡ Numeric → ⊥) → integersFor x ≡ Utf8
+  no-integers n = found-by x (λ f g. f ≡ Utf8) refl (λ f h s. absurd (n (first-alphabet (all-letters (width f) x _ (shape-spelled (width f) x s)))))
+
+  pub few-integers : FewIntegers (length x) (leastIn x)
+  few-integers = found-by x (λ f g. FewIntegers (length x) g) tt (λ f h s. let k = few-words (width f) x s in (omega arith, width-most f))
+
+  -- how many octets they are
+  integer-octets : (f : StringForm) → 0 < width f → shape (width f) x ≡ true
+      → (2 ≤ width f * wordCount x) × (width f * wordCount x ≤ 4 * length x + 4) × (wordCount x * width f ≡ width f * wordCount x)
+  unfolding wordCount
+  integer-octets f h s =
+      let few = few-words (width f) x s in
+      let some = words-some x in
+      by-integers (λ f. (2 ≤ width f * wordCount x) × (width f * wordCount x ≤ 4 * length x + 4) × (wordCount x * width f ≡ width f * wordCount x))
+      (omega arith, omega arith, omega arith) (omega arith, omega arith, omega arith) (omega arith, omega arith, omega arith) f h
+
+width-form : (f : StringForm) → 0 < width f → withWidth (width f) ≡ f
+unfolding withWidth
+width-form = by-integers (λ f. withWidth (width f) ≡ f) refl refl refl
 
 -- ---- the form for a string
--- what holds of utf-8, and of each alphabet that has all characters, holds of the alphabet for a string
-alphabet-by : (P : StringForm → Type 0) (x : Octets) → ((f : StringForm) → IsAlphabet f → allLetters (alphabet f) x ≡ true → P f) → P Utf8 → P (alphabetFor x)
-unfolding alphabetFor
-alphabet-by P x a u = told (allLetters numeric x) (λ n. rw n (a Numeric tt n)) (λ n. told (allLetters dates x) (λ d. rw (n, d) (a Dates tt d)) (λ d. rw (n, d) u))
+module _ (bit : ℕ) (x : Octets) where
+  takes : (f g : StringForm) → length (fieldIn bit g 0 x) < length (fieldIn bit f 0 x) → shorter bit f g x ≡ g
+  unfolding shorter
+  takes f g h = rw (lt-ltb (length (fieldIn bit g 0 x)) (length (fieldIn bit f 0 x)) h)
 
-module _ {bit : ℕ} (b : LayoutBit bit) (x : Octets) where
-  field-sizes : (f : StringForm) → IsAlphabet f → allLetters (alphabet f) x ≡ true → (length (fieldIn bit f 0 x) ≡ packedSize bit x) × (length (fieldIn bit Utf8 0 x) ≡ plainSize bit x)
+  keeps : (f g : StringForm) → length (fieldIn bit f 0 x) ≤ length (fieldIn bit g 0 x) → shorter bit f g x ≡ f
+  unfolding shorter
+  keeps f g h = rw (le-ltb (length (fieldIn bit g 0 x)) (length (fieldIn bit f 0 x)) h)
+
+  either : (P : StringForm → Type 0) (f g : StringForm) → P f → P g → P (shorter bit f g x)
+  unfolding shorter
+  either P f g p q = told (ltb (length (fieldIn bit g 0 x)) (length (fieldIn bit f 0 x))) (λ t. rw t q) (λ t. rw t p)
+
+  in-size : (f : StringForm) → length (inForm f x) ≡ octetsIn x f → length (fieldIn bit f 0 x) ≡ fieldSize x bit f
   unfolding fieldIn
-  field-sizes f a e = (packed-size bit x f 0 (inForm f x) a (packed-spelled f x a e), plain-size bit x 0 x refl)
+  in-size f e = field-size x bit f 0 (inForm f x) e
 
-  short-utf8 : length x ≤ most b → Utf8 ≡ formFor bit x
+  utf8-size : length (fieldIn bit Utf8 0 x) ≡ size bit (length x)
+  utf8-size = in-size Utf8 refl
+
+  numeric-size : length (fieldIn bit Numeric 0 x) ≡ suc (size bit ((length x + 1) / 2))
+  numeric-size = in-size Numeric (packed-length numeric x)
+
+  dates-size : length (fieldIn bit Dates 0 x) ≡ suc (size bit ((length x + 1) / 2))
+  dates-size = in-size Dates (packed-length dates x)
+
+  integers-size : (f : StringForm) → 0 < width f → shape (width f) x ≡ true → length (fieldIn bit f 0 x) ≡ suc (size bit (width f * wordCount x))
+  integers-size f h =
+      by-integers (λ f. shape (width f) x ≡ true → length (fieldIn bit f 0 x) ≡ suc (size bit (width f * wordCount x)))
+      (λ s. in-size Short (integers-length Short x (omega arith) s))
+      (λ s. in-size Int (integers-length Int x (omega arith) s))
+      (λ s. in-size Long (integers-length Long x (omega arith) s))
+      f h
+
+  -- what is not utf-8 is an alphabet that has all characters, or integers whose text the string is
+  pub chosen-fits : (f : StringForm) → f ≡ formFor bit x → (formNumber f ≡ 0 → ⊥) → Fits f x
   unfolding formFor
-  short-utf8 h =
-      alphabet-by (λ (f : StringForm). Utf8 ≡ pick (ltb (length (fieldIn bit f 0 x)) (length (fieldIn bit Utf8 0 x))) f Utf8) x
-      (λ f a e.
-      let z = field-sizes f a e in
-      let l = packed-more b x h in
-      rw (le-ltb (length (fieldIn bit f 0 x)) (length (fieldIn bit Utf8 0 x)) (omega arith)))
-      (rw (le-ltb (length (fieldIn bit Utf8 0 x)) (length (fieldIn bit Utf8 0 x)) (omega arith)))
+  chosen-fits f e n =
+      let P : StringForm → Type 0 = λ g. (formNumber g ≡ 0 → ⊥) → Fits g x in
+      rw e (either P _ _ (either P _ _ (λ u. absurd (u refl)) (alphabet-by x P (λ u. absurd (u refl)) (λ l u. l) (λ l u. l)))
+      (found-by x (λ g k. P g) (λ u. absurd (u refl)) (λ g h s u. by-integers (λ g. shape (width g) x ≡ true → Fits g x) (λ s. s) (λ s. s) (λ s. s) g h s)) (rw e at n))
 
-  long-alphabet : length x ≤ 32768 → most b < length x → alphabetFor x ≡ formFor bit x
-  unfolding formFor
-  long-alphabet h k =
-      alphabet-by (λ (f : StringForm). f ≡ pick (ltb (length (fieldIn bit f 0 x)) (length (fieldIn bit Utf8 0 x))) f Utf8) x
-      (λ f a e.
-      let z = field-sizes f a e in
-      let l = packed-less b x h k in
-      rw (lt-ltb (length (fieldIn bit f 0 x)) (length (fieldIn bit Utf8 0 x)) (omega arith)))
-      (rw (le-ltb (length (fieldIn bit Utf8 0 x)) (length (fieldIn bit Utf8 0 x)) (omega arith)))
+  module _ (b : LayoutBit bit) (few : length x ≤ saidMost) where
+    short-form : length x ≤ plainMost bit → Utf8 ≡ formFor bit x
+    unfolding formFor
+    short-form h =
+        let packed = none-less b (length x) ((length x + 1) / 2) h (omega (arith, few-plain b)) (omega arith) in
+        let first : shorter bit Utf8 (alphabetFor x) x ≡ Utf8 =
+        alphabet-by x (λ f. shorter bit Utf8 f x ≡ Utf8) (keeps Utf8 Utf8 (omega arith)) (λ l. keeps Utf8 Numeric (omega (arith, utf8-size, numeric-size)))
+        (λ l. keeps Utf8 Dates (omega (arith, utf8-size, dates-size))) in
+        let second : shorter bit Utf8 (integersFor x) x ≡ Utf8 =
+        found-by x (λ f k. shorter bit Utf8 f x ≡ Utf8) (keeps Utf8 Utf8 (omega arith))
+        (λ f i s.
+        let k = integer-octets x f i s in
+        let o = none-less b (length x) (width f * wordCount x) h (omega (arith, few-plain b)) (omega arith) in
+        keeps Utf8 f (omega (arith, utf8-size, integers-size f i s))) in
+        rw (first, second)
 
-  -- what is not utf-8 is the alphabet for the string, which has all its characters
-  pub form-alphabet : (f : StringForm) → f ≡ formFor bit x → (formNumber f ≡ 0 → ⊥) → (f ≡ alphabetFor x) × (f ≡ Utf8 → ⊥)
-  unfolding formFor
-  form-alphabet f e n = (
-    told (ltb (length (fieldIn bit (alphabetFor x) 0 x)) (length (fieldIn bit Utf8 0 x))) (λ t. rw t at e) (λ t. absurd (n (ap formNumber (rw t at e)))),
-    λ u. n (ap formNumber u),
-  )
+    module _ (h : plainMost bit < length x) where
+      alphabet-first : shorter bit Utf8 (alphabetFor x) x ≡ alphabetFor x
+      alphabet-first =
+          let packed = packed-less b (length x) (omega arith) h in
+          alphabet-by x (λ f. shorter bit Utf8 f x ≡ f) (keeps Utf8 Utf8 (omega arith)) (λ l. takes Utf8 Numeric (omega (arith, utf8-size, numeric-size)))
+          (λ l. takes Utf8 Dates (omega (arith, utf8-size, dates-size)))
 
-pub form-short : {bit : ℕ} → LayoutBit bit → (x : Octets) → (bit ≡ 5 → length x ≤ 3) → (bit ≡ 7 → length x ≤ 2) → Utf8 ≡ formFor bit x
-form-short at-bit-5 x a b = short-utf8 at-bit-5 x (a refl)
-form-short at-bit-7 x a b = short-utf8 at-bit-7 x (b refl)
+      utf8-last : shorter bit (alphabetFor x) Utf8 x ≡ alphabetFor x
+      utf8-last =
+          let packed = packed-less b (length x) (omega arith) h in
+          alphabet-by x (λ f. shorter bit f Utf8 x ≡ f) (keeps Utf8 Utf8 (omega arith)) (λ l. keeps Numeric Utf8 (omega (arith, utf8-size, numeric-size)))
+          (λ l. keeps Dates Utf8 (omega (arith, utf8-size, dates-size)))
 
-pub form-long : {bit : ℕ} → LayoutBit bit → (x : Octets) → length x ≤ 32768 → (bit ≡ 5 → 3 < length x) → (bit ≡ 7 → 2 < length x) → alphabetFor x ≡ formFor bit x
-form-long at-bit-5 x h a b = long-alphabet at-bit-5 x h (a refl)
-form-long at-bit-7 x h a b = long-alphabet at-bit-7 x h (b refl)
+      other-form : (alphabetFor x ≡ Numeric → ⊥) → alphabetFor x ≡ formFor bit x
+      unfolding formFor
+      other-form n = rw (alphabet-first, no-integers x n, utf8-last)
+
+      -- the integers that are found, or the first alphabet
+      module _ (e : alphabetFor x ≡ Numeric) where
+        numeric-form : formFor bit x ≡ shorter bit Numeric (integersFor x) x
+        unfolding formFor
+        numeric-form = rw (alphabet-first, e)
+
+        packed-counted : Counted x (record { form = Numeric; size = (length x + 1) / 2 })
+        packed-counted = record { size = sym (packed-length numeric x); some = omega arith; few = omega arith }
+
+        less-counted : (f : StringForm) → 0 < width f → shape (width f) x ≡ true → wordCount x * width f < (length x + 1) / 2
+            → Counted x (record { form = withWidth (width f); size = wordCount x * width f })
+        less-counted f i s l =
+            let k = integer-octets x f i s in
+            rw (width-form f i) (record { size = sym (integers-length f x i s ∙ omega arith); some = omega arith; few = omega arith })
+
+        or-integers : (shorter bit Numeric (integersFor x) x ≡ orIntegers (length x) (leastIn x) .form) × Counted x (orIntegers (length x) (leastIn x))
+        unfolding orIntegers
+        or-integers =
+            found-by x (λ f k. (shorter bit Numeric f x ≡ orIntegers (length x) k .form) × Counted x (orIntegers (length x) k))
+            (rw e at utf8-last, packed-counted)
+            (λ f i s.
+            let k = integer-octets x f i s in
+            case (wordCount x * width f) ((length x + 1) / 2)
+            (λ l. let o = length-grows bit (width f * wordCount x) ((length x + 1) / 2) (omega arith) (omega arith) in
+            rw (lt-ltb (wordCount x * width f) ((length x + 1) / 2) l) (takes Numeric f (omega (arith, numeric-size, integers-size f i s)) ∙ sym (width-form f i), less-counted f i s l))
+            (λ l. let o = length-grows bit ((length x + 1) / 2) (width f * wordCount x) (omega arith) (omega arith) in
+            rw (le-ltb (wordCount x * width f) ((length x + 1) / 2) l) (keeps Numeric f (omega (arith, numeric-size, integers-size f i s)), packed-counted)))
 
 -- ---- a string whose first octet is a letter of no alphabet
 no-alphabet : (o : ℕ) (more : Octets) → isLetter numeric o ≡ false → isLetter dates o ≡ false → alphabetFor (o ∷ more) ≡ Utf8
 unfolding alphabetFor allLetters
 no-alphabet o more n d = rw (n, d)
 
-either-utf8 : (b : Bool) → Utf8 ≡ pick b Utf8 Utf8
-either-utf8 true = refl
-either-utf8 false = refl
-
 no-form : (bit : ℕ) (x : Octets) → alphabetFor x ≡ Utf8 → Utf8 ≡ formFor bit x
 unfolding formFor
-no-form bit x e = rw e (either-utf8 (ltb (length (fieldIn bit Utf8 0 x)) (length (fieldIn bit Utf8 0 x))))
+no-form bit x e =
+    let stays : shorter bit Utf8 Utf8 x ≡ Utf8 = keeps bit x Utf8 Utf8 (omega arith) in
+    rw (e, no-integers x (λ n. let z = ap formNumber (sym e ∙ n) in omega arith), stays, stays)
 
 pub begins-plain : (bit : ℕ) {text : List ℕ} {x : EventString} {g : StringForm} {p m : ℕ} → Stretched text x g p m → formNumber g ≡ 0 → (isLetter numeric (getD text p 0) ≡ false) × (isLetter dates (getD text p 0) ≡ false)
     → Utf8 ≡ formFor bit (octetsOf text (locatedOf x))
@@ -196,43 +251,58 @@ begins-plain bit {text} {x} {g} {p} {m} s z l =
     let some = s .some in
     no-form bit _ (rw (says s, form-zero g z, part-cons text p (p + m) (omega arith) (s .lies)) (no-alphabet (getD text p 0) (part text (p + 1) (p + m)) (l .0) (l .1)))
 
-pub is-alphabet : (x : Octets) (f : StringForm) → f ≡ alphabetFor x → (f ≡ Utf8 → ⊥) → IsAlphabet f × (allLetters (alphabet f) x ≡ true)
-is-alphabet x f e n = rw e (alphabet-by (λ (g : StringForm). (g ≡ Utf8 → ⊥) → IsAlphabet g × (allLetters (alphabet g) x ≡ true)) x (λ g a l u. (a, l)) (λ u. absurd (u refl)) (λ u. n (e ∙ u)))
+-- ---- what the code chooses
+module _ {bit : ℕ} (b : LayoutBit bit) (x : Octets) (some : 1 ≤ length x) (few : length x ≤ saidMost) (n : ℕ) (size : n ≡ length x) where
+  pub choose-short : n ≤ plainMost bit → Chosen bit x (record { form = Utf8; size = n })
+  choose-short h = (short-form bit x b few (omega arith), record { size = size; some = omega arith; few = omega arith })
 
--- ---- a field, of n octets in UTF-8
-module _ (bit lead : ℕ) {text : List ℕ} {x : EventString} {g : StringForm} {p m : ℕ} (s : Stretched text x g p m) (n : ℕ) (size : n ≡ length (octetsOf text (locatedOf x))) (fits : n ≤ 32768) where
-  module _ {out out₁ out₂ : List ℕ} {at r q : ℕ} (length-put : Puts out at r out₁ (spell (lengths bit) lead n) × (r ≤ at + 5)) where
-    puts-utf8 : Puts out₁ r q out₂ (octetsOf text (locatedOf x)) → Puts out at q out₂ (fieldIn bit Utf8 lead (octetsOf text (locatedOf x))) × (q ≤ at + valueMost)
-    unfolding fieldIn inFormat
-    puts-utf8 b = let k = b .behind in let l = length-put .1 in (puts-append (rw size at (length-put .0)) b, omega arith)
+  module _ (above : plainMost bit < n) (letters : StringForm) (is : letters ≡ alphabetFor x) where
+    choose-other : (formNumber letters ≡ 2 → ⊥) → letters ≡ formFor bit x
+    choose-other u = is ∙ other-form bit x b few (omega arith) (λ e. u (ap formNumber (is ∙ e)))
 
-    pub puts-plain : formNumber g ≡ 0 → Puts out₁ r q out₂ (take m (drop p text)) → Puts out at q out₂ (fieldIn bit Utf8 lead (octetsOf text (locatedOf x))) × (q ≤ at + valueMost)
-    puts-plain z b = puts-utf8 (rw (plain-says s z) b)
+    pub choose-utf8 : formNumber letters ≡ 0 → Chosen bit x (record { form = letters; size = n })
+    choose-utf8 z =
+        (choose-other (λ e. omega arith), rw (form-zero letters z) (record { size = size; some = omega arith; few = omega arith }))
 
-    pub puts-said : Puts out₁ r q out₂ (said g (part text p (p + m))) → Puts out at q out₂ (fieldIn bit Utf8 lead (octetsOf text (locatedOf x))) × (q ≤ at + valueMost)
-    puts-said b = puts-utf8 (rw (says s) b)
+    pub choose-integers : formNumber letters ≡ 2 → {r : Formed} → r ≡ orIntegers n (leastIn x) → Chosen bit x r
+    choose-integers z i =
+        let e : alphabetFor x ≡ Numeric =
+        alphabet-by x (λ f. formNumber f ≡ 2 → f ≡ Numeric) (λ t. absurd (omega arith)) (λ l t. refl) (λ l t. absurd (omega arith)) (sym (ap formNumber is) ∙ z) in
+        let o = or-integers bit x b few (omega arith) e in
+        rw (i, size) (sym (numeric-form bit x b few (omega arith) e ∙ o .0), o .1)
 
-  -- in an alphabet f, behind the bits of its format; `unit` is what the last bit before the length is worth
-  module _ (unit second : ℕ) {out out₁ out₂ out₃ : List ℕ} {at r q : ℕ} (is : unit ≡ 2 ^ (9 - bit)) (named : out₁ ≡ set out at (lead + 2 * unit))
-      (length-put : Puts out₁ (at + 1) r out₂ (spell (lengths bit) second ((n + 1) / 2)) × (r ≤ at + 1 + 5)) where
-    packed-behind : (letters : List ℕ) → Puts out₂ r q out₃ (packedBy letters (octetsOf text (locatedOf x)))
-        → Puts out at q out₃ ((lead + 2 * 2 ^ (9 - bit)) ∷ withLength (lengths bit) second (packedBy letters (octetsOf text (locatedOf x)))) × (q ≤ at + valueMost)
-    packed-behind letters b =
-        let k = b .behind in
-        let l = length-put .1 in
-        let h = packed-length letters (octetsOf text (locatedOf x)) in
-        (rw (← is, h, ← size) (puts-octet named (puts-append (length-put .0) b)), omega arith)
+    pub choose-dates : (formNumber letters ≡ 0 → ⊥) → (formNumber letters ≡ 2 → ⊥) → Chosen bit x (record { form = letters; size = (n + 1) / 2 })
+    choose-dates z u =
+        let e : length (inForm letters x) ≡ (length x + 1) / 2 =
+        rw is (alphabet-by x (λ f. (formNumber f ≡ 0 → ⊥) → length (inForm f x) ≡ (length x + 1) / 2) (λ t. absurd (t refl)) (λ l t. packed-length numeric x) (λ l t. packed-length dates x) (rw is at z)) in
+        (choose-other u, record { size = omega arith; some = omega arith; few = omega arith })
 
-    pub puts-packed : (f : StringForm) → IsAlphabet f → (formNumber f ≡ 2 → second ≡ 0) → ((formNumber f ≡ 2 → ⊥) → second ≡ unit)
-        → Puts out₂ r q out₃ (packedBy (alphabet f) (said g (part text p (p + m)))) → Puts out at q out₃ (fieldIn bit f lead (octetsOf text (locatedOf x))) × (q ≤ at + valueMost)
-    unfolding fieldIn inFormat
-    puts-packed Utf8 a c d b = absurd a
-    puts-packed Utf16 a c d b = absurd a
-    puts-packed Numeric a c d b = rw (c refl) at (packed-behind numeric (rw (says s) b))
-    puts-packed Dates a c d b = rw (d (λ e. omega arith) ∙ is) at (packed-behind dates (rw (says s) b))
+-- ---- the integers that were found, or the alphabet
+module _ (n : ℕ) {k w : ℕ} {found : Found} (e : found ≡ Integers k w) where
+  pub few-octets : n ≤ saidMost → FewIntegers n found → k * w ≤ saidMost * 8
+  few-octets h f = let g : FewIntegers n (Integers k w) = rw e at f in omega (arith, mul-le-mul {n₁ = k} {m₁ = w} {n₂ = saidMost} {m₂ = 8} (omega arith) (omega arith))
 
--- ---- the field in the form for the string
-module _ (bit lead : ℕ) (x : Octets) {out out′ : List ℕ} {at r : ℕ} where
-  pub puts-chosen : (f : StringForm) → f ≡ formFor bit x → Puts out at r out′ (fieldIn bit f lead x) × (r ≤ at + valueMost) → Puts out at r out′ (chosenField bit lead x) × (r ≤ at + valueMost)
-  unfolding chosenField
-  puts-chosen f e p = rw (← e) p
+  pub less-integers : {f : StringForm} → k * w < (n + 1) / 2 → f ≡ withWidth w → record { form = f; size = k * w } ≡ orIntegers n found
+  unfolding orIntegers
+  less-integers l i = rw (e, lt-ltb (k * w) ((n + 1) / 2) l, i)
+
+  pub more-integers : (n + 1) / 2 ≤ k * w → record { form = Numeric; size = (n + 1) / 2 } ≡ orIntegers n found
+  unfolding orIntegers
+  more-integers l = rw (e, le-ltb (k * w) ((n + 1) / 2) l)
+
+pub none-found : (n : ℕ) {found : Found} → found ≡ NoIntegers → record { form = Numeric; size = (n + 1) / 2 } ≡ orIntegers n found
+unfolding orIntegers
+none-found n e = rw e
+
+module _ (w : ℕ) where
+  pub width-two : w ≡ 2 → Short ≡ withWidth w
+  unfolding withWidth
+  width-two e = rw e
+
+  pub width-four : w ≡ 4 → Int ≡ withWidth w
+  unfolding withWidth
+  width-four e = rw e
+
+  pub width-other : (w ≡ 2 → ⊥) → (w ≡ 4 → ⊥) → Long ≡ withWidth w
+  unfolding withWidth
+  width-other a c = rw (ne-eqb w 2 a, ne-eqb w 4 c)

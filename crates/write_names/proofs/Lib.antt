@@ -1,5 +1,6 @@
 pub mod Order
 pub mod Stretches
 pub mod FormLaws
+pub mod FieldLaws
 pub mod StringLaws
 pub mod NameLaws

@@ -7,7 +7,7 @@ use Prim.Native.Nat.{ℕ, _+_, _≤_, _<_}
 use native.Mathlib.Omega.{arith}
 use lib.ListN.{length, take, drop}
 use Rattle.format.specs.declared.StringForm.{StringForm}
-use Rattle.format.specs.declared.StringForm.the-variants.{Utf8, Utf16, Numeric, Dates}
+use Rattle.format.specs.declared.StringForm.the-variants.{Utf8, Utf16, Numeric, Dates, Short, Int, Long}
 use Rattle.format.specs.Forms.{formNumber}
 use Rattle.fields.specs.PutContracts.{Puts}
 use Rattle.forms.specs.Reading.{said}
@@ -22,13 +22,16 @@ use Rattle.events.specs.declared.EventString.{EventString}
 use Rattle.events.specs.declared.EventString.the-variants.{Absent, Empty, Stretch, XmlPrefix, XmlNamespace}
 use Rattle.events.specs.Records.{locatedOf, optionalOf}
 use Rattle.events.specs.Words.{formTag, stringTag, stringForm, stringPlace, stringSize}
-use Rattle.write_names.specs.Contracts.{Spells}
+use Rattle.write_names.specs.Contracts.{saidMost, Spells}
 
 some-tag : (f : StringForm) → 1 ≤ formTag f
 some-tag Utf8 = omega arith
 some-tag Utf16 = omega arith
 some-tag Numeric = omega arith
 some-tag Dates = omega arith
+some-tag Short = omega arith
+some-tag Int = omega arith
+some-tag Long = omega arith
 
 -- ---- there, or absent
 pub there : (x : EventString) → 1 ≤ stringTag x → optionalOf x ≡ some (locatedOf x)
@@ -83,7 +86,7 @@ module _ {text : List ℕ} {x : EventString} {f : StringForm} {p n : ℕ} (s : S
   pub part-sound : S.Sound f (S.part text p (p + n))
   part-sound = sound-part text f p n (s .sound)
 
-  pub said-length : length text ≤ 16384 → (1 ≤ length (octetsOf text (locatedOf x))) × (length (octetsOf text (locatedOf x)) ≤ 32768)
+  pub said-length : length text ≤ 16384 → (1 ≤ length (octetsOf text (locatedOf x))) × (length (octetsOf text (locatedOf x)) ≤ saidMost)
   said-length h =
       let k = s .some in
       let l = s .lies in
@@ -101,11 +104,11 @@ module _ {text : List ℕ} {x : EventString} {f : StringForm} {p n : ℕ} (s : S
 
   -- ---- how many octets that are, counted or put
   module _ (short : length text ≤ 16384) {r : ℕ} where
-    counted : r ≡ length (octetsOf text (locatedOf x)) → (r ≡ length (octetsOf text (locatedOf x))) × (1 ≤ r) × (r ≤ 32768)
+    counted : r ≡ length (octetsOf text (locatedOf x)) → (r ≡ length (octetsOf text (locatedOf x))) × (1 ≤ r) × (r ≤ saidMost)
     counted e = let l = said-length short in (e, omega arith, omega arith)
 
-    pub octets-plain : formNumber f ≡ 0 → r ≡ n → (r ≡ length (octetsOf text (locatedOf x))) × (1 ≤ r) × (r ≤ 32768)
+    pub octets-plain : formNumber f ≡ 0 → r ≡ n → (r ≡ length (octetsOf text (locatedOf x))) × (1 ≤ r) × (r ≤ saidMost)
     octets-plain z e = counted (e ∙ sym (plain-length z))
 
-    pub octets-put : {out out′ : List ℕ} → Puts out 0 r out′ (said f (S.part text p (p + n))) → (r ≡ length (octetsOf text (locatedOf x))) × (1 ≤ r) × (r ≤ 32768)
+    pub octets-put : {out out′ : List ℕ} → Puts out 0 r out′ (said f (S.part text p (p + n))) → (r ≡ length (octetsOf text (locatedOf x))) × (1 ≤ r) × (r ≤ saidMost)
     octets-put put = let b = put .behind in counted (rw says (omega arith))

@@ -12,7 +12,7 @@ use Rattle.format.specs.Numbers.{pick, lengths, spell, c25}
 use Rattle.format.specs.Events.{Name, How, spelled, numbered, NameHow, inParts, byNumber}
 use Rattle.format.specs.Tables.{StringTable, PREFIX, NAMESPACE-NAME, LOCAL-NAME, Triple, Vocabulary, strings, names, adding, addingName, Version}
 use Rattle.format.specs.Strings.{withLength, inFormat, bit, Layout, c14, keeping}
-use Rattle.forms.specs.Packing.{alphabetFor, inForm}
+use Rattle.forms.specs.Packing.{alphabetFor, integersFor, inForm}
 use Rattle.format.specs.Names.{has, NameLayout}
 use Rattle.tables.specs.Located.{Located, octetsOf}
 use Rattle.tables.specs.Search.{numberIn, numberOfTriple}
@@ -55,12 +55,16 @@ writeName q lead text v x =
     })
     (record { octets = spell (q .numberForms) lead k; how = byNumber k; number = k; tables = v })
 
--- A string's field, in a form that the string fits; the form in which it is spelled: an alphabet only where it saves octets over utf-8, all octets of the field counted. utf-16 never saves any.
+-- A string's field, in a form that the string fits. Of two forms the second, only where it saves octets over the first, all octets of the field counted. The form in which a string is spelled: utf-8
+-- before an alphabet, and an alphabet before integers. utf-16 is never chosen (the requirements).
 unfoldable pub fieldIn : (lengthBit : ℕ) → StringForm → (lead : ℕ) → Octets → Octets
 fieldIn bit form lead x = inFormat bit form lead (inForm form x)
 
+unfoldable pub shorter : (lengthBit : ℕ) → (first second : StringForm) → Octets → StringForm
+shorter bit first second x = pick (ltb (length (fieldIn bit second 0 x)) (length (fieldIn bit first 0 x))) second first
+
 unfoldable pub formFor : (lengthBit : ℕ) → Octets → StringForm
-formFor bit x = pick (ltb (length (fieldIn bit (alphabetFor x) 0 x)) (length (fieldIn bit Utf8 0 x))) (alphabetFor x) Utf8
+formFor bit x = shorter bit (shorter bit Utf8 (alphabetFor x) x) (integersFor x) x
 
 module _ (ver : Version) where
   -- A string of up to 5 octets, in UTF-8, is added where its table has room. (An empty one does not come here.)

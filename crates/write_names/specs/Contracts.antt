@@ -1,11 +1,11 @@
 -- Contracts of the code, not definitions to be believed. How the code's answers stand for the choices' definition: tables and counts in lent words are the vocabulary that they hold.
-use Prim.Native.Nat.{ℕ, suc, _+_, _-_, _*_, _^_, _<_, _≤_}
+use Prim.Native.Nat.{ℕ, suc, _+_, _-_, _*_, _/_, _^_, _<_, _≤_}
 use mathlib.Core.Path.{_≡_}
 use mathlib.Core.Bool.{Bool, true, false}
 use mathlib.Core.Option.{Option}
 use mathlib.Core.List.{List, [], _∷_, _++_, map}
 use lib.ListN.{length, getD, set}
-use lib.Dec.{eqb}
+use lib.Dec.{eqb, ltb}
 use Rattle.format.specs.Octets.{Octets, Words}
 use Rattle.format.specs.Numbers.{pick}
 use Rattle.format.specs.Events.{Name, How, spelled, Choice, forNamespace}
@@ -13,9 +13,13 @@ use Rattle.format.specs.Tables.{StringTable, PREFIX, NAMESPACE-NAME, LOCAL-NAME
 use Rattle.format.specs.Strings.{bit, keeping}
 use Rattle.format.specs.Names.{has, NameLayout}
 use Rattle.format.specs.declared.StringForm.{StringForm}
-use Rattle.format.specs.declared.StringForm.the-variants.{Utf8}
-use Rattle.format.specs.Forms.{formNumber}
+use Rattle.format.specs.declared.StringForm.the-variants.{Utf8, Utf16, Numeric, Dates, Short, Int, Long}
+use Rattle.format.specs.Forms.{formNumber, numeric, dates, width}
 use Rattle.fields.specs.PutContracts.{Puts}
+use Rattle.decimal.specs.declared.scanning.Found.{Found}
+use Rattle.decimal.specs.declared.scanning.Found.the-variants.{Integers, NoIntegers}
+use Rattle.decimal.specs.Words.{shape}
+use Rattle.forms.specs.Packing.{allLetters, inForm}
 use Rattle.tables.specs.declared.Row.{Row}
 use Rattle.tables.specs.Located.{Located, stretch, builtInPrefix, builtInNamespace, octetsOf}
 use Rattle.tables.specs.Search.{numberIn, numberOfTriple}
@@ -31,6 +35,7 @@ use Rattle.write_names.specs.declared.Wrote as W
 use Rattle.write_names.specs.declared.Wrote.the-variants.{Put, Full}
 use Rattle.write_names.specs.declared.Sought.{Sought}
 use Rattle.write_names.specs.declared.Spelling.{Spelling}
+use Rattle.write_names.specs.declared.Formed.{Formed}
 use Rattle.write_names.specs.declared.QualifiedName.{QualifiedName}
 use Rattle.write_names.specs.declared.naming.Numbers.{Numbers}
 use Rattle.write_names.specs.Choices.{Wrote, writeId, writeOptional, fieldIn, formFor, worthAdding, within}
@@ -40,9 +45,12 @@ use Rattle.write_names.specs.Choices.{Wrote, writeId, writeOptional, fie
 abbrev pub stringMost : ℕ
 stringMost = 16389
 
--- Another string than an identifying one may be given in a form that takes less octets than its UTF-8: one of two.
+-- Another string than an identifying one may be given in a form that takes fewer octets than its UTF-8, but no fewer than a quarter. A spelled one has an octet more where its format has a number.
+abbrev pub saidMost : ℕ
+saidMost = 4 * 16384
+
 abbrev pub valueMost : ℕ
-valueMost = 5 + 2 * 16384
+valueMost = 6 + saidMost
 
 abbrev pub pairMost : ℕ
 pairMost = 1 + 2 * stringMost
@@ -127,6 +135,64 @@ Added text table form place size c w index c′ w′ index′ =
 -- A spelling leaves the format and the length their bits, the add bit counted; its table is one of other strings.
 abbrev pub Fitting : Spelling → Type 0
 Fitting q = (5 ≤ q .table) × (q .table < 8) × LayoutBit (q .bit) × (q .lead + q .add + 4 * 2 ^ (9 - q .bit) ≤ 256)
+
+-- How many octets of a string no other form saves: one octet names an alphabet or an algorithm, an octet of an alphabet has two characters at most, and integers have two octets at least. (Where a length starts at bit 7, one of 3 takes two octets.)
+abbrev pub plainMost : (lengthBit : ℕ) → ℕ
+plainMost bit = pick (eqb bit 7) 2 3
+
+-- A format's two bits, and the number less 1 of an alphabet or an algorithm, as `inFormat` has them.
+abbrev pub formatBits : StringForm → ℕ
+formatBits Utf8 = 0
+formatBits Utf16 = 1
+formatBits Numeric = 2
+formatBits Dates = 2
+formatBits Short = 3
+formatBits Int = 3
+formatBits Long = 3
+
+abbrev pub lessOne : StringForm → ℕ
+lessOne Utf8 = 0
+lessOne Utf16 = 0
+lessOne Numeric = 0
+lessOne Dates = 1
+lessOne Short = 2
+lessOne Int = 3
+lessOne Long = 4
+
+-- The form of integers of w octets. For n characters of an alphabet: the integers that were found, where they have fewer octets.
+unfoldable pub withWidth : (w : ℕ) → StringForm
+withWidth w = pick (eqb w 2) Short (pick (eqb w 4) Int Long)
+
+unfoldable pub orIntegers : (n : ℕ) → Found → Formed
+orIntegers n (Integers k w) = pick (ltb (k * w) ((n + 1) / 2)) (record { form = withWidth w; size = k * w }) (record { form = Numeric; size = (n + 1) / 2 })
+orIntegers n NoIntegers = record { form = Numeric; size = (n + 1) / 2 }
+
+-- So few that their octets can be counted.
+abbrev pub FewIntegers : (n : ℕ) → Found → Type 0
+FewIntegers n (Integers k w) = (k ≤ n) × (w ≤ 8)
+FewIntegers n NoIntegers = Unit {0}
+
+-- A string has an alphabet for all its characters, or integers whose text it is.
+abbrev pub Fits : StringForm → Octets → Type 0
+Fits Utf8 x = ⊥
+Fits Utf16 x = ⊥
+Fits Numeric x = allLetters numeric x ≡ true
+Fits Dates x = allLetters dates x ≡ true
+Fits Short x = shape (width Short) x ≡ true
+Fits Int x = shape (width Int) x ≡ true
+Fits Long x = shape (width Long) x ≡ true
+
+-- The octets that a string x has in a form were counted; the form is the one that the writer chooses, or one that x fits.
+pub record Counted (x : Octets) (f : Formed) : Type 0 where
+  pub size : f .size ≡ length (inForm (f .form) x)
+  pub some : 1 ≤ f .size
+  pub few : f .size ≤ saidMost
+
+abbrev pub Chosen : (lengthBit : ℕ) → Octets → Formed → Type 0
+Chosen bit x f = (f .form ≡ formFor bit x) × Counted x f
+
+abbrev pub HasForm : Octets → Formed → Type 0
+HasForm x f = Fits (f .form) x × Counted x f
 
 -- What a string's field is in the form that the writer chooses.
 unfoldable pub chosenField : (lengthBit : ℕ) → (lead : ℕ) → Octets → Octets

@@ -1,5 +1,5 @@
 // Strings and names as octets, by the choices that the requirements fix: by number where the table holds them, else spelled.
-// May depend on format, fields, forms, tables, index and events.
+// May depend on format, fields, decimal, forms, tables, index and events.
 mod naming;
 
 ghost use mathlib.Core.Path.{_≡_};
@@ -16,9 +16,9 @@ ghost use Rattle.tables.specs.Rows.{tableOf};
 ghost use Rattle.tables.specs.Kept.{layoutOf};
 ghost use Rattle.events.specs.Records.{locatedOf, optionalOf};
 ghost use Rattle.events.specs.Words.{stringTag};
-ghost use Rattle.forms.specs.Packing.{alphabetFor};
 ghost use Rattle.write_names.specs.Choices.{writeId, writeOptional, fieldIn, formFor, writeLiteral, writeValue};
-ghost use Rattle.write_names.specs.Contracts.{stringMost, valueMost, lastPlace, LayoutBit, chosenField, tablesIn, InOrder, Suits, Fills, heldAs, Looked, Enters, Added, Spells, Fitting, spelledAs, Stands, Meets};
+ghost use Rattle.write_names.specs.Contracts.{stringMost, saidMost, valueMost, lastPlace, LayoutBit, plainMost, formatBits, lessOne, withWidth, FewIntegers, orIntegers, HasForm, Chosen, chosenField, tablesIn, InOrder, Suits, Fills, heldAs, Looked, Enters, Added, Spells, Fitting, spelledAs, Stands, Meets};
+use decimal::scanning::Found;
 use events::EventString;
 use fields::put::put;
 use fields::put::put_length;
@@ -55,6 +55,18 @@ pub struct Spelling {
     pub bit: u32,
     pub lead: u8,
     pub add: u8,
+}
+
+// The two bits of a form's format (C.19, C.20), and the number less 1 of its alphabet or algorithm (C.29).
+struct Format {
+    bits: u8,
+    number: u8,
+}
+
+// The form in which a string is spelled, and how many octets it has there.
+struct Formed {
+    form: StringForm,
+    size: usize,
 }
 
 // A name of table 8 or 9: the bits before it, and its strings.
@@ -260,7 +272,7 @@ pub fn identified(
 // How many octets a string has in UTF-8.
 pub fn octets_of(text: &[u8], x: EventString) -> usize
     requires { ⌜ Spells (now text) x × (length (now text) ≤ 16384) ⌝ }
-    ensures { λ r. ⌜ (r ≡ length (octetsOf (now (text .entry)) (locatedOf x))) × (1 ≤ r) × (r ≤ 32768) ⌝ }
+    ensures { λ r. ⌜ (r ≡ length (octetsOf (now (text .entry)) (locatedOf x))) × (1 ≤ r) × (r ≤ saidMost) ⌝ }
 {
     let form = x.form();
     let size = x.size() as usize;
@@ -272,17 +284,74 @@ pub fn octets_of(text: &[u8], x: EventString) -> usize
     forms::put_said(&mut none, 0, text, form, from, from + size)
 }
 
-// The form in which a string of n octets in UTF-8 is spelled. An alphabet saves octets from the fourth on; from the third, where a length starts at bit 7.
-fn form_for(text: &[u8], bit: u32, x: EventString, n: usize) -> StringForm
-    requires { ⌜ Spells (now text) x × (length (now text) ≤ 16384) × LayoutBit bit × (n ≡ length (octetsOf (now text) (locatedOf x))) ⌝ }
-    ensures { λ r. ⌜ r ≡ formFor bit (octetsOf (now (text .entry)) (locatedOf x)) ⌝ }
+// The form of integers of w octets each.
+fn with_width(w: usize) -> StringForm
+    ensures { λ r. ⌜ r ≡ withWidth w ⌝ }
 {
-    let most = if bit == 7 { 2 } else { 3 };
-    if n <= most {
-        return StringForm::Utf8;
+    match w {
+        2 => StringForm::Short,
+        4 => StringForm::Int,
+        _ => StringForm::Long,
     }
+}
+
+// The form for a string of n characters of an alphabet: integers where they have fewer octets, of which a length takes no more, and on a tie the alphabet.
+fn or_integers(n: usize, found: Found) -> Formed
+    requires { ⌜ (n ≤ saidMost) × FewIntegers n found ⌝ }
+    ensures { λ r. ⌜ r ≡ orIntegers n found ⌝ }
+{
+    let packed = (n + 1) / 2;
+    if let Found::Integers(k, w) = found {
+        let size = k * w;
+        if size < packed {
+            return Formed {
+                form: with_width(w),
+                size,
+            };
+        }
+    }
+    Formed {
+        form: StringForm::Numeric,
+        size: packed,
+    }
+}
+
+// How many octets of a string no other form saves.
+fn plain_most(bit: u32) -> usize
+    ensures { λ r. ⌜ r ≡ plainMost bit ⌝ }
+{
+    if bit == 7 {
+        return 2;
+    }
+    3
+}
+
+// The form in which a string of n octets in UTF-8 is spelled. What integers say has characters of the first alphabet alone.
+fn form_for(text: &[u8], bit: u32, x: EventString, n: usize) -> Formed
+    requires { ⌜ Spells (now text) x × (length (now text) ≤ 16384) × LayoutBit bit × (n ≡ length (octetsOf (now text) (locatedOf x))) ⌝ }
+    ensures { λ r. ⌜ Chosen bit (octetsOf (now (text .entry)) (locatedOf x)) r ⌝ }
+{
+    if n <= plain_most(bit) {
+        return Formed {
+            form: StringForm::Utf8,
+            size: n,
+        };
+    }
+    let given = x.form();
     let from = x.place() as usize;
-    forms::alphabet_for(text, x.form(), from, from + x.size() as usize)
+    let to = from + x.size() as usize;
+    let letters = forms::alphabet_for(text, given, from, to);
+    match letters.number() {
+        0 => Formed {
+            form: letters,
+            size: n,
+        },
+        2 => or_integers(n, forms::integers_for(text, given, from, to)),
+        _ => Formed {
+            form: letters,
+            size: (n + 1) / 2,
+        },
+    }
 }
 
 // In UTF-8: n octets behind their length.
@@ -319,34 +388,45 @@ fn unit_before(bit: u32) -> u8
     16
 }
 
-// In an alphabet that has all n characters: the bits of the format, those of the alphabet, the length, and the places.
-fn in_alphabet(
+fn format_of(form: StringForm) -> Format
+    ensures { λ r. ⌜ (r .bits ≡ formatBits form) × (r .number ≡ lessOne form) × (r .bits ≤ 3) × (r .number ≤ 4) ⌝ }
+{
+    match form {
+        StringForm::Utf8 => Format { bits: 0, number: 0 },
+        StringForm::Utf16 => Format { bits: 1, number: 0 },
+        StringForm::Numeric => Format { bits: 2, number: 0 },
+        StringForm::Dates => Format { bits: 2, number: 1 },
+        StringForm::Short => Format { bits: 3, number: 2 },
+        StringForm::Int => Format { bits: 3, number: 3 },
+        StringForm::Long => Format { bits: 3, number: 4 },
+    }
+}
+
+// In an alphabet that has all its characters, or as its integers: the bits of the format, those of the number, the length, and the octets.
+fn in_other(
     out: &mut [u8],
     at: usize,
     bit: u32,
     lead: u8,
     text: &[u8],
     x: EventString,
-    n: usize,
-    letters: StringForm,
+    formed: Formed,
 ) -> usize
-    requires { ⌜ Spells (now text) x × (length (now text) ≤ 16384) × (at < 2 ^ 31) × LayoutBit bit × (lead + 4 * 2 ^ (9 - bit) ≤ 256) × (n ≡ length (octetsOf (now text) (locatedOf x))) × (letters ≡ alphabetFor (octetsOf (now text) (locatedOf x))) × (letters ≡ Utf8 → ⊥) ⌝ }
-    ensures { λ r. ⌜ Puts (now (out .entry)) at r (now (out .exit)) (fieldIn bit letters lead (octetsOf (now (text .entry)) (locatedOf x))) × (r ≤ at + valueMost) ⌝ }
+    requires { ⌜ Spells (now text) x × (length (now text) ≤ 16384) × (at < 2 ^ 31) × LayoutBit bit × (lead + 4 * 2 ^ (9 - bit) ≤ 256) × HasForm (octetsOf (now text) (locatedOf x)) formed ⌝ }
+    ensures { λ r. ⌜ Puts (now (out .entry)) at r (now (out .exit)) (fieldIn bit (formed .form) lead (octetsOf (now (text .entry)) (locatedOf x))) × (r ≤ at + valueMost) ⌝ }
 {
     let unit = unit_before(bit);
-    put(out, at, lead + 2 * unit);
-    let second = if letters.number() == 2 { 0 } else { unit };
-    let behind = put_length(out, at + 1, bit, second, (n + 1) / 2);
+    let form = formed.form;
+    let format = format_of(form);
+    let given = x.form();
     let from = x.place() as usize;
-    forms::put_packed(
-        out,
-        behind,
-        text,
-        x.form(),
-        from,
-        from + x.size() as usize,
-        letters,
-    )
+    let to = from + x.size() as usize;
+    put(out, at, lead + format.bits * unit);
+    let behind = put_length(out, at + 1, bit, format.number * unit, formed.size);
+    if format.bits == 2 {
+        return forms::put_packed(out, behind, text, given, from, to, form);
+    }
+    forms::put_integers(out, behind, text, given, from, to, form)
 }
 
 // A string of n octets in UTF-8 in the form that is chosen by all its characters, its length from bit `bit` behind `lead` and the format.
@@ -362,11 +442,12 @@ fn put_formed(
     requires { ⌜ Spells (now text) x × (length (now text) ≤ 16384) × (at < 2 ^ 31) × LayoutBit bit × (lead + 4 * 2 ^ (9 - bit) ≤ 256) × (n ≡ length (octetsOf (now text) (locatedOf x))) ⌝ }
     ensures { λ r. ⌜ Puts (now (out .entry)) at r (now (out .exit)) (chosenField bit lead (octetsOf (now (text .entry)) (locatedOf x))) × (r ≤ at + valueMost) ⌝ }
 {
-    let form = form_for(text, bit, x, n);
+    let formed = form_for(text, bit, x, n);
+    let form = formed.form;
     if form.number() == 0 {
         return in_utf8(out, at, bit, lead, text, x, n);
     }
-    in_alphabet(out, at, bit, lead, text, x, n, form)
+    in_other(out, at, bit, lead, text, x, formed)
 }
 
 // A string of n octets in UTF-8 as the writer spells it, its length from bit `bit` behind `lead` and the format. Most strings are given in utf-8 and stay so, which their first octet tells.

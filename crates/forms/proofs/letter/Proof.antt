@@ -19,6 +19,15 @@ returns-4 : tie.Need-returns-4
 unfolding dates
 returns-4 c = rw (c .before .before .enum-told4 .given .1)
 
+returns-5 : tie.Need-returns-5
+returns-5 c = rw (c .enum-told5 .given .1)
+
+returns-6 : tie.Need-returns-6
+returns-6 c = rw (c .enum-told6 .given .1)
+
+returns-7 : tie.Need-returns-7
+returns-7 c = rw (c .enum-told7 .given .1)
+
 pub letter-spec : {M : Type 1} → statement M
 letter-spec =
     tie.close
@@ -29,7 +38,13 @@ letter-spec =
     (λ c. search needs)
     (λ c. search needs)
     (λ c. search needs)
+    (λ c. search needs)
+    (λ c. search needs)
+    (λ c. search needs)
     returns
     returns-2
     returns-3
-    returns-4)
+    returns-4
+    returns-5
+    returns-6
+    returns-7)

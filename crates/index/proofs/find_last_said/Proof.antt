@@ -25,14 +25,14 @@ unfolding lastRow strings stringsAt
 returns-2 c =
     let a = c .before .before .before .before .before .args in
     let p = c .before .before .before .before .before .pre in
-    rw (eq-eqb (a .n) 256 (omega arith), sym (row-other (a .s .now) (a .t .now) (a .table) _ (a .form) (a .place) (a .len) (p .1) (p .2) (p .4) (p .5)) ∙ sym (c .before .is-said .ensures) ∙ c .if2 .taken) (omega arith)
+    rw (eq-eqb (a .n) 256 (omega arith), sym (row-other (a .s .now) (a .t .now) (a .table) _ _ (p .1) (p .2)) ∙ sym (c .before .is-said .ensures) ∙ c .if2 .taken) (omega arith)
 
 returns-3 : tie.Need-returns-3
 unfolding lastRow strings stringsAt
 returns-3 c =
     let a = c .before .before .before .before .before .args in
     let p = c .before .before .before .before .before .pre in
-    rw (eq-eqb (a .n) 256 (omega arith), sym (row-other (a .s .now) (a .t .now) (a .table) _ (a .form) (a .place) (a .len) (p .1) (p .2) (p .4) (p .5)) ∙ sym (c .before .is-said .ensures) ∙ c .if2 .left)
+    rw (eq-eqb (a .n) 256 (omega arith), sym (row-other (a .s .now) (a .t .now) (a .table) _ _ (p .1) (p .2)) ∙ sym (c .before .is-said .ensures) ∙ c .if2 .left)
 
 pub find-last-said-spec : {M : Type 1} → statement M
 find-last-said-spec = tie.close (tie.spec returns (λ c. search needs) (λ c. search needs) is-said-requires returns-2 returns-3)

@@ -53,7 +53,7 @@ returns : tie.Need-returns Inv-loop μ-loop
 returns c =
     let p = c .before .before .before .before .before .before .before .before .before .before .before .before .before .pre in
     string-hit _ _ _ _ _ _ (c .before .before .before .loop .inv .0) (omega arith)
-    (sym (row-other _ _ _ _ _ _ _ (p .2) (p .3) (p .5) (p .6)) ∙ sym (c .before .is-alike .ensures) ∙ c .if2 .taken)
+    (sym (row-other _ _ _ _ _ (p .2) (p .3)) ∙ sym (c .before .is-alike .ensures) ∙ c .if2 .taken)
 
 loop-less : tie.Need-loop-less Inv-loop μ-loop
 loop-less c =
@@ -66,7 +66,7 @@ loop-again : tie.Need-loop-again Inv-loop μ-loop
 loop-again c =
     let p = c .before .before .before .before .before .before .before .before .before .before .before .before .before .before .before .pre in
     let w = rw (← c .number3 .ensures) at (string-next _ _ _ _ _ _ (p .11) (not-built-in _ _ _ _ _ (p .2) (p .6) (p .5)) _ (c .before .before .before .before .before .loop .inv .0) (omega arith)
-    (sym (row-other _ _ _ _ _ _ _ (p .2) (p .3) (p .5) (p .6)) ∙ sym (c .before .before .before .is-alike .ensures) ∙ c .before .before .if2 .left)) in
+    (sym (row-other _ _ _ _ _ (p .2) (p .3)) ∙ sym (c .before .before .before .is-alike .ensures) ∙ c .before .before .if2 .left)) in
     (w, string-within _ _ _ _ _ _ w)
 
 returns-2 : tie.Need-returns-2 Inv-loop μ-loop

@@ -8,7 +8,7 @@ use Prim.Native.Nat.{_+_}
 use lib.ListN.{getD}
 use Rattle.format.specs.declared.StringForm.the-variants.{Utf8}
 use Rattle.tables.proofs.FormLaws.{form-of}
-use Rattle.tables.proofs.SaidLaws.{same-form, says-some, none-said}
+use Rattle.tables.proofs.SaidLaws.{same-form, says-some, none-spelled, none-row, some-row}
 use Rattle.index.proofs.is_alike.Statement.{statement}
 use Rattle.index.proofs.is_alike.Tie as tie
 
@@ -23,8 +23,8 @@ returns c =
     let f = form-of (getD t (a .j + 2) 0) (a .form) (c .before .if1 .taken ∙ c .before .before .number .ensures .0) in
     let some = says-some (a .s .now) (a .form) (a .place) (a .len) (p .3) (p .2) in
     elim (decLt 0 (getD t (a .j + 1) 0)) [
-      | yes l ↦ (c .is-spelled .ensures ∙ same-form _ _ _ _ _ _ _ f (p .6 (λ z. omega arith) .1) (p .5))
-      | no l ↦ (c .is-spelled .ensures ∙ sym (none-said _ Utf8 _ _ _ (omega arith) (says-some (a .s .now) Utf8 (a .place) (a .len) (p .3) (p .2))) ∙ none-said _ _ _ _ _ (omega arith) some)
+      | yes l ↦ rw (some-row t (a .j) (λ z. omega arith)) (c .is-spelled .ensures ∙ same-form _ _ _ _ _ _ _ f (p .6 (λ z. omega arith) .1) (p .5))
+      | no l ↦ (c .is-spelled .ensures ∙ sym (none-spelled (a .s .now) _ _ _ (omega arith) (says-some (a .s .now) Utf8 (a .place) (a .len) (p .3) (p .2))) ∙ none-row _ _ _ _ (omega arith) some)
     ]
 
 is-said-requires : tie.Need-is-said-requires

@@ -4,7 +4,8 @@ use borrow.Author.Needs.{needs}
 use native.Mathlib.Omega.{arith}
 use mathlib.Core.Path.{sym, _∙_}
 use Rattle.write_names.proofs.Stretches.{stretched, part-sound, said-length}
-use Rattle.write_names.proofs.FormLaws.{bit-range, puts-plain, puts-said}
+use Rattle.write_names.proofs.FormLaws.{bit-range}
+use Rattle.write_names.proofs.FieldLaws.{puts-plain, puts-said}
 use Rattle.write_names.proofs.in_utf8.Tie as tie
 use Rattle.write_names.proofs.in_utf8.Statement.{statement}
 

@@ -7,7 +7,8 @@ use Rattle.format.specs.Forms.{formNumber}
 use Rattle.format.specs.declared.StringForm.the-variants.{Utf8}
 use Rattle.events.specs.Words.{stringSize}
 use Rattle.write_names.proofs.Stretches.{stretched, said-length, plain-length}
-use Rattle.write_names.proofs.FormLaws.{bit-range, begins-plain, puts-plain, puts-chosen}
+use Rattle.write_names.proofs.FormLaws.{bit-range, begins-plain}
+use Rattle.write_names.proofs.FieldLaws.{puts-plain, puts-chosen}
 use Rattle.write_names.proofs.put_string.Tie as tie
 use Rattle.write_names.proofs.put_string.Statement.{statement}
 

@@ -5,7 +5,7 @@ use mathlib.Core.Bool.{false}
 use borrow.Author.Needs.{needs}
 use lib.Dec.{eqb}
 use Rattle.format.specs.declared.StringForm.{StringForm}
-use Rattle.format.specs.declared.StringForm.the-variants.{Utf8, Utf16, Numeric, Dates}
+use Rattle.format.specs.declared.StringForm.the-variants.{Utf8, Utf16, Numeric, Dates, Short, Int, Long}
 use Rattle.events.specs.Words.{formTag}
 use Rattle.events.proofs.EventString.is_absent.Statement.{statement}
 use Rattle.events.proofs.EventString.is_absent.Tie as tie
@@ -15,6 +15,9 @@ there Utf8 = refl
 there Utf16 = refl
 there Numeric = refl
 there Dates = refl
+there Short = refl
+there Int = refl
+there Long = refl
 
 returns : tie.Need-returns
 returns c = rw (c .enum-told .given .1)

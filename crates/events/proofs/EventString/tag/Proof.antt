@@ -6,7 +6,7 @@ use borrow.Author.Needs.{needs}
 use native.Mathlib.Omega.{arith}
 use Rattle.format.specs.Forms.{formNumber}
 use Rattle.format.specs.declared.StringForm.{StringForm}
-use Rattle.format.specs.declared.StringForm.the-variants.{Utf8, Utf16, Numeric, Dates}
+use Rattle.format.specs.declared.StringForm.the-variants.{Utf8, Utf16, Numeric, Dates, Short, Int, Long}
 use Rattle.events.specs.declared.EventString.{EventString}
 use Rattle.events.specs.declared.EventString.the-variants.{Absent, Empty, Stretch, XmlPrefix, XmlNamespace}
 use Rattle.events.specs.Words.{formTag, stringTag, stringForm}
@@ -21,6 +21,9 @@ another (Stretch Utf8 place size) n e h = absurd (h e)
 another (Stretch Utf16 place size) n e h = omega arith
 another (Stretch Numeric place size) n e h = omega arith
 another (Stretch Dates place size) n e h = omega arith
+another (Stretch Short place size) n e h = omega arith
+another (Stretch Int place size) n e h = omega arith
+another (Stretch Long place size) n e h = omega arith
 another XmlPrefix n e h = absurd (h e)
 another XmlNamespace n e h = absurd (h e)
 
@@ -29,6 +32,9 @@ plain Utf8 e = refl
 plain Utf16 e = absurd (omega arith)
 plain Numeric e = absurd (omega arith)
 plain Dates e = absurd (omega arith)
+plain Short e = absurd (omega arith)
+plain Int e = absurd (omega arith)
+plain Long e = absurd (omega arith)
 
 returns : tie.Need-returns
 returns c = another (c .before .before .before .args .self) (c .before .number .result) (c .before .number .ensures .0 ∙ ap formNumber (c .before .before .form .ensures)) (λ z. omega arith)
