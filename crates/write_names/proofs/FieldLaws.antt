@@ -1,6 +1,6 @@
 -- A law for each way out of the functions that spell a string in a form: the octets that were put are its field.
 -- Assumes nothing.
-use mathlib.Core.Path.{_≡_, refl, ap, _∙_}
+use mathlib.Core.Path.{_≡_, refl, sym, ap, _∙_}
 use mathlib.Core.Bool.{true}
 use mathlib.Core.List.{List, _∷_}
 use Prim.Native.Nat.{ℕ, _+_, _-_, _*_, _^_, _≤_, _<_}
@@ -9,7 +9,7 @@ use native.Mathlib.Nat.{mul-le-mul-right}
 use lib.ListN.{length, set, take, drop}
 use Rattle.format.specs.Octets.{Octets}
 use Rattle.format.specs.Numbers.{spell, lengths}
-use Rattle.format.specs.Forms.{formNumber, width}
+use Rattle.format.specs.Forms.{formNumber, width, Spelled}
 use Rattle.format.specs.Strings.{withLength, inFormat}
 use Rattle.format.specs.declared.StringForm.{StringForm}
 use Rattle.format.specs.declared.StringForm.the-variants.{Utf8, Utf16, Numeric, Dates, Short, Int, Long}
@@ -19,7 +19,9 @@ use Rattle.decimal.specs.Words.{shape, integersIn}
 use Rattle.forms.specs.Reading.{said}
 use Rattle.forms.specs.Streams.{part}
 use Rattle.forms.specs.Packing.{alphabet, allLetters, packedBy, inForm}
+use Rattle.forms.proofs.Forms.{spelled-text, said-spelled, one-spelling, packed-spelled, integers-spelled}
 use Rattle.tables.specs.Located.{octetsOf}
+use Rattle.tables.proofs.FormLaws.{form-back, form-of}
 use Rattle.events.specs.declared.EventString.{EventString}
 use Rattle.events.specs.Records.{locatedOf}
 use Rattle.write_names.specs.declared.Formed.{Formed}
@@ -45,6 +47,19 @@ in-integers Dates x h n = absurd (n refl)
 in-integers Short x h n = (h, refl)
 in-integers Int x h n = (h, refl)
 in-integers Long x h n = (h, refl)
+
+-- so octets that say a string which fits their form are the ones that it has there
+fits-spelled : (f : StringForm) (x : Octets) → Fits f x → Spelled f x (inForm f x)
+fits-spelled Utf8 x h = absurd h
+fits-spelled Utf16 x h = absurd h
+fits-spelled Numeric x h = packed-spelled Numeric x tt h
+fits-spelled Dates x h = packed-spelled Dates x tt h
+fits-spelled Short x h = integers-spelled Short x (omega arith) h
+fits-spelled Int x h = integers-spelled Int x (omega arith) h
+fits-spelled Long x h = integers-spelled Long x (omega arith) h
+
+said-back : (f : StringForm) (o : Octets) → Fits f (said f o) → inForm f (said f o) ≡ o
+said-back f o h = let s = fits-spelled f (said f o) h in one-spelling f (said f o) (inForm f (said f o)) o s (said-spelled f o (spelled-text f (said f o) (inForm f (said f o)) s))
 
 -- the field of a format with a number
 in-bits : (bit lead : ℕ) (f : StringForm) (x y : Octets) → Fits f x
@@ -109,6 +124,15 @@ module _ (bit lead : ℕ) {text : List ℕ} {x : EventString} {g : StringForm} {
     pub puts-integers : (first ≡ 2 → ⊥) → Puts out₂ r q out₃ (integersIn (width (f .form)) (said g (part text p (p + m))))
         → Puts out at q out₃ (fieldIn bit (f .form) lead (octetsOf text (locatedOf x))) × (q ≤ at + valueMost)
     puts-integers e b = puts-behind (rw (← in-integers (f .form) _ (has .0) (λ t. e (bits ∙ t)) .1, says s) b)
+
+    pub puts-same : formNumber g ≡ formNumber (f .form) → Puts out₂ r q out₃ (take m (drop p text))
+        → Puts out at q out₃ (fieldIn bit (f .form) lead (octetsOf text (locatedOf x))) × (q ≤ at + valueMost)
+    puts-same e b =
+        let o : Octets = take m (drop p text) in
+        let same : g ≡ f .form = sym (form-back g) ∙ form-of (formNumber g) (f .form) e in
+        let k : p + m - p ≡ m = omega arith in
+        let says-so : octetsOf text (locatedOf x) ≡ said (f .form) o = rw (k, same) at (says s) in
+        puts-behind (rw (says-so, said-back (f .form) o (rw says-so at (has .0))) b)
 
 -- ---- the field in the form for the string
 module _ (bit lead : ℕ) (x : Octets) {out out′ : List ℕ} {at r : ℕ} where

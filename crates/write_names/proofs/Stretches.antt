@@ -1,18 +1,25 @@
 -- A string that may be spelled is a stretch of the text area: where it lies, what it says, and how long that is.
 -- Assumes nothing.
 use mathlib.Core.Path.{_≡_, refl, sym, ap, _∙_}
+use mathlib.Core.Bool.{true}
 use mathlib.Core.Option.{some}
-use mathlib.Core.List.{List}
-use Prim.Native.Nat.{ℕ, _+_, _≤_, _<_}
+use mathlib.Core.List.{List, [], _∷_}
+use Prim.Native.Nat.{ℕ, zero, suc, _+_, _-_, _*_, _%_, _≤_, _<_}
 use native.Mathlib.Omega.{arith}
-use lib.ListN.{length, take, drop}
+use borrow.Author.Tests.{ltb-true, ltb-false}
+use lib.Dec.{ltb}
+use lib.ListN.{length, getD, take, drop}
+use Rattle.format.specs.Characters.{utf8s}
 use Rattle.format.specs.declared.StringForm.{StringForm}
 use Rattle.format.specs.declared.StringForm.the-variants.{Utf8, Utf16, Numeric, Dates, Short, Int, Long}
-use Rattle.format.specs.Forms.{formNumber}
+use Rattle.format.specs.Forms.{formNumber, numeric, dates, atPlaces}
 use Rattle.fields.specs.PutContracts.{Puts}
-use Rattle.forms.specs.Reading.{said}
+use Rattle.fields.proofs.Utf8.{told}
+use Rattle.fields.proofs.Puts.{part-length, part-at}
+use Rattle.forms.specs.Reading.{arePlaces, placesOf, said}
 use Rattle.forms.specs.Streams as S
-use Rattle.forms.proofs.Forms.{sound-most}
+use Rattle.forms.proofs.Alphabets as A
+use Rattle.forms.proofs.Forms.{sound-said, sound-most}
 use Rattle.tables.specs.Located.{stretch, octetsOf}
 use Rattle.tables.specs.Kept.{IsSound}
 use Rattle.tables.proofs.FormLaws.{form-zero}
@@ -22,7 +29,7 @@ use Rattle.events.specs.declared.EventString.{EventString}
 use Rattle.events.specs.declared.EventString.the-variants.{Absent, Empty, Stretch, XmlPrefix, XmlNamespace}
 use Rattle.events.specs.Records.{locatedOf, optionalOf}
 use Rattle.events.specs.Words.{formTag, stringTag, stringForm, stringPlace, stringSize}
-use Rattle.write_names.specs.Contracts.{saidMost, Spells}
+use Rattle.write_names.specs.Contracts.{saidMost, formatBits, Spells}
 
 some-tag : (f : StringForm) → 1 ≤ formTag f
 some-tag Utf8 = omega arith
@@ -32,6 +39,47 @@ some-tag Dates = omega arith
 some-tag Short = omega arith
 some-tag Int = omega arith
 some-tag Long = omega arith
+
+-- ---- octets of an alphabet: how many characters they are, which the last of them tells
+last-place : (o : List ℕ) (k : ℕ) → length o ≡ suc k → (getD o k 0 % 16 ≡ 15 → length (placesOf o) ≡ 2 * k + 1) × ((getD o k 0 % 16 ≡ 15 → ⊥) → length (placesOf o) ≡ 2 * k + 2)
+unfolding placesOf
+last-place [] k e = absurd (omega arith)
+last-place (a ∷ []) zero e =
+    told (ltb (a % 16) 15)
+    (λ t. let l = ltb-true (a % 16) 15 t in rw t (λ z. absurd (omega arith), λ z. refl))
+    (λ t. let l = ltb-false (a % 16) 15 t in rw t (λ z. refl, λ z. absurd (z (omega arith))))
+last-place (a ∷ []) (suc k) e = absurd (omega arith)
+last-place (a ∷ b ∷ o) zero e = absurd (omega arith)
+last-place (a ∷ b ∷ o) (suc k) e =
+    let r = last-place (b ∷ o) k (omega arith) in
+    (λ z. let l = r .0 z in omega arith, λ z. let l = r .1 z in omega arith)
+
+module _ (text : List ℕ) (p n : ℕ) (some : 0 < n) (lies : p + n ≤ length text) where
+  last-letter : (getD text (p + n - 1) 0 % 16 ≡ 15 → length (placesOf (S.part text p (p + n))) ≡ 2 * n - 1) × ((getD text (p + n - 1) 0 % 16 ≡ 15 → ⊥) → length (placesOf (S.part text p (p + n))) ≡ 2 * n)
+  last-letter =
+      let u : p + n - p ≡ n = omega arith in
+      let i : p + n - 1 ≡ p + (n - 1) = omega arith in
+      let l = part-length text p n lies in
+      let r = last-place (take n (drop p text)) (n - 1) (omega arith) in
+      rw (u, i, part-at text p n (n - 1) (omega arith)) (λ z. let k = r .0 z in omega arith, λ z. let k = r .1 z in omega arith)
+
+  pub letters-odd : getD text (p + n - 1) 0 % 16 ≡ 15 → 2 * n - 1 ≡ length (placesOf (S.part text p (p + n)))
+  letters-odd z = sym (last-letter .0 z)
+
+  pub letters-even : (getD text (p + n - 1) 0 % 16 ≡ 15 → ⊥) → 2 * n ≡ length (placesOf (S.part text p (p + n)))
+  letters-even z = sym (last-letter .1 z)
+
+in-alphabet : (as′ : List ℕ) → A.Alphabet as′ → (o : List ℕ) → arePlaces o ≡ true → length (utf8s (atPlaces as′ (placesOf o))) ≡ length (placesOf o)
+in-alphabet as′ a o e = rw (A.one-each as′ a (placesOf o) (A.writes o e .0)) (A.at-length as′ (placesOf o))
+
+letters-said : (f : StringForm) (o : List ℕ) → formatBits f ≡ 2 → S.Sound f o → length (said f o) ≡ length (placesOf o)
+letters-said Utf8 o e s = absurd (omega arith)
+letters-said Utf16 o e s = absurd (omega arith)
+letters-said Numeric o e s = rw (sound-said Numeric o s) (in-alphabet numeric A.is-numeric o s)
+letters-said Dates o e s = rw (sound-said Dates o s) (in-alphabet dates A.is-dates o s)
+letters-said Short o e s = absurd (omega arith)
+letters-said Int o e s = absurd (omega arith)
+letters-said Long o e s = absurd (omega arith)
 
 -- ---- there, or absent
 pub there : (x : EventString) → 1 ≤ stringTag x → optionalOf x ≡ some (locatedOf x)
@@ -109,6 +157,9 @@ module _ {text : List ℕ} {x : EventString} {f : StringForm} {p n : ℕ} (s : S
 
     pub octets-plain : formNumber f ≡ 0 → r ≡ n → (r ≡ length (octetsOf text (locatedOf x))) × (1 ≤ r) × (r ≤ saidMost)
     octets-plain z e = counted (e ∙ sym (plain-length z))
+
+    pub octets-letters : formatBits f ≡ 2 → r ≡ length (placesOf (S.part text p (p + n))) → (r ≡ length (octetsOf text (locatedOf x))) × (1 ≤ r) × (r ≤ saidMost)
+    octets-letters z e = counted (rw says (e ∙ sym (letters-said f (S.part text p (p + n)) z part-sound)))
 
     pub octets-put : {out out′ : List ℕ} → Puts out 0 r out′ (said f (S.part text p (p + n))) → (r ≡ length (octetsOf text (locatedOf x))) × (1 ≤ r) × (r ≤ saidMost)
     octets-put put = let b = put .behind in counted (rw says (omega arith))

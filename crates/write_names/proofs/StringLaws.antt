@@ -277,41 +277,41 @@ fills-spells text XmlNamespace f n = f
 pub spells-tagged : (text : List ℕ) (x : EventString) → Spells text x → 1 ≤ stringTag x
 spells-tagged text x spells = tagged x _ _ _ (stretched text x spells refl refl refl .is)
 
-module _ (text c w ix : List ℕ) (order : InOrder text c w ix) (x : EventString) (spells : Spells text x) where
-  pub literal-new : (t : ℕ) (f : StringForm) (p n : ℕ) → Stretched text x f p n → 0 ≡ heldAs text (tableOf t) (tablesIn c w) x
-      → 0 ≡ numberIn (map (octetsOf text) (strings (tablesIn c w) (tableOf t))) (octetsOf text (stretch f p n))
-  literal-new t f p n s new = rw (← located s) (new ∙ held-is text (tableOf t) (tablesIn c w) x (spells-tagged text x spells))
+module _ (text c w ix : List ℕ) (order : InOrder text c w ix) (x : EventString) (f : StringForm) (p m : ℕ) (s : Stretched text x f p m) where
+  pub literal-new : (t : ℕ) → 0 ≡ heldAs text (tableOf t) (tablesIn c w) x → 0 ≡ numberIn (map (octetsOf text) (strings (tablesIn c w) (tableOf t))) (octetsOf text (stretch f p m))
+  literal-new t new = rw (← located s) (new ∙ held-is text (tableOf t) (tablesIn c w) x (tagged x _ _ _ (s .is)))
 
-  module _ (q : Spelling) (other : 5 ≤ q .table) (small : q .table < 8) (n : ℕ) (size : n ≡ length (octetsOf text (locatedOf x))) where
-    worth-long : 5 < n → worthAdding link (strings (tablesIn c w) (tableOf (q .table))) (octetsOf text (locatedOf x)) ≡ false
+  module _ (q : Spelling) (other : 5 ≤ q .table) (small : q .table < 8) (n : ℕ) (size : n ≡ length (octetsOf text (stretch f p m))) where
+    worth-long : 5 < n → worthAdding link (strings (tablesIn c w) (tableOf (q .table))) (octetsOf text (stretch f p m)) ≡ false
     unfolding worthAdding
     worth-long h = rw (← size, lt-leb n 5 h)
 
-    worth-full : n ≤ 5 → 256 ≤ getD c (q .table) 0 → worthAdding link (strings (tablesIn c w) (tableOf (q .table))) (octetsOf text (locatedOf x)) ≡ false
+    worth-full : n ≤ 5 → 256 ≤ getD c (q .table) 0 → worthAdding link (strings (tablesIn c w) (tableOf (q .table))) (octetsOf text (stretch f p m)) ≡ false
     unfolding worthAdding link
     worth-full h full = rw (← size, le-leb n 5 h, entries-count c w (order .ten) (q .table) small, le-ltb _ _ full)
 
-    worth-more : n ≤ 5 → getD c (q .table) 0 < 256 → worthAdding link (strings (tablesIn c w) (tableOf (q .table))) (octetsOf text (locatedOf x)) ≡ true
+    worth-more : n ≤ 5 → getD c (q .table) 0 < 256 → worthAdding link (strings (tablesIn c w) (tableOf (q .table))) (octetsOf text (stretch f p m)) ≡ true
     unfolding worthAdding link
     worth-more h room = rw (← size, le-leb n 5 h, entries-count c w (order .ten) (q .table) small, lt-ltb _ _ room)
 
     -- one that is not added
-    pub literal-kept : (n ≤ 5 → 256 ≤ getD c (q .table) 0) → {out out′ : List ℕ} {at r : ℕ}
-        → Puts out at r out′ (chosenField (q .bit) (q .lead) (octetsOf text (locatedOf x))) × (r ≤ at + valueMost)
+    pub literal-kept : (n ≤ 5 → 256 ≤ getD c (q .table) 0) → (b : ℕ) → b ≡ q .lead → {out out′ : List ℕ} {at r : ℕ}
+        → Puts out at r out′ (chosenField (q .bit) b (octetsOf text (stretch f p m))) × (r ≤ at + valueMost)
         → Stands text out at valueMost r out′ c w ix (spelledAs q text (tablesIn c w) (locatedOf x))
     unfolding spelledAs
-    literal-kept why g =
-        let z : q .lead + q .add * 0 ≡ q .lead = omega arith in
-        rw (case 5 n worth-long (λ l. worth-full l (why l)), z) (stands-put text c w ix order _ (g .0) (g .1) refl)
+    literal-kept why b eb g =
+        let z : q .lead + q .add * 0 ≡ b = omega arith in
+        rw (located s, case 5 n worth-long (λ l. worth-full l (why l)), z) (stands-put text c w ix order _ (g .0) (g .1) refl)
 
-    pub literal-added : n ≤ 5 → getD c (q .table) 0 < 256 → (f : StringForm) (p m : ℕ) → Stretched text x f p m → (b : ℕ) → b ≡ q .lead + q .add → (c′ v iv : List ℕ) {out out′ : List ℕ} {at r : ℕ}
+    pub literal-added : n ≤ 5 → getD c (q .table) 0 < 256 → (b : ℕ) → b ≡ q .lead + q .add → (c′ v iv : List ℕ) {out out′ : List ℕ} {at r : ℕ}
         → Added text (q .table) f p m c w ix c′ v iv
-        → Puts out at r out′ (chosenField (q .bit) b (octetsOf text (locatedOf x))) × (r ≤ at + valueMost)
+        → Puts out at r out′ (chosenField (q .bit) b (octetsOf text (stretch f p m))) × (r ≤ at + valueMost)
         → Stands text out at valueMost r out′ c′ v iv (spelledAs q text (tablesIn c w) (locatedOf x))
     unfolding spelledAs
-    literal-added l room f p m s b eb c′ v iv e g =
+    literal-added l room b eb c′ v iv e g =
         let z : q .lead + q .add * 1 ≡ b = omega arith in
-        rw (worth-more l room, z) (stands-added text c w ix order _ (q .table) f p m small (holds-any (q .table) f other) room s c′ v iv e (g .0) (g .1) refl)
+        rw (located s, worth-more l room, z)
+        (stands-added text c w ix order _ (q .table) f p m small (holds-any (q .table) f other) room s c′ v iv e (g .0) (g .1) (ap (adding (tablesIn c w) (tableOf (q .table))) (located s)))
 
 -- k is the number that the table has for it
 module _ (text c w ix : List ℕ) (t : ℕ) (order : InOrder text c w ix) (x : EventString) (k : ℕ) (held : k ≡ heldAs text (tableOf t) (tablesIn c w) x) where

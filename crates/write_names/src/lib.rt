@@ -11,6 +11,8 @@ ghost use Rattle.format.specs.Strings.{withLength, c15};
 ghost use Rattle.format.specs.Names.{has};
 ghost use Rattle.format.specs.declared.StringForm.the-variants.{Utf8};
 ghost use Rattle.fields.specs.PutContracts.{Puts};
+ghost use Rattle.forms.specs.Reading.{placesOf};
+ghost use Rattle.forms.specs.Streams.{part};
 ghost use Rattle.tables.specs.Located.{stretch, octetsOf};
 ghost use Rattle.tables.specs.Rows.{tableOf};
 ghost use Rattle.tables.specs.Kept.{layoutOf};
@@ -269,6 +271,18 @@ pub fn identified(
     id(text, t, counts, index, out, at, sought)
 }
 
+// How many characters these octets of an alphabet are, each one octet in UTF-8: two in each octet, but one in the last where its lower half only fills up.
+fn letters_in(text: &[u8], from: usize, size: usize) -> usize
+    requires { ⌜ (0 < size) × (from + size ≤ length (now text)) × (length (now text) ≤ 16384) ⌝ }
+    ensures { λ r. ⌜ r ≡ length (placesOf (part (now (text .entry)) from (from + size))) ⌝ }
+{
+    let n = 2 * size;
+    if text[from + size - 1] % 16 == 15 {
+        return n - 1;
+    }
+    n
+}
+
 // How many octets a string has in UTF-8.
 pub fn octets_of(text: &[u8], x: EventString) -> usize
     requires { ⌜ Spells (now text) x × (length (now text) ≤ 16384) ⌝ }
@@ -280,6 +294,10 @@ pub fn octets_of(text: &[u8], x: EventString) -> usize
         return size;
     }
     let from = x.place() as usize;
+    let format = format_of(form);
+    if format.bits == 2 {
+        return letters_in(text, from, size);
+    }
     let mut none = [0; 1];
     forms::put_said(&mut none, 0, text, form, from, from + size)
 }
@@ -402,7 +420,7 @@ fn format_of(form: StringForm) -> Format
     }
 }
 
-// In an alphabet that has all its characters, or as its integers: the bits of the format, those of the number, the length, and the octets.
+// In an alphabet that has all its characters, or as its integers: the bits of the format, those of the number, the length, and the octets. A string has one spelling in a form: one that is given in this form is copied.
 fn in_other(
     out: &mut [u8],
     at: usize,
@@ -420,9 +438,13 @@ fn in_other(
     let format = format_of(form);
     let given = x.form();
     let from = x.place() as usize;
-    let to = from + x.size() as usize;
+    let size = x.size() as usize;
     put(out, at, lead + format.bits * unit);
     let behind = put_length(out, at + 1, bit, format.number * unit, formed.size);
+    if given.number() == form.number() {
+        return put_part(out, behind, text, from, size);
+    }
+    let to = from + size;
     if format.bits == 2 {
         return forms::put_packed(out, behind, text, given, from, to, form);
     }
@@ -489,16 +511,18 @@ fn literal(
     requires { ⌜ InOrder (now text) (now counts) (now t) (now index) × (at ≤ lastPlace) × Spells (now text) x × (0 ≡ heldAs (now text) (tableOf (q .table)) (tablesIn (now counts) (now t)) x) × Fitting q ⌝ }
     ensures { λ r. ⌜ Stands (now (text .entry)) (now (out .entry)) at valueMost r (now (out .exit)) (now (counts .exit)) (now (t .exit)) (now (index .exit)) (spelledAs q (now (text .entry)) (tablesIn (now (counts .entry)) (now (t .entry))) (locatedOf x)) ⌝ }
 {
+    let EventString::Stretch(form, place, size) = x else {
+        return at;
+    };
     let table = q.table;
     let n = octets_of(text, x);
-    if SHORT < n {
-        return put_string(out, at, q.bit, q.lead, text, x, n);
+    let adds = n <= SHORT && counts[table] < Counts::ENTRIES;
+    let lead = if adds { q.lead + q.add } else { q.lead };
+    let behind = put_string(out, at, q.bit, lead, text, x, n);
+    if !adds {
+        return behind;
     }
-    if Counts::ENTRIES <= counts[table] {
-        return put_string(out, at, q.bit, q.lead, text, x, n);
-    }
-    let behind = put_string(out, at, q.bit, q.lead + q.add, text, x, n);
-    added(text, t, counts, index, table, x.form(), x.place(), x.size());
+    added(text, t, counts, index, table, form, place, size);
     behind
 }
 
