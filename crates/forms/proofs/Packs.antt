@@ -7,7 +7,7 @@ use Prim.Native.Nat.{ℕ, _+_, _-_, _*_, _≤_, _<_}
 use native.Mathlib.Omega.{arith}
 use borrow.Author.Tests.{ltb-true, leb-true, eqb-true, ne-eqb, lt-leb, le-leb}
 use lib.Dec.{leb, ltb, eqb}
-use lib.ListN.{getD}
+use lib.ListN.{length, getD}
 use Rattle.format.specs.Numbers.{pick}
 use Rattle.format.specs.Characters.{All}
 use Rattle.format.specs.Forms.{numeric, dates}
@@ -15,6 +15,8 @@ use Rattle.format.specs.declared.StringForm.{StringForm}
 use Rattle.format.specs.declared.StringForm.the-variants.{Utf8, Utf16, Numeric, Dates, Short, Int, Long}
 use Rattle.fields.proofs.Utf8.{told, never, both}
 use Rattle.forms.specs.Packing.{alphabet, isLetter, allLetters, placeIn, packedBy, alphabetFor}
+use Rattle.forms.specs.Streams.{part}
+use Rattle.forms.proofs.Streams.{part-none, part-cons}
 use Rattle.forms.proofs.Alphabets as A
 use Rattle.forms.proofs.Alphabets.{Alphabet, every, below, letter-place}
 
@@ -62,6 +64,10 @@ module _ (o : ℕ) (h : o < 256) where
   pub dates-letters : letterBy 0x3A 0x54 0x5A o ≡ isLetter dates o
   unfolding every dates isLetter
   dates-letters = agree-eq _ _ (below (λ n. agree (letterBy 0x3A 0x54 0x5A n) (isLetter dates n)) 256 refl o h)
+
+  -- a digit is one of both
+  pub digit-letter : 0x30 ≤ o → o ≤ 0x39 → (true ≡ isLetter numeric o) × (true ≡ isLetter dates o)
+  digit-letter l m = (rw (le-leb 0x30 o l, le-leb o 0x39 m) at numeric-letters, rw (le-leb 0x30 o l, le-leb o 0x39 m) at dates-letters)
 
   -- an octet that is none of either
   pub no-letter : 0x3B ≤ o → (o ≡ 0x54 → ⊥) → (o ≡ 0x5A → ⊥) → (o ≡ 0x65 → ⊥) → (isLetter numeric o ≡ false) × (isLetter dates o ≡ false)
@@ -167,6 +173,27 @@ module _ (as′ rest : List ℕ) where
       pub pack-two : (p : ℕ) (after : List ℕ) (l : ℕ) → more ≡ p ∷ after → l ≡ placeIn as′ p → packedBy as′ rest ≡ (16 * h + l) ∷ packedBy as′ after
       unfolding packedBy
       pack-two p after l f g = rw (e, f, d, g)
+
+-- and in a slice
+module _ (as′ s : List ℕ) (i to : ℕ) (h : to ≤ length s) where
+  pub slice-first : allLetters as′ (part s i to) ≡ true → i < to → isLetter as′ (getD s i 0) ≡ true
+  slice-first l m = letter-first as′ _ _ _ (part-cons s i to m h) l .0
+
+  pub slice-last : i < to → to ≤ i + 1 → (p : ℕ) → p ≡ placeIn as′ (getD s i 0) → packedBy as′ (part s i to) ≡ (16 * p + 15) ∷ []
+  slice-last m n p d = pack-one as′ _ _ _ (part-cons s i to m h) p d (part-none s (i + 1) to n)
+
+  module _ (m : i + 1 < to) where
+    first : part s i to ≡ getD s i 0 ∷ part s (i + 1) to
+    first = part-cons s i to (omega arith) h
+
+    second : part s (i + 1) to ≡ getD s (i + 1) 0 ∷ part s (i + 2) to
+    second = let e : i + 1 + 1 ≡ i + 2 = omega arith in part-cons s (i + 1) to m h ∙ rw e
+
+    pub slice-second : allLetters as′ (part s i to) ≡ true → (isLetter as′ (getD s (i + 1) 0) ≡ true) × (allLetters as′ (part s (i + 2) to) ≡ true)
+    slice-second l = letter-first as′ _ _ _ second (letter-first as′ _ _ _ first l .1)
+
+    pub slice-two : (p q : ℕ) → p ≡ placeIn as′ (getD s i 0) → q ≡ placeIn as′ (getD s (i + 1) 0) → packedBy as′ (part s i to) ≡ (16 * p + q) ∷ packedBy as′ (part s (i + 2) to)
+    slice-two p q d e = pack-two as′ _ _ _ first p d _ _ q second e
 
 -- ---- the alphabet that is chosen
 module _ (x : List ℕ) where

@@ -20,10 +20,17 @@ struct Fit {
     dates: bool,
 }
 
+// Most of what an alphabet has are digits.
 fn fit_octet(o: u8) -> Fit
     ensures { λ r. ⌜ (r .numeric ≡ isLetter numeric o) × (r .dates ≡ isLetter dates o) ⌝ }
 {
-    let both = 0x30 <= o && o <= 0x39 || o == 0x2D || o == 0x20;
+    if 0x30 <= o && o <= 0x39 {
+        return Fit {
+            numeric: true,
+            dates: true,
+        };
+    }
+    let both = o == 0x2D || o == 0x20;
     Fit {
         numeric: both || o == 0x2B || o == 0x2E || o == 0x65,
         dates: both || o == 0x3A || o == 0x54 || o == 0x5A,
@@ -141,20 +148,39 @@ pub fn alphabet_for(s: &[u8], form: StringForm, from: usize, to: usize) -> Strin
     StringForm::Utf8
 }
 
-// The string in an alphabet that has all its characters; what the output has no room for is left out, and counted.
-pub fn put_packed(
+// Octets as they stand, for utf-8.
+fn pack_octets(
     out: &mut [u8],
     at: usize,
     s: &[u8],
-    form: StringForm,
     from: usize,
     to: usize,
     letters: StringForm,
 ) -> usize
-    requires { ⌜ (at ≤ 0x1_0000_0000) × (from ≤ to) × (to ≤ length (now s)) × (length (now s) ≤ 0x1_0000_0000) × Sound form (part (now s) from to) × (allLetters (alphabet letters) (said form (part (now s) from to)) ≡ true) ⌝ }
-    ensures { λ r. ⌜ Puts (now (out .entry)) at r (now (out .exit)) (packedBy (alphabet letters) (said form (part (now (s .entry)) from to))) ⌝ }
+    requires { ⌜ (at ≤ 0x1_0000_0000) × (from ≤ to) × (to ≤ length (now s)) × (length (now s) ≤ 0x1_0000_0000) × (allLetters (alphabet letters) (part (now s) from to) ≡ true) ⌝ }
+    ensures { λ r. ⌜ Puts (now (out .entry)) at r (now (out .exit)) (packedBy (alphabet letters) (part (now (s .entry)) from to)) ⌝ }
 {
-    let mut u = Said::over(s, form, from, to);
+    let mut behind = at;
+    let mut i = from;
+    while i + 1 < to {
+        let high = 16 * place_in(letters, s[i]);
+        put(out, behind, high + place_in(letters, s[i + 1]));
+        i += 2;
+        behind += 1;
+    }
+    if i < to {
+        put(out, behind, 16 * place_in(letters, s[i]) + 15);
+        return behind + 1;
+    }
+    behind
+}
+
+// And of a string in another form.
+fn pack_said(out: &mut [u8], at: usize, s: &[u8], x: Said, letters: StringForm) -> usize
+    requires { ⌜ (at ≤ 0x1_0000_0000) × (length (ahead (now s) x) ≤ 0x4_0000_0000) × Fine (now s) x × (allLetters (alphabet letters) (ahead (now s) x) ≡ true) ⌝ }
+    ensures { λ r. ⌜ Puts (now (out .entry)) at r (now (out .exit)) (packedBy (alphabet letters) (ahead (now (s .entry)) x)) ⌝ }
+{
+    let mut u = x;
     let mut i = at;
     loop {
         let Next::Octet(o, v) = u.next(s) else {
@@ -172,5 +198,24 @@ pub fn put_packed(
                 i += 1;
             }
         }
+    }
+}
+
+// The string in an alphabet that has all its characters; what the output has no room for is left out, and counted.
+pub fn put_packed(
+    out: &mut [u8],
+    at: usize,
+    s: &[u8],
+    form: StringForm,
+    from: usize,
+    to: usize,
+    letters: StringForm,
+) -> usize
+    requires { ⌜ (at ≤ 0x1_0000_0000) × (from ≤ to) × (to ≤ length (now s)) × (length (now s) ≤ 0x1_0000_0000) × Sound form (part (now s) from to) × (allLetters (alphabet letters) (said form (part (now s) from to)) ≡ true) ⌝ }
+    ensures { λ r. ⌜ Puts (now (out .entry)) at r (now (out .exit)) (packedBy (alphabet letters) (said form (part (now (s .entry)) from to))) ⌝ }
+{
+    match form {
+        StringForm::Utf8 => pack_octets(out, at, s, from, to, letters),
+        _ => pack_said(out, at, s, Said::over(s, form, from, to), letters),
     }
 }

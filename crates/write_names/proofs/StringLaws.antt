@@ -193,7 +193,7 @@ module _ (text c w ix : List ℕ) (order : InOrder text c w ix) {H : Type 0} (d 
 
   -- and the string at a place became an entry
   pub stands-added : (t : ℕ) (f : StringForm) (p n : ℕ) → t < 8 → MayHold t f → getD c t 0 < 256 → {x : EventString} → Stretched text x f p n → (c′ v iv : List ℕ)
-      → Added text t f p n c w ix c′ v iv → Puts out at r out′ (d .octets) → r ≤ at + most
+      → Added text t (record { a = p; b = n; c = formNumber f }) c w ix c′ v iv → Puts out at r out′ (d .octets) → r ≤ at + most
       → adding (tablesIn c w) (tableOf t) (locatedOf x) ≡ d .tables → Stands text out at most r out′ c′ v iv d
   stands-added t f p n small may room s c′ v iv e q l is =
       rw (e .0)
@@ -239,7 +239,7 @@ module _ (text c w ix : List ℕ) (order : InOrder text c w ix) (x : Sought) (th
       id-new = rw (← located id-stretch) (sym z ∙ held-number)
 
       pub id-added : getD c (x .table) 0 < 256 → (c′ v iv : List ℕ) {out out′ : List ℕ} {at r : ℕ}
-          → Added text (x .table) Utf8 p n c w ix c′ v iv
+          → Added text (x .table) (record { a = p; b = n; c = 0 }) c w ix c′ v iv
           → Puts out at r out′ (withLength (lengths 2) 0 (octetsOf text (stretch Utf8 p n))) × (r ≤ at + stringMost)
           → Stands text out at stringMost r out′ c′ v iv (writeId text (tableOf (x .table)) (tablesIn c w) (locatedOf (x .string)))
       id-added room c′ v iv e q =
@@ -303,15 +303,15 @@ module _ (text c w ix : List ℕ) (order : InOrder text c w ix) (x : EventString
         let z : q .lead + q .add * 0 ≡ b = omega arith in
         rw (located s, case 5 n worth-long (λ l. worth-full l (why l)), z) (stands-put text c w ix order _ (g .0) (g .1) refl)
 
-    pub literal-added : n ≤ 5 → getD c (q .table) 0 < 256 → (b : ℕ) → b ≡ q .lead + q .add → (c′ v iv : List ℕ) {out out′ : List ℕ} {at r : ℕ}
-        → Added text (q .table) f p m c w ix c′ v iv
+    pub literal-added : n ≤ 5 → getD c (q .table) 0 < 256 → (b : ℕ) → b ≡ q .lead + q .add → (k : ℕ) → k ≡ formNumber f → (c′ v iv : List ℕ) {out out′ : List ℕ} {at r : ℕ}
+        → Added text (q .table) (record { a = p; b = m; c = k }) c w ix c′ v iv
         → Puts out at r out′ (chosenField (q .bit) b (octetsOf text (stretch f p m))) × (r ≤ at + valueMost)
         → Stands text out at valueMost r out′ c′ v iv (spelledAs q text (tablesIn c w) (locatedOf x))
     unfolding spelledAs
-    literal-added l room b eb c′ v iv e g =
+    literal-added l room b eb k ek c′ v iv e g =
         let z : q .lead + q .add * 1 ≡ b = omega arith in
         rw (located s, worth-more l room, z)
-        (stands-added text c w ix order _ (q .table) f p m small (holds-any (q .table) f other) room s c′ v iv e (g .0) (g .1) (ap (adding (tablesIn c w) (tableOf (q .table))) (located s)))
+        (stands-added text c w ix order _ (q .table) f p m small (holds-any (q .table) f other) room s c′ v iv (rw ek at e) (g .0) (g .1) (ap (adding (tablesIn c w) (tableOf (q .table))) (located s)))
 
 -- k is the number that the table has for it
 module _ (text c w ix : List ℕ) (t : ℕ) (order : InOrder text c w ix) (x : EventString) (k : ℕ) (held : k ≡ heldAs text (tableOf t) (tablesIn c w) x) where

@@ -14,7 +14,7 @@ use Rattle.format.specs.Strings.{bit, keeping}
 use Rattle.format.specs.Names.{has, NameLayout}
 use Rattle.format.specs.declared.StringForm.{StringForm}
 use Rattle.format.specs.declared.StringForm.the-variants.{Utf8, Utf16, Numeric, Dates, Short, Int, Long}
-use Rattle.format.specs.Forms.{formNumber, numeric, dates, width}
+use Rattle.format.specs.Forms.{formOf, numeric, dates, width}
 use Rattle.fields.specs.PutContracts.{Puts}
 use Rattle.decimal.specs.declared.scanning.Found.{Found}
 use Rattle.decimal.specs.declared.scanning.Found.the-variants.{Integers, NoIntegers}
@@ -23,9 +23,10 @@ use Rattle.forms.specs.Packing.{allLetters, inForm}
 use Rattle.tables.specs.declared.Row.{Row}
 use Rattle.tables.specs.Located.{Located, stretch, builtInPrefix, builtInNamespace, octetsOf}
 use Rattle.tables.specs.Search.{numberIn, numberOfTriple}
-use Rattle.tables.specs.Rows.{tableOf, vocabulary}
+use Rattle.tables.specs.Rows.{tableOf, stringAt, entries, vocabulary}
 use Rattle.tables.specs.Kept.{unlisted, tripleOf, layoutOf, IsSound, AllSound}
-use Rattle.index.specs.Indexed.{StringEntered, NameEntered}
+use Rattle.index.specs.Hash.{bucket}
+use Rattle.index.specs.Indexed.{slots, StringEntered, NameEntered}
 use Rattle.index.specs.Ordered.{Ordered}
 use Rattle.events.specs.declared.EventString.{EventString}
 use Rattle.events.specs.declared.EventString.the-variants.{Absent, Empty, Stretch, XmlPrefix, XmlNamespace}
@@ -122,15 +123,16 @@ pub data LayoutBit : ℕ → Type 0 where
 abbrev pub Looked : Octets → (c w : Words) → Sought → Type 0
 Looked text c w x = (x .table < 4) × Suits text (x .table) (x .string) × (x .number ≡ heldAs text (tableOf (x .table)) (tablesIn c w) (x .string)) × (x .number ≤ 256)
 
--- The string at a place may become an entry of its table, which has room and does not hold it; and it became one.
-abbrev pub Enters : Octets → (c w : Words) (table : ℕ) → StringForm → (place size : ℕ) → Type 0
-Enters text c w table form place size =
-    (table < 8) × (table < 5 → form ≡ Utf8) × (getD c table 0 < 256) × (0 < size) × (place + size ≤ length text) × IsSound text (stretch form place size)
-    × (0 ≡ numberIn (map (octetsOf text) (strings (tablesIn c w) (tableOf table))) (octetsOf text (stretch form place size)))
+-- The string of a row's words may become an entry of its table, which has room and does not hold it, and h is its bucket; and it became one.
+abbrev pub Enters : Octets → (c w : Words) (index : Octets) (table : ℕ) → Row → (h : ℕ) → Type 0
+Enters text c w index table x h =
+    (length w ≡ 7680) × (length index ≡ slots) × (table < 8) × (getD c table 0 < 256) × (1 ≤ x .b) × (x .a + x .b ≤ length text) × (table < 5 → x .c ≡ 0)
+    × (0 ≡ numberIn (map (octetsOf text) (entries (stringAt (tableOf table) w) (768 * table) (getD c table 0))) (octetsOf text (stretch (formOf (x .c)) (x .a) (x .b))))
+    × (h ≡ bucket (octetsOf text (stretch (formOf (x .c)) (x .a) (x .b))))
+    × (h < 128)
 
-abbrev pub Added : Octets → (table : ℕ) → StringForm → (place size : ℕ) (c w : Words) (index : Octets) (c′ w′ : Words) (index′ : Octets) → Type 0
-Added text table form place size c w index c′ w′ index′ =
-    (c′ ≡ set c table (getD c table 0 + 1)) × StringEntered text table (getD c table 0) (record { a = place; b = size; c = formNumber form }) w index w′ index′
+abbrev pub Added : Octets → (table : ℕ) → Row → (c w : Words) (index : Octets) (c′ w′ : Words) (index′ : Octets) → Type 0
+Added text table x c w index c′ w′ index′ = (c′ ≡ set c table (getD c table 0 + 1)) × StringEntered text table (getD c table 0) x w index w′ index′
 
 -- A spelling leaves the format and the length their bits, the add bit counted; its table is one of other strings.
 abbrev pub Fitting : Spelling → Type 0

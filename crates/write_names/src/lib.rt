@@ -175,27 +175,20 @@ fn put_name_number(out: &mut [u8], at: usize, table: usize, lead: u8, n: u32) ->
     put_number_at_bit_2(out, at, lead, n)
 }
 
-// The string at a place, which its table does not hold, becomes an entry of it.
+// The string of a row, which its table does not hold, becomes an entry of it; h is its bucket.
 fn added(
     text: &[u8],
     t: &mut [u32],
     counts: &mut [u32],
     index: &mut [u8],
     table: usize,
-    form: StringForm,
-    place: u32,
-    size: u32,
+    row: Row,
+    h: usize,
 )
-    requires { ⌜ InOrder (now text) (now counts) (now t) (now index) × Enters (now text) (now counts) (now t) table form place size ⌝ }
-    ensures { λ _. ⌜ Added (now (text .entry)) table form place size (now (counts .entry)) (now (t .entry)) (now (index .entry)) (now (counts .exit)) (now (t .exit)) (now (index .exit)) ⌝ }
+    requires { ⌜ (length (now counts) ≡ 10) × Enters (now text) (now counts) (now t) (now index) table row h ⌝ }
+    ensures { λ _. ⌜ Added (now (text .entry)) table row (now (counts .entry)) (now (t .entry)) (now (index .entry)) (now (counts .exit)) (now (t .exit)) (now (index .exit)) ⌝ }
 {
-    let h = index::bucket_said(text, form, place as usize, size as usize);
     let n = counts[table];
-    let row = Row {
-        a: place,
-        b: size,
-        c: form.number(),
-    };
     index::enter_in(text, t, index, table, n, row, 0, h);
     counts[table] = n + 1;
 }
@@ -224,7 +217,13 @@ fn id(
     let place = string.place();
     let size = string.size();
     let behind = spelled(out, at, 2, 0, text, place, size);
-    added(text, t, counts, index, table, StringForm::Utf8, place, size);
+    let row = Row {
+        a: place,
+        b: size,
+        c: 0,
+    };
+    let h = index::bucket_of(text, place as usize, size as usize);
+    added(text, t, counts, index, table, row, h);
     Wrote::Put(behind)
 }
 
@@ -522,7 +521,13 @@ fn literal(
     if !adds {
         return behind;
     }
-    added(text, t, counts, index, table, form, place, size);
+    let row = Row {
+        a: place,
+        b: size,
+        c: form.number(),
+    };
+    let h = index::bucket_said(text, form, place as usize, size as usize);
+    added(text, t, counts, index, table, row, h);
     behind
 }
 

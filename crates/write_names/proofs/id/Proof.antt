@@ -3,7 +3,8 @@
 use borrow.Author.Needs.{needs}
 use native.Mathlib.Omega.{arith}
 use mathlib.Core.Path.{refl}
-use Rattle.write_names.proofs.StringLaws.{id-numbered, id-full, id-stretch, id-new, id-added}
+use Rattle.format.specs.declared.StringForm.the-variants.{Utf8}
+use Rattle.write_names.proofs.StringLaws.{enter-ready, id-numbered, id-full, id-stretch, id-new, id-added}
 use Rattle.write_names.proofs.id.Tie as tie
 use Rattle.write_names.proofs.id.Statement.{statement}
 
@@ -27,17 +28,33 @@ spelled-requires c κs =
     let s = id-stretch _ _ _ _ (at-start .pre .0) (at-start .args .x) (at-start .pre .2) looked (omega (arith, none)) _ _ (c .before .before .place .ensures) (c .before .size .ensures) in
     omega (arith, s .some, s .lies, at-start .pre .0 .size)
 
+bucket-of-requires : tie.Need-bucket-of-requires
+bucket-of-requires c κs =
+    let at-size = c .before .before .before .before in
+    let at-place = at-size .before in
+    let at-if1 = at-place .before .before .before in
+    let at-start = at-if1 .before .before .before .before .before .before .before in
+    let looked = at-start .pre .3 in
+    let none = at-if1 .if1 .left in
+    let s = id-stretch _ _ _ _ (at-start .pre .0) (at-start .args .x) (at-start .pre .2) looked (omega (arith, none)) _ _ (at-place .place .ensures) (at-size .size .ensures) in
+    (s .some, s .lies)
+
 added-requires : tie.Need-added-requires
 added-requires c κs =
-    let at-start = c .before .before .before .before .before .before .before .before .before .before .before .before .before .before .before .before .before .before in
+    let at-size = c .before .before .before .before .before .before .before .before in
+    let at-place = at-size .before in
+    let at-if1 = at-place .before .before .before in
+    let at-start = at-if1 .before .before .before .before .before .before .before in
     let looked = at-start .pre .3 in
-    let none = c .before .before .before .before .before .before .before .before .before .before .before .if1 .left in
-    let s = id-stretch _ _ _ _ (at-start .pre .0) (at-start .args .x) (at-start .pre .2) looked (omega (arith, none)) _ _ (c .before .before .before .before .before .before .before .before .place .ensures) (c .before .before .before .before .before .before .before .size .ensures) in
-    (at-start .pre .0, (omega (arith, looked .0), λ l. refl, omega (arith, c .before .before .before .before .before .before .before .before .before .if2 .left), s .some, s .lies, s .sound, id-new _ _ _ _ (at-start .pre .0) (at-start .args .x) (at-start .pre .2) looked (omega (arith, none)) _ _ (c .before .before .before .before .before .before .before .before .place .ensures) (c .before .before .before .before .before .before .before .size .ensures)))
+    let none = at-if1 .if1 .left in
+    let s = id-stretch _ _ _ _ (at-start .pre .0) (at-start .args .x) (at-start .pre .2) looked (omega (arith, none)) _ _ (at-place .place .ensures) (at-size .size .ensures) in (
+      at-start .pre .0 .ten,
+      enter-ready _ _ _ _ (at-start .args .x .table) Utf8 _ _ (at-start .pre .0) (omega (arith, looked .0)) (λ l. refl) (omega (arith, at-place .before .if2 .left)) (s .some) (s .lies) _ _ _ (id-new _ _ _ _ (at-start .pre .0) (at-start .args .x) (at-start .pre .2) looked (omega (arith, none)) _ _ (at-place .place .ensures) (at-size .size .ensures)) refl (c .before .before .before .bucket-of .ensures),
+    )
 
 returns-3 : tie.Need-returns-3
 returns-3 c =
-    let at-spelled = c .before .before .before .before .before .before .before .before .before .before .before .before in
+    let at-spelled = c .before .before .before .before .before .before .before .before .before .before .before .before .before in
     let at-size = at-spelled .before .before in
     let at-place = at-size .before in
     let at-if2 = at-place .before in
@@ -61,6 +78,9 @@ id-spec =
     (λ c κs. search needs)
     (λ c κs. search needs)
     spelled-requires
+    (λ c. search needs)
+    (λ c. search needs)
+    bucket-of-requires
     added-requires
     (λ c. search needs)
     (λ c. search needs)

@@ -11,7 +11,7 @@ use lib.ListN.{getD}
 use lib.Pow.{pow-pos}
 use Rattle.tables.proofs.FormLaws.{holds-any}
 use Rattle.write_names.proofs.Stretches.{as-given, no-stretch}
-use Rattle.write_names.proofs.StringLaws.{literal-new, literal-kept, literal-added}
+use Rattle.write_names.proofs.StringLaws.{enter-ready, literal-new, literal-kept, literal-added}
 use Rattle.write_names.proofs.literal.Tie as tie
 use Rattle.write_names.proofs.literal.Statement.{statement}
 
@@ -67,23 +67,34 @@ returns-2 c =
     let e = not-true _ (c .if3 .taken) in
     literal-kept _ _ _ _ (at-start .pre .0) _ _ _ _ s (at-start .args .q) (at-start .pre .4 .0) (at-start .pre .4 .1) _ (at-adds .before .octets-of .ensures .0) (keeps at-adds e) _ (lead-same at-lead e) (c .before .before .before .put-string .ensures)
 
-added-requires : tie.Need-added-requires
-added-requires c κs =
-    let at-adds = c .before .before .before .before .before .before .before .before .before in
+bucket-said-requires : tie.Need-bucket-said-requires
+bucket-said-requires c κs =
+    let at-adds = c .before .before .before .before .before .before .before in
     let at-start = start at-adds in
     let s = as-given (at-start .args .text .now) (at-start .args .x) (at-start .pre .2) (at-adds .before .before .before .x .given .1) in
-    let room = adds at-adds (not-false _ (c .before .before .before .if3 .left)) .1 in
-    (at-start .pre .0, (at-start .pre .4 .1, holds-any _ _ (at-start .pre .4 .0), room, s .some, s .lies, s .sound, literal-new _ _ _ _ (at-start .pre .0) _ _ _ _ s _ (at-start .pre .3)))
+    (s .some, s .lies, at-start .pre .0 .size, s .sound)
+
+added-requires : tie.Need-added-requires
+added-requires c κs =
+    let at-number = c .before .before .before .before in
+    let at-adds = at-number .before .before .before .before .before .before .before in
+    let at-start = start at-adds in
+    let s = as-given (at-start .args .text .now) (at-start .args .x) (at-start .pre .2) (at-adds .before .before .before .x .given .1) in
+    let room = adds at-adds (not-false _ (at-number .before .if3 .left)) .1 in (
+      at-start .pre .0 .ten,
+      enter-ready _ _ _ _ (at-start .args .q .table) _ _ _ (at-start .pre .0) (at-start .pre .4 .1) (holds-any _ _ (at-start .pre .4 .0)) room (s .some) (s .lies) _ _ _ (literal-new _ _ _ _ (at-start .pre .0) _ _ _ _ s _ (at-start .pre .3)) (at-number .number .ensures .0) (c .before .before .before .bucket-said .ensures),
+    )
 
 returns-3 : tie.Need-returns-3
 returns-3 c =
-    let at-lead = c .before .before .before .before .before .before .before .before .before .before .before .before .before .before .before in
+    let at-number = c .before .before .before .before .before .before .before .before .before .before .before in
+    let at-lead = at-number .before .before .before .before .before .before in
     let at-adds = at-lead .before in
     let at-start = start at-adds in
     let s = as-given (at-start .args .text .now) (at-start .args .x) (at-start .pre .2) (at-adds .before .before .before .x .given .1) in
-    let e = not-false _ (c .before .before .before .before .before .before .before .before .before .before .if3 .left) in
+    let e = not-false _ (at-number .before .if3 .left) in
     let short = adds at-adds e in
-    literal-added _ _ _ _ (at-start .pre .0) _ _ _ _ s (at-start .args .q) (at-start .pre .4 .0) (at-start .pre .4 .1) _ (at-adds .before .octets-of .ensures .0) (short .0) (short .1) _ (lead-more at-lead e) _ _ _ (c .before .before .before .before .before .before .added .ensures) (c .before .before .before .before .before .before .before .before .before .before .before .before .before .put-string .ensures)
+    literal-added _ _ _ _ (at-start .pre .0) _ _ _ _ s (at-start .args .q) (at-start .pre .4 .0) (at-start .pre .4 .1) _ (at-adds .before .octets-of .ensures .0) (short .0) (short .1) _ (lead-more at-lead e) _ (at-number .number .ensures .0) _ _ _ (c .before .before .before .before .before .before .added .ensures) (at-number .before .before .before .before .put-string .ensures)
 
 pub literal-spec : {M : Type 1} → statement M
 literal-spec =
@@ -98,6 +109,10 @@ literal-spec =
     put-string-requires
     (λ c. search needs)
     returns-2
+    (λ c κs. search needs)
+    (λ c. search needs)
+    (λ c. search needs)
+    bucket-said-requires
     added-requires
     (λ c. search needs)
     (λ c. search needs)
