@@ -1,5 +1,5 @@
-/* Parses one XML document so many times with libexpat, for a count of instructions from outside: `check` with no handlers; `read` with handlers that keep a record of 13
-   words for each event and copy its strings, since libexpat's own do not outlive the handler. The parser is made once and reset for each document, with namespaces
+/* Parses one XML document so many times with libexpat, for a count of instructions from outside: `check` with no handlers; `read` with handlers that keep a record of 14
+   words for each event, of which the last is its place in the text, and copy its strings, since libexpat's own do not outlive the handler. The parser is made once and reset for each document, with namespaces
    as triplets and a fixed salt, so that the count is the same in every run. Texts that libexpat hands out in several pieces are several events.
 
    usage: expat check|read CALLS < text           # the numbers of starts, attributes and octets of text on standard output */
@@ -9,11 +9,12 @@
 #include <stdlib.h>
 #include <string.h>
 
-enum { OCTETS = 1 << 20, RECORD = 13, EVENTS = 1 << 16 };
+enum { OCTETS = 1 << 20, RECORD = 14, PLACE = 13, EVENTS = 1 << 16 };
 static char xml[OCTETS], area[2 * OCTETS];
 static uint32_t records[RECORD * EVENTS];
 static size_t events, kept;
 static unsigned long starts, attributes, text;
+static XML_Parser parser;
 
 static void keep(uint32_t *string, const char *octets, size_t n) {
     memcpy(area + kept, octets, n);
@@ -24,7 +25,7 @@ static void keep(uint32_t *string, const char *octets, size_t n) {
 static uint32_t *record(uint32_t kind) {
     uint32_t *r = records + RECORD * events++;
     memset(r, 0, RECORD * sizeof *r);
-    r[0] = kind;
+    r[0] = kind, r[PLACE] = (uint32_t)XML_GetCurrentByteIndex(parser);
     return r;
 }
 
@@ -82,27 +83,27 @@ static void on_namespace(void *none, const char *prefix, const char *namespace) 
     if (namespace) keep(r + 4, namespace, strlen(namespace));
 }
 
-static int parse(XML_Parser p, char what, size_t n) {
+static int parse(char what, size_t n) {
     events = kept = 0;
-    XML_ParserReset(p, 0);
-    XML_SetHashSalt(p, 1);
-    XML_SetReturnNSTriplet(p, 1);
+    XML_ParserReset(parser, 0);
+    XML_SetHashSalt(parser, 1);
+    XML_SetReturnNSTriplet(parser, 1);
     if (what == 'r') {
-        XML_SetElementHandler(p, on_start, on_end);
-        XML_SetCharacterDataHandler(p, on_text);
-        XML_SetCommentHandler(p, on_comment);
-        XML_SetProcessingInstructionHandler(p, on_instruction);
-        XML_SetStartNamespaceDeclHandler(p, on_namespace);
+        XML_SetElementHandler(parser, on_start, on_end);
+        XML_SetCharacterDataHandler(parser, on_text);
+        XML_SetCommentHandler(parser, on_comment);
+        XML_SetProcessingInstructionHandler(parser, on_instruction);
+        XML_SetStartNamespaceDeclHandler(parser, on_namespace);
     }
-    return XML_Parse(p, xml, (int)n, 1) == XML_STATUS_OK;
+    return XML_Parse(parser, xml, (int)n, 1) == XML_STATUS_OK;
 }
 
 int main(int argc, char **argv) {
     if (argc != 3) return 2;
     size_t n = fread(xml, 1, sizeof xml, stdin);
-    XML_Parser p = XML_ParserCreateNS(0, '|');
-    int good = parse(p, 'r', n);
+    parser = XML_ParserCreateNS(0, '|');
+    int good = parse('r', n);
     printf("%lu %lu %lu\n", starts, attributes, text);
-    for (long i = 0; i < atol(argv[2]); i++) good &= parse(p, argv[1][0], n);
+    for (long i = 0; i < atol(argv[2]); i++) good &= parse(argv[1][0], n);
     return !good;
 }

@@ -1,6 +1,7 @@
 /* Holds the limit against the archive: the same answers, and the same words and octets in room that was full of other things, on the documents given and on seeded changes of
    each; on all tails of one and two octets behind the starts given; and on the lists of events that the documents give, or that are given, and seeded changes of these, with
-   the tables that the document has, too. Each list that is written is measured before.
+   the tables that the document has, too. Each list that is written is measured before, and each is written with other places, which change
+   no answer.
 
    usage: hold CHANGES SEED < inputs          an input is a letter and stretches, each its length in 4 octets and its octets: `d` and a document, `t` and a start, or `l`, a text
                                               area, given words and records
@@ -115,6 +116,12 @@ static void write_with_changed(const uint32_t *records, size_t words, const uint
     hold_write(changed_given, g_words, records, words, text, n, dice(4) ? LOMPHACHIT_OCTETS : dice(n + 2), LOMPHACHIT_TABLES, LOMPHACHIT_COUNTS);
 }
 
+/* Other places in all records: small or large, or the greatest number. */
+static void change_places(uint32_t *records, size_t events) {
+    uint64_t below = (uint64_t)1 << dice(33), greatest = !dice(3);
+    for (size_t i = 0; i < events; i++) records[RECORD * i + LOMPHACHIT_AT_PLACE] = greatest ? UINT32_MAX : (uint32_t)dice(below);
+}
+
 /* One change of an event: a word, a tag, a value's form, a string a little shorter or longer, a whole record. */
 static void change_event(uint32_t *records, size_t events, size_t n) {
     uint32_t *record = records + RECORD * dice(events), *string = record + 1 + 3 * dice(4);
@@ -135,6 +142,10 @@ static void hold_list(const uint32_t *records, size_t events, const uint8_t *tex
     uint64_t answer = write_in(records, RECORD * events, text, n, LOMPHACHIT_OCTETS + 1);
     size_t used = lomphachit_count_of(answer);
     hold_measure(given, given_words, records, RECORD * events, text, n, LOMPHACHIT_TABLES, LOMPHACHIT_COUNTS);
+    memcpy(changed_list, records, RECORD * events * sizeof *records);
+    change_places(changed_list, events);
+    uint64_t elsewhere = write_in(changed_list, RECORD * events, text, n, LOMPHACHIT_OCTETS + 1);
+    if (elsewhere != answer) differs("write with other places", text, n, LOMPHACHIT_OCTETS + 1, elsewhere, answer);
     if (used) write_in(records, RECORD * events, text, n, used), write_in(records, RECORD * events, text, n, used - 1);
     write_in(records, RECORD * events, text, n, dice(n + 2));
     write_in(records, RECORD * dice(events + 1) + dice(RECORD), text, n, n + 8);
@@ -144,6 +155,7 @@ static void hold_list(const uint32_t *records, size_t events, const uint8_t *tex
     for (size_t i = 0; i < changes && events; i++) {
         if (given_words > LOMPHACHIT_COUNTS) write_with_changed(records, RECORD * events, text, n);
         memcpy(changed_list, records, RECORD * events * sizeof *records);
+        if (!dice(4)) change_places(changed_list, events);
         for (size_t many = 1 + dice(3); many; many--) change_event(changed_list, events, n);
         hold_measure(given, given_words, changed_list, RECORD * events, text, n, LOMPHACHIT_TABLES, LOMPHACHIT_COUNTS);
         write_in(changed_list, RECORD * events, text, n, dice(4) ? LOMPHACHIT_OCTETS : used - dice(used / 2 + 1));

@@ -70,8 +70,8 @@ fn check(octets: &[u8]) -> Option<usize> {
 /// The number of events, whose records are filled in.
 fn read(octets: &[u8], records: &mut [u32], known: &mut Known) -> Option<usize> {
     let done = reader::read(octets, records.len() / RECORD).ok()?;
-    for (event, record) in done.events.iter().zip(records.chunks_exact_mut(RECORD)) {
-        record.copy_from_slice(&event.record());
+    for (i, record) in records.chunks_exact_mut(RECORD).take(done.events.len()).enumerate() {
+        record.copy_from_slice(&done.events[i].record(done.places[i]));
     }
     records[RECORD * done.events.len()..].fill(0);
     known.fill(&done.tables);

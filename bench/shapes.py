@@ -217,7 +217,7 @@ def documents():
 def events(document, words):
     """The records as rows of a kind and four strings, None where absent."""
     marks = {1: b'', 3: b'xml', 4: b'http://www.w3.org/XML/1998/namespace'}
-    for record in struct.iter_unpack('<13I', words):
+    for record in struct.iter_unpack('<14I', words):
         strings = [record[i:i + 3] for i in (1, 4, 7, 10)]
         yield record[0], [said(document[place:place + n], tag) if tag in FORMATS else marks.get(tag) for tag, place, n in strings]
 

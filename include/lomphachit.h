@@ -69,7 +69,7 @@ extern "C" {
    place 0. They are macros, since C++20 frowns on sums and products of constants of two enums. */
 #define LOMPHACHIT_OCTETS 16384 /* the most octets of a document, and of a writer's text area */
 #define LOMPHACHIT_EVENTS 21838 /* no document has more events, so no reader needs more records */
-#define LOMPHACHIT_RECORD 13    /* words of an event record */
+#define LOMPHACHIT_RECORD 14    /* words of an event record */
 #define LOMPHACHIT_TABLES 7680  /* words of the ten tables: 256 rows of 3 words for each */
 #define LOMPHACHIT_COUNTS 10    /* words of the counts, one for each table */
 #define LOMPHACHIT_ROWS 256     /* rows of a table, which are the most entries it can have */
@@ -77,9 +77,10 @@ extern "C" {
 #define LOMPHACHIT_SAID 4       /* the most octets of UTF-8 that one octet of a string stands for */
 
 /* An event record: word 0 is its kind, then come four strings of three words each: a tag, a place
-   and a length. The strings that a kind does not have are absent. */
+   and a length. The strings that a kind does not have are absent. The last word is the event's own
+   place in the document that it was read from. */
 enum lomphachit_kind {
-    LOMPHACHIT_KIND_BLANK = 0,       /* no event; all 13 words are 0 */
+    LOMPHACHIT_KIND_BLANK = 0,       /* no event; all 14 words are 0 */
     LOMPHACHIT_KIND_NAMESPACE = 1,   /* prefix, namespace */
     LOMPHACHIT_KIND_START = 2,       /* prefix, namespace, local name */
     LOMPHACHIT_KIND_ATTRIBUTE = 3,   /* prefix, namespace, local name, value */
@@ -94,6 +95,15 @@ enum lomphachit_kind {
 #define LOMPHACHIT_AT_NAMESPACE 4
 #define LOMPHACHIT_AT_NAME 7
 #define LOMPHACHIT_AT_VALUE 10
+
+/* The word of a record that has the event's place: the octet, from 0, at which the event starts.
+   That is for a declaration the octet that says whether it has prefix and namespace; for a start
+   the one in which its name starts, so with declarations the one behind their end; for an
+   attribute, a chunk, a comment and an instruction its first; for an end the one that holds its
+   four bits. Places never fall along the list, and only two ends can share one. Writing and
+   measuring do not look at this word, so records that were read can be given to them as they are,
+   and in a record that the caller makes anything may stand there. */
+#define LOMPHACHIT_AT_PLACE 13
 
 /* What a string is. A stretch is so many octets from that place on, never 0, in the document read
    or in the writer's text area, and its tag says the form in which they stand. Place and length are
@@ -199,15 +209,17 @@ enum lomphachit_refusal {
    - Nothing is lent and nothing is left. */
 uint32_t lomphachit_check(const uint8_t *octets, size_t octets_len);
 
-/* Reads a document into event records, tables and counts. There is room for records_len / 13
+/* Reads a document into event records, tables and counts. There is room for records_len / 14
    records. The answer is taken apart by the functions below; its count is that of the events.
 
    Promised:
    - It accepts what the check accepts, where there is a record for each event, tables_len is
      LOMPHACHIT_TABLES and counts_len is LOMPHACHIT_COUNTS.
-   - Every word lent is determined. On acceptance: the events' records, the tables' rows and their
-     counts, and 0 in every word beyond the part used. On a refusal: 0 in all records_len,
-     tables_len and counts_len words.
+   - Every word lent is determined. On acceptance: the events' records, each with its place in the
+     document, the tables' rows and their counts, and 0 in every word beyond the part used. On a
+     refusal: 0 in all records_len, tables_len and counts_len words.
+   - Where there are too few records, the place of the refusal ROOM is that of the first event
+     without one.
    - Nothing that stood there before is read, and nothing of it is left.
    - Stretches are places in the document, which the caller keeps as long as the records, in the
      form in which they stand there; lomphachit_say gives their characters. A string that the head
@@ -249,7 +261,7 @@ uint64_t lomphachit_measure(const uint32_t *given, size_t given_len,
                             uint32_t *counts, size_t counts_len);
 
 /* Writes the document of the events in the records, whose strings are stretches of the text area,
-   into the output, tables and counts. There are records_len / 13 records. Measure first: for the
+   into the output, tables and counts. There are records_len / 14 records. Measure first: for the
    same words and text lomphachit_measure gives the octets that are enough. At most 16,384 are used.
    The answer is taken apart by the functions below; its count is that of the octets. The place of a
    refusal is an event's number from 0, or the number of events where the list stops too soon or the
@@ -282,8 +294,9 @@ uint64_t lomphachit_measure(const uint32_t *given, size_t given_len,
    - Nothing that stood there before is read, and nothing of it is left.
    - Given words, records and text are only read.
 
-   The records are the whole list: a blank one behind the last event is EVENT, so records_len is 13
-   times the number of events.
+   The records are the whole list: a blank one behind the last event is EVENT, so records_len is 14
+   times the number of events. The place of an event (LOMPHACHIT_AT_PLACE) is not looked at: two
+   lists that differ only there are written alike.
 
    Refusals: SIZE, TEXT, REPEAT (of given tables only), FULL, DEPTH, ROOM, EVENT. */
 uint64_t lomphachit_write(const uint32_t *given, size_t given_len,

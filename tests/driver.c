@@ -1,10 +1,11 @@
 /* Reads documents in hex, one to a line, and prints for each what the archive answers: the check's number, and the listing of what lomphachit_read left in
    lent room that was full of other things. Each document is read twice on the same room, and once more in another place: all that is lent starts, and then ends,
-   at a page that may not be touched. Any difference, any word that is not blank behind the part used, and any form that a string cannot have, is printed as a fault and ends
-   with status 1.
+   at a page that may not be touched. Any difference, any word that is not blank behind the part used, any form that a string cannot have, and places that fall or are shared by
+   other events than two Ends, is printed as a fault and ends with status 1.
 
    usage: driver RECORDS [whole] < lines  a line of output for each line of input: NUMBER, a tab, the listing with ';' for line ends; what strings say is shown in UTF-8.
-                                          Whole: a tab, the events and a tab, the tables, as vectors/README.md writes them */
+                                          Whole: a tab, the events and a tab, the tables, as vectors/README.md writes them.
+                                          Then a tab and the places of the events, with commas between */
 #define _GNU_SOURCE
 #include "fenced.h"
 #include "forms.h"
@@ -12,13 +13,13 @@
 uint32_t lomphachit_check(const uint8_t *octets, size_t n);
 uint64_t lomphachit_read(const uint8_t *octets, size_t n, uint32_t *records, size_t r, uint32_t *tables, size_t t, uint32_t *counts, size_t c);
 
-enum { RECORD = 13, TABLES = 7680, COUNTS = 10, ROWS = 256, MOST = 1 << 16, IDENTIFYING = 5, NAMES = 8, FORMS = 7 };
+enum { RECORD = 14, PLACE = 13, END = 7, TABLES = 7680, COUNTS = 10, ROWS = 256, MOST = 1 << 16, IDENTIFYING = 5, NAMES = 8, FORMS = 7 };
 static const char *const KINDS = ".NSATCPE";
 
 static int faults;
 
 static void fault(const char *what) {
-    printf("FAULT %s\t\n", what);
+    printf("FAULT %s\t\t\n", what);
     faults++;
 }
 
@@ -100,6 +101,15 @@ static void copy(const struct lent *to, const struct lent *from, size_t words) {
     memcpy(to->r, from->r, words * 4), memcpy(to->t, from->t, TABLES * 4), memcpy(to->c, from->c, COUNTS * 4);
 }
 
+/* Places within the document never fall, and only Ends share one. */
+static void judge_places(const struct lent *l, size_t n, size_t events) {
+    for (size_t i = 0; i < events; i++) {
+        const uint32_t *r = l->r + i * RECORD, *before = r - RECORD;
+        if (r[PLACE] >= n) fault("an event has a place behind the document");
+        if (i && r[PLACE] < before[PLACE] + (r[0] != END || before[0] != END)) fault("an event has a place before that of the one in front");
+    }
+}
+
 /* What is not blank though it should be. */
 static void judge(const struct lent *l, size_t words, uint64_t a) {
     size_t events = (size_t)(a >> 32);
@@ -111,6 +121,12 @@ static void judge(const struct lent *l, size_t words, uint64_t a) {
         if (l->t[3 * k + 2] >= (k < IDENTIFYING * ROWS ? 1 : FORMS)) fault("a row has a form that its string cannot have");
 }
 
+static void print_places(const struct lent *l, size_t events) {
+    putchar('\t');
+    for (size_t i = 0; i < events; i++) printf("%s%u", i ? "," : "", l->r[i * RECORD + PLACE]);
+    putchar('\n');
+}
+
 static void print_whole(const struct lent *l, uint32_t number, uint64_t a) {
     printf("%u\t", number);
     for (size_t i = 0; i < a >> 32; i++) fputs(i ? " " : "", stdout), whole_event(l->r + i * RECORD);
@@ -119,7 +135,6 @@ static void print_whole(const struct lent *l, uint32_t number, uint64_t a) {
         fputs(k ? "|" : "", stdout);
         for (uint32_t i = 0; i < l->c[k]; i++) fputs(i ? " " : "", stdout), row(k, l->t + (ROWS * k + i) * 3);
     }
-    putchar('\n');
 }
 
 static void print(const struct lent *l, uint32_t number, uint64_t a) {
@@ -128,7 +143,6 @@ static void print(const struct lent *l, uint32_t number, uint64_t a) {
     if (answer) printf("refused %u at %u;", answer % 32, answer / 32);
     for (size_t i = 0; i < a >> 32; i++) event(l->s, l->r + i * RECORD);
     if (!answer) printf("end %zu;", (size_t)(a >> 32));
-    putchar('\n');
 }
 
 int main(int argc, char **argv) {
@@ -157,7 +171,9 @@ int main(int argc, char **argv) {
         dirty_all(&last, words, &seed);
         if (a != read_into(&last, n, words) || !same(&last, &kept, words)) fault("the reading in another place differs");
         judge(&last, words, a);
+        judge_places(&last, n, (size_t)(a >> 32));
         (argc > 2 ? print_whole : print)(&last, number, a);
+        print_places(&last, (size_t)(a >> 32));
     }
     return faults != 0;
 }

@@ -1,5 +1,5 @@
-/* Uses include/lomphachit.h, as C and as C++: reads two documents that have all kinds and tags, measures and writes one again, and takes answers apart. Each thing that is
-   otherwise than it should be is printed and ends with status 1. */
+/* Uses include/lomphachit.h, as C and as C++: reads documents that have all kinds and tags, measures and writes one again, whatever places its records have, and takes answers
+   apart. Each thing that is otherwise than it should be is printed and ends with status 1. */
 #include "lomphachit.h"
 
 #include <stdio.h>
@@ -24,12 +24,16 @@ static void string(const char *what, const uint32_t *w, uint32_t tag, uint32_t p
     is(what, w[0], tag), is(what, w[1], place), is(what, w[2], length);
 }
 
+static void place(const char *what, const uint32_t *record, uint32_t wanted) { is(what, record[LOMPHACHIT_AT_PLACE], wanted); }
+
 static void reading(void) {
     uint64_t a = lomphachit_read(SAMPLE, OCTETS, records, EVENTS * LOMPHACHIT_RECORD, tables, LOMPHACHIT_TABLES, counts, LOMPHACHIT_COUNTS);
     const uint32_t *attribute = records + LOMPHACHIT_RECORD, *name = tables + lomphachit_row(LOMPHACHIT_TABLE_ATTRIBUTE_NAME, 1);
     is("the answer of reading", lomphachit_refusal_of(a), LOMPHACHIT_ACCEPTED), is("its place", lomphachit_place_of(a), 0), is("its count", lomphachit_count_of(a), EVENTS);
     is("kind 0", records[0], LOMPHACHIT_KIND_START), is("kind 1", attribute[0], LOMPHACHIT_KIND_ATTRIBUTE);
     is("kind 2", records[2 * LOMPHACHIT_RECORD], LOMPHACHIT_KIND_TEXT), is("kind 3", records[3 * LOMPHACHIT_RECORD], LOMPHACHIT_KIND_END);
+    place("the start's place", records, 5), place("the attribute's place", attribute, 8);
+    place("the text's place", records + 2 * LOMPHACHIT_RECORD, 14), place("the end's place", records + 3 * LOMPHACHIT_RECORD, 17);
     string("the attribute's prefix", attribute + LOMPHACHIT_AT_PREFIX, LOMPHACHIT_TAG_ABSENT, 0, 0);
     string("the attribute's namespace", attribute + LOMPHACHIT_AT_NAMESPACE, LOMPHACHIT_TAG_ABSENT, 0, 0);
     string("the attribute's name", attribute + LOMPHACHIT_AT_NAME, LOMPHACHIT_TAG_STRETCH, 10, 1);
@@ -48,8 +52,9 @@ static void rest(void) {
     static uint32_t row[6 * LOMPHACHIT_RECORD];
     uint64_t a = lomphachit_read(REST, sizeof REST, row, 6 * LOMPHACHIT_RECORD, tables, LOMPHACHIT_TABLES, counts, LOMPHACHIT_COUNTS);
     const uint32_t kinds[] = {LOMPHACHIT_KIND_NAMESPACE, LOMPHACHIT_KIND_START, LOMPHACHIT_KIND_ATTRIBUTE, LOMPHACHIT_KIND_COMMENT, LOMPHACHIT_KIND_INSTRUCTION, LOMPHACHIT_KIND_END};
+    const uint32_t places[] = {6, 10, 15, 20, 23, 27};
     is("the rest's answer", lomphachit_refusal_of(a), LOMPHACHIT_ACCEPTED), is("its count", lomphachit_count_of(a), 6);
-    for (int k = 0; k < 6; k++) is("a kind of the rest", row[k * LOMPHACHIT_RECORD], kinds[k]);
+    for (int k = 0; k < 6; k++) is("a kind of the rest", row[k * LOMPHACHIT_RECORD], kinds[k]), place("a place of the rest", row + k * LOMPHACHIT_RECORD, places[k]);
     string("the declared prefix", row + LOMPHACHIT_AT_PREFIX, LOMPHACHIT_TAG_XML_PREFIX, 0, 0);
     string("the declared namespace", row + LOMPHACHIT_AT_NAMESPACE, LOMPHACHIT_TAG_XML_NAMESPACE, 0, 0);
     string("the empty value", row + 2 * LOMPHACHIT_RECORD + LOMPHACHIT_AT_VALUE, LOMPHACHIT_TAG_EMPTY, 0, 0);
@@ -128,8 +133,15 @@ static void written(const uint32_t *given, size_t given_len, const uint8_t *want
     is("an octet less", lomphachit_refusal_of(write_into(wanted_len - 1, given, given_len, EVENTS)), LOMPHACHIT_REFUSED_ROOM), is("an octet after a refusal", out[0], 0);
 }
 
+static void set_places(uint32_t x) {
+    for (int k = 0; k < EVENTS; k++) records[k * LOMPHACHIT_RECORD + LOMPHACHIT_AT_PLACE] = x;
+}
+
 static void writing(void) {
+    /* The places are those that were read, then the same everywhere. */
     written(NONE, 0, SAMPLE, OCTETS);
+    set_places(0), written(NONE, 0, SAMPLE, OCTETS);
+    set_places(UINT32_MAX), written(NONE, 0, SAMPLE, OCTETS);
     uint64_t a = measure(NONE, 0, 3);
     is("a list that stops", lomphachit_refusal_of(a), LOMPHACHIT_REFUSED_EVENT), is("its place", lomphachit_place_of(a), 3), is("its count", lomphachit_count_of(a), 0);
     is("a count after a refusal of measuring", counts[0], 0), is("a row after it", tables[lomphachit_row(LOMPHACHIT_TABLE_LOCAL_NAME, 1) + 1], 0);
@@ -153,6 +165,7 @@ static void checking(void) {
     is("one record for four events", lomphachit_refusal_of(b), LOMPHACHIT_REFUSED_ROOM), is("its place", lomphachit_place_of(b), 8);
     b = lomphachit_read(SAMPLE, OCTETS, records, EVENTS * LOMPHACHIT_RECORD, tables, LOMPHACHIT_TABLES - 1, counts, LOMPHACHIT_COUNTS);
     is("a table word too few", b, LOMPHACHIT_REFUSED_ROOM), is("a kind after a refusal", records[0], LOMPHACHIT_KIND_BLANK);
+    place("a place after a refusal", records, 0);
 }
 
 int main(void) {
@@ -162,6 +175,7 @@ int main(void) {
     writing();
     listing();
     checking();
+    is("the word behind the place", LOMPHACHIT_AT_PLACE + 1, LOMPHACHIT_RECORD), is("the word of the place", LOMPHACHIT_AT_VALUE + 3, LOMPHACHIT_AT_PLACE);
     is("the words of the tables", LOMPHACHIT_TABLES, lomphachit_row(LOMPHACHIT_COUNTS, 1));
     is("the words of a row", lomphachit_row(0, 2), LOMPHACHIT_ROW), is("the words of a table", lomphachit_row(1, 1), LOMPHACHIT_ROWS * LOMPHACHIT_ROW);
     /* The names go to the script, which knows them from elsewhere. */

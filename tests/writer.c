@@ -1,8 +1,9 @@
 /* Reads event lists, one to a line, and prints for each what lomphachit_write answers and leaves in lent room that was full of other things, and what lomphachit_measure
    does. Each list is written twice on the same room, and what was written is read back. Then it is written in two other places: all that is lent starts, and then ends,
    at a page that may not be touched. It is measured in the same four ways, which must be what writing gives with room for the longest document; and written with exactly as
-   many octets as were measured, and with one less. A difference, an octet or word that is not 0 behind the part used or after a refusal, and anything changed that was not
-   lent to be changed, is printed as a fault and ends with status 1.
+   many octets as were measured, and with one less. Then it is written and measured with other places in its records: those of what was written, seeded ones, and the
+   greatest number. A difference, an octet or word that is not 0 behind the part used or after a refusal, and anything changed that was not lent to be changed, is printed
+   as a fault and ends with status 1.
 
    usage: writer < lines
    A line has, with one blank between: the octets and the table and count words to lend, the text area in hex ('-' for none), how many words give tables and these, the
@@ -18,7 +19,7 @@ uint64_t lomphachit_write(const uint32_t *given, size_t g, const uint32_t *recor
                           size_t t, uint32_t *counts, size_t c);
 uint64_t lomphachit_measure(const uint32_t *given, size_t g, const uint32_t *records, size_t r, const uint8_t *text, size_t n, uint32_t *tables, size_t t, uint32_t *counts, size_t c);
 
-enum { RECORD = 13, STRINGS = 4, TABLES = 7680, COUNTS = 10, ROWS = 256, NAMES = 8, IDENTIFYING = 5, UTF_16_ROW = 1, EVENTS = 1 << 15, GIVEN = 1 << 14, OCTETS = 1 << 16, FENCE = 16, LONGEST = 16384, ROOM = 14 };
+enum { RECORD = 14, PLACE = 13, STRINGS = 4, TABLES = 7680, COUNTS = 10, ROWS = 256, NAMES = 8, IDENTIFYING = 5, UTF_16_ROW = 1, EVENTS = 1 << 15, GIVEN = 1 << 14, OCTETS = 1 << 16, FENCE = 16, LONGEST = 16384, ROOM = 14 };
 
 /* What one call is lent, and what it is lent to read only. Behind each lent part stands a fence that no call may change. */
 struct room {
@@ -167,6 +168,21 @@ static void write_measured(size_t n) {
     if (memcmp(second.out + n - 1, dirt.out + n - 1, FENCE)) fault("something is written behind an octet less");
 }
 
+/* The list with the places that it is read with, if it was written, with seeded ones, and with the greatest number: writing and measuring answer and leave the same. */
+static void with_other_places(uint64_t a, uint64_t m, uint32_t seed) {
+    for (int way = (uint32_t)a ? 1 : 0; way < 3; way++) {
+        for (size_t i = 0; i < list.r / RECORD; i++) {
+            seed = seed * 1664525u + 1013904223u;
+            const uint32_t ways[] = {back[RECORD * i + PLACE], seed, UINT32_MAX};
+            list.records[RECORD * i + PLACE] = ways[way];
+        }
+        second = dirt;
+        if (write_list(&second) != a || memcmp(&first, &second, sizeof first)) fault("the writing with other places differs");
+        second = dirt;
+        if (measure_list(&second) != m || memcmp(&measured, &second, sizeof second)) fault("the measuring with other places differs");
+    }
+}
+
 /* The answer in the line's own room is that of measuring, or ROOM at an event that does not fit, which is none behind one that is refused for something else. */
 static int related(uint64_t a, uint64_t m) {
     uint32_t refusal = (uint32_t)a % 32, fits = !(uint32_t)m && m >> 32 <= first.o;
@@ -242,6 +258,7 @@ int main(void) {
         if (!(uint32_t)m) write_measured((size_t)(m >> 32));
         if (!related(a, m)) fault("the writing in this room does not go with the measuring");
         elsewhere(a, m, 0), elsewhere(a, m, 1);
+        with_other_places(a, m, seed);
         print(a, m);
     }
     return faults != 0;

@@ -20,10 +20,20 @@ def rows(name):
 # The documents given to the project: name, octets, check number, sha1 of the listing.
 READ = ("read.tsv", "items/read_1.tsv", "items/read_2.tsv", "items/read_4.tsv", "items/read_6.tsv")
 
+# The header of a draft.
+DRAFT = bytes.fromhex("e0010000")
+
 
 def documents():
     """The rows of these files; some are in two of them."""
     return list(dict.fromkeys(tuple(row) for name in READ for row in rows(name)))
+
+
+def placed_documents():
+    """(name, octets, places) of items/places.tsv. A draft is not read yet: what is due in place of its places is the refusal of its header."""
+    for name, octets, wanted in rows("items/places.tsv"):
+        octets = bytes.fromhex(octets)
+        yield name, octets, "refused %d at 0" % HEADER if octets[:4] == DRAFT else wanted
 
 
 def digest_of(octets):
@@ -35,6 +45,9 @@ def disagreements():
         octets = bytes.fromhex(octets)
         if (check(octets)[0], digest_of(octets)) != (int(number), digest):
             yield "%s: %s" % (" or ".join(READ), name)
+    for name, octets, wanted in placed_documents():
+        if places_of(octets) != wanted:
+            yield "items/places.tsv: " + name
     for name, octets, room, answer in rows("adversarial.tsv"):
         try:
             got = "accepted %d" % len(read(bytes.fromhex(octets), int(room)).events)
@@ -64,7 +77,7 @@ def event_rows():
         if check(octets)[0] == 0:
             reader = read(octets)
             yield (name, " ".join(",".join(map(shown, event)) for event in reader.events),
-                   "|".join(" ".join(map(shown, table)) for table in reader.tables))
+                   "|".join(" ".join(map(shown, table)) for table in reader.tables), places_of(octets))
 
 
 # --------------------------------------------------------------- boundary.tsv

@@ -3,8 +3,8 @@
 A string is '-' absent, '0' empty, 'X' or 'U' the built-in prefix or namespace,
 or (place, length, form); the form is what stands behind a stretch in README.md.
 An event is (kind, prefix, namespace, name, value): name is the local name or
-target, value the value, chunk, comment or content.  A table is a list of
-strings, or of triples of numbers.
+target, value the value, chunk, comment or content; its place is that of its
+ROOM.  A table is a list of strings, or of triples of numbers.
 """
 import re
 
@@ -102,7 +102,7 @@ class Reader:
 
     def __init__(self, octets, room):
         self.octets, self.room, self.at = octets, room, 0
-        self.events = []
+        self.events, self.places = [], []
         self.tables = [[] for _ in range(10)]
         self.tables[PREFIX].append("X")
         self.tables[NAMESPACE].append("U")
@@ -129,6 +129,7 @@ class Reader:
     def give(self, place, kind, prefix="-", namespace="-", name="-", value="-"):
         judge(place, (len(self.events) == self.room, ROOM))
         self.events.append((kind, prefix, namespace, name, value))
+        self.places.append(place)
 
     # Fields
 
@@ -376,6 +377,14 @@ def check(octets):
     except Refusal as refusal:
         number, place = refusal.args
         return place * 32 + number, 0
+
+
+def places_of(octets):
+    """The places of the events with commas between; for a document that is refused, how."""
+    try:
+        return ",".join(map(str, read(octets).places))
+    except Refusal as refusal:
+        return "refused %d at %d" % refusal.args
 
 
 def listing(octets):

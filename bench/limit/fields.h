@@ -14,7 +14,7 @@ struct run {
     int root; /* has been opened */
     struct strings strings[URI + 1];
     struct names names[2];
-    uint32_t words[2][ROWS][RECORD - 1]; /* of each element's and attribute's name, a record's words behind the kind */
+    uint32_t words[2][ROWS][STRINGS]; /* of each element's and attribute's name, those that a record has between kind and place */
 };
 
 /* A string as a record has it, its number, and whether it is new. Place and length are moved as one word of eight octets, the place in its lower half. */

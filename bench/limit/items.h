@@ -29,21 +29,25 @@ ALWAYS uint32_t back(struct hand *h, const uint8_t *place, uint32_t refusal) {
 /* Records. Four words at once are blanked or copied, so that some are stored twice. */
 ALWAYS void blank(uint32_t *words) { _mm_storeu_si128((void *)words, _mm_setzero_si128()); }
 
-ALWAYS void put_name(const struct run *run, struct hand *h, uint32_t kind, uint32_t table, uint32_t number) {
-    if (!KEEP) return;
-    const uint32_t *words = run->words[table - ELEMENT][number - 1];
-    h->record[0] = kind;
-    for (int i = 0; i < RECORD - 1; i += 4) _mm_storeu_si128((void *)(h->record + 1 + i), block(words + i));
+/* A record's first word and its last: its kind, and the octet that it was read at. Then it is the next one's turn. */
+ALWAYS void put_record(const struct run *run, struct hand *h, uint32_t kind, const uint8_t *place) {
+    h->record[0] = kind, h->record[LOMPHACHIT_AT_PLACE] = (uint32_t)(place - run->document);
     h->record += RECORD;
 }
 
+ALWAYS void put_name(const struct run *run, struct hand *h, uint32_t kind, const uint8_t *place, uint32_t table, uint32_t number) {
+    if (!KEEP) return;
+    const uint32_t *words = run->words[table - ELEMENT][number - 1];
+    for (int i = 0; i < STRINGS; i += 4) _mm_storeu_si128((void *)(h->record + 1 + i), block(words + i));
+    put_record(run, h, kind, place);
+}
+
 /* An event that has a value only. */
-ALWAYS void put_value(struct hand *h, uint32_t kind, const struct string *x) {
+ALWAYS void put_value(const struct run *run, struct hand *h, uint32_t kind, const uint8_t *place, const struct string *x) {
     if (!KEEP) return;
     blank(h->record + 1), blank(h->record + 5), blank(h->record + 6);
-    h->record[0] = kind;
     put_string(h->record + LOMPHACHIT_AT_VALUE, x);
-    h->record += RECORD;
+    put_record(run, h, kind, place);
 }
 
 /* A start by its number; `behind` is where the next field stands. */
@@ -51,7 +55,7 @@ ALWAYS uint32_t start(const struct run *run, struct hand *h, uint32_t number, co
     if (unlikely(number > run->counts[ELEMENT])) return REFUSED(INDEX);
     if (unlikely(h->level >= DEEPEST)) return REFUSED(DEPTH);
     if (no_room(run, h)) return REFUSED(ROOM);
-    put_name(run, h, KIND(START), ELEMENT, number);
+    put_name(run, h, KIND(START), h->at, ELEMENT, number);
     h->level++, h->at = behind;
     return 0;
 }
@@ -69,7 +73,7 @@ ALWAYS uint32_t spelled_start(struct run *run, struct hand *h) {
     uint32_t refusal = triple(run, &h->at, h->end, ELEMENT);
     if (unlikely(refusal)) return refusal;
     if (no_room(run, h)) return back(h, place, REFUSED(ROOM));
-    put_name(run, h, KIND(START), ELEMENT, run->counts[ELEMENT]);
+    put_name(run, h, KIND(START), place, ELEMENT, run->counts[ELEMENT]);
     h->level++;
     return 0;
 }
@@ -86,10 +90,9 @@ ALWAYS uint32_t declaration(struct run *run, struct hand *h) {
     if (*place & 1 && (refusal = identifying(run, &h->at, h->end, NAMESPACE, &namespace))) return refusal;
     if (no_room(run, h)) return back(h, place, REFUSED(ROOM));
     if (!KEEP) return 0;
-    h->record[0] = KIND(NAMESPACE);
     put_string(h->record + LOMPHACHIT_AT_PREFIX, &prefix), put_string(h->record + LOMPHACHIT_AT_NAMESPACE, &namespace);
     blank(h->record + LOMPHACHIT_AT_NAME), blank(h->record + LOMPHACHIT_AT_NAME + 2);
-    h->record += RECORD;
+    put_record(run, h, KIND(NAMESPACE), place);
     return 0;
 }
 
@@ -135,7 +138,7 @@ ALWAYS uint32_t attribute(struct run *run, struct hand *h) {
     }
     if (unlikely(refusal = value(run, &h->at, h->end, VALUE, &x))) return refusal;
     if (no_room(run, h)) return back(h, place, REFUSED(ROOM));
-    if (KEEP) put_name(run, h, KIND(ATTRIBUTE), ATTRIBUTE, number), put_string(h->record - RECORD + LOMPHACHIT_AT_VALUE, &x);
+    if (KEEP) put_name(run, h, KIND(ATTRIBUTE), place, ATTRIBUTE, number), put_string(h->record - RECORD + LOMPHACHIT_AT_VALUE, &x);
     return 0;
 }
 
@@ -156,7 +159,7 @@ ALWAYS uint32_t chunk(struct run *run, struct hand *h) {
     uint32_t refusal = spelled(run, &h->at, h->end, CHUNK, 7, *place & 0x10, &x);
     if (unlikely(refusal)) return refusal;
     if (no_room(run, h)) return back(h, place, REFUSED(ROOM));
-    put_value(h, KIND(TEXT), &x);
+    put_value(run, h, KIND(TEXT), place, &x);
     return 0;
 }
 
@@ -165,7 +168,7 @@ ALWAYS uint32_t numbered_chunk(const struct run *run, struct hand *h, uint32_t n
     uint32_t refusal = numbered(run, CHUNK, number, &x);
     if (unlikely(refusal)) return refusal;
     if (no_room(run, h)) return REFUSED(ROOM);
-    put_value(h, KIND(TEXT), &x);
+    put_value(run, h, KIND(TEXT), h->at, &x);
     h->at = behind;
     return 0;
 }
@@ -183,7 +186,7 @@ ALWAYS uint32_t instruction(struct run *run, struct hand *h) {
     if (likely(!refusal)) refusal = value(run, &h->at, h->end, OTHER, &content);
     if (unlikely(refusal)) return refusal;
     if (no_room(run, h)) return back(h, place, REFUSED(ROOM));
-    put_value(h, KIND(INSTRUCTION), &content);
+    put_value(run, h, KIND(INSTRUCTION), place, &content);
     if (KEEP) put_string(h->record - RECORD + LOMPHACHIT_AT_NAME, &target);
     return 0;
 }
@@ -194,7 +197,7 @@ ALWAYS uint32_t comment(struct run *run, struct hand *h) {
     uint32_t refusal = value(run, &h->at, h->end, OTHER, &x);
     if (unlikely(refusal)) return refusal;
     if (no_room(run, h)) return back(h, place, REFUSED(ROOM));
-    put_value(h, KIND(COMMENT), &x);
+    put_value(run, h, KIND(COMMENT), place, &x);
     return 0;
 }
 
@@ -203,7 +206,7 @@ ALWAYS uint32_t end(const struct run *run, struct hand *h) {
     if (no_room(run, h)) return REFUSED(ROOM);
     if (KEEP) {
         blank(h->record + 1), blank(h->record + 5), blank(h->record + 9);
-        h->record[0] = KIND(END), h->record += RECORD;
+        put_record(run, h, KIND(END), h->at);
     }
     h->level--;
     return 0;

@@ -6,6 +6,7 @@
 
 enum {
     RECORD = LOMPHACHIT_RECORD,
+    STRINGS = LOMPHACHIT_AT_PLACE - 1, /* words of a record's strings, between its kind and its place */
     ROWS = LOMPHACHIT_ROWS,
     HASHES = 256,
     DEEPEST = 32,     /* elements within each other */

@@ -27,7 +27,7 @@ pub struct Refusals {
     pub less: Option<Refusal>,
 }
 
-/// A list is written with the room that it has, measured, and written with exactly the octets measured and with one less.
+/// A list is written with the room that it has, measured, and written with exactly the octets measured, with other places in its records, and with one less.
 pub fn list(l: &List, seed: u32) -> (Result<(), String>, Refusals) {
     let mut found = Refusals::default();
     let compared = list_into(l, seed, &mut found);
@@ -45,7 +45,7 @@ fn list_into(l: &List, seed: u32, found: &mut Refusals) -> Result<(), String> {
         return Ok(());
     }
     let octets = (wanted.answer >> 32) as usize;
-    let (just, less) = (write(l, octets, seed), write(l, octets - 1, seed));
+    let (just, less) = (write(&l.elsewhere(), octets, seed), write(l, octets - 1, seed));
     found.less = less.1;
     just.0.and(less.0)?;
     // Of the other program itself: what it measures is what it writes.
@@ -70,7 +70,7 @@ pub fn document(octets: &[u8], lent: &Lent) -> Compared {
     if compared.0.is_err() {
         return compared;
     }
-    let again = reader::read(octets, 2 * MOST).map_or(Ok(()), |done| list(&List::of(&done.events, octets.to_vec()), lent.seed).0);
+    let again = reader::read(octets, 2 * MOST).map_or(Ok(()), |done| list(&List::of(done.records(), octets.to_vec()), lent.seed).0);
     (again, compared.1)
 }
 

@@ -7,7 +7,7 @@ use crate::{differ, report};
 /// The room that the first octet chooses, and the document; None where there is no octet.
 pub fn input(octets: &[u8]) -> Option<(Lent, &[u8])> {
     let (first, document) = octets.split_first()?;
-    let usual = Lent { records: usize::from(*first) * RECORD + usize::from(first % 13), tables: TABLES, counts: 10, calls: 2, seed: u32::from(*first) };
+    let usual = Lent { records: usize::from(*first) * RECORD + usize::from(*first) % RECORD, tables: TABLES, counts: 10, calls: 2, seed: u32::from(*first) };
     let lent = match first {
         250 => Lent { tables: TABLES - 1, ..usual },
         251 => Lent { tables: TABLES + 1, ..usual },

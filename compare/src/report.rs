@@ -5,7 +5,7 @@ use crate::lists::given::Given;
 use crate::lists::List;
 use crate::shrink;
 use crate::tails::starts;
-use crate::words::{Record, TAGS};
+use crate::words::{Record, PLACE, TAGS};
 
 pub fn hex(octets: &[u8]) -> String {
     octets.iter().map(|o| format!("{o:02x}")).collect()
@@ -51,7 +51,7 @@ fn fewer(l: &List, differs: &dyn Fn(&List) -> bool) -> Given {
 fn packed(l: &List) -> List {
     let mut less = List { text: Vec::new(), ..l.clone() };
     let listed = less.given.tables[..8].iter_mut().flatten().map(|e| &mut e[..]);
-    let strings = less.records.iter_mut().flat_map(|r| r[1..].chunks_exact_mut(3));
+    let strings = less.records.iter_mut().flat_map(|r| r[1..PLACE].chunks_exact_mut(3));
     for string in listed.chain(strings).filter(|s| TAGS.contains(&s[0])) {
         let (place, length) = (string[1] as usize, string[2] as usize);
         if let Some(octets) = l.text.get(place..place + length) {

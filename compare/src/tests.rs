@@ -19,6 +19,7 @@ const READ_1: &str = include_str!("../../vectors/items/read_1.tsv");
 const READ_2: &str = include_str!("../../vectors/items/read_2.tsv");
 const READ_4: &str = include_str!("../../vectors/items/read_4.tsv");
 const READ_6: &str = include_str!("../../vectors/items/read_6.tsv");
+const PLACES: &str = include_str!("../../vectors/items/places.tsv");
 const FORMS: &str = include_str!("../../vectors/forms_read.tsv");
 const WRITE_1: &str = include_str!("../../vectors/items/write_1.tsv");
 const WRITE_2: &str = include_str!("../../vectors/items/write_2.tsv");
@@ -48,12 +49,12 @@ fn words_of(s: &str) -> [u32; 3] {
     mark.words()
 }
 
-/// The words of a list's records.
+/// The words of a list's records, with 0 for their places.
 fn records_of(list: &str) -> Vec<u32> {
     let record = |e: &str| {
         let (kind, strings) = e.split_once(',').unwrap();
         let kind = [".", "N", "S", "A", "T", "C", "P", "E"].iter().position(|k| *k == kind).unwrap();
-        [kind as u32].into_iter().chain(strings.split(',').flat_map(words_of)).collect::<Vec<_>>()
+        [kind as u32].into_iter().chain(strings.split(',').flat_map(words_of)).chain([0]).collect::<Vec<_>>()
     };
     list.split_whitespace().flat_map(record).collect()
 }
@@ -176,13 +177,29 @@ fn tables(t: &Tables) -> String {
     strings.chain(names).collect::<Vec<_>>().join("|")
 }
 
+fn places(done: &reader::Reading) -> String {
+    done.places.iter().map(usize::to_string).collect::<Vec<_>>().join(",")
+}
+
+/// The drafts are refused for their header.
 #[test]
-fn events_and_tables_of_events_tsv() {
+fn places_of_places_tsv() {
+    for r in rows(PLACES) {
+        let got = match reader::read(&unhex(r[1]), 32768) {
+            Ok(done) => places(&done),
+            Err(x) => format!("refused {} at {}", x.number, x.place),
+        };
+        assert_eq!(got, if r[1].starts_with("e0010000") { "refused 3 at 0" } else { r[2] }, "{}", r[0]);
+    }
+}
+
+#[test]
+fn all_of_events_tsv() {
     let documents: std::collections::HashMap<_, _> = read_rows().into_iter().map(|r| (r[0], r[1])).collect();
     for r in rows(EVENTS) {
         let done = reader::read(&unhex(documents[r[0]]), 512).unwrap();
         assert_eq!(done.events.iter().map(|e| Some(*e)).collect::<Vec<_>>(), events(r[1]), "{}", r[0]);
-        assert_eq!(tables(&done.tables), r[2], "{}", r[0]);
+        assert_eq!((tables(&done.tables), places(&done)), (r[2].to_string(), r[3].to_string()), "{}", r[0]);
     }
 }
 

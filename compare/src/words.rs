@@ -3,7 +3,9 @@ pub use crate::tables::*;
 pub use crate::text::{StringForm, STRING_FORMS};
 use std::borrow::Cow;
 
-pub const RECORD: usize = 13;
+/// Words of a record, of which the last is the place.
+pub const RECORD: usize = 14;
+pub const PLACE: usize = 13;
 pub const ROWS: usize = 256;
 pub const TABLES: usize = 10 * ROWS * 3;
 pub const MOST: usize = 16384;
@@ -34,7 +36,7 @@ pub enum Kind {
 
 pub const KINDS: [Kind; 7] = [Kind::Namespace, Kind::Start, Kind::Attribute, Kind::Chunk, Kind::Comment, Kind::Instruction, Kind::End];
 
-/// An event; its strings are prefix, namespace, name (or target), value (or chunk, comment, content).
+/// An event; its strings are prefix, namespace, name (or target), value (or chunk, comment, content). Where it was read is no part of it, so that no writer can look at that.
 #[derive(Clone, Copy, PartialEq, Eq, Debug)]
 pub struct Event {
     pub kind: Kind,
@@ -105,16 +107,17 @@ impl Text {
 }
 
 impl Event {
-    pub fn record(&self) -> Record {
+    pub fn record(&self, place: usize) -> Record {
         let mut r = [0; RECORD];
         r[0] = self.kind as u32;
         for (i, s) in self.strings.iter().enumerate() {
             r[1 + 3 * i..4 + 3 * i].copy_from_slice(&s.words());
         }
+        r[PLACE] = place as u32;
         r
     }
 
-    /// None where the words are no event: blank, another kind or tag, words beside a tag that has none.
+    /// None where the words are no event: blank, another kind or tag, words beside a tag that has none. The place is not looked at.
     pub fn from_record(r: &[u32]) -> Option<Event> {
         let kind = *KINDS.get((r[0] as usize).checked_sub(1)?)?;
         let mut strings = [Text::Absent; 4];

@@ -1,7 +1,7 @@
 //! Damage to event lists, in a record or in the text.
 use super::List;
 use crate::dice::Dice;
-use crate::words::{RECORD, TAGS};
+use crate::words::{PLACE, RECORD, TAGS};
 
 /// One or two faults in the list.
 pub fn damage(dice: &mut Dice, l: &mut List) {
@@ -10,7 +10,7 @@ pub fn damage(dice: &mut Dice, l: &mut List) {
             return;
         }
         let (i, j) = (dice.below(l.records.len()), dice.below(l.records.len()));
-        match dice.below(17) {
+        match dice.below(18) {
             0 => drop(l.records.remove(i)),
             1 => l.records.insert(j, l.records[i]),
             2 => l.records.swap(i, j),
@@ -18,11 +18,13 @@ pub fn damage(dice: &mut Dice, l: &mut List) {
             4 => l.records[i][0] = dice.pick(&[0, 1, 2, 3, 4, 5, 6, 7, 8, 9, 0xFFFF_FFFF]),
             5 => l.records[i][1 + 3 * dice.below(4)] = dice.pick(&[0, 1, 2, 3, 4, 5, 5, 6, 7, 8, 9, 10, 11, 0x8000_0002]),
             6 => bend(dice, l, i),
-            7 => l.records[i][1 + dice.below(12)] = dice.next() as u32 >> dice.below(32),
+            7 => l.records[i][1 + dice.below(PLACE - 1)] = dice.next() as u32 >> dice.below(32),
             8 => l.records.push(dice.pick(&[[0; RECORD], l.records[i]])),
             9 => cut_text(dice, l),
             10..=11 => dice.bar(&mut l.text),
             12..=14 => reform(dice, l, i),
+            // No fault: the answer stays what it was.
+            15 => l.records[i][PLACE] = dice.next() as u32 >> dice.below(32),
             _ => spoil_text(dice, l),
         }
     }

@@ -73,7 +73,7 @@ fn fill_strings(dice: &mut Dice, l: &mut List, table: usize, count: usize) {
     }
     // What identifies is in utf-8; a value may be in any form.
     let tags = if Tables::identifies(table) { &TAGS[..1] } else { &TAGS };
-    let used: Vec<[u32; 3]> = l.records.iter().flat_map(|r| r[1..].chunks_exact(3)).filter(|s| tags.contains(&s[0])).map(|s| [s[0], s[1], s[2]]).collect();
+    let used: Vec<[u32; 3]> = l.records.iter().flat_map(|r| r[1..PLACE].chunks_exact(3)).filter(|s| tags.contains(&s[0])).map(|s| [s[0], s[1], s[2]]).collect();
     let mut held: HashSet<Vec<u8>> = HashSet::from([XML.to_vec(), XML_NAMESPACE.to_vec()]);
     for _ in 0..count {
         let old = if used.is_empty() || dice.percent(30) { None } else { Some(dice.pick(&used)) };

@@ -17,7 +17,7 @@ fn with(l: &List, at: &Where, octets: &[u8], form: StringForm) -> List {
     let (mut longer, place) = (l.clone(), l.text.len());
     let string = Text::Stretch(place, octets.len(), form);
     match at {
-        Where::Chunk(i) => longer.records.insert(*i, Event { kind: Kind::Chunk, strings: [Text::Absent, Text::Absent, Text::Absent, string] }.record()),
+        Where::Chunk(i) => longer.records.insert(*i, Event { kind: Kind::Chunk, strings: [Text::Absent, Text::Absent, Text::Absent, string] }.record(0)),
         Where::Listed(_) => longer.given.tables[VALUE].extend([string.words(); 2]),
     }
     longer.text.extend_from_slice(octets);

@@ -27,8 +27,15 @@ pub struct List {
 
 impl List {
     /// Events over a text area, without given tables and with room enough.
-    pub fn of(events: &[Event], text: Vec<u8>) -> List {
-        List { given: Given::default(), records: events.iter().map(Event::record).collect(), text, out: MOST, tables: TABLES, counts: 10, rest: 0 }
+    pub fn of(records: Vec<Record>, text: Vec<u8>) -> List {
+        List { given: Given::default(), records, text, out: MOST, tables: TABLES, counts: 10, rest: 0 }
+    }
+
+    /// The same events, each at another place.
+    pub fn elsewhere(&self) -> List {
+        let mut l = self.clone();
+        l.records.iter_mut().for_each(|r| r[PLACE] = !r[PLACE]);
+        l
     }
 
     pub fn words(&self) -> Vec<u32> {
@@ -46,6 +53,7 @@ pub fn list(dice: &mut Dice) -> List {
     if dice.percent(5) {
         long::lengthen(dice, &mut l);
     }
+    place(dice, &mut l);
     let sound = if l.given.entries() > 0 { 25 } else { 45 };
     if dice.percent(sound) {
         damage::damage(dice, &mut l);
@@ -54,11 +62,21 @@ pub fn list(dice: &mut Dice) -> List {
     l
 }
 
+/// Places of any size in the records, or all of one, or those that they were read with.
+fn place(dice: &mut Dice, l: &mut List) {
+    let (same, bits) = (dice.pick(&[0, 1, MOST as u32, 0xFFFF_FFFF]), dice.pick(&[1, 4, 14, 32]));
+    match dice.below(4) {
+        0 => l.records.iter_mut().for_each(|r| r[PLACE] = same),
+        1 | 2 => l.records.iter_mut().for_each(|r| r[PLACE] = dice.next() as u32 >> (32 - bits)),
+        _ => (),
+    }
+}
+
 fn of_document(dice: &mut Dice) -> List {
     let style = make::Style::any(dice);
     let document = make::document(dice, style);
     match read(&document, MOST * 2) {
-        Ok(done) => List::of(&done.events, document),
+        Ok(done) => List::of(done.records(), document),
         Err(_) => from_pool(dice),
     }
 }
@@ -98,7 +116,7 @@ fn lend(dice: &mut Dice, l: &mut List) {
         l.counts = dice.pick(&[0, 9, 11]);
     }
     if dice.percent(5) {
-        l.rest = 1 + dice.below(12);
+        l.rest = 1 + dice.below(RECORD - 1);
     }
     if dice.below(1000) < 4 {
         // SIZE comes before the table room, so the two are to meet.

@@ -38,7 +38,7 @@ pub fn from_pool(dice: &mut Dice) -> List {
     p.beside_root();
     p.element(1);
     p.beside_root();
-    List::of(&p.events, p.text)
+    List::of(p.events.iter().map(|e| e.record(0)).collect(), p.text)
 }
 
 impl<'d> Pool<'d> {

@@ -9,6 +9,8 @@ use crate::words::*;
 
 pub struct Reading {
     pub events: Vec<Event>,
+    /// The octet of each event, at which it would be refused for room.
+    pub places: Vec<usize>,
     pub tables: Tables,
     /// Fields read, by kind: first octet, the octet behind, kind. The damage aims at them.
     pub fields: Vec<(usize, usize, &'static str)>,
@@ -25,11 +27,17 @@ struct Reader<'a> {
     done: Reading,
 }
 
+impl Reading {
+    pub fn records(&self) -> Vec<Record> {
+        self.events.iter().zip(&self.places).map(|(e, place)| e.record(*place)).collect()
+    }
+}
+
 type Got<T> = Result<T, Refusal>;
 
 /// Reads a document with so many event records; the sizes of the other rooms are judged by `outcome`.
 pub fn read(octets: &[u8], room: usize) -> Got<Reading> {
-    let done = Reading { events: Vec::new(), tables: Tables::start(), fields: Vec::new() };
+    let done = Reading { events: Vec::new(), places: Vec::new(), tables: Tables::start(), fields: Vec::new() };
     let mut r = Reader { octets, at: 0, low: false, room, open: 0, rooted: false, done };
     if octets.is_empty() || octets.len() > MOST {
         return Err(Refusal { number: 1, place: 0, field: "size" });
@@ -50,7 +58,7 @@ pub fn outcome(octets: &[u8], records: usize, tables: usize, counts: usize) -> (
     match got {
         Err(r) => (Outcome::refused(&r), Some(r)),
         Ok(done) => {
-            let filled = done.events.iter().flat_map(Event::record).collect();
+            let filled = done.records().concat();
             let answer = (done.events.len() as u64) << 32;
             (Outcome { answer, filled, out: Vec::new(), tables: done.tables.words(), counts: done.tables.counts() }, None)
         }
@@ -82,6 +90,7 @@ impl<'a> Reader<'a> {
             return Err(Refusal { number: 14, place, field: "event room" });
         }
         self.done.events.push(Event { kind, strings });
+        self.done.places.push(place);
         Ok(())
     }
 

@@ -25,24 +25,24 @@ use Rattle.events.specs.FromWords.{kindOf, toldByTag, toldBy, recordAt, 
 from-length : (w : List ℕ) (at n : ℕ) → length (recordsFrom w at n) ≡ n
 unfolding recordsFrom
 from-length w at zero = refl
-from-length w at (suc n) = ap suc (from-length w (at + 13) n)
+from-length w at (suc n) = ap suc (from-length w (at + 14) n)
 
-from-nth : (w : List ℕ) (at n i : ℕ) → i < n → getD (recordsFrom w at n) i blank ≡ recordAt w (at + 13 * i)
+from-nth : (w : List ℕ) (at n i : ℕ) → i < n → getD (recordsFrom w at n) i blank ≡ recordAt w (at + 14 * i)
 unfolding recordsFrom
 from-nth w at zero i h = absurd (omega arith)
 from-nth w at (suc n) zero h = ap (recordAt w) (omega arith)
-from-nth w at (suc n) (suc i) h = from-nth w (at + 13) n i (omega arith) ∙ ap (recordAt w) (omega arith)
+from-nth w at (suc n) (suc i) h = from-nth w (at + 14) n i (omega arith) ∙ ap (recordAt w) (omega arith)
 
 module _ (w : List ℕ) where
-  pub records-length : length (recordsOf w) ≡ length w / 13
+  pub records-length : length (recordsOf w) ≡ length w / 14
   unfolding recordsOf
-  records-length = from-length w 0 (length w / 13)
+  records-length = from-length w 0 (length w / 14)
 
-  pub record-nth : (n : ℕ) → n < length w / 13 → getD (recordsOf w) n blank ≡ recordAt w (13 * n)
+  pub record-nth : (n : ℕ) → n < length w / 14 → getD (recordsOf w) n blank ≡ recordAt w (14 * n)
   unfolding recordsOf
-  record-nth n h = from-nth w 0 (length w / 13) n h ∙ ap (recordAt w) (omega arith)
+  record-nth n h = from-nth w 0 (length w / 14) n h ∙ ap (recordAt w) (omega arith)
 
-  pub records-drop : (n : ℕ) → n < length w / 13 → drop n (recordsOf w) ≡ recordAt w (13 * n) ∷ drop (suc n) (recordsOf w)
+  pub records-drop : (n : ℕ) → n < length w / 14 → drop n (recordsOf w) ≡ recordAt w (14 * n) ∷ drop (suc n) (recordsOf w)
   records-drop n h = let e = records-length in rw (drop-cons (recordsOf w) n blank (omega arith), record-nth n h)
 
 -- ---- words in front are passed over
@@ -53,7 +53,7 @@ record-past xs w at = simp (add-assoc, getD-append-add)
 from-past : (xs w : List ℕ) (at n : ℕ) → recordsFrom (xs ++ w) (length xs + at) n ≡ recordsFrom w at n
 unfolding recordsFrom
 from-past xs w at zero = refl
-from-past xs w at (suc n) = ap₂ _∷_ (record-past xs w at) (rw add-assoc (from-past xs w (at + 13) n))
+from-past xs w at (suc n) = ap₂ _∷_ (record-past xs w at) (rw add-assoc (from-past xs w (at + 14) n))
 
 -- ---- the round trip
 pub text-back : (t : EventString) → toldBy (stringTag t) (stringPlace t) (stringSize t) ≡ Said t
@@ -91,14 +91,14 @@ unfolding recordsFrom rowWords
 from-back [] rest h = refl
 from-back (e ∷ es) rest h = ap₂ _∷_ (record-back e (rowWords es ++ rest) (h .0)) (from-past (recordWords e) (rowWords es ++ rest) 0 (length es) ∙ from-back es rest (h .1))
 
-row-length : (es : List Event) → length (rowWords es) ≡ 13 * length es
+row-length : (es : List Event) → length (rowWords es) ≡ 14 * length es
 unfolding rowWords
 row-length [] = refl
 row-length (e ∷ es) = let n = row-length es in length-append (recordWords e) (rowWords es) ∙ omega arith
 
 -- what stands behind the last whole record is ignored
-pub records-back : (es : List Event) (rest : List ℕ) → length rest < 13 → AllKinded es → recordsOf (rowWords es ++ rest) ≡ es
+pub records-back : (es : List Event) (rest : List ℕ) → length rest < 14 → AllKinded es → recordsOf (rowWords es ++ rest) ≡ es
 unfolding recordsOf
 records-back es rest l h =
-    let n : length (rowWords es ++ rest) / 13 ≡ length es = simp (length-append, row-length) (omega arith) in
+    let n : length (rowWords es ++ rest) / 14 ≡ length es = simp (length-append, row-length) (omega arith) in
     rw n (from-back es rest h)

@@ -21,16 +21,16 @@ use Rattle.events.specs.FromWords.{kindOf, toldAt, framed, recordAt, rec
 use Rattle.events.proofs.FromWords.{records-length, records-drop}
 use Rattle.events.proofs.WordLaws.{record-low, record-high, record-framed}
 
-kind-number : (n : ℕ) → n ≤ 7 → kindNumber (kindOf n) ≡ n
+pub kind-number : (n : ℕ) → n ≤ 7 → kindNumber (kindOf n) ≡ n
 unfolding kindOf
 kind-number n h = by-number (λ (k : ℕ). kindNumber (kindOf k) ≡ k) 0 8 (refl, (refl, (refl, (refl, (refl, (refl, (refl, (refl, tt)))))))) n (omega arith) (omega arith)
 
-framed-kind : (k : Kind) (p n l v : Told) → framed k p n l v .kind ≡ pick (isSaid p && (isSaid n && (isSaid l && isSaid v))) k Blank
-framed-kind k Not n l v = refl
-framed-kind k (Said p) Not l v = refl
-framed-kind k (Said p) (Said n) Not v = refl
-framed-kind k (Said p) (Said n) (Said l) Not = refl
-framed-kind k (Said p) (Said n) (Said l) (Said v) = refl
+framed-kind : (k : Kind) (p n l v : Told) (place : ℕ) → framed k p n l v place .kind ≡ pick (isSaid p && (isSaid n && (isSaid l && isSaid v))) k Blank
+framed-kind k Not n l v place = refl
+framed-kind k (Said p) Not l v place = refl
+framed-kind k (Said p) (Said n) Not v place = refl
+framed-kind k (Said p) (Said n) (Said l) Not place = refl
+framed-kind k (Said p) (Said n) (Said l) (Said v) place = refl
 
 -- the number of a kind, or of Blank, which is 0
 picked : (b : Bool) (k : Kind) (number : ℕ) → 1 ≤ number → eqb (kindNumber (pick b k Blank)) number ≡ b && eqb (kindNumber k) number
@@ -38,45 +38,45 @@ picked true k number l = refl
 picked false k number l = ne-eqb 0 number (omega arith)
 
 module _ (w : List ℕ) (n number : ℕ) (low : 1 ≤ number) where
-  pub none-begins : length w / 13 ≤ n → false ≡ beginsWith number (drop n (recordsOf w))
+  pub none-begins : length w / 14 ≤ n → false ≡ beginsWith number (drop n (recordsOf w))
   none-begins h =
       let e = records-length w in
       let l : length (recordsOf w) ≤ n = omega arith in
       rw (drop-of-length-le (recordsOf w) l)
 
-  pub begins-inside : beginsWith number (drop n (recordsOf w)) ≡ true → n < length w / 13
+  pub begins-inside : beginsWith number (drop n (recordsOf w)) ≡ true → n < length w / 14
   begins-inside h =
-      elim (decLt n (length w / 13)) [
+      elim (decLt n (length w / 14)) [
         | yes l ↦ l
         | no l ↦ (absurd (true≢false (sym h ∙ sym (none-begins (omega arith)))))
       ]
 
-  module _ (inside : n < length w / 13) where
-    begins-is : beginsWith number (drop n (recordsOf w)) ≡ eqb (kindNumber (recordAt w (13 * n) .kind)) number
+  module _ (inside : n < length w / 14) where
+    begins-is : beginsWith number (drop n (recordsOf w)) ≡ eqb (kindNumber (recordAt w (14 * n) .kind)) number
     begins-is = rw (records-drop w n inside)
 
-    kind-is : 1 ≤ getD w (13 * n) 0 → getD w (13 * n) 0 ≤ 7
-        → recordAt w (13 * n) .kind
-        ≡ pick (isSaid (toldAt w (13 * n + 1)) && (isSaid (toldAt w (13 * n + 4)) && (isSaid (toldAt w (13 * n + 7)) && isSaid (toldAt w (13 * n + 10))))) (kindOf (getD w (13 * n) 0)) Blank
+    kind-is : 1 ≤ getD w (14 * n) 0 → getD w (14 * n) 0 ≤ 7
+        → recordAt w (14 * n) .kind
+        ≡ pick (isSaid (toldAt w (14 * n + 1)) && (isSaid (toldAt w (14 * n + 4)) && (isSaid (toldAt w (14 * n + 7)) && isSaid (toldAt w (14 * n + 10))))) (kindOf (getD w (14 * n) 0)) Blank
     kind-is l h =
-        rw (← record-framed w (13 * n) l h)
-        (framed-kind (kindOf (getD w (13 * n) 0)) (toldAt w (13 * n + 1)) (toldAt w (13 * n + 4)) (toldAt w (13 * n + 7)) (toldAt w (13 * n + 10)))
+        rw (← record-framed w (14 * n) l h)
+        (framed-kind (kindOf (getD w (14 * n) 0)) (toldAt w (14 * n + 1)) (toldAt w (14 * n + 4)) (toldAt w (14 * n + 7)) (toldAt w (14 * n + 10)) (getD w (14 * n + 13) 0))
 
-    pub same-begins : number ≤ 7 → getD w (13 * n) 0 ≡ number
-        → (isSaid (toldAt w (13 * n + 1)) && (isSaid (toldAt w (13 * n + 4)) && (isSaid (toldAt w (13 * n + 7)) && isSaid (toldAt w (13 * n + 10))))) ≡ beginsWith number (drop n (recordsOf w))
+    pub same-begins : number ≤ 7 → getD w (14 * n) 0 ≡ number
+        → (isSaid (toldAt w (14 * n + 1)) && (isSaid (toldAt w (14 * n + 4)) && (isSaid (toldAt w (14 * n + 7)) && isSaid (toldAt w (14 * n + 10))))) ≡ beginsWith number (drop n (recordsOf w))
     same-begins high e =
-        rw (begins-is, kind-is (omega arith) (omega arith), picked _ (kindOf (getD w (13 * n) 0)) number low, eq-eqb _ _ (kind-number _ (omega arith) ∙ e), and-true)
+        rw (begins-is, kind-is (omega arith) (omega arith), picked _ (kindOf (getD w (14 * n) 0)) number low, eq-eqb _ _ (kind-number _ (omega arith) ∙ e), and-true)
 
-    blank-other : blank ≡ recordAt w (13 * n) → false ≡ eqb (kindNumber (recordAt w (13 * n) .kind)) number
+    blank-other : blank ≡ recordAt w (14 * n) → false ≡ eqb (kindNumber (recordAt w (14 * n) .kind)) number
     blank-other e = rw (← e, ne-eqb 0 number (omega arith))
 
-    pub other-begins : (getD w (13 * n) 0 ≡ number → ⊥) → false ≡ beginsWith number (drop n (recordsOf w))
+    pub other-begins : (getD w (14 * n) 0 ≡ number → ⊥) → false ≡ beginsWith number (drop n (recordsOf w))
     other-begins e =
         rw begins-is
-        (elim (decLt (getD w (13 * n) 0) 1) [
-          | yes l ↦ (blank-other (record-low w (13 * n) l))
-          | no l ↦ (elim (decLt 7 (getD w (13 * n) 0)) [
-            | yes h ↦ (blank-other (record-high w (13 * n) (omega arith) h))
-            | no h ↦ (rw (kind-is (omega arith) (omega arith), picked _ (kindOf (getD w (13 * n) 0)) number low, ne-eqb _ _ (λ z. e (sym (kind-number _ (omega arith)) ∙ z)), and-false))
+        (elim (decLt (getD w (14 * n) 0) 1) [
+          | yes l ↦ (blank-other (record-low w (14 * n) l))
+          | no l ↦ (elim (decLt 7 (getD w (14 * n) 0)) [
+            | yes h ↦ (blank-other (record-high w (14 * n) (omega arith) h))
+            | no h ↦ (rw (kind-is (omega arith) (omega arith), picked _ (kindOf (getD w (14 * n) 0)) number low, ne-eqb _ _ (λ z. e (sym (kind-number _ (omega arith)) ∙ z)), and-false))
           ])
         ])

@@ -20,7 +20,7 @@ use Rattle.events.specs.declared.Kind.{Kind}
 use Rattle.events.specs.declared.Kind.the-variants.{Blank}
 use Rattle.events.specs.declared.words.Told.{Told}
 use Rattle.events.specs.declared.words.Told.the-variants.{Said, Not}
-use Rattle.events.specs.Records.{blank}
+use Rattle.events.specs.Records.{blank, unplaced}
 use Rattle.events.specs.Words.{stringForm}
 use Rattle.events.specs.FromWords.{kinds, kindOf, tags, toldByTag, toldBy, toldAt, framed, recordAt, isSaid, Misnamed}
 
@@ -109,7 +109,7 @@ module _ (w : List ℕ) (at : ℕ) where
   record-high l h = rw (le-leb 1 (getD w at 0) l, lt-leb (getD w at 0) 7 h)
 
   pub record-framed : 1 ≤ getD w at 0 → getD w at 0 ≤ 7
-      → framed (kindOf (getD w at 0)) (toldAt w (at + 1)) (toldAt w (at + 4)) (toldAt w (at + 7)) (toldAt w (at + 10)) ≡ recordAt w at
+      → framed (kindOf (getD w at 0)) (toldAt w (at + 1)) (toldAt w (at + 4)) (toldAt w (at + 7)) (toldAt w (at + 10)) (getD w (at + 13) 0) ≡ recordAt w at
   unfolding recordAt
   record-framed l h = rw (le-leb 1 (getD w at 0) l, le-leb (getD w at 0) 7 h)
 
@@ -134,41 +134,61 @@ told-other w at l =
     ]
 
 module _ (k : Kind) where
-  prefix-other : (p n l v : Told) → Other p → Misnamed (framed k p n l v)
-  prefix-other Not n l v h = inl refl
-  prefix-other (Said p) Not l v h = inl refl
-  prefix-other (Said p) (Said n) Not v h = inl refl
-  prefix-other (Said p) (Said n) (Said l) Not h = inl refl
-  prefix-other (Said p) (Said n) (Said l) (Said v) h = inr (inl h)
+  prefix-other : (p n l v : Told) (place : ℕ) → Other p → Misnamed (framed k p n l v place)
+  prefix-other Not n l v place h = inl refl
+  prefix-other (Said p) Not l v place h = inl refl
+  prefix-other (Said p) (Said n) Not v place h = inl refl
+  prefix-other (Said p) (Said n) (Said l) Not place h = inl refl
+  prefix-other (Said p) (Said n) (Said l) (Said v) place h = inr (inl h)
 
-  namespace-other : (p n l v : Told) → Other n → Misnamed (framed k p n l v)
-  namespace-other Not n l v h = inl refl
-  namespace-other (Said p) Not l v h = inl refl
-  namespace-other (Said p) (Said n) Not v h = inl refl
-  namespace-other (Said p) (Said n) (Said l) Not h = inl refl
-  namespace-other (Said p) (Said n) (Said l) (Said v) h = inr (inr (inl h))
+  namespace-other : (p n l v : Told) (place : ℕ) → Other n → Misnamed (framed k p n l v place)
+  namespace-other Not n l v place h = inl refl
+  namespace-other (Said p) Not l v place h = inl refl
+  namespace-other (Said p) (Said n) Not v place h = inl refl
+  namespace-other (Said p) (Said n) (Said l) Not place h = inl refl
+  namespace-other (Said p) (Said n) (Said l) (Said v) place h = inr (inr (inl h))
 
-  name-other : (p n l v : Told) → Other l → Misnamed (framed k p n l v)
-  name-other Not n l v h = inl refl
-  name-other (Said p) Not l v h = inl refl
-  name-other (Said p) (Said n) Not v h = inl refl
-  name-other (Said p) (Said n) (Said l) Not h = inl refl
-  name-other (Said p) (Said n) (Said l) (Said v) h = inr (inr (inr h))
+  name-other : (p n l v : Told) (place : ℕ) → Other l → Misnamed (framed k p n l v place)
+  name-other Not n l v place h = inl refl
+  name-other (Said p) Not l v place h = inl refl
+  name-other (Said p) (Said n) Not v place h = inl refl
+  name-other (Said p) (Said n) (Said l) Not place h = inl refl
+  name-other (Said p) (Said n) (Said l) (Said v) place h = inr (inr (inr h))
 
 module _ (w : List ℕ) (at : ℕ) where
-  misnamed : ((k : Kind) → Misnamed (framed k (toldAt w (at + 1)) (toldAt w (at + 4)) (toldAt w (at + 7)) (toldAt w (at + 10)))) → Misnamed (recordAt w at)
+  misnamed : ((k : Kind) → Misnamed (framed k (toldAt w (at + 1)) (toldAt w (at + 4)) (toldAt w (at + 7)) (toldAt w (at + 10)) (getD w (at + 13) 0))) → Misnamed (recordAt w at)
   unfolding recordAt
   misnamed f = picked (leb 1 (getD w at 0) && leb (getD w at 0) 7)
     where
-      picked : (b : Bool) → Misnamed (pick b (framed (kindOf (getD w at 0)) (toldAt w (at + 1)) (toldAt w (at + 4)) (toldAt w (at + 7)) (toldAt w (at + 10))) blank)
+      picked : (b : Bool) → Misnamed (pick b (framed (kindOf (getD w at 0)) (toldAt w (at + 1)) (toldAt w (at + 4)) (toldAt w (at + 7)) (toldAt w (at + 10)) (getD w (at + 13) 0)) blank)
       picked true = f (kindOf (getD w at 0))
       picked false = inl refl
 
   pub other-prefix : 5 ≤ getD w (at + 1) 0 → Misnamed (recordAt w at)
-  other-prefix h = misnamed (λ k. prefix-other k (toldAt w (at + 1)) (toldAt w (at + 4)) (toldAt w (at + 7)) (toldAt w (at + 10)) (told-other w (at + 1) h))
+  other-prefix h = misnamed (λ k. prefix-other k (toldAt w (at + 1)) (toldAt w (at + 4)) (toldAt w (at + 7)) (toldAt w (at + 10)) (getD w (at + 13) 0) (told-other w (at + 1) h))
 
   pub other-namespace : 5 ≤ getD w (at + 4) 0 → Misnamed (recordAt w at)
-  other-namespace h = misnamed (λ k. namespace-other k (toldAt w (at + 1)) (toldAt w (at + 4)) (toldAt w (at + 7)) (toldAt w (at + 10)) (told-other w (at + 4) h))
+  other-namespace h = misnamed (λ k. namespace-other k (toldAt w (at + 1)) (toldAt w (at + 4)) (toldAt w (at + 7)) (toldAt w (at + 10)) (getD w (at + 13) 0) (told-other w (at + 4) h))
 
   pub other-name : 5 ≤ getD w (at + 7) 0 → Misnamed (recordAt w at)
-  other-name h = misnamed (λ k. name-other k (toldAt w (at + 1)) (toldAt w (at + 4)) (toldAt w (at + 7)) (toldAt w (at + 10)) (told-other w (at + 7) h))
+  other-name h = misnamed (λ k. name-other k (toldAt w (at + 1)) (toldAt w (at + 4)) (toldAt w (at + 7)) (toldAt w (at + 10)) (getD w (at + 13) 0) (told-other w (at + 7) h))
+
+-- ---- words that are the same but for the place say the same event
+framed-unplaced : (k : Kind) (p n l v : Told) (x y : ℕ) → unplaced (framed k p n l v x) ≡ unplaced (framed k p n l v y)
+framed-unplaced k Not n l v x y = refl
+framed-unplaced k (Said p) Not l v x y = refl
+framed-unplaced k (Said p) (Said n) Not v x y = refl
+framed-unplaced k (Said p) (Said n) (Said l) Not x y = refl
+framed-unplaced k (Said p) (Said n) (Said l) (Said v) x y = refl
+
+module _ (w u : List ℕ) (a b : ℕ) where
+  pub same-event : getD w a 0 ≡ getD u b 0 → toldAt w (a + 1) ≡ toldAt u (b + 1) → toldAt w (a + 4) ≡ toldAt u (b + 4) → toldAt w (a + 7) ≡ toldAt u (b + 7) → toldAt w (a + 10) ≡ toldAt u (b + 10)
+      → unplaced (recordAt w a) ≡ unplaced (recordAt u b)
+  unfolding recordAt
+  same-event k p n l v = rw (k, p, n, l, v) (picked (leb 1 (getD u b 0) && leb (getD u b 0) 7))
+    where
+      picked : (c : Bool)
+          → unplaced (pick c (framed (kindOf (getD u b 0)) (toldAt u (b + 1)) (toldAt u (b + 4)) (toldAt u (b + 7)) (toldAt u (b + 10)) (getD w (a + 13) 0)) blank)
+          ≡ unplaced (pick c (framed (kindOf (getD u b 0)) (toldAt u (b + 1)) (toldAt u (b + 4)) (toldAt u (b + 7)) (toldAt u (b + 10)) (getD u (b + 13) 0)) blank)
+      picked true = framed-unplaced (kindOf (getD u b 0)) (toldAt u (b + 1)) (toldAt u (b + 4)) (toldAt u (b + 7)) (toldAt u (b + 10)) (getD w (a + 13) 0) (getD u (b + 13) 0)
+      picked false = refl

@@ -1,4 +1,4 @@
--- Event records read back from words: which record 13 words stand for, and the records of a list of words.
+-- Event records read back from words: which record 14 words stand for, and the records of a list of words.
 use mathlib.Core.Path.{_≡_}
 use mathlib.Core.Logic.{_⊎_}
 use Prim.Native.Nat.{ℕ, zero, suc, _+_, _-_, _/_}
@@ -54,29 +54,29 @@ said Not = Absent
 unfoldable pub stringFrom : Words → (at : ℕ) → EventString
 stringFrom w at = said (toldAt w at)
 
--- The record of a kind and its four strings, blank where one is not said.
-abbrev pub framed : Kind → (prefix namespace name value : Told) → Event
-framed k Not n l v = blank
-framed k (Said p) Not l v = blank
-framed k (Said p) (Said n) Not v = blank
-framed k (Said p) (Said n) (Said l) Not = blank
-framed k (Said p) (Said n) (Said l) (Said v) = record { kind = k; prefix = p; namespace = n; name = l; value = v }
+-- The record of a kind, its four strings and its place, blank where a string is not said.
+abbrev pub framed : Kind → (prefix namespace name value : Told) → (place : ℕ) → Event
+framed k Not n l v place = blank
+framed k (Said p) Not l v place = blank
+framed k (Said p) (Said n) Not v place = blank
+framed k (Said p) (Said n) (Said l) Not place = blank
+framed k (Said p) (Said n) (Said l) (Said v) place = record { kind = k; prefix = p; namespace = n; name = l; value = v; place = place }
 
--- The record of the 13 words from `at` on: blank unless its kind's number is 1 to 7 and it has all four strings.
+-- The record of the 14 words from `at` on: blank unless its kind's number is 1 to 7 and it has all four strings.
 unfoldable pub recordAt : Words → (at : ℕ) → Event
 recordAt w at =
     pick (leb 1 (getD w at 0) && leb (getD w at 0) 7)
-    (framed (kindOf (getD w at 0)) (toldAt w (at + 1)) (toldAt w (at + 4)) (toldAt w (at + 7)) (toldAt w (at + 10)))
+    (framed (kindOf (getD w at 0)) (toldAt w (at + 1)) (toldAt w (at + 4)) (toldAt w (at + 7)) (toldAt w (at + 10)) (getD w (at + 13) 0))
     blank
 
 -- n records, the first at word `at`.
 unfoldable pub recordsFrom : Words → (at n : ℕ) → List Event
 recordsFrom w at zero = []
-recordsFrom w at (suc n) = recordAt w at ∷ recordsFrom w (at + 13) n
+recordsFrom w at (suc n) = recordAt w at ∷ recordsFrom w (at + 14) n
 
--- The records of all whole groups of 13 words, in order; the words behind them say nothing.
+-- The records of all whole groups of 14 words, in order; the words behind them say nothing.
 unfoldable pub recordsOf : Words → List Event
-recordsOf w = recordsFrom w 0 (length w / 13)
+recordsOf w = recordsFrom w 0 (length w / 14)
 
 -- No record is of kind Blank.
 abbrev pub AllKinded : List Event → Type 0

@@ -6,8 +6,9 @@ use lib.Dec.{ltb}
 use Rattle.format.specs.Octets.{Words}
 use Rattle.format.specs.Numbers.{pick}
 use Rattle.events.specs.declared.Event.{Event}
+use Rattle.events.specs.Records.{placed}
 use Rattle.events.specs.Words.{recordWords}
 
--- Words with an event in record n, if they have one.
-unfoldable pub kept : Words → ℕ → Event → Words
-kept w n e = pick (ltb n (length w / 13)) (sets w (13 * n) (recordWords e)) w
+-- Words with an event, read at a place, in record n, if they have one.
+unfoldable pub kept : Words → ℕ → (place : ℕ) → Event → Words
+kept w n place e = pick (ltb n (length w / 14)) (sets w (14 * n) (recordWords (placed place e))) w

@@ -8,31 +8,31 @@ use Rattle.events.specs.declared.EventString.the-variants.{Absent, Empty
 use Rattle.events.specs.declared.Kind.the-variants.{Blank, Namespace, Start, Attribute, Chunk, Comment, Instruction, End}
 use Rattle.events.specs.declared.Event.{Event}
 
--- No kind, and all strings absent.
+-- No kind, all strings absent, and place 0.
 abbrev pub blank : Event
-blank = record { kind = Blank; prefix = Absent; namespace = Absent; name = Absent; value = Absent }
+blank = record { kind = Blank; prefix = Absent; namespace = Absent; name = Absent; value = Absent; place = 0 }
 
--- The record of each kind, from its strings.
+-- The record of each kind, from its strings, before it has a place.
 abbrev pub namespaceRecord : EventString → EventString → Event
-namespaceRecord p n = record { kind = Namespace; prefix = p; namespace = n; name = Absent; value = Absent }
+namespaceRecord p n = record { kind = Namespace; prefix = p; namespace = n; name = Absent; value = Absent; place = 0 }
 
 abbrev pub startRecord : EventString → EventString → EventString → Event
-startRecord p n l = record { kind = Start; prefix = p; namespace = n; name = l; value = Absent }
+startRecord p n l = record { kind = Start; prefix = p; namespace = n; name = l; value = Absent; place = 0 }
 
 abbrev pub attributeRecord : EventString → EventString → EventString → EventString → Event
-attributeRecord p n l v = record { kind = Attribute; prefix = p; namespace = n; name = l; value = v }
+attributeRecord p n l v = record { kind = Attribute; prefix = p; namespace = n; name = l; value = v; place = 0 }
 
 abbrev pub chunkRecord : EventString → Event
-chunkRecord v = record { kind = Chunk; prefix = Absent; namespace = Absent; name = Absent; value = v }
+chunkRecord v = record { kind = Chunk; prefix = Absent; namespace = Absent; name = Absent; value = v; place = 0 }
 
 abbrev pub commentRecord : EventString → Event
-commentRecord v = record { kind = Comment; prefix = Absent; namespace = Absent; name = Absent; value = v }
+commentRecord v = record { kind = Comment; prefix = Absent; namespace = Absent; name = Absent; value = v; place = 0 }
 
 abbrev pub instructionRecord : EventString → EventString → Event
-instructionRecord t v = record { kind = Instruction; prefix = Absent; namespace = Absent; name = t; value = v }
+instructionRecord t v = record { kind = Instruction; prefix = Absent; namespace = Absent; name = t; value = v; place = 0 }
 
 abbrev pub endRecord : Event
-endRecord = record { kind = End; prefix = Absent; namespace = Absent; name = Absent; value = Absent }
+endRecord = record { kind = End; prefix = Absent; namespace = Absent; name = Absent; value = Absent; place = 0 }
 
 abbrev pub eventString : Located → EventString
 eventString empty = Empty
@@ -68,6 +68,14 @@ recordOf (E.Comment y) = commentRecord (eventString y)
 recordOf (E.Instruction x y) = instructionRecord (eventString x) (eventString y)
 recordOf E.End = endRecord
 
--- The record of an event that was read at this place. A record has no place yet; once it has one, it gets it here.
+-- The record with this place: the octet of the document at which its event begins (the requirements, "Room for an event").
+abbrev pub placed : (place : ℕ) → Event → Event
+placed place e = record { kind = e .kind; prefix = e .prefix; namespace = e .namespace; name = e .name; value = e .value; place = place }
+
+-- The record of an event that was read at this place.
 abbrev pub recordAt : (place : ℕ) → E.Event Located → Event
-recordAt place e = recordOf e
+recordAt place e = placed place (recordOf e)
+
+-- A record without its place. Two records are the same event if they are equal without their places.
+abbrev pub unplaced : Event → Event
+unplaced e = placed 0 e

@@ -10,7 +10,7 @@ use Rattle.format.specs.declared.StringForm.the-variants.{Utf8, Utf16, Numeric,
 use Rattle.events.specs.declared.EventString.{EventString}
 use Rattle.events.specs.declared.EventString.the-variants.{Absent, Empty, Stretch, XmlPrefix, XmlNamespace}
 use Rattle.events.specs.declared.Event.{Event}
-use Rattle.events.specs.Records.{namespaceRecord, startRecord, attributeRecord, chunkRecord, commentRecord, instructionRecord, endRecord}
+use Rattle.events.specs.Records.{placed, namespaceRecord, startRecord, attributeRecord, chunkRecord, commentRecord, instructionRecord, endRecord}
 
 -- A stretch in utf-8, as all identifying strings are: its length is never 0, and it ends within the octets.
 pub data IsStretch (s : Octets) : EventString → Type 0 where
@@ -64,12 +64,12 @@ pub record IsName (s : Octets) (prefix namespace local : EventString) : Type 0 w
   pub a-local : IsStretch s local
   pub not-alone : namespace ≡ Absent → prefix ≡ Absent
 
--- A record of each kind; its other strings are absent.
+-- A record of each kind, at any place; its other strings are absent.
 pub data WellMade (s : Octets) : Event → Type 0 where
-  a-declaration : {p n : EventString} → IsPrefix s p → IsNamespace s n → WellMade s (namespaceRecord p n)
-  a-start : {p n l : EventString} → IsName s p n l → WellMade s (startRecord p n l)
-  an-attribute : {p n l v : EventString} → IsName s p n l → IsValue s v → WellMade s (attributeRecord p n l v)
-  a-chunk : {v : EventString} → IsString s v → WellMade s (chunkRecord v)
-  a-comment : {v : EventString} → IsValue s v → WellMade s (commentRecord v)
-  an-instruction : {t v : EventString} → IsStretch s t → IsValue s v → WellMade s (instructionRecord t v)
-  an-end : WellMade s endRecord
+  a-declaration : {place : ℕ} {p n : EventString} → IsPrefix s p → IsNamespace s n → WellMade s (placed place (namespaceRecord p n))
+  a-start : {place : ℕ} {p n l : EventString} → IsName s p n l → WellMade s (placed place (startRecord p n l))
+  an-attribute : {place : ℕ} {p n l v : EventString} → IsName s p n l → IsValue s v → WellMade s (placed place (attributeRecord p n l v))
+  a-chunk : {place : ℕ} {v : EventString} → IsString s v → WellMade s (placed place (chunkRecord v))
+  a-comment : {place : ℕ} {v : EventString} → IsValue s v → WellMade s (placed place (commentRecord v))
+  an-instruction : {place : ℕ} {t v : EventString} → IsStretch s t → IsValue s v → WellMade s (placed place (instructionRecord t v))
+  an-end : {place : ℕ} → WellMade s (placed place endRecord)

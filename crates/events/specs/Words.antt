@@ -1,4 +1,4 @@
--- Event records as words, for callers that have no enums: 13 words for a record, the kind's number and three words for each string.
+-- Event records as words, for callers that have no enums: 14 words for a record, the kind's number, three words for each string and the place.
 use Prim.Native.Nat.{ℕ}
 use mathlib.Core.List.{List, [], _∷_, _++_}
 use Rattle.format.specs.Octets.{Words}
@@ -62,9 +62,9 @@ stringSize XmlNamespace = 0
 abbrev pub stringWords : EventString → Words
 stringWords t = stringTag t ∷ stringPlace t ∷ stringSize t ∷ []
 
--- The kind, then prefix, namespace, name and value.
+-- The kind, then prefix, namespace, name and value, then the place.
 abbrev pub recordWords : Event → Words
-recordWords e = kindNumber (e .kind) ∷ stringWords (e .prefix) ++ stringWords (e .namespace) ++ stringWords (e .name) ++ stringWords (e .value)
+recordWords e = kindNumber (e .kind) ∷ stringWords (e .prefix) ++ stringWords (e .namespace) ++ stringWords (e .name) ++ stringWords (e .value) ++ (e .place ∷ [])
 
 -- The words of records, one after the other.
 unfoldable pub rowWords : List Event → Words

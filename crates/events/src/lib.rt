@@ -20,8 +20,11 @@ pub use words::is_kind;
 pub use words::keep;
 pub use words::names_in_utf8;
 
-// Words of a record: one for the kind, and three for each of the four strings.
-pub const RECORD: usize = 13;
+// Words of a record: one for the kind, three for each of the four strings, and one for the place.
+pub const RECORD: usize = 14;
+
+// The word of a record that has its place.
+pub const PLACE: usize = 13;
 
 // A string of an event: none; the empty one; octets of the document or text area by form, place and length; one of the two built-in strings.
 pub enum EventString {
@@ -43,13 +46,15 @@ pub enum Kind {
     End,
 }
 
-// `name` is a local name or a target; `value` a value, chunk, comment or content. What a kind does not have is absent.
+// `name` is a local name or a target; `value` a value, chunk, comment or content. What a kind does not have is absent. `place` is the octet of the document at which the event was read,
+// and 0 in a record that was not read; it says nothing to a writer.
 pub struct Event {
     pub kind: Kind,
     pub prefix: EventString,
     pub namespace: EventString,
     pub name: EventString,
     pub value: EventString,
+    pub place: u32,
 }
 
 // The word that stands for a kind where a record is words, and the three that stand for a string.
@@ -156,7 +161,7 @@ pub fn lies_in(text: &[u8], place: u32, size: u32) -> bool
     place as usize <= text.len() - n
 }
 
-// The records, from their strings. A blank one has no kind and no strings.
+// The records, from their strings: `keep` gives them their place. A blank one has no kind and no strings.
 pub fn blank() -> Event
     ensures { λ r. ⌜ r ≡ blank ⌝ }
 {
@@ -166,6 +171,7 @@ pub fn blank() -> Event
         namespace: EventString::Absent,
         name: EventString::Absent,
         value: EventString::Absent,
+        place: 0,
     }
 }
 
@@ -178,6 +184,7 @@ pub fn namespace(prefix: EventString, namespace: EventString) -> Event
         namespace,
         name: EventString::Absent,
         value: EventString::Absent,
+        place: 0,
     }
 }
 
@@ -190,6 +197,7 @@ pub fn start(prefix: EventString, namespace: EventString, name: EventString) -> 
         namespace,
         name,
         value: EventString::Absent,
+        place: 0,
     }
 }
 
@@ -207,6 +215,7 @@ pub fn attribute(
         namespace,
         name,
         value,
+        place: 0,
     }
 }
 
@@ -219,6 +228,7 @@ pub fn chunk(value: EventString) -> Event
         namespace: EventString::Absent,
         name: EventString::Absent,
         value,
+        place: 0,
     }
 }
 
@@ -231,6 +241,7 @@ pub fn comment(value: EventString) -> Event
         namespace: EventString::Absent,
         name: EventString::Absent,
         value,
+        place: 0,
     }
 }
 
@@ -243,6 +254,7 @@ pub fn instruction(name: EventString, value: EventString) -> Event
         namespace: EventString::Absent,
         name,
         value,
+        place: 0,
     }
 }
 
@@ -255,6 +267,7 @@ pub fn end() -> Event
         namespace: EventString::Absent,
         name: EventString::Absent,
         value: EventString::Absent,
+        place: 0,
     }
 }
 

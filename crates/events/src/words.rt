@@ -11,6 +11,7 @@ ghost use Rattle.events.specs.FromWords.{kindOf, toldByTag, toldBy, told
 use crate::Event;
 use crate::EventString;
 use crate::Kind;
+use crate::PLACE;
 use crate::RECORD;
 use crate::kinds;
 use crate::strings;
@@ -83,9 +84,9 @@ fn told_at(w: &[u32], at: usize) -> Told
     told_by(w[at], w[at + 1], w[at + 2])
 }
 
-// The record of a kind and its four strings, blank where one is not said.
-fn framed(kind: Kind, prefix: Told, namespace: Told, name: Told, value: Told) -> Event
-    ensures { λ r. ⌜ r ≡ framed kind prefix namespace name value ⌝ }
+// The record of a kind, its four strings and its place, blank where a string is not said.
+fn framed(kind: Kind, prefix: Told, namespace: Told, name: Told, value: Told, place: u32) -> Event
+    ensures { λ r. ⌜ r ≡ framed kind prefix namespace name value place ⌝ }
 {
     let Told::Said(p) = prefix else {
         return crate::blank();
@@ -105,13 +106,14 @@ fn framed(kind: Kind, prefix: Told, namespace: Told, name: Told, value: Told) ->
         namespace: n,
         name: l,
         value: v,
+        place,
     }
 }
 
 // Record n of the words, blank where it is not well formed.
 pub fn from_words(w: &[u32], n: usize) -> Event
-    requires { ⌜ 13 * n + 13 ≤ length (now w) ⌝ }
-    ensures { λ r. ⌜ r ≡ recordAt (now (w .entry)) (13 * n) ⌝ }
+    requires { ⌜ 14 * n + 14 ≤ length (now w) ⌝ }
+    ensures { λ r. ⌜ r ≡ recordAt (now (w .entry)) (14 * n) ⌝ }
 {
     let at = RECORD * n;
     let number = w[at];
@@ -124,13 +126,14 @@ pub fn from_words(w: &[u32], n: usize) -> Event
         told_at(w, at + strings::NAMESPACE),
         told_at(w, at + strings::NAME),
         told_at(w, at + strings::VALUE),
+        w[at + PLACE],
     )
 }
 
 // None of the three strings of a name is in another form than utf-8, by their tags. A record where one is stands for no event; one that is told apart here needs no form for them.
 pub fn names_in_utf8(w: &[u32], n: usize) -> bool
-    requires { ⌜ 13 * n + 13 ≤ length (now w) ⌝ }
-    ensures { λ r. ⌜ (r ≡ false → Misnamed (recordAt (now (w .entry)) (13 * n))) ⌝ }
+    requires { ⌜ 14 * n + 14 ≤ length (now w) ⌝ }
+    ensures { λ r. ⌜ (r ≡ false → Misnamed (recordAt (now (w .entry)) (14 * n))) ⌝ }
 {
     let at = RECORD * n;
     w[at + strings::PREFIX] < tags::UTF16
@@ -139,7 +142,7 @@ pub fn names_in_utf8(w: &[u32], n: usize) -> bool
 
 // There is a record n in the words.
 pub fn has_record(w: &[u32], n: usize) -> bool
-    ensures { λ r. ⌜ r ≡ ltb n (length (now (w .entry)) / 13) ⌝ }
+    ensures { λ r. ⌜ r ≡ ltb n (length (now (w .entry)) / 14) ⌝ }
 {
     n < w.len() / RECORD
 }
@@ -154,9 +157,10 @@ fn put_string(w: &mut [u32], at: usize, x: EventString)
     w[at + 2] = x.size();
 }
 
-// An event in record n of the words, where they have one.
-pub fn keep(w: &mut [u32], n: usize, e: Event)
-    ensures { λ _. ⌜ now (w .exit) ≡ kept (now (w .entry)) n e ⌝ }
+// An event that was read at a place, in record n of the words, where they have one.
+pub fn keep(w: &mut [u32], n: usize, place: usize, e: Event)
+    requires { ⌜ place < 0x1_0000_0000 ⌝ }
+    ensures { λ _. ⌜ now (w .exit) ≡ kept (now (w .entry)) n place e ⌝ }
 {
     if w.len() / RECORD <= n {
         return;
@@ -172,6 +176,7 @@ pub fn keep(w: &mut [u32], n: usize, e: Event)
     put_string(w, at + strings::NAME, name);
     let value = e.value;
     put_string(w, at + strings::VALUE, value);
+    w[at + PLACE] = place as u32;
 }
 
 fn is_told(w: &[u32], at: usize) -> bool

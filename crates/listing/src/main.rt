@@ -1,5 +1,7 @@
 // Lists one document from standard input: a line for each event and then their number, or the refusal.
+// With the argument --places each event's line starts with the event's place.
 // A program: it prints what the reader found, and decides nothing.
+use events::PLACE;
 use events::RECORD;
 use events::kinds;
 use events::strings;
@@ -7,6 +9,7 @@ use events::tags;
 use format::StringForm;
 use forms::Next;
 use forms::Said;
+use libc::STDERR_FILENO;
 use libc::STDIN_FILENO;
 use libc::STDOUT_FILENO;
 use tables::Counts;
@@ -161,19 +164,19 @@ fn first_of(kind: u32) -> usize {
     match kind {
         kinds::NAMESPACE | kinds::START | kinds::ATTRIBUTE => strings::PREFIX,
         kinds::INSTRUCTION => strings::NAME,
-        kinds::END => RECORD,
+        kinds::END => PLACE,
         _ => strings::VALUE,
     }
 }
 
-// Where they end. The bound keeps the numbers of their words small.
+// Where they end: the place stands behind the last. The bound keeps the numbers of their words small.
 fn behind_last_of(kind: u32) -> usize
     ensures { λ r. ⌜ r ≤ 13 ⌝ }
 {
     match kind {
         kinds::NAMESPACE => strings::NAME,
         kinds::START => strings::VALUE,
-        _ => RECORD,
+        _ => PLACE,
     }
 }
 
@@ -203,11 +206,25 @@ fn put_event(out: &mut [u8], n: usize, s: &[u8], w: &[u32], record: u32) -> usiz
     put(out, at, b'\n')
 }
 
-fn put_events(out: &mut [u8], n: usize, s: &[u8], w: &[u32], events: u32) -> usize {
+// The place of an event and a space, in front of its line.
+fn put_place(out: &mut [u8], n: usize, w: &[u32], record: u32) -> usize {
+    let at = put_number(out, n, word(w, record, PLACE) as u64);
+    put(out, at, b' ')
+}
+
+fn put_line(out: &mut [u8], n: usize, s: &[u8], w: &[u32], record: u32, places: bool) -> usize {
+    if places {
+        let at = put_place(out, n, w, record);
+        return put_event(out, at, s, w, record);
+    }
+    put_event(out, n, s, w, record)
+}
+
+fn put_events(out: &mut [u8], n: usize, s: &[u8], w: &[u32], events: u32, places: bool) -> usize {
     let mut at = n;
     let mut i = 0;
     while i < events {
-        at = put_event(out, at, s, w, i);
+        at = put_line(out, at, s, w, i, places);
         i += 1;
     }
     at = put_text(out, at, b"end ");
@@ -224,15 +241,15 @@ fn put_refusal(out: &mut [u8], n: usize, answer: u64) -> usize {
 }
 
 // The reader's answer: the refusal in its low 32 bits, or 0 there and the number of events above them.
-fn put_answer(out: &mut [u8], s: &[u8], w: &[u32], answer: u64) -> usize {
+fn put_answer(out: &mut [u8], s: &[u8], w: &[u32], answer: u64, places: bool) -> usize {
     let refusal = answer % 0x1_0000_0000;
     if refusal != 0 {
         return put_refusal(out, 0, refusal);
     }
-    put_events(out, 0, s, w, (answer / 0x1_0000_0000) as u32)
+    put_events(out, 0, s, w, (answer / 0x1_0000_0000) as u32, places)
 }
 
-fn main() {
+fn list(places: bool) {
     // One octet more than a document may have, so that a longer one is seen to be longer; 512 event records.
     let mut s = [0u8; fields::OCTETS + 1];
     let mut records = [0u32; 512 * RECORD];
@@ -241,6 +258,30 @@ fn main() {
     let mut out = io::buffer();
     let n = io::read_full(STDIN_FILENO, &mut s);
     let answer = lomphachit::lomphachit_read(&s[..n], &mut records, &mut tables, &mut counts);
-    let at = put_answer(&mut out, &s[..n], &records, answer);
+    let at = put_answer(&mut out, &s[..n], &records, answer, places);
     flush(&out, at);
+}
+
+// Whether the first argument is --places. One that is longer does not fit, and has the length 0 here.
+fn asks_places() -> bool {
+    let mut word = [0u8; 8];
+    let n = os::arg(1, &mut word);
+    check::same(&word[..n], b"--places")
+}
+
+// The program's own name counts as an argument. Arguments that it does not know are said to be wrong, and nothing is listed: whoever gave them asked for something else.
+fn main() {
+    let arguments = os::arg_count();
+    if arguments <= 1 {
+        list(false);
+        return;
+    }
+    if arguments == 2 && asks_places() {
+        list(true);
+        return;
+    }
+    io::write_all(
+        STDERR_FILENO,
+        b"usage: listing [--places]; the document is standard input\n",
+    );
 }

@@ -130,7 +130,7 @@ module _ {s : Octets} {st : State} {n : ℕ} {a : Lent} (g : Good s st a) where
   end-document m l p = let z : st .level ≤ 0 = omega arith in met-by p (rw (ap modeOf m ∙ mode-content, le-ltb _ _ z))
 
 module _ {s : Octets} {st : State} {n : ℕ} {t c : Words} {x : Octets} {r : Words} (g : Good s st (lent t c x r)) where
-  pub end-element : {r′ : Words} {e : Event} → st .mode ≡ 0 → (st .level ≡ 0 → ⊥) → st .at < 2 * length s → r′ ≡ kept r n e → e ≡ endRecord
+  pub end-element : {r′ : Words} {e : Event} → st .mode ≡ 0 → (st .level ≡ 0 → ⊥) → st .at < 2 * length s → r′ ≡ kept r n (st .at / 2) e → e ≡ endRecord
       → Met s st n (lent t c x r) (More (afterEnd st (st .level - 1)) (st .at / 2)) (lent t c x r′) (λ m. endAt s m (m .state .mode))
   unfolding endAt coming recordOf
   end-element m l h k q =

@@ -73,7 +73,7 @@ module _ {s : Octets} {st : State} {n : ℕ} {a b : Lent} (k : ℕ) {r : Field} 
     comment-refused y =
         refuse (rw e at (y .1)) h q (rw (string-not (valueAt link s OTHER-STRING (suc k) (standOf st a .state .tables)) (b .counts) (b .tables) e (rw add-one at (y .0))))
 
-  module _ {y : EventString} {next : ℕ} {f : Event} (e : r ≡ Got y next) (g : Good s st a) (q : b .records ≡ kept (a .records) n f) where
+  module _ {y : EventString} {next : ℕ} {f : Event} (e : r ≡ Got y next) (g : Good s st a) (q : b .records ≡ kept (a .records) n k f) where
     pub chunk-more : f ≡ chunkRecord y → Says s a r b (literalAt link c15 s CONTENT-CHARACTER-CHUNK k (standOf st a .state .tables))
         → Meets s st n a (More (movedTo st next (st .mode)) k) b (chunkAt link s k)
     unfolding chunkAt recordOf
@@ -109,7 +109,7 @@ module _ {s : Octets} {st : State} {n : ℕ} {a b : Lent} (k : ℕ) {r : Entry} 
         refuse (rw q at (x .1)) h z
         (rw (i .is, string-not (valueAt link s OTHER-STRING p (vocabulary (unlisted (c .counts)) (c .tables))) (b .counts) (b .tables) q (x .0)))
 
-    pub instruction-more : {v : EventString} {next : ℕ} {u : Event} → f ≡ Got v next → Good s st a → b .records ≡ kept (a .records) n u
+    pub instruction-more : {v : EventString} {next : ℕ} {u : Event} → f ≡ Got v next → Good s st a → b .records ≡ kept (a .records) n k u
         → u ≡ instructionRecord (eventStringAt (b .tables) 3 m) v → Meets s st n a (More (movedTo st next (st .mode)) k) b (instructionAt link s k)
     unfolding instructionAt recordOf
     instruction-more {v = v} {next = next} q g z w =
@@ -161,7 +161,7 @@ module _ {s : Octets} {st : State} {n : ℕ} {a b : Lent} (k : ℕ) (l : Bool) {
   unfolding namespaceAt
   namespace-refused e h q = refuse (rw e at z) h q (rw (declared-not (declaredAt link s k (standOf st a .state .tables)) (b .counts) (b .tables) e y))
 
-  pub namespace-more : {p o next : ℕ} {f : Event} → r ≡ Declares p o next → st .level < 32 → b .records ≡ kept (a .records) n f
+  pub namespace-more : {p o next : ℕ} {f : Event} → r ≡ Declares p o next → st .level < 32 → b .records ≡ kept (a .records) n k f
       → f ≡ namespaceRecord (eventStringAt (b .tables) 0 p) (eventStringAt (b .tables) 1 o)
       → Meets s st n a (More (movedTo st next (declaringMode l)) k) b (λ v. namespaceAt link s k v l)
   unfolding namespaceAt recordOf
@@ -314,7 +314,7 @@ module _ {s : Octets} {st : State} {n : ℕ} {a b : Lent} (k : ℕ) {d : Stand �
         (w ∙ rw (i .is, string-not (valueAt link s ATTRIBUTE-VALUE p (vocabulary (unlisted (c .counts)) (c .tables))) (b .counts) (b .tables) q (x .0)))
 
     pub attribute-more : {v : EventString} {next : ℕ} → f ≡ Got v next → Good s st a
-        → b .records ≡ kept (a .records) n (namedRecord K.Attribute (nameStringsAt (b .tables) 9 m) v) → Met s st n a (More (movedTo st next 2) k) b d
+        → b .records ≡ kept (a .records) n k (namedRecord K.Attribute (nameStringsAt (b .tables) 9 m) v) → Met s st n a (More (movedTo st next 2) k) b d
     unfolding recordOf coming
     attribute-more {v = v} {next = next} q g z =
         let i = name-is (nameAt link ofAttribute s (getD s k 0) k (standOf st a .state .tables)) 9 (c .counts) (c .tables) e y in

@@ -39,7 +39,7 @@ module _ {s : Octets} {st : State} {n : ℕ} {a b : Lent} where
   refuse l h r e = record { is = rw e refl; good = (l, h); keeps = rw e r }
 
   -- An event i, kept as the record e.
-  pub tell : {d : Stand → I.Step} {st′ : State} {p : ℕ} {e : Event} (i : Item Located) → Good s st′ b → b .records ≡ kept (a .records) n e → recordOf (i .event) ≡ e
+  pub tell : {d : Stand → I.Step} {st′ : State} {p : ℕ} {e : Event} (i : Item Located) → Good s st′ b → b .records ≡ kept (a .records) n p e → recordOf (i .event) ≡ e
       → d (standOf st a) ≡ I.more p i (standOf st′ b) → Met s st n a (More st′ p) b d
   tell i g r q e = record { is = rw e refl; good = g; keeps = rw (e, q) r }
 
@@ -85,6 +85,6 @@ module _ (st : State) (k : ℕ) (l : Bool) (t r : Words) (n : ℕ) {x : Entry} {
     unfolding startStep startRecords link
     start-deep h q = record { is = rw (e, le-ltb _ _ h) q; keeps = rw (e, le-ltb _ _ h) refl; fits = rw q (omega arith) }
 
-    pub start-opened : {r′ : Words} → st .level < 32 → y ≡ More (openedAt st p l) k → r′ ≡ kept r n (namedRecord Start (nameStringsAt t 8 m) Absent) → StartsBy st k l t x r n y r′
+    pub start-opened : {r′ : Words} → st .level < 32 → y ≡ More (openedAt st p l) k → r′ ≡ kept r n k (namedRecord Start (nameStringsAt t 8 m) Absent) → StartsBy st k l t x r n y r′
     unfolding startStep startRecords link
     start-opened h q z = record { is = rw (e, lt-ltb _ _ h) q; keeps = rw (e, lt-ltb _ _ h) z; fits = rw q tt }

@@ -9,7 +9,7 @@ use Rattle.tables.specs.Rows.{vocabulary}
 use Rattle.tables.specs.Kept.{unlisted}
 use Rattle.states.specs.declared.State.{State}
 use Rattle.states.specs.States.{stateOf, coming}
-use Rattle.events.specs.Records.{recordAt}
+use Rattle.events.specs.Records.{recordOf}
 use Rattle.events.specs.Kept.{kept}
 use Rattle.read_names.specs.Contracts.{Tidy, Rooms}
 use Rattle.read_items.specs.declared.Step.{Step}
@@ -51,7 +51,7 @@ stepSeen (I.stop n p) = stop n p
 
 -- The records with the step's event in record n.
 abbrev pub keptBy : Words → ℕ → I.Step → Words
-keptBy r n (I.more p i m) = kept r n (recordAt p (i .event))
+keptBy r n (I.more p i m) = kept r n p (recordOf (i .event))
 keptBy r n (I.quiet m) = r
 keptBy r n I.done = r
 keptBy r n (I.stop k p) = r

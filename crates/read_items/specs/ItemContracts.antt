@@ -40,21 +40,21 @@ Ended s st n r x r′ = (t c : Words) (i : Octets) → Good s st (lent t c i r) 
 
 -- The record of a Start or an attribute, from its name's strings.
 abbrev pub namedRecord : Kind → Parts → EventString → Event
-namedRecord kind x value = record { kind = kind; prefix = x .prefix; namespace = x .namespace; name = x .local; value = value }
+namedRecord kind x value = record { kind = kind; prefix = x .prefix; namespace = x .namespace; name = x .local; value = value; place = 0 }
 
 -- A name was read, and its row is there.
 abbrev pub Named : Words → (table : ℕ) → Entry → Type 0
 Named t table (Got n next) = NameThere t table n × (next ≤ 16384)
 Named t table (Refused n p) = Unit {0}
 
--- A Start whose name is read: no more elements may be open (13), or its event is kept in record n.
+-- A Start at octet k, whose name is read: no more elements may be open (13), or its event is kept in record n.
 unfoldable pub startStep : State → ℕ → Bool → Entry → Step
 startStep st k a (Got n next) = pick (ltb (st .level) (link .depth)) (More (openedAt st next a) k) (Stopped DEPTH k)
 startStep st k a (Refused n p) = Stopped n p
 
-unfoldable pub startRecords : State → Words → Entry → Words → ℕ → Words
-startRecords st t (Got number next) r n = pick (ltb (st .level) (link .depth)) (kept r n (namedRecord Start (nameStringsAt t 8 number) Absent)) r
-startRecords st t (Refused k p) r n = r
+unfoldable pub startRecords : State → ℕ → Words → Entry → Words → ℕ → Words
+startRecords st k t (Got number next) r n = pick (ltb (st .level) (link .depth)) (kept r n k (namedRecord Start (nameStringsAt t 8 number) Absent)) r
+startRecords st k t (Refused number p) r n = r
 
 -- A refusal's number is a word.
 abbrev pub Fits : Step → Type 0
@@ -65,7 +65,7 @@ Fits (Stop st n) = n < 0x1_0000_0000
 
 pub record StartsBy (st : State) (k : ℕ) (a : Bool) (t : Words) (x : Entry) (r : Words) (n : ℕ) (y : Step) (r′ : Words) : Type 0 where
   pub is : y ≡ startStep st k a x
-  pub keeps : r′ ≡ startRecords st t x r n
+  pub keeps : r′ ≡ startRecords st k t x r n
   pub fits : Fits y
 
 -- What is no item.

@@ -81,6 +81,7 @@ pub fn end_at(st: State, s: &[u8], records: &mut [u32], n: usize) -> Step
         return document_end(st, s);
     }
     let e = events::end();
-    events::keep(records, n, e);
-    Step::More(st.behind_end(st.level - 1), st.at / 2)
+    let k = st.at / 2;
+    events::keep(records, n, k, e);
+    Step::More(st.behind_end(st.level - 1), k)
 }

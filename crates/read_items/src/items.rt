@@ -55,18 +55,19 @@ pub fn stop(number: u32, place: usize) -> Step
     Step::Stop(at, number as usize)
 }
 
-// A Start or an attribute, whose name has this number, in record n. Its strings are looked up only where there is a record to keep them.
+// A Start or an attribute at octet k, whose name has this number, in record n. Its strings are looked up only where there is a record to keep them.
 fn keep_named(
     t: &[u32],
     records: &mut [u32],
     n: usize,
+    k: usize,
     table: usize,
     number: u32,
     kind: Kind,
     value: EventString,
 )
-    requires { ⌜ NameThere (now t) table number ⌝ }
-    ensures { λ _. ⌜ now (records .exit) ≡ kept (now (records .entry)) n (namedRecord kind (nameStringsAt (now (t .entry)) table number) value) ⌝ }
+    requires { ⌜ NameThere (now t) table number × (k < 0x1_0000_0000) ⌝ }
+    ensures { λ _. ⌜ now (records .exit) ≡ kept (now (records .entry)) n k (namedRecord kind (nameStringsAt (now (t .entry)) table number) value) ⌝ }
 {
     if !events::has_record(records, n) {
         return;
@@ -81,8 +82,9 @@ fn keep_named(
         namespace,
         name,
         value,
+        place: 0,
     };
-    events::keep(records, n, e);
+    events::keep(records, n, k, e);
 }
 
 // The six bits of an element's name hold padding: behind 110, or behind 1110.
@@ -132,7 +134,7 @@ fn start_of(
     a: bool,
     r: Entry,
 ) -> Step
-    requires { ⌜ Named (now t) 8 r ⌝ }
+    requires { ⌜ Named (now t) 8 r × (k ≤ 16384) ⌝ }
     ensures { λ x. ⌜ StartsBy st k a (now (t .entry)) r (now (records .entry)) n x (now (records .exit)) ⌝ }
 {
     match r {
@@ -145,6 +147,7 @@ fn start_of(
                 t,
                 records,
                 n,
+                k,
                 ELEMENT_NAME,
                 number,
                 Kind::Start,
@@ -173,7 +176,7 @@ fn chunk_at(
         Field::Refused(number, place) => stop(number, place),
         Field::Got(x, next) => {
             let e = events::chunk(x);
-            events::keep(records, n, e);
+            events::keep(records, n, k, e);
             Step::More(st.moved(next, st.mode), k)
         }
     }
@@ -197,7 +200,7 @@ fn comment_at(
         Field::Refused(number, place) => stop(number, place),
         Field::Got(x, next) => {
             let e = events::comment(x);
-            events::keep(records, n, e);
+            events::keep(records, n, k, e);
             Step::More(st.moved(next, st.mode), k)
         }
     }
@@ -226,7 +229,7 @@ fn instruction_at(
                     read_names::string_at(t, OTHER_NCNAME, target),
                     content,
                 );
-                events::keep(records, n, e);
+                events::keep(records, n, k, e);
                 Step::More(st.moved(next, st.mode), k)
             }
         },
@@ -255,7 +258,7 @@ fn namespace_at(
                 read_names::string_at(t, PREFIX, prefix),
                 read_names::string_at(t, NAMESPACE_NAME, namespace),
             );
-            events::keep(records, n, e);
+            events::keep(records, n, k, e);
             Step::More(st.moved(next, states::declaring(x.listing)), k)
         }
     }
@@ -285,7 +288,7 @@ fn named(
         Entry::Got(name, behind) => match value(s, t, counts, ATTRIBUTE_VALUE, behind) {
             Field::Refused(number, place) => stop(number, place),
             Field::Got(v, next) => {
-                keep_named(t, records, n, ATTRIBUTE_NAME, name, Kind::Attribute, v);
+                keep_named(t, records, n, k, ATTRIBUTE_NAME, name, Kind::Attribute, v);
                 Step::More(st.moved(next, State::LISTED), k)
             }
         },

@@ -25,6 +25,7 @@ use Rattle.states.specs.declared.State.{State}
 use Rattle.states.specs.States.{fresh}
 use Rattle.events.specs.declared.Event.{Event}
 use Rattle.events.specs.declared.Kind.the-variants.{Blank}
+use Rattle.events.specs.Records as R
 use Rattle.events.specs.Records.{blank, recordOf}
 use Rattle.events.specs.Words.{kindNumber}
 use Rattle.events.specs.FromWords.{recordAt}
@@ -56,7 +57,7 @@ use Rattle.read_rows.specs.Contracts.{stepsFor, first, placed, lentTo, s
 use Rattle.read_items.proofs.Places.{step-placed}
 use Rattle.reader.proofs.RunLaws.{PlacedSeen, placed-seen, tables-start, tidy-start, stand-start, good-start}
 
--- ---- an event that is kept in a record of its own is found there again
+-- ---- an event that is kept in a record of its own is found there again, with its place
 kinded : (e : F.Event Located) → recordOf e .kind ≡ Blank → ⊥
 unfolding recordOf
 kinded (F.Namespace p n) h = let z : _≡_ {A = ℕ} 1 0 = ap kindNumber h in absurd (omega arith)
@@ -67,9 +68,9 @@ kinded (F.Comment y) h = let z : _≡_ {A = ℕ} 5 0 = ap kindNumber h in absurd
 kinded (F.Instruction x y) h = let z : _≡_ {A = ℕ} 6 0 = ap kindNumber h in absurd (omega arith)
 kinded F.End h = let z : _≡_ {A = ℕ} 7 0 = ap kindNumber h in absurd (omega arith)
 
-kept-back : (e : F.Event Located) → recordAt (kept (replicate 13 0) 0 (recordOf e)) 0 ≡ recordOf e
+kept-back : (place : ℕ) (e : F.Event Located) → recordAt (kept (replicate 14 0) 0 place (recordOf e)) 0 ≡ R.recordAt place e
 unfolding kept
-kept-back e = record-back (recordOf e) [] (kinded e)
+kept-back place e = record-back (R.recordAt place e) [] (kinded e)
 
 -- ---- before the first step
 pub first-head : (f : Front) (octets : ℕ) {st : State} → st ≡ fresh (f .at) → f .head ≡ true → _≡_ {A = Place} (record { state = st; left = 2 * octets + 2; head = true }) (first f octets)
@@ -86,8 +87,8 @@ reachBy left m w (quiet k) = passed k left
 reachBy left m w done = ended (m .state .tables)
 reachBy left m w (stop j p) = fault j p
 
-reach-seen : (left : ℕ) (m : Stand) (x : I.Step) → reachBy left m (keptBy (replicate 13 0) 0 x) (stepSeen x) ≡ reach left m x
-reach-seen left m (I.more p i k) = ap (λ (e : Event). found p e k left) (kept-back (i .event))
+reach-seen : (left : ℕ) (m : Stand) (x : I.Step) → reachBy left m (keptBy (replicate 14 0) 0 x) (stepSeen x) ≡ reach left m x
+reach-seen left m (I.more p i k) = ap (λ (e : Event). found p e k left) (kept-back p (i .event))
 reach-seen left m (I.quiet k) = refl
 reach-seen left m I.done = refl
 reach-seen left m (I.stop j p) = refl
@@ -134,7 +135,7 @@ module _ (s : List ℕ) (p : Place) (c : Counts) (w : List ℕ) (d : List ℕ) (
           (ap (λ (m : Stand). passed m (p .left - 1)) (stand-start body after) ∙ ap (reachBehind (p .left - 1)) i ∙ sym here, (good-start after (f .within) (tidy-counted (f .tidy)), omega arith, refl))
       by-answer (NoBody j place) f i = (ap (reachBehind (p .left - 1)) i ∙ sym here, f .1)
 
-module _ (s : List ℕ) (p : Place) (c : Counts) (w y z : List ℕ) (zeros : z ≡ replicate 13 0) (d : List ℕ) (counts : d ≡ listed c) (h : p .left ≡ 0 → ⊥) (headless : p .head ≡ false) (g : Good s (p .state) (lentTo c w y))
+module _ (s : List ℕ) (p : Place) (c : Counts) (w y z : List ℕ) (zeros : z ≡ replicate 14 0) (d : List ℕ) (counts : d ≡ listed c) (h : p .left ≡ 0 → ⊥) (headless : p .head ≡ false) (g : Good s (p .state) (lentTo c w y))
     (r : Step) (b : Lent) (q : Met s (p .state) 0 (lent w d y z) r b (step link s)) where
   abbrev here : Stand
   here = standAt p c w

@@ -84,7 +84,7 @@ fn passed(r: Passed, left: usize) -> Next
 
 // A step's answer with the event that is kept in a record, and with the steps that are left.
 fn told(r: Step, words: &[u32], left: usize) -> Next
-    requires { ⌜ (length (now words) ≡ 13) × Numbered r ⌝ }
+    requires { ⌜ (length (now words) ≡ 14) × Numbered r ⌝ }
     ensures { λ x. ⌜ x ≡ nextBy r (now (words .entry)) left ⌝ }
 {
     match r {

@@ -241,7 +241,7 @@ module _ {s : Octets} {t c r : Words} {y : Lane} (w : Stands s c t y) where
 
   module _ {r′ : Words} (same : length r′ ≡ length r) where
     pub takes-start : (o : ℕ) → o ≡ getD s (y .at) 0 → (x : Named) → o < 0x28 → ReadsShort s (y .at) o 0x20 x → x .row < getD c 8 0 → y .level < 32
-        → r′ ≡ kept r (y .n) (namedRecord Start (nameStringsAt t 8 (x .row + 1)) Absent) → Skims s (y .n + 1) y t c r (record { at = x .next; level = y .level + 1; n = y .n + 1 }) t c r′
+        → r′ ≡ kept r (y .n) (y .at) (namedRecord Start (nameStringsAt t 8 (x .row + 1)) Absent) → Skims s (y .n + 1) y t c r (record { at = x .next; level = y .level + 1; n = y .n + 1 }) t c r′
     unfolding layoutOf
     takes-start o e x l q h d k =
         let m = w .more in
@@ -263,7 +263,7 @@ module _ {s : Octets} {t c r : Words} {y : Lane} (w : Stands s c t y) where
 
     -- a chunk whose string is read
     takes-text : {t′ c′ : Words} {v : EventString} {next : ℕ} {f : Event} → 0x80 ≤ getD s (y .at) 0 → getD s (y .at) 0 < 0xC0 → ((x : Octets) → Tidy s c t x → ReadsText s c t (y .at) v next c′ t′ x)
-        → r′ ≡ kept r (y .n) f → f ≡ chunkRecord v → Skims s (y .n + 1) y t c r (record { at = next; level = y .level; n = y .n + 1 }) t′ c′ r′
+        → r′ ≡ kept r (y .n) (y .at) f → f ≡ chunkRecord v → Skims s (y .n + 1) y t c r (record { at = next; level = y .level; n = y .n + 1 }) t′ c′ r′
     unfolding tableOf
     takes-text l h read k q =
         let m = w .more in
@@ -280,17 +280,17 @@ module _ {s : Octets} {t c r : Words} {y : Lane} (w : Stands s c t y) where
           near = omega arith;
         }
 
-    pub takes-chunk : (o : ℕ) → o ≡ getD s (y .at) 0 → (x : Named) → 0xA0 ≤ o → o < 0xB4 → ReadsShort s (y .at) (o - 0xA0) 0x10 x → x .row < getD c 6 0 → r′ ≡ kept r (y .n) (chunkRecord (eventStringAt t 6 (x .row + 1)))
+    pub takes-chunk : (o : ℕ) → o ≡ getD s (y .at) 0 → (x : Named) → 0xA0 ≤ o → o < 0xB4 → ReadsShort s (y .at) (o - 0xA0) 0x10 x → x .row < getD c 6 0 → r′ ≡ kept r (y .n) (y .at) (chunkRecord (eventStringAt t 6 (x .row + 1)))
         → Skims s (y .n + 1) y t c r (record { at = x .next; level = y .level; n = y .n + 1 }) t c r′
     takes-chunk o e x a l q h k =
         takes-text (omega arith) (omega arith) (read-chunk s c t (y .at) o e x a l q h) k (ap chunkRecord (sym (string-there t 6 (x .row + 1) _ (omega arith) refl)))
 
     pub takes-spelled : {t′ c′ : Words} (o : ℕ) → o ≡ getD s (y .at) 0 → 0x80 ≤ o → o < 0xA0 → {b : ℕ} → b ≡ o / 4 % 4 → b ≡ 0 → {m : Number} → m ≡ fieldAt (lengths 7) noTop 7 s (y .at)
         → {n : ℕ} {i : Cursor} → m ≡ Num n i → i .at + n ≤ length s → true ≡ isText (take (i .at + n - i .at) (drop (i .at) s)) → {a : ℕ} → a ≡ o / 16 % 2 → AddsChunk true c t (i .at) n (eqb a 1) c′ t′
-        → {f : Event} → r′ ≡ kept r (y .n) f → f ≡ chunkRecord (Stretch Utf8 (i .at) n) → Skims s (y .n + 1) y t c r (record { at = i .at + n; level = y .level; n = y .n + 1 }) t′ c′ r′
+        → {f : Event} → r′ ≡ kept r (y .n) (y .at) f → f ≡ chunkRecord (Stretch Utf8 (i .at) n) → Skims s (y .n + 1) y t c r (record { at = i .at + n; level = y .level; n = y .n + 1 }) t′ c′ r′
     takes-spelled o e l h eb zb em q to text ea adds k z = takes-text (omega arith) (omega arith) (read-spelled s c t (y .at) o e l h eb zb em q to text ea adds) k z
 
-    pub takes-end : {e : Event} → getD s (y .at) 0 ≡ 0xF0 → 2 ≤ y .level → getD s (y .at + 1) 0 < 0xF0 → r′ ≡ kept r (y .n) e → e ≡ endRecord
+    pub takes-end : {e : Event} → getD s (y .at) 0 ≡ 0xF0 → 2 ≤ y .level → getD s (y .at + 1) 0 < 0xF0 → r′ ≡ kept r (y .n) (y .at) e → e ≡ endRecord
         → Skims s (y .n + 1) y t c r (record { at = y .at + 1; level = y .level - 1; n = y .n + 1 }) t c r′
     takes-end o l b k q =
         let m = w .more in
@@ -302,7 +302,7 @@ module _ {s : Octets} {t c r : Words} {y : Lane} (w : Stands s c t y) where
         record {
           onward = onward-over
               (onward-one (w .tidied) same λ i good.
-              met-by (end-element good refl (λ a. omega arith) (omega arith) k q) (step-end s (standOf (inLane y) (lent t c i r)) (sym (eq-eqb _ _ (sym h)) ∙ ends-half 0 s (2 * y .at) (omega arith))))
+              met-by (end-element good refl (λ a. omega arith) (omega arith) (rw e k) q) (step-end s (standOf (inLane y) (lent t c i r)) (sym (eq-eqb _ _ (sym h)) ∙ ends-half 0 s (2 * y .at) (omega arith))))
               λ i good.
               let g = good .shallow in (
                 record { tidy = good .tidy; at = omega arith; shallow = g },
@@ -357,14 +357,21 @@ chunk-plain t i x e z h =
     let k : i + 1 - 1 ≡ i = omega arith in
     string-there t 6 (i + 1) _ (omega arith) (rw k (entry-formed 6 (768 * 6 + 3 * i) t x e Utf8 (rw z refl) (omega arith) (omega arith) h))
 
-module _ {s : Octets} {t c : Words} (d : Tidied s c t) where
-  pub name-in-row : (i : ℕ) → i < getD c 8 0 → NameThere t 8 (i + 1) × (1 ≤ tripleAt t (768 * 8 + 3 * (i + 1 - 1)) .local)
-  name-in-row i h =
-      let l : i + 1 ≤ countOf (unlisted c) 8 = rw (count-at c (d .tidy .ten) 8) (omega arith) in
-      (name-there (d .tidy) 8 (i + 1) (omega arith) (omega arith) (omega arith) l, name-ranged s c t (d .index) (d .tidy) 8 (i + 1) (omega arith) (omega arith) (omega arith) l .2)
+module _ {s : Octets} {t c : Words} {y : Lane} (w : Stands s c t y) where
+  tidy : Tidy s c t (w .tidied .index)
+  tidy = w .tidied .tidy
 
-  pub chunk-in-row : (i : ℕ) → i < getD c 6 0 → (length t ≡ tableWords) × (i < 256)
-  chunk-in-row i h = let l = table-small s c t (d .index) 6 (d .tidy) in (d .tidy .room, omega arith)
+  -- the lane's octet is a place that a record can have
+  pub place-fits : y .at < 0x1_0000_0000
+  place-fits = let z = tidy .size in let m = w .more in omega arith
+
+  pub name-in-row : (i : ℕ) → i < getD c 8 0 → (y .at < 0x1_0000_0000) × NameThere t 8 (i + 1) × (1 ≤ tripleAt t (768 * 8 + 3 * (i + 1 - 1)) .local)
+  name-in-row i h =
+      let l : i + 1 ≤ countOf (unlisted c) 8 = rw (count-at c (tidy .ten) 8) (omega arith) in
+      (place-fits, name-there tidy 8 (i + 1) (omega arith) (omega arith) (omega arith) l, name-ranged s c t (w .tidied .index) tidy 8 (i + 1) (omega arith) (omega arith) (omega arith) l .2)
+
+  pub chunk-in-row : (i : ℕ) → i < getD c 6 0 → (y .at < 0x1_0000_0000) × (length t ≡ tableWords) × (i < 256)
+  chunk-in-row i h = let l = table-small s c t (w .tidied .index) 6 tidy in (place-fits, tidy .room, omega arith)
 
 -- ---- where the lane is entered
 abbrev state : (at level root mode : ℕ) → State

@@ -22,6 +22,7 @@ use Rattle.index.specs.Indexed.{slots}
 use Rattle.index.proofs.Counted.{indexed-start}
 use Rattle.states.specs.declared.State.{State}
 use Rattle.states.specs.States.{modeOf, rootOf, coming, fresh}
+use Rattle.events.specs.Records.{recordOf}
 use Rattle.events.specs.Words.{recordWords}
 use Rattle.events.specs.Kept.{kept}
 use Rattle.read_items.specs.declared.Step.{Step}
@@ -150,11 +151,11 @@ module _ (go : ℕ → Stand → Result) (m : Stand) (n : ℕ) where
   sets-append w at [] b = let z : at + 0 ≡ at = omega arith in rw z
   sets-append w at (x ∷ a) b = let z : at + suc (length a) ≡ suc at + length a = omega arith in rw (z, sets-append _ (suc at) a b)
 
-  plus-kept : (w : List ℕ) (e : EventRead) (x : Result) → n < length w / 13 → keptFrom w n (plus e x) ≡ keptFrom (kept w n (recordRead e)) (n + 1) x
+  plus-kept : (w : List ℕ) (e : EventRead) (x : Result) → n < length w / 14 → keptFrom w n (plus e x) ≡ keptFrom (kept w n (e .place) (recordOf (e .item .event))) (n + 1) x
   unfolding eventWords kept
   plus-kept w e (accepted es k) h =
-      let z : 13 * (n + 1) ≡ 13 * n + 13 = omega arith in
-      rw (lt-ltb _ _ h, z) (sets-append w (13 * n) (recordWords (recordRead e)) (eventWords es))
+      let z : 14 * (n + 1) ≡ 14 * n + 14 = omega arith in
+      rw (lt-ltb _ _ h, z) (sets-append w (14 * n) (recordWords (recordRead e)) (eventWords es))
   plus-kept w e (refusal j p) h = refl
 
   turn-ends : (room : ℕ) (x : I.Step) → endingOf n (turn go room m x) ≡ endsBy room (stepSeen x)
@@ -164,7 +165,7 @@ module _ (go : ℕ → Stand → Result) (m : Stand) (n : ℕ) where
   turn-ends room I.done = let z : n + 0 ≡ n = omega arith in rw z
   turn-ends room (I.stop j p) = refl
 
-  turn-kept : (w : List ℕ) (room : ℕ) (x : I.Step) → 13 * (n + room) ≤ length w → keptFrom w n (turn go room m x) ≡ leftBy (keptBy w n x) room (stepSeen x)
+  turn-kept : (w : List ℕ) (room : ℕ) (x : I.Step) → 14 * (n + room) ≤ length w → keptFrom w n (turn go room m x) ≡ leftBy (keptBy w n x) room (stepSeen x)
   unfolding eventWords
   turn-kept w zero (I.more p i k) h = refl
   turn-kept w (suc room) (I.more p i k) h = plus-kept w _ (go room k) (omega arith)
@@ -277,7 +278,7 @@ module _ {s v : List ℕ} {room : ℕ} {from : Stand} {left n : ℕ} {st : State
     ends-here : endsBy onward-from (standOf st a) n (room - n) (seenStep r b) ≡ endingOf 0 (whole s room from)
     ends-here = rw (p .is) (sym (ap (endingOf n) one ∙ turn-ends onward-from (standOf st a) n (room - n) (step link s (standOf st a))) ∙ u .ends)
 
-    kept-here : 13 * room ≤ length v → leftBy onward-from (standOf st a) n (b .records) (room - n) (seenStep r b) ≡ keptFrom v 0 (whole s room from)
+    kept-here : 14 * room ≤ length v → leftBy onward-from (standOf st a) n (b .records) (room - n) (seenStep r b) ≡ keptFrom v 0 (whole s room from)
     kept-here k =
         let f = u .fits in
         let l = u .same-length in

@@ -33,7 +33,7 @@ drop-zeros r k h =
     let z : replicate {A = ℕ} r 0 ≡ replicate k 0 ++ replicate (r - k) 0 = ap (λ (n : ℕ). replicate n 0) y ∙ sym (replicate-append-replicate {A = ℕ} k (r - k) 0) in
     ap (drop k) z ∙ drop-at (replicate k 0) (replicate (r - k) 0) k (length-replicate {A = ℕ} k 0)
 
-event-length : (es : List EventRead) → length (eventWords es) ≡ 13 * length es
+event-length : (es : List EventRead) → length (eventWords es) ≡ 14 * length es
 unfolding eventWords
 event-length [] = refl
 event-length (e ∷ es) = let l = event-length es in length-append (recordWords (recordRead e)) (eventWords es) ∙ omega arith
@@ -44,16 +44,16 @@ row-words [] behind = refl
 row-words (e ∷ es) behind = rw (row-words es behind, append-assoc)
 
 -- the events, blank records behind them, and what is no record
-filled : (es : List EventRead) (r : ℕ) → length es ≤ r / 13
-    → rowWords (map recordRead es ++ replicate (r / 13 - length (map recordRead es)) blank) ++ replicate (r % 13) 0
-    ≡ eventWords es ++ replicate (r - 13 * length es) 0
+filled : (es : List EventRead) (r : ℕ) → length es ≤ r / 14
+    → rowWords (map recordRead es ++ replicate (r / 14 - length (map recordRead es)) blank) ++ replicate (r % 14) 0
+    ≡ eventWords es ++ replicate (r - 14 * length es) 0
 filled es r h =
     let n = length-map es recordRead in
-    let z : 13 * (r / 13 - length es) + r % 13 ≡ r - 13 * length es = omega arith in
-    rw (n, row-words es (replicate (r / 13 - length es) blank), blank-words (r / 13 - length es), append-assoc)
-    (ap (λ (q : List ℕ). eventWords es ++ q) (replicate-append-replicate {A = ℕ} (13 * (r / 13 - length es)) (r % 13) 0 ∙ ap (λ (k : ℕ). replicate k 0) z))
+    let z : 14 * (r / 14 - length es) + r % 14 ≡ r - 14 * length es = omega arith in
+    rw (n, row-words es (replicate (r / 14 - length es) blank), blank-words (r / 14 - length es), append-assoc)
+    (ap (λ (q : List ℕ). eventWords es ++ q) (replicate-append-replicate {A = ℕ} (14 * (r / 14 - length es)) (r % 14) 0 ∙ ap (λ (k : ℕ). replicate k 0) z))
 
-refused-words : (r k place : ℕ) (x : Result) → faulty k place ≡ endingOf 0 x → nothing (place * 32 + k) r tableWords 10 ≡ inWords r (outcome x (r / 13))
+refused-words : (r k place : ℕ) (x : Result) → faulty k place ≡ endingOf 0 x → nothing (place * 32 + k) r tableWords 10 ≡ inWords r (outcome x (r / 14))
 unfolding inWords
 refused-words r k place (accepted es m) e = let z : _≡_ {A = ℕ} 0 1 = cc in absurd (omega arith)
 refused-words r k place (refusal j p) e =
@@ -62,8 +62,8 @@ refused-words r k place (refusal j p) e =
     let z : 0 + (p * 32 + j) ≡ p * 32 + j = omega arith in
     rw (a, b, blank-all r, z)
 
-accepted-words : (r n : ℕ) (d : Counts) (w v : List ℕ) (x : Result) → ended n (vocabulary d w) ≡ endingOf 0 x → n ≤ r / 13 → Clean d w → v ≡ keptFrom (replicate r 0) 0 x
-    → leaving (n * 2 ^ 32) v w (listed d) ≡ inWords r (outcome x (r / 13))
+accepted-words : (r n : ℕ) (d : Counts) (w v : List ℕ) (x : Result) → ended n (vocabulary d w) ≡ endingOf 0 x → n ≤ r / 14 → Clean d w → v ≡ keptFrom (replicate r 0) 0 x
+    → leaving (n * 2 ^ 32) v w (listed d) ≡ inWords r (outcome x (r / 14))
 unfolding Clean inWords
 accepted-words r n d w v (refusal j p) e h g k = let z : _≡_ {A = ℕ} 0 1 = cc in absurd (omega arith)
 accepted-words r n d w v (accepted es m) e h g k = λ i. leaving (word i) (record-words i) (table-words i) (listed (counts i))
@@ -89,12 +89,12 @@ accepted-words r n d w v (accepted es m) e h g k = λ i. leaving (word i) (recor
     counts : d ≡ countsOf (m .state .tables)
     counts = sym (counts-are d w) ∙ ap countsOf known
 
-    record-words : v ≡ rowWords (map recordRead es ++ replicate (r / 13 - length (map recordRead es)) blank) ++ replicate (r % 13) 0
+    record-words : v ≡ rowWords (map recordRead es ++ replicate (r / 14 - length (map recordRead es)) blank) ++ replicate (r % 14) 0
     record-words =
         let l = event-length es in
-        let f : 13 * length es ≤ r = omega (arith, count₀) in
-        let y : 0 + length (eventWords es) ≡ 13 * length es = omega arith in
-        k ∙ sets-eq (eventWords es) (replicate r 0) 0 (rw (length-replicate {A = ℕ} r 0) (omega arith)) ∙ ap (λ (q : List ℕ). eventWords es ++ q) (rw y (drop-zeros r (13 * length es) f))
+        let f : 14 * length es ≤ r = omega (arith, count₀) in
+        let y : 0 + length (eventWords es) ≡ 14 * length es = omega arith in
+        k ∙ sets-eq (eventWords es) (replicate r 0) 0 (rw (length-replicate {A = ℕ} r 0) (omega arith)) ∙ ap (λ (q : List ℕ). eventWords es ++ q) (rw y (drop-zeros r (14 * length es) f))
         ∙ sym (filled es r (omega (arith, count₀)))
 
 -- ---- by cases
@@ -116,23 +116,23 @@ module _ (s : List ℕ) (r t c : ℕ) where
     ]
 
     module _ (a : t ≡ tableWords) (b : c ≡ 10) where
-      fields-first : inWords r (outcome (reading link s (r / 13)) (r / 13)) ≡ readWords link s r t c
+      fields-first : inWords r (outcome (reading link s (r / 14)) (r / 14)) ≡ readWords link s r t c
       unfolding readWords readOf
       fields-first = rw (← size, eq-eqb _ _ a, eq-eqb _ _ b)
 
       -- a run that came out as y
-      module _ {v : List ℕ} {y : Ended} {c′ w′ v′ : List ℕ} (p : Ran (r / 13) v y c′ w′ v′ (reading link s (r / 13))) where
+      module _ {v : List ℕ} {y : Ended} {c′ w′ v′ : List ℕ} (p : Ran (r / 14) v y c′ w′ v′ (reading link s (r / 14))) where
         pub words-refused : {k place : ℕ} → y ≡ Refused k place → {n : ℕ} → n ≡ answerNumber y → {v₀ w₀ c₀ : List ℕ} → v₀ ≡ replicate r 0 → w₀ ≡ replicate t 0 → c₀ ≡ replicate c 0 → leaving n v₀ w₀ c₀ ≡ readWords link s r t c
         words-refused {k} {place} q {n} e g h l =
-            let f : faulty k place ≡ endingOf 0 (reading link s (r / 13)) = rw q at (p .is) in
+            let f : faulty k place ≡ endingOf 0 (reading link s (r / 14)) = rw q at (p .is) in
             let m : n ≡ place * 32 + k = e ∙ ap answerNumber q in
-            (λ i. leaving (m i) (g i) (h i) (l i)) ∙ (λ i. leaving (place * 32 + k) (replicate r 0) (replicate (a i) 0) (replicate (b i) 0)) ∙ refused-words r k place (reading link s (r / 13)) f ∙ fields-first
+            (λ i. leaving (m i) (g i) (h i) (l i)) ∙ (λ i. leaving (place * 32 + k) (replicate r 0) (replicate (a i) 0) (replicate (b i) 0)) ∙ refused-words r k place (reading link s (r / 14)) f ∙ fields-first
 
         pub words-accepted : {n : ℕ} → y ≡ Accepted n → v ≡ replicate r 0 → leaving (n * 2 ^ 32 % 2 ^ 64) v′ w′ c′ ≡ readWords link s r t c
         words-accepted {n} q z =
-            let f : ended n (vocabulary (unlisted c′) w′) ≡ endingOf 0 (reading link s (r / 13)) = rw q at (p .is) in
-            let g : (n ≤ r / 13) × (length c′ ≡ 10) × Clean (unlisted c′) w′ = rw q at (p .settled) in
+            let f : ended n (vocabulary (unlisted c′) w′) ≡ endingOf 0 (reading link s (r / 14)) = rw q at (p .is) in
+            let g : (n ≤ r / 14) × (length c′ ≡ 10) × Clean (unlisted c′) w′ = rw q at (p .settled) in
             let h : n ≤ 32769 = rw q at (p .small) in
             let x : n * 2 ^ 32 % 2 ^ 64 ≡ n * 2 ^ 32 = omega arith in
-            let k : v′ ≡ keptFrom (replicate r 0) 0 (reading link s (r / 13)) = rw (q, z) at (p .keeps (rw (z, length-replicate {A = ℕ} r 0) (omega arith))) in
-            rw x (ap (leaving (n * 2 ^ 32) v′ w′) (sym (words-listed c′ (g .1))) ∙ accepted-words r n (unlisted c′) w′ v′ (reading link s (r / 13)) f (g .0) (g .2) k ∙ fields-first)
+            let k : v′ ≡ keptFrom (replicate r 0) 0 (reading link s (r / 14)) = rw (q, z) at (p .keeps (rw (z, length-replicate {A = ℕ} r 0) (omega arith))) in
+            rw x (ap (leaving (n * 2 ^ 32) v′ w′) (sym (words-listed c′ (g .1))) ∙ accepted-words r n (unlisted c′) w′ v′ (reading link s (r / 14)) f (g .0) (g .2) k ∙ fields-first)

@@ -34,7 +34,7 @@ pub record Underway (s v : Words) (room : ℕ) (from : Stand) (left n : ℕ) (st
   pub fits : n ≤ room
   pub fuel : n + left ≤ 2 * length s + 1
   pub ends : endingOf n (run link s left (room - n) (standOf st a)) ≡ endingOf 0 (whole s room from)
-  pub keeps : 13 * room ≤ length v → keptFrom (a .records) n (run link s left (room - n) (standOf st a)) ≡ keptFrom v 0 (whole s room from)
+  pub keeps : 14 * room ≤ length v → keptFrom (a .records) n (run link s left (room - n) (standOf st a)) ≡ keptFrom v 0 (whole s room from)
   pub same-length : length (a .records) ≡ length v
 
 -- ---- the lane
@@ -84,7 +84,7 @@ abbrev pub AddsChunk : Bool → (c t : Words) → (place size : ℕ) → Bool �
 AddsChunk true c t place size add c′ t′ = (k : ℕ) → (F.Got (Stretch Utf8 place size) (place + size) ≡ addedOf c 6 k Utf8 place size add) × (c′ ≡ addedCounts c 6 add) × (t′ ≡ addedWords c t 6 Utf8 place size add)
 AddsChunk false c t place size add c′ t′ = (c′ ≡ c) × (t′ ≡ t)
 
--- The chunk in row i is in record n, where there is one; or nothing has changed.
-abbrev pub KeepsChunk : Bool → (t : Words) (i : ℕ) (r : Words) (n : ℕ) (r′ : Words) → Type 0
-KeepsChunk true t i r n r′ = r′ ≡ kept r n (chunkRecord (eventStringAt t 6 (i + 1)))
-KeepsChunk false t i r n r′ = r′ ≡ r
+-- The chunk in row i, which stands at octet k, is in record n, where there is one; or nothing has changed.
+abbrev pub KeepsChunk : Bool → (t : Words) (i : ℕ) (r : Words) (n k : ℕ) (r′ : Words) → Type 0
+KeepsChunk true t i r n k r′ = r′ ≡ kept r n k (chunkRecord (eventStringAt t 6 (i + 1)))
+KeepsChunk false t i r n k r′ = r′ ≡ r

@@ -66,14 +66,14 @@ abbrev pub seenEnding : Ended → (c w : Words) → Ending
 seenEnding (Accepted n) c w = ended n (vocabulary (unlisted c) w)
 seenEnding (Refused k p) c w = faulty k p
 
--- ---- events in records of 13 words
+-- ---- events in records of 14 words
 unfoldable pub eventWords : List EventRead → Words
 eventWords [] = []
 eventWords (e ∷ es) = recordWords (recordRead e) ++ eventWords es
 
 -- Words with the events of a run from record n on. A refusal promises nothing of them.
 abbrev pub keptFrom : Words → ℕ → Result → Words
-keptFrom w n (accepted es m) = sets w (13 * n) (eventWords es)
+keptFrom w n (accepted es m) = sets w (14 * n) (eventWords es)
 keptFrom w n (refusal k p) = []
 
 abbrev pub Keeps : Ended → Words → Words → Type 0
@@ -101,4 +101,4 @@ pub record Ran (room : ℕ) (v : Words) (r : Ended) (c′ w′ v′ : Words) (x 
   pub is : seenEnding r c′ w′ ≡ endingOf 0 x
   pub small : Small r
   pub settled : Settled room r c′ w′
-  pub keeps : 13 * room ≤ length v → Keeps r v′ (keptFrom v 0 x)
+  pub keeps : 14 * room ≤ length v → Keeps r v′ (keptFrom v 0 x)

@@ -34,9 +34,9 @@ nothing k r t c = leaving k (replicate r 0) (replicate t 0) (replicate c 0)
 
 -- An outcome in r words for records, of which those behind the last whole record are 0.
 unfoldable pub inWords : (r : ℕ) → Outcome → WordsLeft
-inWords r o = leaving (answerWord (o .answer)) (rowWords (o .row) ++ replicate (r % 13) 0) (o .tables) (countWords (o .answer))
+inWords r o = leaving (answerWord (o .answer)) (rowWords (o .row) ++ replicate (r % 14) 0) (o .tables) (countWords (o .answer))
 
 -- With r, t and c words lent for records, tables and counts: SIZE (1), then the room of the counts, which are the tables' (14), both at place 0; then what
--- reading into r / 13 event records and t table words leaves.
+-- reading into r / 14 event records and t table words leaves.
 unfoldable pub readWords : Version → Octets → (r t c : ℕ) → WordsLeft
-readWords ver s r t c = pick (sized ver s) (pick (eqb c 10) (inWords r (readOf ver s (r / 13) t)) (nothing ROOM r t c)) (nothing SIZE r t c)
+readWords ver s r t c = pick (sized ver s) (pick (eqb c 10) (inWords r (readOf ver s (r / 14) t)) (nothing ROOM r t c)) (nothing SIZE r t c)

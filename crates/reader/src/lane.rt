@@ -75,10 +75,10 @@ fn row_at(s: &[u8], at: usize, b: u8, ones: u8) -> Named
     }
 }
 
-// The Start of the element whose name is in row i, where there is a record for it. Most names have a local name alone.
-fn keep_start(t: &[u32], records: &mut [u32], n: usize, i: u32)
-    requires { ⌜ NameThere (now t) 8 (i + 1) × (1 ≤ tripleAt (now t) (768 * 8 + 3 * (i + 1 - 1)) .local) ⌝ }
-    ensures { λ _. ⌜ now (records .exit) ≡ kept (now (records .entry)) n (namedRecord Start (nameStringsAt (now (t .entry)) 8 (i + 1)) Absent) ⌝ }
+// The Start at octet k of the element whose name is in row i, where there is a record for it. Most names have a local name alone.
+fn keep_start(t: &[u32], records: &mut [u32], n: usize, k: usize, i: u32)
+    requires { ⌜ (k < 0x1_0000_0000) × NameThere (now t) 8 (i + 1) × (1 ≤ tripleAt (now t) (768 * 8 + 3 * (i + 1 - 1)) .local) ⌝ }
+    ensures { λ _. ⌜ now (records .exit) ≡ kept (now (records .entry)) n k (namedRecord Start (nameStringsAt (now (t .entry)) 8 (i + 1)) Absent) ⌝ }
 {
     if !events::has_record(records, n) {
         return;
@@ -92,7 +92,7 @@ fn keep_start(t: &[u32], records: &mut [u32], n: usize, i: u32)
                 EventString::Absent,
                 EventString::Stretch(StringForm::Utf8, y.a, y.b),
             );
-            events::keep(records, n, e);
+            events::keep(records, n, k, e);
             return;
         }
     }
@@ -101,13 +101,13 @@ fn keep_start(t: &[u32], records: &mut [u32], n: usize, i: u32)
     let namespace = z.namespace;
     let local = z.local;
     let e = events::start(prefix, namespace, local);
-    events::keep(records, n, e);
+    events::keep(records, n, k, e);
 }
 
-// The chunk in row i, where there is a record for it; false leaves one that is not in utf-8 to the step.
-fn keep_chunk(t: &[u32], records: &mut [u32], n: usize, i: u32) -> bool
-    requires { ⌜ (length (now t) ≡ tableWords) × (i < 256) ⌝ }
-    ensures { λ r. ⌜ KeepsChunk r (now (t .entry)) i (now (records .entry)) n (now (records .exit)) ⌝ }
+// The chunk at octet k that is in row i, where there is a record for it; false leaves one that is not in utf-8 to the step.
+fn keep_chunk(t: &[u32], records: &mut [u32], n: usize, k: usize, i: u32) -> bool
+    requires { ⌜ (k < 0x1_0000_0000) × (length (now t) ≡ tableWords) × (i < 256) ⌝ }
+    ensures { λ r. ⌜ KeepsChunk r (now (t .entry)) i (now (records .entry)) n k (now (records .exit)) ⌝ }
 {
     if !events::has_record(records, n) {
         return true;
@@ -120,7 +120,7 @@ fn keep_chunk(t: &[u32], records: &mut [u32], n: usize, i: u32) -> bool
         return false;
     }
     let e = events::chunk(EventString::Stretch(StringForm::Utf8, x.a, x.b));
-    events::keep(records, n, e);
+    events::keep(records, n, k, e);
     true
 }
 
@@ -136,7 +136,7 @@ fn element(s: &[u8], t: &[u32], counts: &[u32], records: &mut [u32], lane: Lane,
     if State::LEVELS <= lane.level {
         return lane;
     }
-    keep_start(t, records, lane.n, x.row);
+    keep_start(t, records, lane.n, lane.at, x.row);
     Lane {
         at: x.next,
         level: lane.level + 1,
@@ -153,7 +153,7 @@ fn chunk(s: &[u8], t: &[u32], counts: &[u32], records: &mut [u32], lane: Lane, o
     if counts[CONTENT_CHARACTER_CHUNK] <= x.row {
         return lane;
     }
-    if !keep_chunk(t, records, lane.n, x.row) {
+    if !keep_chunk(t, records, lane.n, lane.at, x.row) {
         return lane;
     }
     Lane {
@@ -176,7 +176,7 @@ fn end(s: &[u8], t: &[u32], counts: &[u32], records: &mut [u32], lane: Lane) -> 
         return lane;
     }
     let e = events::end();
-    events::keep(records, lane.n, e);
+    events::keep(records, lane.n, lane.at, e);
     Lane {
         at: next,
         level: lane.level - 1,
@@ -246,7 +246,7 @@ fn spelled(
         return lane;
     }
     let e = events::chunk(EventString::Stretch(StringForm::Utf8, place as u32, size as u32));
-    events::keep(records, lane.n, e);
+    events::keep(records, lane.n, lane.at, e);
     Lane {
         at: place + size,
         level: lane.level,

@@ -162,15 +162,15 @@ pub fn entry(t: &[u32], table: usize, i: u32) -> Row
     }
 }
 
-// One entry more behind a table's n. Its words are stored from the last one back: in this order the compiler keeps a chunk's place in a register of the reader's lane.
+// One entry more behind a table's n.
 pub fn add(t: &mut [u32], table: usize, n: u32, a: u32, b: u32, c: u32)
     requires { ⌜ (length (now t) ≡ tableWords) × (table < 10) × (n < 256) ⌝ }
     ensures { λ _. ⌜ now (t .exit) ≡ stored (now (t .entry)) table n a b c ⌝ }
 {
     let j = at(table, n);
-    t[j + 2] = c;
-    t[j + 1] = b;
     t[j] = a;
+    t[j + 1] = b;
+    t[j + 2] = c;
 }
 
 // Every word is 0.

@@ -98,43 +98,43 @@ module _ (ver : Version) (ok : Bounded ver) (s : Octets) (bytes : AreOctets s) w
   -- 15. READ INTO WORDS: what is accepted is left as the words of what `read` leaves; so the rules write s from the events in these words (13).
   module _ (r t : ℕ) where
     abbrev left : Outcome
-    left = readOf ver s (r / 13) t
+    left = readOf ver s (r / 14) t
 
-    from-refusal : (a : Result) → Whole.Means ver ok s bytes a → (k p : ℕ) → outcome a (r / 13) .answer ≡ Refused k p → (1 ≤ k) × (k ≤ 15)
+    from-refusal : (a : Result) → Whole.Means ver ok s bytes a → (k p : ℕ) → outcome a (r / 14) .answer ≡ Refused k p → (1 ≤ k) × (k ≤ 15)
     from-refusal (accepted es m) w k p e = absurd (let z : _≡_ {A = ℕ} 0 1 = cc in omega arith)
     from-refusal (refusal n place) w k p e =
         let ek : n ≡ k = cc in
         omega arith
 
     refused-small : (b d : Bool) (k p : ℕ)
-        → pick b (pick d (outcome (reading ver s (r / 13)) (r / 13)) (refusing 14 0 (r / 13) t)) (refusing 1 0 (r / 13) t) .answer ≡ Refused k p → (1 ≤ k) × (k ≤ 15)
-    refused-small true true k p e = from-refusal (reading ver s (r / 13)) (Whole.means ver ok s bytes (r / 13)) k p e
+        → pick b (pick d (outcome (reading ver s (r / 14)) (r / 14)) (refusing 14 0 (r / 14) t)) (refusing 1 0 (r / 14) t) .answer ≡ Refused k p → (1 ≤ k) × (k ≤ 15)
+    refused-small true true k p e = from-refusal (reading ver s (r / 14)) (Whole.means ver ok s bytes (r / 14)) k p e
     refused-small true false k p e = let ek : 14 ≡ k = cc in omega arith
     refused-small false d k p e = let ek : 1 ≡ k = cc in omega arith
 
-    by-answer : (n : ℕ) (a : Answer) → left .answer ≡ a → answerWord a ≡ n * 2 ^ 32 → Handed ver s (r / 13) left
+    by-answer : (n : ℕ) (a : Answer) → left .answer ≡ a → answerWord a ≡ n * 2 ^ 32 → Handed ver s (r / 14) left
     unfolding readOf
-    by-answer n (Accepted m c) e q = read-accepts (r / 13) t m c e
+    by-answer n (Accepted m c) e q = read-accepts (r / 14) t m c e
     by-answer n (Refused k p) e q = let f = refused-small (sized ver s) (eqb t tableWords) k p e in absurd (omega arith)
 
     by-words : (c n : ℕ) (b d : Bool) → pick b (pick d (inWords r left) (nothing 14 r t c)) (nothing 1 r t c) .answer ≡ n * 2 ^ 32
-        → Handed ver s (r / 13) left × (pick b (pick d (inWords r left) (nothing 14 r t c)) (nothing 1 r t c) ≡ inWords r left)
+        → Handed ver s (r / 14) left × (pick b (pick d (inWords r left) (nothing 14 r t c)) (nothing 1 r t c) ≡ inWords r left)
     unfolding inWords
     by-words c n true true e = (by-answer n (left .answer) refl e, refl)
     by-words c n true false e = absurd (omega arith)
     by-words c n false d e = absurd (omega arith)
 
-    pub words-accept : (c n : ℕ) → readWords ver s r t c .answer ≡ n * 2 ^ 32 → Handed ver s (r / 13) left × (readWords ver s r t c ≡ inWords r left)
+    pub words-accept : (c n : ℕ) → readWords ver s r t c .answer ≡ n * 2 ^ 32 → Handed ver s (r / 14) left × (readWords ver s r t c ≡ inWords r left)
     unfolding readWords
     words-accept c n e = by-words c n (sized ver s) (eqb c 10) e
 
   --     And all that the rules write is, if there are words for each event and the tables' room is right.
-  pub written-is-worded : (h : Head) (items : List (Item Octets)) (z : State Octets) → Document ver h items z s → (r : ℕ) → length items ≤ r / 13
-      → Handed ver s (r / 13) (readOf ver s (r / 13) tableWords) × (readWords ver s r tableWords 10 ≡ inWords r (readOf ver s (r / 13) tableWords))
+  pub written-is-worded : (h : Head) (items : List (Item Octets)) (z : State Octets) → Document ver h items z s → (r : ℕ) → length items ≤ r / 14
+      → Handed ver s (r / 14) (readOf ver s (r / 14) tableWords) × (readWords ver s r tableWords 10 ≡ inWords r (readOf ver s (r / 14) tableWords))
   unfolding readWords
   written-is-worded h items z w r few =
-      let a = Whole.accepts ver s h items z w (r / 13) few in
-      (written-is-read (r / 13) h items z w few .0, rw (accepted-sized ver s (r / 13) (a .events) (a .last) (a .reads)))
+      let a = Whole.accepts ver s h items z w (r / 14) few in
+      (written-is-read (r / 14) h items z w few .0, rw (accepted-sized ver s (r / 14) (a .events) (a .last) (a .reads)))
 
 -- 16. DEMAND 1: what a call answers and leaves depends on the octets, and on how much room is lent, but not on what stood in it: e and t before one call, f and u
 --     before another.

@@ -55,7 +55,7 @@ module _ (ver : Version) (ok : Bounded ver) (s : Octets) (bytes : AreOctets s) w
 
   -- in words
   module _ (r t : ℕ) where
-    read-words : (o : Read.Outcome) (w : ReadWords.WordsLeft) → InReadWords r o w → ReadAnswers s (r / 13) t o → ReadWordsAnswer s r t 10 w
+    read-words : (o : Read.Outcome) (w : ReadWords.WordsLeft) → InReadWords r o w → ReadAnswers s (r / 14) t o → ReadWordsAnswer s r t 10 w
     read-words o w i (ReadAnswers.accepts n p) = ReadWordsAnswer.accepts (omega arith)
     read-words o w i (ReadAnswers.refuses {n} {p} k h told row tables) =
         let q = i .answer ∙ ap wholeWord told in
@@ -64,7 +64,7 @@ module _ (ver : Version) (ok : Bounded ver) (s : Octets) (bytes : AreOctets s) w
     pub read-words-answer : (c : ℕ) → ReadWordsAnswer s r t c (ReadWords.readWords ver s r t c)
     read-words-answer c =
         elim (ℕ-discrete c 10) [
-          | yes h ↦ rw h (read-words (Read.readOf ver s (r / 13) t) _ (read-worded ver s r t 10 refl) (read-answers (r / 13) t))
+          | yes h ↦ rw h (read-words (Read.readOf ver s (r / 14) t) _ (read-worded ver s r t 10 refl) (read-answers (r / 14) t))
           | no h ↦
               read-zeros ver s r t c h (ReadWordsAnswer s r t c)
               (ReadWordsAnswer.refuses {n = 1} {p = 0} (omega arith) (omega arith) refl refl refl refl)

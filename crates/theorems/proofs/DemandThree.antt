@@ -18,7 +18,7 @@ use Rattle.format.specs.Uses.{Holds}
 use Rattle.tables.specs.Located.{Located, empty, plain, plainState, start}
 use Rattle.tables.specs.Counts.{tableWords}
 use Rattle.tables.specs.Told.{toldAccepted, entriesOf}
-use Rattle.events.specs.Records.{blank}
+use Rattle.events.specs.Records.{blank, recordOf}
 use Rattle.reader.specs.Reading.{EventRead, itemsRead, recordRead, Result, accepted, refusal, sized, reading, refusing, outcome, readOf, Accepts}
 use Rattle.theorems.specs.Bounded.{Bounded}
 use Rattle.theorems.specs.Demands.{HandsOut, ReadsExactly}
@@ -26,8 +26,9 @@ use Rattle.theorems.proofs.Words.{entries-map}
 use Rattle.theorems.proofs.Heads.{opened-named, named-ranged, named-listed, begins, holds-begins}
 use Rattle.theorems.proofs.ReadRecords.{named-there}
 use Rattle.theorems.proofs.Document as Whole
+use Rattle.theorems.proofs.EventPlaces as Placed
 use Rattle.theorems.proofs.Fits.{accepted-fits, accepted-sized}
-use Rattle.theorems.proofs.Demands.{accepted-is-written, one-pair, refused, places-are, records-well-made, listed-places, made-earlier-places, spelled-places, tables-made-places}
+use Rattle.theorems.proofs.Demands.{accepted-is-written, one-pair, refused, standing-places, records-well-made, listed-places, made-earlier-places, spelled-places, tables-made-places}
 
 module _ (ver : Version) (s : Octets) (room table : ℕ) where
   pub accepts : (h : Head) (items : List (Item Octets)) (z : State Octets) (w : Document ver h items z s) → length items ≤ room → table ≡ tableWords
@@ -41,18 +42,20 @@ module _ (ver : Version) (s : Octets) (room table : ℕ) where
       let held : Holds (o .tables) names = holds-begins empty (o .tables) (named-ranged named) in
       let known : plainState s (a .last .state) ≡ z = a .end-is in
       let is : length (a .events) ≡ length items = sym (length-map (itemsRead (a .events)) (plain s) ∙ length-map (a .events) (λ (e : EventRead). e .item)) ∙ ap length (a .are) in
+      let placed = standing-places ver h items z s w room few (a .events) (a .last) (a .reads) in
       let as-many : length (map recordRead (a .events)) ≡ length items = length-map (a .events) recordRead ∙ is in
       rw (accepted-sized ver s room (a .events) (a .last) (a .reads), eq-eqb table tableWords right, a .reads)
       (record {
-        events = a .events;
+        events = itemsRead (a .events);
         tables = a .last .state .tables;
         answer = λ i. toldAccepted (as-many i) ((sym (entries-map _ (a .last .state .tables)) ∙ ap (λ (u : State Octets). entriesOf (u .tables)) known) i);
-        row = ap (λ (n : ℕ). map recordRead (a .events) ++ replicate (room - n) blank) as-many;
-        places = places-are ver s room (a .events) (a .last) (a .reads);
+        row = Placed.row-events (a .events) (room - length (map recordRead (a .events))) ∙ ap (λ (n : ℕ). map (λ (i : Item Located). recordOf (i .event)) (itemsRead (a .events)) ++ replicate (room - n) blank) as-many;
+        places = Placed.row-places (a .events) (room - length (map recordRead (a .events))) ∙ (λ i. placed i ++ replicate (room - as-many i) 0);
+        event-places = Placed.event-places ver s h items z w room (a .events) (a .last) (a .reads) (a .are) placed (room - length (map recordRead (a .events)));
         table-words = refl;
         events-are = a .are;
         tables-are = ap (λ (u : State Octets). u .tables) known;
-        well-made = records-well-made ver h items z s w room (a .events) (a .last) (a .reads);
+        well-made = rw (Placed.row-front (map recordRead (a .events)) (replicate (room - length (map recordRead (a .events))) blank) (length items) as-many) (records-well-made ver h items z s w room (a .events) (a .last) (a .reads));
         spelled = spelled-places ver h items z s w room few (a .events) (a .last) (a .reads);
         head = o .head;
         begins = names;

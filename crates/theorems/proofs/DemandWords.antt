@@ -52,27 +52,28 @@ module _ (ver : Version) (ok : Bounded ver) (s : Octets) (bytes : AreOctets s) w
 
   module _ (r t : ℕ) where
     -- the number is in the low bits, so they tell whether it is 0
-    row-accepted : (o : Read.Outcome) → ReadAnswers s (r / 13) t o → wholeWord (o .told) % 2 ^ 32 ≡ 0 → o .told .number ≡ 0
+    row-accepted : (o : Read.Outcome) → ReadAnswers s (r / 14) t o → wholeWord (o .told) % 2 ^ 32 ≡ 0 → o .told .number ≡ 0
     row-accepted o (ReadAnswers.accepts n p) h = n
     row-accepted o (ReadAnswers.refuses k l told row tables) h = let e = ap wholeWord told in absurd (omega arith)
 
     read-words-accepted : (c : ℕ) → ReadWords.readWords ver s r t c .answer % 2 ^ 32 ≡ 0 → (c ≡ 10) × (rows-read ver s r t .told .number ≡ 0)
     read-words-accepted c e =
         elim (ℕ-discrete c 10) [
-          | yes h ↦ (h, row-accepted (rows-read ver s r t) (read-answers ver ok s bytes (r / 13) t) (let w = read-worded ver s r t c h in rw (w .answer) at e))
+          | yes h ↦ (h, row-accepted (rows-read ver s r t) (read-answers ver ok s bytes (r / 14) t) (let w = read-worded ver s r t c h in rw (w .answer) at e))
           | no h ↦ absurd (read-zeros ver s r t c h (λ w. w .answer % 2 ^ 32 ≡ 0 → ⊥) (λ z. omega arith) (λ z. omega arith) e)
         ]
 
     read-words-only : (c : ℕ) → ReadWords.readWords ver s r t c .answer % 2 ^ 32 ≡ 0
-        → (h : Head) × (items : List (Item Octets)) × (z : State Octets) × Document ver h items z s × (length items ≤ r / 13) × (t ≡ tableWords) × (c ≡ 10)
-    read-words-only c e = let a = read-words-accepted c e in let b = read-exactly ver ok s bytes (r / 13) t .only (a .1) in (b .0, b .1, b .2, b .3, b .4, b .5, a .0)
+        → (h : Head) × (items : List (Item Octets)) × (z : State Octets) × Document ver h items z s × (length items ≤ r / 14) × (t ≡ tableWords) × (c ≡ 10)
+    read-words-only c e = let a = read-words-accepted c e in let b = read-exactly ver ok s bytes (r / 14) t .only (a .1) in (b .0, b .1, b .2, b .3, b .4, b .5, a .0)
 
     -- DEMAND 3 of `lomphachit_read`
     pub read-words-exactly : (c : ℕ) → ReadsExactlyInWords ver s r t c (ReadWords.readWords ver s r t c)
     read-words-exactly c =
         record {
-          accepts = λ head items z w l m h. (rows-read ver s r t, read-exactly ver ok s bytes (r / 13) t .accepts head items z w l m, read-worded ver s r t c h);
+          accepts = λ head items z w l m h. (rows-read ver s r t, read-exactly ver ok s bytes (r / 14) t .accepts head items z w l m, read-worded ver s r t c h);
           only = read-words-only c;
+          as-row = read-worded ver s r t c;
         }
 
 -- ---- writing

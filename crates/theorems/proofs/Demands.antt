@@ -22,7 +22,7 @@ use Rattle.tables.specs.Located.{Located, plain, plainTables, plainState}
 use Rattle.read_items.specs.Items.{Stand}
 use Rattle.reader.specs.Reading.{EventRead, itemsRead, recordRead, accepted, refusal, Mark, run, onward, opening, origin, fuelOf, reading, marks, numberOf, checkOf, Accepts}
 use Rattle.events.specs.declared.Event.{Event}
-use Rattle.events.specs.Records.{recordOf}
+use Rattle.events.specs.Records.{recordOf, unplaced}
 use Rattle.events.specs.WellMade.{WellMade}
 use Rattle.write_head.specs.Given.{Given}
 use Rattle.write_head.specs.Head.{tablesOf, headOctets}
@@ -30,7 +30,7 @@ use Rattle.write_items.specs.Steps.{joined}
 use Rattle.writer.specs.Writing.{written, writing, knownWriting}
 use Rattle.theorems.specs.Bounded.{Bounded}
 use Rattle.theorems.specs.Heads.{headed, HeadAllowed}
-use Rattle.theorems.specs.Places.{allSpelled, spelledIn}
+use Rattle.theorems.specs.Places.{allSpelled, spelledIn, placesIn}
 use Rattle.theorems.specs.Verdicts.{headOf, WrittenAs, WrittenUnlessLong, WrittenWidely, OrPasses}
 use Rattle.theorems.specs.Demands.{Wrote}
 use Rattle.theorems.specs.Permitted.{PermitsAll}
@@ -124,6 +124,11 @@ tables-made ver h items z s w begins a = Before.made (subst (λ (v : Vocabulary 
 pub spelled-places : (ver : Version) (h : Head) (items : List (Item Octets)) (z : State Octets) (s : Octets) (w : Document ver h items z s) (room : ℕ) → length items ≤ room
     → (events : List EventRead) (last : Stand) → reading ver s room ≡ accepted events last → allSpelled (itemsRead events) ≡ spelledIn (w .rule)
 spelled-places ver h items z s w room few events last e = Whole.spelled-is ver s h items z w room few events last e
+
+--    STANDING: the events that are handed out have, in order, the very places at which the rules write them.
+pub standing-places : (ver : Version) (h : Head) (items : List (Item Octets)) (z : State Octets) (s : Octets) (w : Document ver h items z s) (room : ℕ) → length items ≤ room
+    → (events : List EventRead) (last : Stand) → reading ver s room ≡ accepted events last → map (λ (e : EventRead). e .place) events ≡ placesIn (w .rule)
+standing-places ver h items z s w room few events last e = Whole.placed-is ver s h items z w room few events last e
 
 -- 5. TABLES: what the reader knows after each event is what the rules know then.
 pub tables : (ver : Version) (h : Head) (items : List (Item Octets)) (z : State Octets) (s : Octets) (w : Document ver h items z s)
@@ -235,8 +240,8 @@ module _ (ver : Version) (text : Octets) (room : ℕ) (g : Given) (es : List Eve
   abbrev pub document : Octets
   document = headOctets ver text g ++ joined hs
 
-  -- 11. GIVEN: the events that were written are, as records, the very list that was given.
-  pub the-events-given : map (λ (i : Item Located). recordOf (i .event)) items ≡ es
+  -- 11. GIVEN: the events that were written are, as records, the very list that was given, but for the places.
+  pub the-events-given : map (λ (i : Item Located). recordOf (i .event)) items ≡ map unplaced es
   the-events-given = given-back ver text room g es items hs z e
 
   module _ (ok : Bounded ver) (short : length text ≤ ver .octets) where
@@ -264,7 +269,7 @@ module _ (ver : Version) (text : Octets) (room : ℕ) (g : Given) (es : List Eve
 
     --     There are tables for each event.
     pub tables-for-each : length (knownWriting ver g text room es) ≡ length es
-    tables-for-each = Made.each-known ver ok text short room g es items hs z e ∙ sym (length-map items (λ (i : Item Located). recordOf (i .event))) ∙ ap length the-events-given
+    tables-for-each = Made.each-known ver ok text short room g es items hs z e ∙ sym (length-map items (λ (i : Item Located). recordOf (i .event))) ∙ ap length the-events-given ∙ length-map es unplaced
 
 --     The tables, of what was written as the octets s.
 pub wrote-same-tables : (ver : Version) (ok : Bounded ver) (g : Given) (es : List Event) (text : Octets) (room : ℕ) (s : Octets) (z : State Octets) → length text ≤ ver .octets → Wrote ver g es text room s z

@@ -15,7 +15,7 @@ use Rattle.tables.specs.Located.{Located, listedAs, plain, plainTables, plainSt
 use Rattle.read_items.specs.Items.{Stand}
 use Rattle.reader.specs.Reading.{EventRead, itemsRead, Result, accepted, refusal, Mark, run, Opening, onward, halt, opening, origin, fuelOf, resultFrom, reading, marksFrom, marks, numberOf, Accepts}
 use Rattle.theorems.specs.Bounded.{Bounded}
-use Rattle.theorems.specs.Places.{allSpelled, spelledIn}
+use Rattle.theorems.specs.Places.{allSpelled, spelledIn, placesIn}
 use Rattle.theorems.proofs.Lists.{Refusal, halves-append, halves-length, halves-drop, halves-complete, drop-past}
 use Rattle.theorems.proofs.Run.{Inside, Right, run-right, fuel-free, NotShort, run-not-short, trace-few, placesOf, AtMarks, ByRoom, by-room, Reads, run-complete}
 use Rattle.theorems.proofs.Heads.{opened-ranged}
@@ -115,7 +115,7 @@ module _ (ver : Version) (s : Octets) where
     pub opens : OpensAt ver s (w .opens)
     opens = opening-complete ver s (w .opens) (drop from s) whole (w .short)
 
-    reads-all : (room : ℕ) → length items ≤ room → Reads ver s (fuelOf s) room (origin from (opens .tables)) items z (knownAfter ver (w .rule)) (spelledIn (w .rule))
+    reads-all : (room : ℕ) → length items ≤ room → Reads ver s (fuelOf s) room (origin from (opens .tables)) items z (knownAfter ver (w .rule)) (spelledIn (w .rule)) (placesIn (w .rule))
     unfolding beginning
     reads-all room h =
         let lead = halves-length (w .before) in
@@ -140,6 +140,15 @@ module _ (ver : Version) (s : Octets) where
         let both : accepted (a .events) (a .last) ≡ accepted events last = sym (a .reads) ∙ e in
         let same : events ≡ a .events = cc in
         ap (λ (l : List EventRead). allSpelled (itemsRead l)) same ∙ reads-all room h .spells
+
+    -- and the events stand where the rules write them
+    pub placed-is : (room : ℕ) → length items ≤ room → (events : List EventRead) (last : Stand) → reading ver s room ≡ accepted events last → map (λ (e : EventRead). e .place) events ≡ placesIn (w .rule)
+    unfolding accepts
+    placed-is room h events last e =
+        let a = accepts room h in
+        let both : accepted (a .events) (a .last) ≡ accepted events last = sym (a .reads) ∙ e in
+        let same : events ≡ a .events = cc in
+        ap (map (λ (e : EventRead). e .place)) same ∙ reads-all room h .places
 
     pub known-is : map (λ (k : Mark). plainState s (k .stand .state)) (marks ver s) ≡ knownAfter ver (w .rule)
     unfolding marks

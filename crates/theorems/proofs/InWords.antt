@@ -1,6 +1,6 @@
 -- The words that `lomphachit_read` and `lomphachit_write` leave are those of what the row calls answer and leave, if 10 words are lent for the counts; if not, all are
 -- 0, and the answer is a refusal (1 or 14) at place 0.
-use Prim.Native.Nat.{ℕ, _/_, _≤_, _<_}
+use Prim.Native.Nat.{ℕ, _/_, _%_, _≤_, _<_}
 use mathlib.Core.Path.{_≡_, refl, sym, ap, subst}
 use mathlib.Core.Bool.{Bool, true, false}
 use borrow.Author.Tests.{eq-eqb, ne-eqb, leb-true, leb-false}
@@ -12,7 +12,7 @@ use Rattle.tables.specs.Counts.{tableWords}
 use Rattle.tables.specs.Told.{Told, toldAccepted, wholeWord}
 use Rattle.tables.proofs.Laws.{entries-are}
 use Rattle.events.specs.FromWords.{recordsOf}
-use Rattle.events.proofs.BlankWords.{blank-all}
+use Rattle.events.proofs.BlankWords.{blank-all, row-place}
 use Rattle.reader.specs.Reading as Read
 use Rattle.reader.specs.Words as ReadWords
 use Rattle.write_head.specs.Given.{givenOf}
@@ -26,10 +26,10 @@ use Rattle.theorems.proofs.Asked.{by-asked}
 -- ---- reading
 module _ (ver : Version) (s : Octets) (r t : ℕ) where
   abbrev pub rows-read : Read.Outcome
-  rows-read = Read.readOf ver s (r / 13) t
+  rows-read = Read.readOf ver s (r / 14) t
 
   -- the enum says what the requirements' numbers say
-  read-result : (a : Read.Result) → Read.told (Read.outcome a (r / 13) .answer) ≡ Read.outcome a (r / 13) .told
+  read-result : (a : Read.Result) → Read.told (Read.outcome a (r / 14) .answer) ≡ Read.outcome a (r / 14) .told
   read-result (Read.accepted is m) = ap (toldAccepted _) (sym (entries-are (m .state .tables)))
   read-result (Read.refusal n p) = refl
 
@@ -37,11 +37,11 @@ module _ (ver : Version) (s : Octets) (r t : ℕ) where
   unfolding Read.readOf
   read-told =
       let P : Read.Outcome → Type 0 = λ o. Read.told (o .answer) ≡ o .told in
-      either P (Read.sized ver s) _ _ (λ y. either P (eqb t tableWords) _ _ (λ e. read-result (Read.reading ver s (r / 13))) (λ n. refl)) (λ n. refl)
+      either P (Read.sized ver s) _ _ (λ y. either P (eqb t tableWords) _ _ (λ e. read-result (Read.reading ver s (r / 14))) (λ n. refl)) (λ n. refl)
 
   pub in-read-words : InReadWords r rows-read (ReadWords.inWords r rows-read)
   unfolding ReadWords.inWords
-  in-read-words = record { answer = ap wholeWord read-told; records = refl; tables = refl; counts = ap (λ (u : Told). u .counts) read-told }
+  in-read-words = record { answer = ap wholeWord read-told; records = refl; places = row-place (rows-read .row) (r % 14); tables = refl; counts = ap (λ (u : Told). u .counts) read-told }
 
   module _ (c : ℕ) where
     read-sized : c ≡ 10 → (b : Bool) → Read.sized ver s ≡ b → ReadWords.inWords r rows-read ≡ ReadWords.readWords ver s r t c

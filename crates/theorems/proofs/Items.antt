@@ -27,7 +27,7 @@ use Rattle.read_names.specs.Strings.{Got, idAt, literalAt, valueAt}
 use Rattle.read_names.specs.Names.{NameRead, lonePrefix, partsAt, numberedAt, nameAt, declaredAt}
 use Rattle.read_items.specs.Items.{Stand, Step, more, quiet, done, stop, octet, namePadding, startOf, namespaceAt, elementAt, namedAt, attributeAt, chunkAt, commentAt, instructionAt, otherAt, childAt, declaringAt, itemAt}
 use Rattle.read_items.specs.Steps.{byHalves}
-use Rattle.theorems.specs.Places.{itemSpelled, inItem}
+use Rattle.theorems.specs.Places.{itemSpelled, inItem, eventAt}
 use Rattle.theorems.proofs.Lists.{Fault, fault, test, test-lt, test-not, either-lt, either-eq, drop-head, drop-past, pick-yes, pick-no}
 use Rattle.theorems.proofs.Fields.{FieldRead, Ok, in-step, Hit}
 use Rattle.theorems.proofs.Strings.{shape15, inside, IdR, id-sound, LiteralR, literal-sound, ValueR, value-sound, id-complete, literal-complete, value-complete}
@@ -245,9 +245,8 @@ module _ (ver : Version) (s : Octets) (bytes : (i : ℕ) → getD s i 0 < 256) (
 
 -- ---- what the rules write is read
 module _ (ver : Version) (s : Octets) where
-  -- p is where its strings are spelled
-  pub record ItemHit (k : ℕ) (v : State Located) (i : Item Octets) (o : Octets) (w : State Octets) (p : List Located) : Type 0 where
-    pub place : ℕ
+  -- p is where its strings are spelled, place where its event stands
+  pub record ItemHit (k : ℕ) (v : State Located) (i : Item Octets) (o : Octets) (w : State Octets) (p : List Located) (place : ℕ) : Type 0 where
     pub found : Item Located
     pub n : State Located
     pub goes : itemAt ver s k v (v .mode) ≡ more place found (octet (k + length o) n)
@@ -360,11 +359,10 @@ module _ (ver : Version) (s : Octets) where
   -- a Start or a declaration, found from octet j on, in an item that starts at k
   module _ (k j : ℕ) (v : State Located) (o os : Octets) (z : j + length os ≡ k + length o) (some : 0 < length o) (here : k < length s) (first : byHalves (v .mode) ≡ true → getD s k 0 < 0xF0) (a : Bool) where
     start-item : {x : Name Octets} {h : NameHow} {w : Vocabulary Octets} {p : List Located} {t : Step} → StartHit a j v x h os w p t → itemAt ver s k v (v .mode) ≡ t
-        → ItemHit k v (Start x by forStart h) o (opened (plainState s v) w a) p
+        → ItemHit k v (Start x by forStart h) o (opened (plainState s v) w a) p j
     unfolding eventMap
     start-item t e =
         record {
-          place = j;
           found = Start (t .name .name) by forStart (t .name .how);
           n = opened v (t .tables) a;
           goes = rw (← z) (e ∙ t .goes);
@@ -377,11 +375,10 @@ module _ (ver : Version) (s : Octets) where
         }
 
     namespace-item : {p n : Option Octets} {hp hn : Option How} {w : Vocabulary Octets} {l : List Located} → Hit s (DeclaredQ ver s p n hp hn l) (j + length os) w (declaredAt ver s j (v .tables))
-        → itemAt ver s k v (v .mode) ≡ namespaceAt ver s j v a → ItemHit k v (Namespace p n by forNamespace hp hn) o (moved (plainState s v) w (declaring a)) l
+        → itemAt ver s k v (v .mode) ≡ namespaceAt ver s j v a → ItemHit k v (Namespace p n by forNamespace hp hn) o (moved (plainState s v) w (declaring a)) l j
     unfolding namespaceAt eventMap
     namespace-item h e =
         record {
-          place = j;
           found = Namespace (h .b .prefix) (h .b .namespace) by forNamespace (h .b .prefixHow) (h .b .namespaceHow);
           n = moved v (h .v) (declaring a);
           goes = rw (← z) (e ∙ rw (h .goes));
@@ -393,7 +390,7 @@ module _ (ver : Version) (s : Octets) where
           first = first;
         }
 
-  pub item-complete : (k : ℕ) (v : State Located) {i : Item Octets} {o : Octets} {w : State Octets} (rest : Octets) (u : ItemWrittenAs ver (plainState s v) i o w) → drop k s ≡ o ++ rest → ItemHit k v i o w (inItem k u)
+  pub item-complete : (k : ℕ) (v : State Located) {i : Item Octets} {o : Octets} {w : State Octets} (rest : Octets) (u : ItemWrittenAs ver (plainState s v) i o w) → drop k s ≡ o ++ rest → ItemHit k v i o w (inItem k u) (eventAt k u)
   unfolding itemAt declaringAt namespaceAt elementAt attributeAt chunkAt commentAt instructionAt eventMap mayStart ofElement ofAttribute
   item-complete k v rest (o-start a {o = os} md may deep u) d =
       let c = name-complete ver s ofElement element-shape (bit a) (64 * bit a) k (omega arith) (v .tables) rest u d in
@@ -425,7 +422,6 @@ module _ (ver : Version) (s : Octets) where
       let la = length-append o1 o2 in
       let z : k + length o1 + length o2 ≡ k + length (o1 ++ o2) = omega arith in
       record {
-        place = k;
         found = Attribute (h .b .name) (e .b .string) by forAttribute (h .b .how) (e .b .how);
         n = moved v (e .v) (listing true);
         goes = ap (λ (y : Mode). itemAt ver s k v y) md ∙ rw (lt-ltb k (length s) (c .2), lt-ltb (getD s k 0) 0x80 (omega arith), lt-ltb (getD s k 0) 0x7C hi, h .goes, e .goes, z);
@@ -440,7 +436,6 @@ module _ (ver : Version) (s : Octets) where
       let c = literal-complete ver s c15 shape15 CONTENT-CHARACTER-CHUNK k (v .tables) rest u d in
       let h = c .hit in
       record {
-        place = k;
         found = Text (h .b .string) by forText (h .b .how);
         n = knowing v (h .v);
         goes = ap (λ (y : Mode). itemAt ver s k v y) md ∙ chunk-goes k v lev (c .low) (c .last) (c .here) ∙ rw (h .goes);
@@ -457,7 +452,6 @@ module _ (ver : Version) (s : Octets) where
       let z : suc k + length os ≡ k + suc (length os) = omega arith in
       let oc = f .1 in
       record {
-        place = k;
         found = Comment (h .b .string) by forComment (h .b .how);
         n = knowing v (h .v);
         goes = ap (λ (y : Mode). itemAt ver s k v y) md ∙ comment-goes k v oc (f .0) ∙ rw (h .goes, z);
@@ -477,7 +471,6 @@ module _ (ver : Version) (s : Octets) where
       let la = length-append o1 o2 in
       let z : suc k + length o1 + length o2 ≡ k + suc (length (o1 ++ o2)) = omega arith in
       record {
-        place = k;
         found = Instruction (h .b .string) (e .b .string) by forInstruction (h .b .how) (e .b .how);
         n = knowing v (e .v);
         goes = ap (λ (y : Mode). itemAt ver s k v y) md ∙ instruction-goes k v oc (f .0) ∙ rw (h .goes, e .goes, z);

@@ -20,6 +20,7 @@ mod HeadKeeps
 mod Heads
 mod Document
 mod Fits
+mod EventPlaces
 mod OneWriting
 mod Triples
 mod Effects
@@ -59,6 +60,7 @@ mod WriterTables
 mod OneVerdict
 mod WriterAccepts
 mod Given
+mod Unplaced
 pub mod Demands
 pub mod Calls
 pub mod WriterCalls

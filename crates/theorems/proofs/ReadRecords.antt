@@ -22,7 +22,7 @@ use Rattle.tables.specs.Rows.{place}
 use Rattle.tables.specs.Located.{Located, empty, stretch, builtInPrefix, builtInNamespace, octetsOf, formAs, listedAs, plainTables, start}
 use Rattle.tables.proofs.ByNumber.{by-table}
 use Rattle.events.specs.declared.EventString.the-variants.{Absent, Stretch}
-use Rattle.events.specs.Records.{eventString, optionalEventString, recordOf}
+use Rattle.events.specs.Records.{eventString, optionalEventString, recordOf, recordAt}
 use Rattle.events.specs.WellMade as W
 use Rattle.events.specs.WellMade.{IsStretch, inside-utf8, IsString, inside, IsPrefix, IsNamespace, IsValue, IsName, WellMade}
 use Rattle.read_items.specs.Items.{Stand}
@@ -103,19 +103,19 @@ module _ (s : Octets) where
         not-alone = paired (x .prefix) (x .namespace) (a .not-alone);
       }
 
-  as-record : (e : Event Located) → Holds Stands empty e → WellMade s (recordOf e)
+  as-record : (place : ℕ) (e : Event Located) → Holds Stands empty e → WellMade s (recordAt place e)
   unfolding recordOf place isIdentifying
-  as-record (Namespace p n) a = W.a-declaration (as-prefix p (a .0)) (as-namespace n (a .1))
-  as-record (Start x) a = W.a-start (as-name x a)
-  as-record (Attribute x y) a = W.an-attribute (as-name x (a .0)) (as-value (omega arith) (a .1))
-  as-record (Text y) a = W.a-chunk (lies-here (omega arith) a .0)
-  as-record (Comment y) a = W.a-comment (as-value (omega arith) a)
-  as-record (Instruction x y) a = W.an-instruction (as-stretch (omega arith) refl (a .0)) (as-value (omega arith) (a .1))
-  as-record End a = W.an-end
+  as-record k (Namespace p n) a = W.a-declaration (as-prefix p (a .0)) (as-namespace n (a .1))
+  as-record k (Start x) a = W.a-start (as-name x a)
+  as-record k (Attribute x y) a = W.an-attribute (as-name x (a .0)) (as-value (omega arith) (a .1))
+  as-record k (Text y) a = W.a-chunk (lies-here (omega arith) a .0)
+  as-record k (Comment y) a = W.a-comment (as-value (omega arith) a)
+  as-record k (Instruction x y) a = W.an-instruction (as-stretch (omega arith) refl (a .0)) (as-value (omega arith) (a .1))
+  as-record k End a = W.an-end
 
   as-records : (es : List EventRead) → All (λ (i : Item Located). Holds Stands empty (i .event)) (itemsRead es) → All (WellMade s) (map recordRead es)
   as-records [] a = tt
-  as-records (e ∷ es) a = (as-record (e .item .event) (a .0), as-records es (a .1))
+  as-records (e ∷ es) a = (as-record (e .place) (e .item .event) (a .0), as-records es (a .1))
 
 -- ---- the strings of a head stand where the rules list them
 -- a string in any form lies in the document

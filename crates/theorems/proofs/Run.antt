@@ -23,7 +23,7 @@ use Rattle.read_items.specs.Items.{Stand, Step, more, quiet, done, stop, octet,
 use Rattle.read_items.specs.Steps.{endsAt, padsAt, documentEnd, endAt, byHalves, step}
 use Rattle.reader.specs.Reading.{EventRead, itemsRead, Result, accepted, refusal, plus, turn, Mark, marked, run, trace}
 use Rattle.tables.proofs.Found.{both-true}
-use Rattle.theorems.specs.Places.{itemSpelled, allSpelled, inItem, spelledIn}
+use Rattle.theorems.specs.Places.{itemSpelled, allSpelled, inItem, spelledIn, eventAt, placesIn}
 use Rattle.theorems.proofs.Lists.{Refusal, Fault, fault, test, either, either-lt, not-true, drop-head, drop-past, ends-sound, ends-complete, pads-sound, pads-complete, halves-drop, halves-length, halves-sound, halves-complete, align-is, aligned-ge, aligned-in, pad-length}
 use Rattle.theorems.proofs.Formats.{field-longer}
 use Rattle.theorems.proofs.Strings.{Shape, shape15}
@@ -40,14 +40,14 @@ NotShort (accepted es m) = Unit {0}
 NotShort (refusal c p) = c ≡ 14 → ⊥
 
 module _ {ver : Version} where
-  named-some : {q : NameLayout} (g : NameShape q) {lead : ℕ} {v w : Vocabulary Octets} {x : Name Octets} {h : NameHow} {o : Octets} → Named ver q lead v x h o w → 0 < length o
+  pub named-some : {q : NameLayout} (g : NameShape q) {lead : ℕ} {v w : Vocabulary Octets} {x : Name Octets} {h : NameHow} {o : Octets} → Named ver q lead v x h o w → 0 < length o
   named-some g (in-parts paired up un ul new room) = omega arith
   named-some {q} g {lead} (by-number {k = k} small fits en m) = some-first (q .numberForms) lead (suc k) (g .numbers-ok) (omega arith) fits
 
-  declared-some : {v w : Vocabulary Octets} {p n : Option Octets} {hp hn : Option How} {o : Octets} → Declared ver v p n hp hn o w → 0 < length o
+  pub declared-some : {v w : Vocabulary Octets} {p n : Option Octets} {hp hn : Option How} {o : Octets} → Declared ver v p n hp hn o w → 0 < length o
   declared-some (declared up un) = omega arith
 
-  literal-some : {q : Layout} (g : Shape q) {t : StringTable} {v w : Vocabulary Octets} {x : Octets} {h : How} {o : Octets} → Literal ver q t v x h o w → 0 < length o
+  pub literal-some : {q : Layout} (g : Shape q) {t : StringTable} {v w : Vocabulary Octets} {x : Octets} {h : How} {o : Octets} → Literal ver q t v x h o w → 0 < length o
   literal-some {q} g (literal-spelled {y = y} {form = form} {added = a} sp room) = let l = field-longer (q .lengthBit) form (q .spelledBits + q .addBit * bit a) y in let p = sp .some in omega arith
   literal-some {q} g (literal-numbered {k = k} small fits en) = some-first (q .numberForms) (q .numberedBits) (suc k) (g .numbers-ok) (omega arith) fits
 
@@ -290,9 +290,8 @@ module _ (ver : Version) (s : Octets) where
       ∙ ap (λ (x : Octets). pad at ++ x) (halves-drop k s ∙ ap halves (drop-cons s k 0 h)) in
       no-end (at % 2) (getD s k 0 / 16) (getD s k 0 % 16 ∷ halves (drop (suc k) s)) (drop (suc at) (halves s)) (omega arith) (sym d ∙ ends-sound s at u)
 
-  -- l is where the item's strings are spelled
-  record Next (m : Stand) (i : Item Octets) (at : ℕ) (w : State Octets) (l : List Located) : Type 0 where
-    place : ℕ
+  -- l is where the item's strings are spelled, place where its event stands
+  record Next (m : Stand) (i : Item Octets) (at : ℕ) (w : State Octets) (l : List Located) (place : ℕ) : Type 0 where
     found : Item Located
     n : Stand
     goes : step ver s m ≡ more place found n
@@ -304,7 +303,7 @@ module _ (ver : Version) (s : Octets) where
   abbrev NextIf : Stand → Item Octets → Octets → State Octets → Octets → State Octets → Type 0
   NextIf m i o w hs v =
       (u : ItemWrittenAs ver v i o w) → drop (m .at) (halves s) ≡ pad (m .at) ++ (halves o ++ hs)
-      → Next m i (aligned (m .at) + 2 * length o) w (inItem (aligned (m .at) / 2) u) × (drop (aligned (m .at) + 2 * length o) (halves s) ≡ hs) × (0 < length o)
+      → Next m i (aligned (m .at) + 2 * length o) w (inItem (aligned (m .at) / 2) u) (eventAt (aligned (m .at) / 2) u) × (drop (aligned (m .at) + 2 * length o) (halves s) ≡ hs) × (0 < length o)
 
   item-next : (m : Stand) (i : Item Octets) (o : Octets) (w : State Octets) (hs : Halves) → NextIf m i o w hs (plainState s (m .state))
   unfolding step
@@ -319,7 +318,7 @@ module _ (ver : Version) (s : Octets) where
       let l = halves-length o in
       let y : aligned at + 2 * length o ≡ 2 * k + length (halves o) = omega arith in
       let z : 2 * (k + length o) ≡ aligned at + 2 * length o = omega arith in (
-        record { place = c .place; found = c .found; n = octet (k + length o) (c .n); goes = rw (ends, p .0) (c .goes); what = c .what; spells = c .spells; stands = z; state = c .state },
+        record { found = c .found; n = octet (k + length o) (c .n); goes = rw (ends, p .0) (c .goes); what = c .what; spells = c .spells; stands = z; state = c .state },
         ap (λ (x : ℕ). drop x (halves s)) y ∙ drop-past (halves s) (2 * k) (halves o) hs d1,
         c .some,
       )
@@ -355,8 +354,8 @@ module _ (ver : Version) (s : Octets) where
       let over : aligned (suc at) ≡ 2 * length s = omega arith in
       rw (md, at-end m (pad (suc at)) d, le-ltb 0 (m .state .level) (omega arith), r, q .0, eq-eqb (aligned (suc at)) (2 * length s) over)
 
-  -- a run with room for every event; what is known after each, and where the strings are spelled
-  pub record Reads (fuel room : ℕ) (m : Stand) (items : List (Item Octets)) (z : State Octets) (after : List (State Octets)) (l : List Located) : Type 0 where
+  -- a run with room for every event; what is known after each, where the strings are spelled, and where the events stand
+  pub record Reads (fuel room : ℕ) (m : Stand) (items : List (Item Octets)) (z : State Octets) (after : List (State Octets)) (l : List Located) (ps : List ℕ) : Type 0 where
     pub events : List EventRead
     pub last : Stand
     pub runs : run ver s fuel room m ≡ accepted events last
@@ -364,11 +363,12 @@ module _ (ver : Version) (s : Octets) where
     pub end-is : plainState s (last .state) ≡ z
     pub known : map (λ (k : Mark). plainState s (k .stand .state)) (trace ver s fuel m) ≡ after
     pub spells : allSpelled (itemsRead events) ≡ l
+    pub places : map (λ (e : EventRead). e .place) events ≡ ps
 
-  go-on : (fuel room : ℕ) (m n : Stand) (p : ℕ) (f : Item Located) (i : Item Octets) (items : List (Item Octets)) (z w : State Octets) (after : List (State Octets)) (l r : List Located) → step ver s m ≡ more p f n → plain s f ≡ i → itemSpelled f ≡ l → plainState s (n .state) ≡ w
-      → Reads fuel room n items z after r → Reads (suc fuel) (suc room) m (i ∷ items) z (w ∷ after) (l ++ r)
+  go-on : (fuel room : ℕ) (m n : Stand) (p : ℕ) (f : Item Located) (i : Item Octets) (items : List (Item Octets)) (z w : State Octets) (after : List (State Octets)) (l r : List Located) (ps : List ℕ) → step ver s m ≡ more p f n → plain s f ≡ i → itemSpelled f ≡ l → plainState s (n .state) ≡ w
+      → Reads fuel room n items z after r ps → Reads (suc fuel) (suc room) m (i ∷ items) z (w ∷ after) (l ++ r) (p ∷ ps)
   unfolding run trace allSpelled
-  go-on fuel room m n p f i items z w after l l′ e q sp st r =
+  go-on fuel room m n p f i items z w after l l′ ps e q sp st r =
       record {
         events = record { place = p; item = f } ∷ r .events;
         last = r .last;
@@ -377,15 +377,17 @@ module _ (ver : Version) (s : Octets) where
         end-is = r .end-is;
         known = rw e (ap₂ (λ (a : State Octets) (l : List (State Octets)). a ∷ l) st (r .known));
         spells = ap₂ (λ (a b : List Located). a ++ b) sp (r .spells);
+        places = ap (λ (l : List ℕ). p ∷ l) (r .places);
       }
 
-  go-over : (fuel room : ℕ) (m n : Stand) (items : List (Item Octets)) (z : State Octets) (after : List (State Octets)) (l : List Located) → step ver s m ≡ quiet n → Reads fuel room n items z after l → Reads (suc fuel) room m items z after l
+  go-over : (fuel room : ℕ) (m n : Stand) (items : List (Item Octets)) (z : State Octets) (after : List (State Octets)) (l : List Located) (ps : List ℕ) → step ver s m ≡ quiet n → Reads fuel room n items z after l ps
+      → Reads (suc fuel) room m items z after l ps
   unfolding run trace
-  go-over fuel room m n items z after l e r = record { events = r .events; last = r .last; runs = rw e (r .runs); are = r .are; end-is = r .end-is; known = rw e (r .known); spells = r .spells }
+  go-over fuel room m n items z after l ps e r = record { events = r .events; last = r .last; runs = rw e (r .runs); are = r .are; end-is = r .end-is; known = rw e (r .known); spells = r .spells; places = r .places }
 
   pub run-complete : {at : ℕ} {v z : State Octets} {items : List (Item Octets)} {hs : Halves} (written : Written ver at v items hs z) (m : Stand) (fuel room : ℕ) → m .at ≡ at → plainState s (m .state) ≡ v
-      → drop at (halves s) ≡ hs → length hs ≤ fuel → length items ≤ room → Reads fuel room m items z (knownAfter ver written) (spelledIn written)
-  unfolding run trace eventMap knownAfter spelledIn allSpelled
+      → drop at (halves s) ≡ hs → length hs ≤ fuel → length items ≤ room → Reads fuel room m items z (knownAfter ver written) (spelledIn written) (placesIn written)
+  unfolding run trace eventMap knownAfter spelledIn allSpelled placesIn
   run-complete (document-end md lv rt) m zero room a k d f g = absurd (omega arith)
   run-complete (document-end md lv rt) m (suc fuel) room a k d f g =
       record {
@@ -396,16 +398,18 @@ module _ (ver : Version) (s : Octets) where
         end-is = k;
         known = rw (done-next m (ap (λ (x : State Octets). x .mode) k ∙ md) (ap (λ (x : State Octets). x .level) k ∙ lv) (ap (λ (x : State Octets). x .root) k ∙ rt) (rw a d));
         spells = refl;
+        places = refl;
       }
   run-complete (attributes-end md w) m zero room a k d f g = absurd (omega arith)
   run-complete (attributes-end {z = y} {items = items} {hs = hs} md w) m (suc fuel) room a k d f g =
-      go-over fuel room m _ items y _ _ (quiet-next m hs (rw a d) (ap (λ (x : State Octets). x .mode) k ∙ md))
+      go-over fuel room m _ items y _ _ _ (quiet-next m hs (rw a d) (ap (λ (x : State Octets). x .mode) k ∙ md))
       (run-complete w (record { at = suc (m .at); state = moved (m .state) (m .state .tables) content }) fuel room (ap suc a) (ap (λ (x : State Octets). moved x (x .tables) content) k) (rw a at (past-end m hs (rw a d))) (omega arith) g)
   run-complete (element-end md lv w) m zero room a k d f g = absurd (omega arith)
   run-complete (element-end md lv w) m (suc fuel) zero a k d f g = absurd (omega arith)
-  run-complete (element-end {z = y} {items = items} {hs = hs} md lv w) m (suc fuel) (suc room) a k d f g =
+  run-complete (element-end {at = at} {z = y} {items = items} {hs = hs} md lv w) m (suc fuel) (suc room) a k d f g =
       let z = ap (λ (x : State Octets). x .level) k in
-      go-on fuel room m (ended m hs (rw a d)) (m .at / 2) (End by forEnd) (End by forEnd) items y _ _ [] _ (end-next m hs (rw a d) (ap (λ (x : State Octets). x .mode) k ∙ md) (omega arith)) refl refl (ap (λ (x : State Octets). closed x) k)
+      go-on fuel room m (ended m hs (rw a d)) (at / 2) (End by forEnd) (End by forEnd) items y _ _ [] _ _
+      (end-next m hs (rw a d) (ap (λ (x : State Octets). x .mode) k ∙ md) (omega arith) ∙ ap (λ (x : ℕ). more (x / 2) (End by forEnd) (ended m hs (rw a d))) a) refl refl (ap (λ (x : State Octets). closed x) k)
       (run-complete w (ended m hs (rw a d)) fuel room (ap suc a) (ap (λ (x : State Octets). closed x) k) (rw a at (past-end m hs (rw a d))) (omega arith) (omega arith))
   run-complete (item {at = at} {w = v} {i = i} {o = o} {hs = hs} u w) m zero room a k d f g =
       let t = subst (NextIf m i o v hs) k (item-next m i o v hs) u (rw a d) in
@@ -419,5 +423,5 @@ module _ (ver : Version) (s : Octets) where
       let l1 = length-append (pad at) (halves o ++ hs) in
       let l2 = length-append (halves o) hs in
       let l3 = halves-length o in
-      go-on fuel room m (t .0 .n) (t .0 .place) (t .0 .found) i items y _ _ _ _ (t .0 .goes) (t .0 .what) (t .0 .spells ∙ ap (λ (x : ℕ). inItem (aligned x / 2) u) a) (t .0 .state)
+      go-on fuel room m (t .0 .n) (eventAt (aligned at / 2) u) (t .0 .found) i items y _ _ _ _ _ (t .0 .goes ∙ ap (λ (x : ℕ). more (eventAt (aligned x / 2) u) (t .0 .found) (t .0 .n)) a) (t .0 .what) (t .0 .spells ∙ ap (λ (x : ℕ). inItem (aligned x / 2) u) a) (t .0 .state)
       (run-complete w (t .0 .n) fuel room (t .0 .stands ∙ ap (λ (x : ℕ). aligned x + 2 * length o) a) (t .0 .state) (rw a at (t .1)) (omega arith) (omega arith))

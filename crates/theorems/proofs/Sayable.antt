@@ -34,7 +34,7 @@ use Rattle.events.specs.declared.EventString.the-variants.{Absent, Empty, Stret
 use Rattle.events.specs.declared.Kind.{Kind}
 use Rattle.events.specs.declared.Kind.the-variants.{Blank, Namespace, Start, Attribute, Chunk, Comment, Instruction, End}
 use Rattle.events.specs.declared.Event.{Event}
-use Rattle.events.specs.Records.{eventString, optionalEventString as stringIfAny, recordOf, namespaceRecord, startRecord, attributeRecord, chunkRecord, commentRecord, instructionRecord}
+use Rattle.events.specs.Records.{eventString, optionalEventString as stringIfAny, recordOf, placed, unplaced, namespaceRecord, startRecord, attributeRecord, chunkRecord, commentRecord, instructionRecord}
 use Rattle.events.specs.WellMade.{IsStretch, inside-utf8, IsString, inside, IsPrefix, no-prefix, xml-prefix, a-prefix, IsNamespace, no-namespace, xml-namespace, a-namespace, IsValue, no-octets, some-octets, IsName, WellMade, a-declaration, a-start, an-attribute, a-chunk, a-comment, an-instruction, an-end}
 use Rattle.tables.specs.Located.{Located, empty, stretch, builtInPrefix, builtInNamespace, octetsOf}
 use Rattle.tables.proofs.Search.{short-octets, length-octets}
@@ -149,8 +149,8 @@ module _ (s : Octets) where
   unfolding isName
   is-name e m = both (is-prefix (m .a-prefix)) (both (is-namespace (m .a-namespace)) (both (is-stretch (m .a-local)) (is-alone (e .prefix) (e .namespace) (m .not-alone))))
 
-  rebuilt : (e : Event) (k : Kind) (p n l v : EventString) → k ≡ e .kind → p ≡ e .prefix → n ≡ e .namespace → l ≡ e .name → v ≡ e .value → record { kind = k; prefix = p; namespace = n; name = l; value = v } ≡ e
-  rebuilt e k p n l v a b c d f = λ i. record { kind = a i; prefix = b i; namespace = c i; name = d i; value = f i }
+  rebuilt : (e : Event) (k : Kind) (p n l v : EventString) → k ≡ e .kind → p ≡ e .prefix → n ≡ e .namespace → l ≡ e .name → v ≡ e .value → record { kind = k; prefix = p; namespace = n; name = l; value = v; place = e .place } ≡ e
+  rebuilt e k p n l v a b c d f = λ i. record { kind = a i; prefix = b i; namespace = c i; name = d i; value = f i; place = e .place }
 
   pub made-is : (e : Event) (k : Kind) → e .kind ≡ k → wellMade s k e ≡ true → WellMade s e
   unfolding wellMade noName
@@ -190,8 +190,8 @@ module _ (s : Octets) where
   pub is-made : {e : Event} → WellMade s e → wellMade s (e .kind) e ≡ true
   unfolding wellMade noName
   is-made (a-declaration p n) = both (is-prefix p) (both (is-namespace n) refl)
-  is-made (a-start {p = p} {n = n} {l = l} m) = both (is-name (startRecord p n l) m) refl
-  is-made (an-attribute {p = p} {n = n} {l = l} {v = v} m y) = both (is-name (attributeRecord p n l v) m) (is-value y)
+  is-made (a-start {place = k} {p = p} {n = n} {l = l} m) = both (is-name (placed k (startRecord p n l)) m) refl
+  is-made (an-attribute {place = k} {p = p} {n = n} {l = l} {v = v} m y) = both (is-name (placed k (attributeRecord p n l v)) m) (is-value y)
   is-made (a-chunk y) = is-string y
   is-made (a-comment y) = is-value y
   is-made (an-instruction x y) = both (is-stretch x) (is-value y)
@@ -212,7 +212,7 @@ module _ (s : Octets) where
   value-back no-octets = refl
   value-back (some-octets y) = string-back y
 
-  pub record-back : {e : Event} → WellMade s e → recordOf (eventOf (e .kind) e) ≡ e
+  pub record-back : {e : Event} → WellMade s e → recordOf (eventOf (e .kind) e) ≡ unplaced e
   unfolding eventOf recordOf
   record-back (a-declaration {p = p} {n = n} x y) = λ i. namespaceRecord (optional-back p i) (optional-back n i)
   record-back (a-start {p = p} {n = n} m) = λ i. startRecord (optional-back p i) (optional-back n i) (string-back (as-string (m .a-local)) i)

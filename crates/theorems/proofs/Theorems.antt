@@ -5,6 +5,8 @@ use mathlib.Core.Path.{refl}
 use mathlib.Core.List.{[]}
 use Rattle.format.specs.Octets.{Octets, Words}
 use Rattle.format.specs.Tables.{Version, link}
+use Rattle.events.proofs.FromWords.{records-back}
+use Rattle.events.proofs.OnlyWords.{records-only}
 use Rattle.write_head.specs.Given.{givenOf}
 use Rattle.theorems.specs.Bounded.{Bounded}
 use Rattle.theorems.specs.Demands.{Demand1, Demand2, Demand3, RulesExact, AsRequired}
@@ -16,12 +18,13 @@ use Rattle.theorems.proofs.GivenWords.{given-back}
 use Rattle.theorems.proofs.GivenOnly.{given-none, given-only}
 use Rattle.theorems.proofs.Demands.{head-read-back, a-document, allowed, permitted, one-document, every-choice-within}
 use Rattle.theorems.proofs.Acts.{every-number, tables-after}
+use Rattle.theorems.proofs.Unplaced.{places-ignored, places-ignored-in-words}
 use Rattle.theorems.proofs.Calls.{whatever-stood, words-whatever-stood}
 use Rattle.theorems.proofs.WriterCalls.{write-whatever-stood, written-whatever-stood, measured-whatever-stood}
 use Rattle.theorems.proofs.DemandOne.{check-answers, read-answers, read-words-answer, write-answers, write-words-answer, measure-words-answer}
 use Rattle.theorems.proofs.DemandTwo.{write-exactly, tables-same}
 use Rattle.theorems.proofs.DemandThree.{read-exactly}
-use Rattle.theorems.proofs.DemandWords.{read-words-exactly, write-words-exactly, check-exactly}
+use Rattle.theorems.proofs.DemandWords.{read-words-exactly, write-words-exactly, check-exactly, check-is-reading}
 use Rattle.theorems.proofs.Measures as Rooms
 use Rattle.theorems.proofs.Forms as Spellings
 
@@ -49,13 +52,17 @@ module _ (ver : Version) (ok : Bounded ver) where
         write-words = write-words-exactly ver ok;
         same-head = λ given es text room table s z a. head-read-back ver text (givenOf given) _ z s (a .writes);
         same-tables = tables-same ver ok;
+        places-ignored = λ given es fs text room table. places-ignored ver given text room table es fs;
+        places-ignored-in-words = places-ignored-in-words ver;
+        records-back = records-back;
+        records-only = records-only;
         given-back = given-back;
         given-none = given-none;
         given-only = λ words text e a some. given-only words text _ e (a .strings-are) (a .names-are) some;
       }
 
   pub demand-3 : Demand3 ver
-  demand-3 = record { read = read-exactly ver ok; read-words = read-words-exactly ver ok; check = check-exactly ver ok }
+  demand-3 = record { read = read-exactly ver ok; read-words = read-words-exactly ver ok; check = check-exactly ver ok; check-as-read = check-is-reading ver ok }
 
   pub rules-exact : RulesExact ver
   rules-exact =

@@ -17,7 +17,7 @@ use Rattle.tables.specs.declared.Counts.{Counts}
 use Rattle.tables.specs.Counts.{tableWords}
 use Rattle.tables.specs.Located.{Located, plain, plainState}
 use Rattle.events.specs.declared.Event.{Event}
-use Rattle.events.specs.Records.{recordOf}
+use Rattle.events.specs.Records.{recordOf, unplaced}
 use Rattle.events.specs.FromWords.{recordsOf}
 use Rattle.reader.specs.Reading.{EventRead, itemsRead, recordRead, accepting as reading, readOf}
 use Rattle.write_names.specs.Choices.{within}
@@ -44,7 +44,7 @@ pub record Wrote (ver : Version) (g : Given) (text : Octets) (es : List Event) (
   pub last : State Located
   pub octets : Octets
   pub is : o ≡ accepting octets (last .tables) room
-  pub given : map (λ (i : Item Located). recordOf (i .event)) items ≡ es
+  pub given : map (λ (i : Item Located). recordOf (i .event)) items ≡ map unplaced es
   pub writes : Document ver (headOf ver text g) (map (plain text) items) (plainState text last) octets
   pub fits : length octets ≤ room
 
@@ -82,6 +82,7 @@ read-back ver g text room es o w records h =
     let l = length-map (w .items) (λ (i : Item Located). recordOf (i .event)) in
     let k = length-map (w .items) (plain text) in
     let n = ap length (w .given) in
+    let m = length-map es unplaced in
     let a = Whole.accepts ver (w .octets) (headOf ver text g) (map (plain text) (w .items)) (plainState text (w .last)) (w .writes) records (omega arith) in
     let y = accepted-sized ver (w .octets) records (a .events) (a .last) (a .reads) in
     record { events = a .events; last = a .last .state; is = rw (y, a .reads); same = a .are; tables = a .end-is }

@@ -10,6 +10,7 @@ use Rattle.format.specs.declared.StringForm.the-variants.{Utf8, Numeric, Short}
 use Rattle.tables.specs.Located.{Located, octetsOf, plainTables}
 use Rattle.events.specs.declared.EventString.{EventString}
 use Rattle.events.specs.declared.EventString.the-variants.{Stretch}
+use Rattle.events.specs.declared.Event.{Event as Record}
 use Rattle.reader.specs.Reading as RReading
 use Rattle.write_head.specs.Given.{Given}
 use Rattle.write_head.specs.Head.{headOctets}
@@ -17,16 +18,18 @@ use Rattle.write_items.specs.Steps.{joined}
 use Rattle.writer.specs.Writing as WWriting
 
 -- A document, the tables that its head lists, as they are given to the writer with the document as text area, and the events and the tables that it stands for; one that the writer writes as
--- other octets; or octets, the refusal's number and its place.
+-- other octets; octets, the refusal's number and its place; or a document and the place of each event.
 pub data Case : Type 0 where
   document : Octets → Given → List (Event Octets) → Vocabulary Octets → Case
   rewritten : Octets → Given → List (Event Octets) → Vocabulary Octets → (written : Octets) → Case
   refused : Octets → (number place : ℕ) → Case
+  placed : Octets → (places : List ℕ) → Case
 
--- What reading finds: events and tables, and what writing these events behind the given tables, with the document as text area, gives; or a refusal.
+-- What reading finds: events and tables, and what writing these events behind the given tables, with the document as text area, gives; a refusal; or the places in the records.
 pub data Found : Type 0 where
   found : List (Event Octets) → Vocabulary Octets → Octets → Vocabulary Octets → Found
   number : ℕ → ℕ → Found
+  places : List ℕ → Found
 
 abbrev eventsIn : Octets → List RReading.EventRead → List (Event Octets)
 eventsIn s es = map (λ (e : RReading.EventRead). eventMap (octetsOf s) (e .item .event)) es
@@ -39,15 +42,21 @@ abbrev pub read : Octets → Given → RReading.Result → Found
 read s g (RReading.accepted es m) = both s g es (m .state .tables) (WWriting.writing link g s 16384 (map RReading.recordRead es))
 read s g (RReading.refusal n p) = number n p
 
+abbrev pub placesRead : RReading.Result → Found
+placesRead (RReading.accepted es m) = places (map (λ (e : Record). e .place) (map RReading.recordRead es))
+placesRead (RReading.refusal n p) = number n p
+
 abbrev pub finds : Case → Found
 finds (document s g es v) = read s g (RReading.reading link s 32768)
 finds (rewritten s g es v w) = read s g (RReading.reading link s 32768)
 finds (refused s n p) = read s noEntries (RReading.reading link s 32768)
+finds (placed s ps) = placesRead (RReading.reading link s 32768)
 
 abbrev pub wants : Case → Found
 wants (document s g es v) = found es v s v
 wants (rewritten s g es v w) = found es v w v
 wants (refused s n p) = number n p
+wants (placed s ps) = places ps
 
 -- Strings of the cases.
 abbrev a : Octets
@@ -336,4 +345,18 @@ cases =
     ∷ refused (inB (0x30 ∷ 0x09 ∷ 0x00 ∷ replicate 9 0x11)) 8 11
     ∷ refused (inB (0x30 ∷ 0x29 ∷ 0x00 ∷ replicate 9 0x11)) 6 11
     ∷ refused (inB (0x30 ∷ 0x2D ∷ 0x00 ∷ replicate 9 0x11)) 2 11
+    -- places: <a b="c">hi</a>
+    ∷ placed (inB (0x40 ∷ 0x63 ∷ 0xF0 ∷ 0x91 ∷ 0x68 ∷ 0x69 ∷ 0xFF ∷ [])) (5 ∷ 8 ∷ 14 ∷ 17 ∷ [])
+    -- <a b=""/>: the list of attributes ends in the octet of the End
+    ∷ placed (inB (0xFF ∷ 0xFF ∷ 0xF0 ∷ [])) (5 ∷ 8 ∷ 12 ∷ [])
+    -- <a><b/></a>: both Ends stand in one octet
+    ∷ placed (inA (0x3C ∷ 0x00 ∷ 0x62 ∷ 0xFF ∷ 0xF0 ∷ [])) (5 ∷ 8 ∷ 11 ∷ 11 ∷ [])
+    -- two declarations behind the octet that announces them, and the Start behind F0
+    ∷ placed (behindHeader (0x38 ∷ 0xCD ∷ 0x00 ∷ 0x75 ∷ 0xCE ∷ 0x00 ∷ 0x70 ∷ 0xF0 ∷ 0x3C ∷ 0x00 ∷ 0x61 ∷ 0xFF ∷ [])) (6 ∷ 9 ∷ 13 ∷ 16 ∷ [])
+    -- a declaration inside another element, whose name has a number; then an empty element
+    ∷ placed (inA (0x38 ∷ 0xCC ∷ 0xF0 ∷ 0x00 ∷ 0xF0 ∷ 0x00 ∷ 0xFF ∷ 0xF0 ∷ [])) (5 ∷ 9 ∷ 11 ∷ 12 ∷ 13 ∷ 14 ∷ 14 ∷ [])
+    -- <!--c--><a><?t u?></a>
+    ∷ placed (behindHeader (0xE2 ∷ 0x40 ∷ 0x63 ∷ 0x3C ∷ 0x00 ∷ 0x61 ∷ 0xE1 ∷ 0x00 ∷ 0x74 ∷ 0x40 ∷ 0x75 ∷ 0xFF ∷ [])) (5 ∷ 8 ∷ 11 ∷ 16 ∷ [])
+    -- behind a head that lists a chunk
+    ∷ placed (inHead (0x00 ∷ 0x08 ∷ 0x00 ∷ 0x00 ∷ 0x68 ∷ 0x3C ∷ 0x00 ∷ 0x61 ∷ 0xA0 ∷ 0xFF ∷ [])) (10 ∷ 13 ∷ 14 ∷ [])
     ∷ []

@@ -5,7 +5,7 @@ use mathlib.Core.Path.{_≡_}
 use mathlib.Core.Bool.{true}
 use mathlib.Core.Logic.{_↔_}
 use mathlib.Core.List.{List, [], _∷_, _++_, map}
-use lib.ListN.{length, replicate}
+use lib.ListN.{length, getD, take, replicate}
 use Rattle.format.specs.Octets.{Octets, Halves, Words, AreOctets}
 use Rattle.format.specs.Refusals.{SIZE, TEXT, REPEAT, FULL, DEPTH, ROOM, EVENT}
 use Rattle.format.specs.Numbers.{longest}
@@ -19,12 +19,13 @@ use Rattle.format.specs.Uses.{acts, after, Known, Holds}
 use Rattle.format.specs.Allowed.{All, Allowed}
 use Rattle.tables.specs.Located.{Located, listedAs, plain, plainTables, plainState, start}
 use Rattle.tables.specs.Counts.{tableWords, entryWords, wordsOf}
-use Rattle.tables.specs.Told.{toldAccepted, toldRefused, entriesOf, wholeWord}
+use Rattle.tables.specs.Told.{toldAccepted, toldRefused, entriesOf, lowWord, wholeWord}
+use Rattle.events.specs.declared.Kind.the-variants.{Blank, End}
 use Rattle.events.specs.declared.Event.{Event}
-use Rattle.events.specs.Records.{blank, recordOf}
+use Rattle.events.specs.Records.{blank, recordOf, unplaced}
 use Rattle.events.specs.WellMade.{WellMade}
-use Rattle.events.specs.Words.{rowWords}
-use Rattle.events.specs.FromWords.{recordsOf}
+use Rattle.events.specs.Words.{recordWords, rowWords}
+use Rattle.events.specs.FromWords.{recordsOf, AllKinded}
 use Rattle.reader.specs.declared.Answer as ReadAnswer
 use Rattle.reader.specs.Reading as Read
 use Rattle.reader.specs.Words as ReadWords
@@ -36,7 +37,7 @@ use Rattle.writer.specs.Writing as Write
 use Rattle.writer.specs.Words as WriteWords
 use Rattle.theorems.specs.Acts.{allNumbers, used, HoldAfter}
 use Rattle.theorems.specs.Heads.{headed, NamesParts, HeadAllowed, allListed}
-use Rattle.theorems.specs.Places.{allSpelled, spelledIn, listedIn}
+use Rattle.theorems.specs.Places.{allSpelled, spelledIn, listedIn, placesIn}
 use Rattle.theorems.specs.Permitted.{PermitsAll}
 use Rattle.theorems.specs.Verdicts.{plains, itemsOf, WrittenUnlessLong, headOf, AreEntries, HeadFault, HeadRight, Refused}
 use Rattle.theorems.specs.Given.{givenWords}
@@ -80,21 +81,34 @@ pub data MeasureWordsAnswer (es : List Event) (t c : ℕ) (w : WriteWords.WordsM
   refuses : {n p : ℕ} → WriterNumber n → p ≤ length es → w .answer ≡ p * 32 + n → w .tables ≡ replicate t 0 → w .counts ≡ replicate c 0 → MeasureWordsAnswer es t c w
 
 -- ---- what a call that reads owes by demand 3
--- For this head and these items, which the rules write by the derivation w, the call left their records, blank ones behind them, and their tables; its answer has the counts. The
--- events have the places of the document's marks, in order. Each record is as the requirements' "Events" has it; each spelled string has the place at which the
+-- The places in a row of records (the seventh change): n events of the document s are in its first n records.
+pub record EventPlaces (ver : Version) (s : Octets) (n : ℕ) (row : List Event) : Type 0 where
+  -- with records for i events only, a call refuses event i, from 0, for want of a record (14) at this very place
+  pub of-room : (i : ℕ) → i < n → Read.readOf ver s i tableWords .told ≡ toldRefused ROOM (getD row i blank .place)
+  -- places never fall; two records with one place are both Ends
+  pub never-fall : (i j : ℕ) → i ≤ j → j < n → getD row i blank .place ≤ getD row j blank .place
+  pub shared-by-ends : (i j : ℕ) → i < j → j < n → getD row i blank .place ≡ getD row j blank .place → (getD row i blank .kind ≡ End) × (getD row j blank .kind ≡ End)
+  -- each is an octet of the document; the records behind have place 0
+  pub inside : (i : ℕ) → i < n → getD row i blank .place < length s
+  pub none-behind : (i : ℕ) → n ≤ i → getD row i blank .place ≡ 0
+
+-- For this head and these items, which the rules write by the derivation w, the call left their records, blank ones behind them, and their tables; its answer has the counts. Each
+-- event has the place at which the rules write it. Each record is as the requirements' "Events" has it; each spelled string has the place at which the
 -- rules write it, and each number names an entry that is built in, listed or made earlier, at its very place. The tables hold what is built in, then what the head lists, each string at the place
 -- at which the rules list it, then what the events made, each entry at its very place.
 pub record HandsOut (ver : Version) (s : Octets) (room : ℕ) (h : Head) (items : List (Item Octets)) (z : State Octets) (w : Document ver h items z s) (o : Read.Outcome) : Type 0 where
-  pub events : List Read.EventRead
+  pub events : List (Item Located)
   pub tables : Vocabulary Located
   pub answer : o .told ≡ toldAccepted (length items) (entriesOf (z .tables))
-  pub row : o .row ≡ map Read.recordRead events ++ replicate (room - length items) blank
-  pub places : map (λ (e : Read.EventRead). e .place) events ≡ map (λ (k : Read.Mark). k .place) (Read.marks ver s)
+  -- the records without their places are those of the events, with blank ones behind them; and these are their places
+  pub row : map unplaced (o .row) ≡ map (λ (i : Item Located). recordOf (i .event)) events ++ replicate (room - length items) blank
+  pub places : map (λ (e : Event). e .place) (o .row) ≡ placesIn (w .rule) ++ replicate (room - length items) 0
+  pub event-places : EventPlaces ver s (length items) (o .row)
   pub table-words : o .tables ≡ wordsOf entryWords tables
-  pub events-are : map (plain s) (Read.itemsRead events) ≡ items
+  pub events-are : map (plain s) events ≡ items
   pub tables-are : plainTables s tables ≡ z .tables
-  pub well-made : All (WellMade s) (map Read.recordRead events)
-  pub spelled : allSpelled (Read.itemsRead events) ≡ spelledIn (w .rule)
+  pub well-made : All (WellMade s) (take (length items) (o .row))
+  pub spelled : allSpelled events ≡ spelledIn (w .rule)
   -- the head's entries, and the tables behind it with the names themselves
   pub head : Vocabulary Located
   pub begins : Tables Located (E.Name Located)
@@ -103,8 +117,8 @@ pub record HandsOut (ver : Version) (s : Octets) (room : ℕ) (h : Head) (items 
   pub begins-with : Holds (followedBy (start ver) head) begins
   -- the numbers of a listed name, too, are those of entries that are built in or listed
   pub named : (t : NameTable) → All (NamesParts (followedBy (start ver) head)) (names head t)
-  pub earlier : Known begins (acts (Read.itemsRead events))
-  pub tables-made : Holds tables (after begins (acts (Read.itemsRead events)))
+  pub earlier : Known begins (acts events)
+  pub tables-made : Holds tables (after begins (acts events))
 
 pub record ReadsExactly (ver : Version) (s : Octets) (room table : ℕ) (o : Read.Outcome) : Type 0 where
   -- what the rules write is accepted, if there is a record for each event and the right table room, and this is handed out
@@ -135,7 +149,7 @@ pub record Wrote (ver : Version) (g : Given) (es : List Event) (text : Octets) (
   pub octets : headOctets ver text g ++ joined halves ≡ s
   pub known : plainState text last ≡ z
 
--- The call left these octets, 0 behind them, and tables that are these as octets; its answer has their counts. The items are the records given, with the required choices;
+-- The call left these octets, 0 behind them, and tables that are these as octets; its answer has their counts. The items are the records given, but for their places, with the required choices;
 -- the tables of strings hold what is built in, what was given for the head and what these items made, each entry at the very place that its words or its record gave. (A name is numbers, so it has no place.)
 pub record LeavesWritten (ver : Version) (g : Given) (es : List Event) (text : Octets) (room : ℕ) (s : Octets) (z : State Octets) (o : Write.Outcome) : Type 0 where
   pub items : List (Item Located)
@@ -144,7 +158,7 @@ pub record LeavesWritten (ver : Version) (g : Given) (es : List Event) (text : O
   pub octets : o .out ≡ s ++ replicate (room - length s) 0
   pub table-words : o .tables ≡ wordsOf entryWords tables
   pub tables-are : plainTables text tables ≡ z .tables
-  pub given : map (λ (i : Item Located). recordOf (i .event)) items ≡ es
+  pub given : map (λ (i : Item Located). recordOf (i .event)) items ≡ map unplaced es
   pub chosen : map (plain text) items ≡ itemsOf ver (headOf ver text g) (plains text es)
   pub begins : Tables Located (E.Name Located)
   pub begins-with : Holds (tablesOf ver g) begins
@@ -170,10 +184,12 @@ pub record WritesExactly (ver : Version) (given : Words) (es : List Event) (text
   -- each refusal, its number and its place, is the requirements'
   pub refuses : (n p : ℕ) → (o .told ≡ toldRefused n p) ↔ RefusedBy ver given es text room table n p
 
--- What lomphachit_read leaves in 32-bit words: the outcome o of reading into a row of records, and 0 in the r % 13 words behind the last whole record.
+-- What lomphachit_read leaves in 32-bit words: the outcome o of reading into a row of records, and 0 in the r % 14 words behind the last whole record.
 pub record InReadWords (r : ℕ) (o : Read.Outcome) (w : ReadWords.WordsLeft) : Type 0 where
   pub answer : w .answer ≡ wholeWord (o .told)
-  pub records : w .records ≡ rowWords (o .row) ++ replicate (r % 13) 0
+  pub records : w .records ≡ rowWords (o .row) ++ replicate (r % 14) 0
+  -- so the last word of each record is its place
+  pub places : (i : ℕ) → getD (w .records) (14 * i + 13) 0 ≡ getD (o .row) i blank .place
   pub tables : w .tables ≡ o .tables
   pub counts : w .counts ≡ o .told .counts
 
@@ -185,11 +201,13 @@ pub record InWriteWords (o : Write.Outcome) (w : WriteWords.WordsLeft) : Type 0 
 
 -- What lomphachit_read and lomphachit_write owe: the same in 32-bit words. r, t and c are the words lent for records (writer: the octets of output), tables and counts.
 pub record ReadsExactlyInWords (ver : Version) (s : Octets) (r t c : ℕ) (w : ReadWords.WordsLeft) : Type 0 where
-  -- what the rules write is accepted, if there are 13 words for each event and the right room for tables and counts, and this is handed out
-  pub accepts : (h : Head) (items : List (Item Octets)) (z : State Octets) (u : Document ver h items z s) → length items ≤ r / 13 → t ≡ tableWords → c ≡ 10
-      → (o : Read.Outcome) × HandsOut ver s (r / 13) h items z u o × InReadWords r o w
+  -- what the rules write is accepted, if there are 14 words for each event and the right room for tables and counts, and this is handed out
+  pub accepts : (h : Head) (items : List (Item Octets)) (z : State Octets) (u : Document ver h items z s) → length items ≤ r / 14 → t ≡ tableWords → c ≡ 10
+      → (o : Read.Outcome) × HandsOut ver s (r / 14) h items z u o × InReadWords r o w
   -- and nothing else is accepted
-  pub only : w .answer % 2 ^ 32 ≡ 0 → (h : Head) × (items : List (Item Octets)) × (z : State Octets) × Document ver h items z s × (length items ≤ r / 13) × (t ≡ tableWords) × (c ≡ 10)
+  pub only : w .answer % 2 ^ 32 ≡ 0 → (h : Head) × (items : List (Item Octets)) × (z : State Octets) × Document ver h items z s × (length items ≤ r / 14) × (t ≡ tableWords) × (c ≡ 10)
+  -- whatever is answered, a refusal too, is what reading into a row of records answers and leaves
+  pub as-row : c ≡ 10 → InReadWords r (Read.readOf ver s (r / 14) t) w
 
 -- The requirements refuse records given as words with this number at this place: SIZE first, then the room of the counts, then as RefusedBy.
 pub data WordsRefusedBy (ver : Version) (given : Words) (es : List Event) (text : Octets) (r t c : ℕ) : (number place : ℕ) → Type 0 where
@@ -201,6 +219,10 @@ pub record WritesExactlyInWords (ver : Version) (given : Words) (es : List Event
   pub accepts : (s : Octets) (z : State Octets) → Acceptable ver given es text r t s z → c ≡ 10 → (o : Write.Outcome) × LeavesWritten ver (givenOf given) es text r s z o × InWriteWords o w
   pub only : w .answer % 2 ^ 32 ≡ 0 → (c ≡ 10) × ((s : Octets) × (z : State Octets) × Acceptable ver given es text r t s z)
   pub refuses : (n p : ℕ) → 1 ≤ n → n < 32 → (w .answer ≡ p * 32 + n) ↔ WordsRefusedBy ver given es text r t c n p
+
+-- Records as words that are the same but for places, the last words of the records.
+abbrev pub SameButPlaces : Words → Words → Type 0
+SameButPlaces a b = (length a ≡ length b) × ((i : ℕ) → (i % 14 ≡ 13 → ⊥) → getD a i 0 ≡ getD b i 0)
 
 -- ---- THE DEMANDS, of all calls of a version.
 -- 1. Every input is answered. A refusal has one of the requirements' numbers and a place, and blanks everything that was lent. What stood in the lent room never matters: two
@@ -238,6 +260,13 @@ pub record Demand2 (ver : Version) : Type 0 where
   pub same-tables : (given : Words) (es : List Event) (text : Octets) (room table : ℕ) (s : Octets) (z : State Octets) → Acceptable ver given es text room table s z
       → (map (λ (k : Read.Mark). plainState s (k .stand .state)) (Read.marks ver s) ≡ map (plainState text) (Write.knownWriting ver (givenOf given) text room es))
       × (length (Write.knownWriting ver (givenOf given) text room es) ≡ length es)
+  -- a writer does not look at places: of events that are the same but for these, every answer and all that is left is the same
+  pub places-ignored : (given : Words) (es fs : List Event) (text : Octets) (room table : ℕ) → map unplaced es ≡ map unplaced fs → Write.writeOf ver given es text room table ≡ Write.writeOf ver given fs text room table
+  pub places-ignored-in-words : (given records others : Words) (text : Octets) (r t c : ℕ) → SameButPlaces records others
+      → (WriteWords.writeWords ver given records text r t c ≡ WriteWords.writeWords ver given others text r t c) × (WriteWords.measureWords ver given records text t c ≡ WriteWords.measureWords ver given others text t c)
+  -- the words of records give these very records, with their places; words behind the last whole record say nothing; and no other words pass for those of an event
+  pub records-back : (es : List Event) (rest : Words) → length rest < 14 → AllKinded es → recordsOf (rowWords es ++ rest) ≡ es
+  pub records-only : (words : Words) (n i : ℕ) → n < length words / 14 → i < 14 → (getD (recordsOf words) n blank .kind ≡ Blank → ⊥) → getD words (14 * n + i) 0 ≡ getD (recordWords (getD (recordsOf words) n blank)) i 0
   -- the words of given tables, ten counts and three words for each entry, give these very tables; no words give none; and no other words pass for right ones
   pub given-back : (g : Given) → (isGiven (givenWords g) ≡ true) × (givenOf (givenWords g) ≡ g)
   pub given-none : (isGiven [] ≡ true) × (givenOf [] ≡ noEntries)
@@ -248,6 +277,8 @@ pub record Demand3 (ver : Version) : Type 0 where
   pub read : (s : Octets) → AreOctets s → (room table : ℕ) → ReadsExactly ver s room table (Read.readOf ver s room table)
   pub read-words : (s : Octets) → AreOctets s → (r t c : ℕ) → ReadsExactlyInWords ver s r t c (ReadWords.readWords ver s r t c)
   pub check : (s : Octets) → AreOctets s → (Read.checkOf ver s ≡ 0) ↔ ((h : Head) × (items : List (Item Octets)) × (z : State Octets) × Document ver h items z s)
+  -- the check answers, refusals too, as reading with a record for each half does
+  pub check-as-read : (s : Octets) → AreOctets s → Read.checkOf ver s ≡ lowWord (Read.readOf ver s (2 * ver .octets) tableWords .told)
 
 -- The rules themselves, on which 2 and 3 rest, are neither too wide nor too narrow. What they write is an allowed head and a document of allowed events with permitted choices, and they
 -- write every such head and list within the version's limits, with every permitted choice, as one run of octets.

@@ -1,4 +1,4 @@
--- Where strings are spelled: which strings of an item its choice spells, and at which octets the rules write them; and at which they list those of a head.
+-- Where strings are spelled: which strings of an item its choice spells, and at which octets the rules write them; and at which they list those of a head. And at which octet the rules write each event.
 use Prim.Native.Nat.{ℕ, suc, _+_, _-_, _/_}
 use mathlib.Core.Bool.{true}
 use mathlib.Core.Option.{Option, none, some}
@@ -111,3 +111,22 @@ module _ {ver : Version} where
   abbrev pub listedIn : {h : Head} {w : Vocabulary Octets} {o : Octets} → Opens ver h o w → List Located
   listedIn without-head = []
   listedIn (with-head heads any u) = inTables (length (ver .identification) + 3) u
+
+  -- ---- where the rules write the event of an item that stands at octet k (the requirements, "Room for an event"). To the rules, the octet that announces declarations, 0A111000, is a part of the first
+  -- of them, and the octet F0 behind them a part of the Start; but the event begins behind it.
+  abbrev pub eventAt : (k : ℕ) {v w : State Octets} {i : Item Octets} {o : Octets} → ItemWrittenAs ver v i o w → ℕ
+  eventAt k (o-start a md may deep u) = k
+  eventAt k (o-first-namespace md may deep u) = suc k
+  eventAt k (o-namespace md u) = k
+  eventAt k (o-named-start md u) = suc k
+  eventAt k (o-attribute md u₁ u₂) = k
+  eventAt k (o-text md lv u) = k
+  eventAt k (o-comment md u) = k
+  eventAt k (o-instruction md u₁ u₂) = k
+
+  -- and each of a document: an End at the octet that holds its half
+  unfoldable pub placesIn : {at : ℕ} {v z : State Octets} {items : List (Item Octets)} {hs : Halves} → Written ver at v items hs z → List ℕ
+  placesIn (document-end md lv rt) = []
+  placesIn (attributes-end md rest) = placesIn rest
+  placesIn (element-end {at = at} md lv rest) = at / 2 ∷ placesIn rest
+  placesIn (item {at = at} u rest) = eventAt (aligned at / 2) u ∷ placesIn rest

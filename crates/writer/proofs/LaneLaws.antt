@@ -22,11 +22,13 @@ use Rattle.tables.specs.Located.{Located}
 use Rattle.events.specs.declared.Kind.{Kind}
 use Rattle.events.specs.declared.Kind.the-variants.{Start}
 use Rattle.events.specs.declared.Event.{Event}
-use Rattle.events.specs.Records.{blank, endRecord}
-use Rattle.events.specs.FromWords.{kindOf, toldByTag, toldBy, recordAt, recordsOf, beginsWith}
+use Rattle.events.specs.Records.{blank, placed, unplaced, endRecord}
+use Rattle.events.specs.FromWords.{kindOf, toldByTag, toldBy, toldAt, recordAt, recordsOf, beginsWith}
 use Rattle.events.proofs.FromWords.{records-length, record-nth, records-drop}
+use Rattle.events.proofs.WordLaws.{same-event}
+use Rattle.events.proofs.BlankWords.{all-alike}
 use Rattle.write_names.specs.Choices.{within}
-use Rattle.write_items.specs.Events.{noName, wellMade, eventOf, isListing, goesOn, allText, nameOf}
+use Rattle.write_items.specs.Events.{isName, noName, wellMade, eventOf, isListing, goesOn, allText, nameOf}
 use Rattle.write_items.specs.Contracts.{faultOf}
 use Rattle.write_items.specs.Items.{writeItem}
 use Rattle.write_items.specs.Steps.{announced, isAttribute, isEnd, settled, fits}
@@ -45,16 +47,18 @@ use Rattle.writer.proofs.KnownLaws.{Extends, extends-item, known-kept, 
 -- ---- records by their words
 module _ (w : List ℕ) (at : ℕ) where
   pub end-words : getD w at 0 ≡ 7 → SameWords w (at + 1) (replicate 3 0) 0 → SameWords w (at + 4) (replicate 3 0) 0 → SameWords w (at + 7) (replicate 3 0) 0
-      → SameWords w (at + 10) (replicate 3 0) 0 → recordAt w at ≡ endRecord
+      → SameWords w (at + 10) (replicate 3 0) 0 → recordAt w at ≡ placed (getD w (at + 13) 0) endRecord
   unfolding recordAt toldBy toldByTag kindOf
   end-words k p n l v =
       rw (k, p .first, p .second, p .third, n .first, n .second, n .third, l .first, l .second, l .third, v .first, v .second, v .third)
 
-  pub same-words : (b : ℕ) → getD w at 0 ≡ getD w b 0 → SameWords w (at + 1) w (b + 1) → SameWords w (at + 4) w (b + 4) → SameWords w (at + 7) w (b + 7) → SameWords w (at + 10) w (b + 10)
-      → recordAt w at ≡ recordAt w b
-  unfolding recordAt
-  same-words b k p n l v =
-      rw (k, p .first, p .second, p .third, n .first, n .second, n .third, l .first, l .second, l .third, v .first, v .second, v .third)
+same-told : (w : List ℕ) (a b : ℕ) → SameWords w a w b → toldAt w a ≡ toldAt w b
+same-told w a b s = rw (s .first, s .second, s .third)
+
+pub same-words : (w : List ℕ) (a b : ℕ) → getD w a 0 ≡ getD w b 0 → SameWords w (a + 1) w (b + 1) → SameWords w (a + 4) w (b + 4) → SameWords w (a + 7) w (b + 7) → SameWords w (a + 10) w (b + 10)
+    → unplaced (recordAt w a) ≡ unplaced (recordAt w b)
+same-words w a b k p n l v =
+    same-event w w a b k (same-told w (a + 1) (b + 1) p) (same-told w (a + 4) (b + 4) n) (same-told w (a + 7) (b + 7) l) (same-told w (a + 10) (b + 10) v)
 
 -- ---- an event of the run
 -- the attribute bit at the lane's next record e
@@ -91,9 +95,9 @@ module _ (to : Outcome) (text : List ℕ) (room : ℕ) (es : List Event) (v : Vo
       }
 
   module _ {l : Lane} {out : List ℕ} (among : l .listing ≡ false) (inside : 0 < l .level) (room-left : l .at / 2 + 5 ≤ room) (limit : l .at / 2 + 5 ≤ 16384) (o : OnWay to text room es v l out) where
-    pub end-taken : {l′ : Lane} {out′ : List ℕ} → drop (l .i) es ≡ endRecord ∷ drop (suc (l .i)) es → Ended l out l′ out′ → OnWay to text room es v l′ out′
+    pub end-taken : {l′ : Lane} {out′ : List ℕ} (place : ℕ) → drop (l .i) es ≡ placed place endRecord ∷ drop (suc (l .i)) es → Ended l out l′ out′ → OnWay to text room es v l′ out′
     unfolding wellMade noName goesOn allText eventOf itemOf settled writeItem halvesFor
-    end-taken d p =
+    end-taken place d p =
         rw (p .is)
         (taken o d
         (record { made = refl; goes = rw (among, lt-ltb 0 (l .level) inside); texts = refl; shallow = refl })
@@ -143,8 +147,21 @@ module _ (to : Outcome) (text : List ℕ) (room : ℕ) (es : List Event) (v : Vo
           (taken o d (start-faultless h) (rw (← q) (start-state b)) (rw (← q) (start-grown b p)) (near-fits text room (2 * octet) (omega arith) (omega arith)) refl (omega arith))
 
 -- ---- what is next is passed
+-- what is taught of a record does not look at its place
+module _ (text : List ℕ) (v : Vocabulary Located) (k : ℕ) where
+  taught-unplaced : (e : Event) → Taught text v e k → Taught text v (unplaced e) k
+  unfolding wellMade isName
+  taught-unplaced e t = record { kind = t .kind; made = t .made; texts = t .texts; few = t .few; known = t .known }
+
+  taught-placed : (e : Event) → Taught text v (unplaced e) k → Taught text v e k
+  unfolding wellMade isName
+  taught-placed e t = record { kind = t .kind; made = t .made; texts = t .texts; few = t .few; known = t .known }
+
+  taught-same : (e f : Event) → unplaced e ≡ unplaced f → Taught text v f k → Taught text v e k
+  taught-same e f q t = taught-placed e (rw q (taught-unplaced f t))
+
 module _ (w memory : List ℕ) {room : ℕ} {l : Lane} {k : ℕ} (a : Ahead w memory l room k) where
-  taught-here : (n : k ≡ 512 → ⊥) (text : List ℕ) (v : Vocabulary Located) → Remembered (recordsOf w) text v memory → Taught text v (recordAt w (13 * l .i)) k
+  taught-here : (n : k ≡ 512 → ⊥) (text : List ℕ) (v : Vocabulary Located) → Remembered (recordsOf w) text v memory → Taught text v (recordAt w (14 * l .i)) k
   unfolding Remembered
   taught-here n text v r =
       let c = a .start n .0 in
@@ -152,18 +169,18 @@ module _ (w memory : List ℕ) {room : ℕ} {l : Lane} {k : ℕ} (a : Ahead w me
       let h = m .0 in
       let e = records-length w in
       let q = record-nth w (getD memory (c .slot) 0 / 512) (omega arith) in
-      rw (← (c .number), c .same, ← q) (m .1)
+      taught-same text v k (recordAt w (14 * l .i)) (recordAt w (14 * (getD memory (c .slot) 0 / 512))) (c .same) (rw (← (c .number), ← q) (m .1))
 
 module _ (w memory : List ℕ) (room : ℕ) {l l′ : Lane} {out out′ : List ℕ} {k : ℕ} (a : Ahead w memory l room k) where
   pub end-passes : k ≡ 512 → Ended l out l′ out′ → Passes w memory room l out l′ out′
   end-passes q p to text v in-tables r o =
-      end-taken to text room (recordsOf w) v in-tables (a .among) (a .inside) (a .fits) (a .limit) o (records-drop w (l .i) (a .there) ∙ rw (a .end q)) p
+      end-taken to text room (recordsOf w) v in-tables (a .among) (a .inside) (a .fits) (a .limit) o (getD w (14 * l .i + 13) 0) (records-drop w (l .i) (a .there) ∙ rw (a .end q)) p
 
   pub start-passes : (k ≡ 512 → ⊥) → Started w l out k l′ out′ → Passes w memory room l out l′ out′
   start-passes n p to text v in-tables r o =
       let t = taught-here w memory a n text v r in
       start-taken to text room (recordsOf w) v in-tables (a .among) (a .inside) (a .fits) (a .limit) o t (a .start n .1) (records-drop w (l .i) (a .there)) _
-      (sym (bit-listed (recordsOf w) (l .i) (recordAt w (13 * l .i)) (t .kind))) (p .octet) (p .puts) (p .few) (p .is)
+      (sym (bit-listed (recordsOf w) (l .i) (recordAt w (14 * l .i)) (t .kind))) (p .octet) (p .puts) (p .few) (p .is)
 
 -- ---- each way out of the code
 module _ (w : List ℕ) {l : Lane} {out : List ℕ} (k : ℕ) where
@@ -218,11 +235,6 @@ pub passes-on : {w memory : List ℕ} {room : ℕ} {l₀ l l′ : Lane} {out₀ 
 passes-on {w} {memory} {room} p a s to text v t r o = p .passes memory room a to text v t r (s to text v t r o)
 
 -- ---- what is remembered
-zero-at : (n s : ℕ) → getD (replicate {A = ℕ} n 0) s 0 ≡ 0
-zero-at zero s = refl
-zero-at (suc n) zero = refl
-zero-at (suc n) (suc s) = zero-at n s
-
 set-cases : (P : ℕ → Type 0) (m : List ℕ) (i x s : ℕ) → P x → P (getD m s 0) → P (getD (set m i x) s 0)
 set-cases P [] i x s p q = q
 set-cases P (y ∷ m) zero x zero p q = p
@@ -233,7 +245,7 @@ set-cases P (y ∷ m) (suc i) x (suc s) p q = set-cases P m i x s p q
 module _ (es : List Event) (text : List ℕ) where
   pub remembered-none : (v : Vocabulary Located) (n : ℕ) → Remembered es text v (replicate n 0)
   unfolding Remembered
-  remembered-none v n s h = let z = zero-at n s in absurd (omega arith)
+  remembered-none v n s h = let z = all-alike {A = ℕ} 0 n s in absurd (omega arith)
 
   pub remembered-kept : {u v : Vocabulary Located} (memory : List ℕ) → Extends u v → Remembered es text u memory → Remembered es text v memory
   unfolding Remembered

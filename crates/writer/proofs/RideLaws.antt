@@ -55,8 +55,8 @@ start-kind Comment h = clash h
 start-kind Instruction h = clash h
 start-kind End h = clash h
 
-module _ (w : List ℕ) (i : ℕ) (there : i < length w / 13) where
-  start-here : beginsWith 2 (drop i (recordsOf w)) ≡ true → recordAt w (13 * i) .kind ≡ Start
+module _ (w : List ℕ) (i : ℕ) (there : i < length w / 14) where
+  start-here : beginsWith 2 (drop i (recordsOf w)) ≡ true → recordAt w (14 * i) .kind ≡ Start
   start-here h = start-kind _ (rw (records-drop w i there) at h)
 
   pub learned : (before n : ℕ) → before < n → beginsWith 2 (drop i (recordsOf w)) ≡ true → {memory memory′ : List ℕ} → Kept memory i n memory′ → Learns w i before n memory memory′
@@ -109,7 +109,7 @@ module _ (w memory : List ℕ) (room i : ℕ) (st : State) (out : List ℕ) wher
         let z : known st c t ≡ standing (tablesIn c t) (from st i) = rw (content, mode-content, root-so (st .root) root) in
         record { hs = u .hs; holds = u .holds; small = u .small; leads = rw z at (u .leads) }
 
-    pub rides-on : {l : Lane} {out′ : List ℕ} → Safe w memory l → Further i (l .i) (length w / 13) → Passes w memory room (from st i) out l out′ → Rides w memory room i st out l out′
+    pub rides-on : {l : Lane} {out′ : List ℕ} → Safe w memory l → Further i (l .i) (length w / 14) → Passes w memory room (from st i) out l out′ → Rides w memory room i st out l out′
     rides-on {l} {out′} safe on passes =
         record {
           onward = on;
@@ -138,7 +138,7 @@ module _ (From : Outcome → Type 0) (w text : List ℕ) (room table i : ℕ) wh
     pub begun : From to
     pub moving : (o : Outcome) → From o → Moving o (recordsOf w) text room table i st c out t ix
     pub remembered : Remembered (recordsOf w) text (tablesIn c t) memory
-    pub inside : i ≤ length w / 13
+    pub inside : i ≤ length w / 14
 
   -- one record further, before anything is learned of it; there were so many names of elements before it
   pub record Stepped (before : ℕ) (st : State) (c out t ix memory : List ℕ) : Type 0 where
@@ -146,7 +146,7 @@ module _ (From : Outcome → Type 0) (w text : List ℕ) (room table i : ℕ) wh
     pub begun : From to
     pub moving : (o : Outcome) → From o → Moving o (recordsOf w) text room table (i + 1) st c out t ix
     pub remembered : Remembered (recordsOf w) text (tablesIn c t) memory
-    pub teaches : before < getD c 8 0 → recordAt w (13 * i) .kind ≡ Start → Taught text (tablesIn c t) (recordAt w (13 * i)) (getD c 8 0)
+    pub teaches : before < getD c 8 0 → recordAt w (14 * i) .kind ≡ Start → Taught text (tablesIn c t) (recordAt w (14 * i)) (getD c 8 0)
 
 -- before the first record, with the counts in words
 module _ (w text : List ℕ) (room table : ℕ) (st : State) (c out t ix : List ℕ) where
@@ -175,8 +175,8 @@ module _ {From : Outcome → Type 0} {w text : List ℕ} {room table i : ℕ} {s
   pub stepping-small : i ≤ 32768
   stepping-small = underway-number under
 
-  module _ (there : i < length w / 13) {n : ℕ} (look : n ≡ fromMode (modeOf (st .mode)) i (length w / 13)) {a : Bool}
-      (told : a ≡ announced (drop n (recordsOf w))) {e : Event} (is : e ≡ recordAt w (13 * i)) {b : Bool} (bit : b ≡ bitOf (modeOf (st .mode)) a) (r : Step) (out′ c′ t′ ix′ : List ℕ)
+  module _ (there : i < length w / 14) {n : ℕ} (look : n ≡ fromMode (modeOf (st .mode)) i (length w / 14)) {a : Bool}
+      (told : a ≡ announced (drop n (recordsOf w))) {e : Event} (is : e ≡ recordAt w (14 * i)) {b : Bool} (bit : b ≡ bitOf (modeOf (st .mode)) a) (r : Step) (out′ c′ t′ ix′ : List ℕ)
       (step : Steps text room b st c out t e r out′ c′ t′ ix′) where
     next-is : drop i (recordsOf w) ≡ e ∷ drop (suc i) (recordsOf w)
     next-is = rw is (records-drop w i there)
@@ -199,10 +199,10 @@ module _ {From : Outcome → Type 0} {w text : List ℕ} {room table i : ℕ} {s
     step-stopped q kept o m = moving-stop o (recordsOf w) text room table i st c out t ix (s .moving o m) e next-is a told-is b bit r out′ c′ t′ ix′ step q kept
 
   -- a record that is told apart before it is made, since the step would refuse it
-  pub misnamed-stopped : i < length w / 13 → {n : ℕ} → n ≡ fromMode (modeOf (st .mode)) i (length w / 13) → {a : Bool} → a ≡ announced (drop n (recordsOf w)) → Misnamed (recordAt w (13 * i))
+  pub misnamed-stopped : i < length w / 14 → {n : ℕ} → n ≡ fromMode (modeOf (st .mode)) i (length w / 14) → {a : Bool} → a ≡ announced (drop n (recordsOf w)) → Misnamed (recordAt w (14 * i))
       → (o : Outcome) → From o → Going o (recordsOf w) text room table (length (recordsOf w)) (Halted 16 i) out t ix
   misnamed-stopped there look {a} told m =
-      let e = recordAt w (13 * i) in
+      let e = recordAt w (14 * i) in
       let b = bitOf (modeOf (st .mode)) a in
       step-stopped there look told {e = e} refl {b = b} refl (Stop 16) out c t ix (step-fault text room b st c t e 16 (fault-misnamed text e (known st c t) m) (λ z. omega arith)) refl refl
 
@@ -220,10 +220,10 @@ module _ {From : Outcome → Type 0} {w text : List ℕ} {room table i before : 
   pub stepped-learned : (memory′ : List ℕ) → Learns w i before (getD c 8 0) memory memory′ → Remembered (recordsOf w) text (tablesIn c t) memory′
   stepped-learned memory′ l = l text (tablesIn c t) (s .teaches) (s .remembered)
 
-  pub stepped-filed : (memory′ : List ℕ) → Remembered (recordsOf w) text (tablesIn c t) memory′ → Filed memory′ (length w / 13)
-  stepped-filed memory′ r = remembered-filed (recordsOf w) text (tablesIn c t) memory′ (length w / 13) (records-length w) r
+  pub stepped-filed : (memory′ : List ℕ) → Remembered (recordsOf w) text (tablesIn c t) memory′ → Filed memory′ (length w / 14)
+  stepped-filed memory′ r = remembered-filed (recordsOf w) text (tablesIn c t) memory′ (length w / 14) (records-length w) r
 
-  pub stepping-on : (memory′ : List ℕ) → Remembered (recordsOf w) text (tablesIn c t) memory′ → i < length w / 13 → {l : Lane} {out′ : List ℕ}
+  pub stepping-on : (memory′ : List ℕ) → Remembered (recordsOf w) text (tablesIn c t) memory′ → i < length w / 14 → {l : Lane} {out′ : List ℕ}
       → Rides w memory′ room (i + 1) st out l out′ → {st′ : State} → st′ ≡ arrivedAt st l → Stepping From w text room table (l .i) st′ c out′ t ix memory′
   stepping-on memory′ r h d z =
       rw z
@@ -236,7 +236,7 @@ module _ {From : Outcome → Type 0} {w text : List ℕ} {room table i before : 
       })
 
 -- ---- behind the last record
-pub stepped-through : {From : Outcome → Type 0} {w text : List ℕ} {room table i : ℕ} {st : State} {c out t ix memory : List ℕ} → Stepping From w text room table i st c out t ix memory → length w / 13 ≤ i
+pub stepped-through : {From : Outcome → Type 0} {w text : List ℕ} {room table i : ℕ} {st : State} {c out t ix memory : List ℕ} → Stepping From w text room table i st c out t ix memory → length w / 14 ≤ i
     → (cs : Counts) → cs ≡ unlisted c → (o : Outcome) → From o → Going o (recordsOf w) text room table (length (recordsOf w)) (Onward st cs) out t ix
 stepped-through {w = w} {i = i} s h cs q o m =
     let b = s .inside in
@@ -261,11 +261,11 @@ over (Halted k at) n m h = refl
 
 -- behind the last record
 module _ (to : Outcome) (w text : List ℕ) (room table : ℕ) (p : Phase) (out t ix : List ℕ) (g : Going to (recordsOf w) text room table (length (recordsOf w)) p out t ix) where
-  going-all : Going to (recordsOf w) text room table (length w / 13) p out t ix
+  going-all : Going to (recordsOf w) text room table (length w / 14) p out t ix
   going-all = rw (records-length w) at g
 
-  pub through-bounded : Bounded (length w / 13) p
-  through-bounded = going-bounded to (recordsOf w) text room table (length w / 13) p out t ix going-all
+  pub through-bounded : Bounded (length w / 14) p
+  through-bounded = going-bounded to (recordsOf w) text room table (length w / 14) p out t ix going-all
 
-  pub through-settled : length t ≡ table → (r : Answer) (out′ t′ : List ℕ) → Settles room (length t) (length w / 13) p out t r out′ t′ → Leaves r out′ t′ to
+  pub through-settled : length t ≡ table → (r : Answer) (out′ t′ : List ℕ) → Settles room (length t) (length w / 14) p out t r out′ t′ → Leaves r out′ t′ to
   through-settled long r out′ t′ h = let n = records-length w in (rw long at h) to (recordsOf w) text ix going-all (over p _ _ (omega arith))

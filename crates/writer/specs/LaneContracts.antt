@@ -17,7 +17,7 @@ use Rattle.tables.specs.Located.{Located, octetsOf}
 use Rattle.tables.specs.Search.{numberIn, numberOfTriple}
 use Rattle.events.specs.declared.Kind.the-variants.{Start}
 use Rattle.events.specs.declared.Event.{Event}
-use Rattle.events.specs.Records.{blank, endRecord}
+use Rattle.events.specs.Records.{blank, placed, unplaced, endRecord}
 use Rattle.events.specs.FromWords.{recordAt, recordsOf, beginsWith}
 use Rattle.write_names.specs.Choices.{within}
 use Rattle.write_items.specs.Events.{wellMade, nameOf, nameText}
@@ -64,12 +64,12 @@ Remembered es text v memory =
 unfoldable pub Filed : (memory : Words) (n : ℕ) → Type 0
 Filed memory n = (s : ℕ) → 0 < getD memory s 0 → (getD memory s 0 / 512 < n) × (1 ≤ getD memory s 0 % 512) × (getD memory s 0 % 512 ≤ 256)
 
--- Record i is the same as one that is remembered, and k is the number of its name.
+-- Record i is the same event as one that is remembered, and k is the number of its name.
 pub record Recalled (w memory : Words) (i k : ℕ) : Type 0 where
   pub slot : ℕ
   pub filled : 0 < getD memory slot 0
   pub number : getD memory slot 0 % 512 ≡ k
-  pub same : recordAt w (13 * i) ≡ recordAt w (13 * (getD memory slot 0 / 512))
+  pub same : unplaced (recordAt w (14 * i)) ≡ unplaced (recordAt w (14 * (getD memory slot 0 / 512)))
 
 -- Start i is remembered with the number k.
 pub record Kept (memory : Words) (i k : ℕ) (memory′ : Words) : Type 0 where
@@ -85,7 +85,7 @@ standing v l = record { tables = v; level = l .level; root = true; mode = F.afte
 pub record Safe (w memory : Words) (l : Lane) : Type 0 where
   pub at : l .at ≤ 32768
   pub level : l .level ≤ 32
-  pub filed : Filed memory (length w / 13)
+  pub filed : Filed memory (length w / 14)
 
 -- The output holds what was written, and the events from the lane's next record on lead to what the call is to leave, o.
 pub record OnWay (o : Outcome) (text : Octets) (room : ℕ) (es : List Event) (v : Vocabulary Located) (l : Lane) (out : Octets) : Type 0 where
@@ -110,8 +110,8 @@ pub record Ahead (w memory : Words) (l : Lane) (room k : ℕ) : Type 0 where
   pub inside : 0 < l .level
   pub fits : l .at / 2 + 5 ≤ room
   pub limit : l .at / 2 + 5 ≤ 16384
-  pub there : l .i < length w / 13
-  pub end : k ≡ 512 → recordAt w (13 * l .i) ≡ endRecord
+  pub there : l .i < length w / 14
+  pub end : k ≡ 512 → recordAt w (14 * l .i) ≡ placed (getD w (14 * l .i + 13) 0) endRecord
   pub start : (k ≡ 512 → ⊥) → Recalled w memory (l .i) k × (l .level < 32)
 
 -- Whether an attribute is behind record i.
@@ -134,7 +134,7 @@ pub record Passable (w : Words) (l : Lane) (k : ℕ) : Type 0 where
   pub limit : l .at / 2 + 5 ≤ 16384
   pub inside : 0 < l .level
   pub level : l .level ≤ 32
-  pub there : l .i < length w / 13
+  pub there : l .i < length w / 14
   pub some : 1 ≤ k
   pub name : (k ≡ 512 → ⊥) → (k ≤ 256) × (l .level < 32)
 

@@ -21,7 +21,7 @@ use Rattle.writer.specs.LaneContracts.{Taught, Remembered, Onward}
 -- What is remembered is still so, with record i or without it: there are n names of elements then, and if there were fewer before, a Start was that of the last.
 abbrev pub Learns : Words → (i before n : ℕ) → (memory memory′ : Words) → Type 0
 Learns w i before n memory memory′ =
-    (text : Octets) (v : Vocabulary Located) → (before < n → recordAt w (13 * i) .kind ≡ Start → Taught text v (recordAt w (13 * i)) n) → Remembered (recordsOf w) text v memory → Remembered (recordsOf w) text v memory′
+    (text : Octets) (v : Vocabulary Located) → (before < n → recordAt w (14 * i) .kind ≡ Start → Taught text v (recordAt w (14 * i)) n) → Remembered (recordsOf w) text v memory → Remembered (recordsOf w) text v memory′
 
 -- The state behind the records that the lane took.
 abbrev pub arrivedAt : State → Lane → State
@@ -29,7 +29,7 @@ arrivedAt st l = record { at = l .at; level = l .level; root = st .root; mode = 
 
 -- From record i on the lane took those before its next: a run that was underway is so still.
 pub record Rides (w memory : Words) (room i : ℕ) (st : State) (out : Octets) (l : Lane) (out′ : Octets) : Type 0 where
-  pub onward : Onward i (l .i) (length w / 13)
+  pub onward : Onward i (l .i) (length w / 14)
   pub under : (o : Outcome) (text : Octets) (c t : Words) (index : Octets) → Remembered (recordsOf w) text (tablesIn c t) memory → Underway o text room (recordsOf w) i st c out t index
       → Underway o text room (recordsOf w) (l .i) (arrivedAt st l) c out′ t index
 

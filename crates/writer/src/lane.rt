@@ -1,10 +1,10 @@
-// A quick lane over words: Ends, and Starts whose words are those of an earlier one that is remembered with its name's number. Such records need no judging and
+// A quick lane over words: Ends, and Starts whose words, but for the place, are those of an earlier one that is remembered with its name's number. Such records need no judging and
 // no search; any other is left to the step.
 ghost use mathlib.Core.Path.{_≡_};
 ghost use mathlib.Core.Bool.{true};
 ghost use Prim.Native.Nat.{_+_, _*_, _/_, _^_, _<_, _≤_};
-ghost use lib.ListN.{length, replicate};
-ghost use Rattle.events.specs.Records.{endRecord};
+ghost use lib.ListN.{length, getD, replicate};
+ghost use Rattle.events.specs.Records.{placed, unplaced, endRecord};
 ghost use Rattle.events.specs.FromWords.{recordAt};
 ghost use Rattle.writer.specs.LaneContracts.{SameWords, Filed, Recalled, Kept, Safe, Passes, Ahead, Started, Ended, Passable, Passed, Onward};
 use events::RECORD;
@@ -54,8 +54,8 @@ fn no_string(w: &[u32], at: usize) -> bool
 
 // Record i is that of an End.
 fn is_end(w: &[u32], i: usize) -> bool
-    requires { ⌜ i < length (now w) / 13 ⌝ }
-    ensures { λ r. ⌜ (r ≡ true → recordAt (now (w .entry)) (13 * i) ≡ endRecord) ⌝ }
+    requires { ⌜ i < length (now w) / 14 ⌝ }
+    ensures { λ r. ⌜ (r ≡ true → recordAt (now (w .entry)) (14 * i) ≡ placed (getD (now (w .entry)) (14 * i + 13) 0) endRecord) ⌝ }
 {
     let at = RECORD * i;
     w[at] == kinds::END
@@ -71,10 +71,10 @@ fn same_string(w: &[u32], a: usize, b: usize) -> bool
     w[a] == w[b] && (w[a + 1] == w[b + 1] && w[a + 2] == w[b + 2])
 }
 
-// Two records are the same, word by word.
+// Two records are of the same event: all words but the place are the same.
 fn same_record(w: &[u32], i: usize, j: usize) -> bool
-    requires { ⌜ (i < length (now w) / 13) × (j < length (now w) / 13) ⌝ }
-    ensures { λ r. ⌜ (r ≡ true → recordAt (now (w .entry)) (13 * i) ≡ recordAt (now (w .entry)) (13 * j)) ⌝ }
+    requires { ⌜ (i < length (now w) / 14) × (j < length (now w) / 14) ⌝ }
+    ensures { λ r. ⌜ (r ≡ true → unplaced (recordAt (now (w .entry)) (14 * i)) ≡ unplaced (recordAt (now (w .entry)) (14 * j))) ⌝ }
 {
     let a = RECORD * i;
     let b = RECORD * j;
@@ -87,7 +87,7 @@ fn same_record(w: &[u32], i: usize, j: usize) -> bool
 
 // Where a Start is remembered, by the place of its local name.
 fn slot(w: &[u32], i: usize) -> usize
-    requires { ⌜ i < length (now w) / 13 ⌝ }
+    requires { ⌜ i < length (now w) / 14 ⌝ }
     ensures { λ r. ⌜ r < 128 ⌝ }
 {
     let place = w[RECORD * i + NAME_PLACE] as usize;
@@ -103,7 +103,7 @@ fn record_of(m: u32) -> usize
 
 // The number of the name of record i, if it is the same as a Start that is remembered; else 0.
 fn recalled(w: &[u32], memory: &[u32; SLOTS], i: usize) -> u32
-    requires { ⌜ (i < length (now w) / 13) × Filed (now memory) (length (now w) / 13) ⌝ }
+    requires { ⌜ (i < length (now w) / 14) × Filed (now memory) (length (now w) / 14) ⌝ }
     ensures { λ r. ⌜ (r < 512) × ((r ≡ 0 → ⊥) → Recalled (now (w .entry)) (now (memory .entry)) i r) ⌝ }
 {
     let s = slot(w, i);
@@ -158,7 +158,7 @@ fn next(w: &[u32], memory: &[u32; SLOTS], l: Lane, room: usize) -> u32
 impl Lane {
     // A Start, by its name's number.
     fn opened(self, w: &[u32], out: &mut [u8], k: u32) -> Lane
-        requires { ⌜ (self .at ≤ 32768) × (self .level ≤ 32) × (self .i < length (now w) / 13) × (1 ≤ k) × (k ≤ 256) ⌝ }
+        requires { ⌜ (self .at ≤ 32768) × (self .level ≤ 32) × (self .i < length (now w) / 14) × (1 ≤ k) × (k ≤ 256) ⌝ }
         ensures { λ r. ⌜ Started (now (w .entry)) self (now (out .entry)) k r (now (out .exit)) ⌝ }
     {
         let a = is_kind(w, self.i + 1, kinds::ATTRIBUTE);
@@ -198,7 +198,7 @@ impl Lane {
     // As far as the lane goes.
     pub fn run(self, w: &[u32], memory: &[u32; SLOTS], out: &mut [u8], room: usize) -> Lane
         requires { ⌜ Safe (now w) (now memory) self ⌝ }
-        ensures { λ r. ⌜ Safe (now (w .entry)) (now (memory .entry)) r × Onward (self .i) (r .i) (length (now (w .entry)) / 13) × Passes (now (w .entry)) (now (memory .entry)) room self (now (out .entry)) r (now (out .exit)) ⌝ }
+        ensures { λ r. ⌜ Safe (now (w .entry)) (now (memory .entry)) r × Onward (self .i) (r .i) (length (now (w .entry)) / 14) × Passes (now (w .entry)) (now (memory .entry)) room self (now (out .entry)) r (now (out .exit)) ⌝ }
     {
         let mut l = self;
         let mut k = next(w, memory, l, room);
@@ -212,7 +212,7 @@ impl Lane {
 
 // Start i, whose name has the number k, is remembered in place of the one before it there.
 pub fn remember(memory: &mut [u32; SLOTS], w: &[u32], i: usize, k: u32)
-    requires { ⌜ (i < length (now w) / 13) × (i ≤ 32768) × (k ≤ 256) ⌝ }
+    requires { ⌜ (i < length (now w) / 14) × (i ≤ 32768) × (k ≤ 256) ⌝ }
     ensures { λ _. ⌜ Kept (now (memory .entry)) i k (now (memory .exit)) ⌝ }
 {
     let s = slot(w, i);

@@ -27,7 +27,7 @@ use write_items::items::step;
 
 // Record i, with which the names of elements became n, is remembered if it is a Start that added its name: there were fewer before.
 fn learn(memory: &mut [u32; SLOTS], records: &[u32], i: usize, before: u32, n: u32)
-    requires { ⌜ (i < length (now records) / 13) × (i ≤ 32768) × (n ≤ 256) ⌝ }
+    requires { ⌜ (i < length (now records) / 14) × (i ≤ 32768) × (n ≤ 256) ⌝ }
     ensures { λ _. ⌜ Learns (now (records .entry)) i before n (now (memory .entry)) (now (memory .exit)) ⌝ }
 {
     if n <= before {
@@ -48,7 +48,7 @@ fn ride(
     room: usize,
     i: usize,
 ) -> Lane
-    requires { ⌜ (st .at ≤ 32768) × (st .level ≤ 32) × Filed (now memory) (length (now records) / 13) ⌝ }
+    requires { ⌜ (st .at ≤ 32768) × (st .level ≤ 32) × Filed (now memory) (length (now records) / 14) ⌝ }
     ensures { λ r. ⌜ Rides (now (records .entry)) (now (memory .entry)) room i st (now (out .entry)) r (now (out .exit)) ⌝ }
 {
     let from = Lane {

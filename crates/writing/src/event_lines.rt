@@ -6,6 +6,7 @@ use crate::head_lines;
 use crate::sums::low;
 use crate::sums::next;
 use crate::sums::plus;
+use events::PLACE;
 use events::RECORD;
 use events::kinds;
 use events::strings;
@@ -96,7 +97,7 @@ fn word_of(kind: u32) -> usize {
     match kind {
         kinds::NAMESPACE | kinds::START | kinds::ATTRIBUTE => strings::PREFIX,
         kinds::INSTRUCTION => strings::NAME,
-        kinds::END => RECORD,
+        kinds::END => PLACE,
         _ => strings::VALUE,
     }
 }

@@ -8,10 +8,10 @@ use Rattle.listing.proofs.put_events.Statement.{statement}
 use Rattle.listing.proofs.put_events.Tie as tie
 
 abbrev Inv-loop : tie.InvT-loop
-Inv-loop out₀ n s w events at₀ i₀ t8 out at i = length out ≡ length out₀
+Inv-loop out₀ n s w events places at₀ i₀ t9 out at i = length out ≡ length out₀
 
 abbrev μ-loop : tie.MeasureT-loop
-μ-loop out₀ n s w events at₀ i₀ t8 out at i = events - i
+μ-loop out₀ n s w events places at₀ i₀ t9 out at i = events - i
 
 pub put-events-spec : {M : Type 1} → statement M
 put-events-spec =

@@ -5,6 +5,9 @@ use borrow.Author.Needs.{needs}
 use Rattle.events.proofs.words.framed.Statement.{statement}
 use Rattle.events.proofs.words.framed.Tie as tie
 
+returns : tie.Need-returns
+returns c = c .blank .ensures ∙ rw (c .before .enum-told .given .1)
+
 returns-2 : tie.Need-returns-2
 returns-2 c = c .blank2 .ensures ∙ rw (c .before .before .before .before .prefix .given .1, c .before .enum-told2 .given .1)
 
@@ -32,7 +35,7 @@ framed-spec =
     (λ c. search needs)
     (λ c. search needs)
     (λ c κs. search needs)
-    (λ c. search needs)
+    returns
     (λ c. search needs)
     (λ c. search needs)
     (λ c κs. search needs)

@@ -14,7 +14,11 @@ returns c = c .blank .ensures ∙ ⊎-elim (λ x. record-low _ _ (omega arith)) 
 
 returns-2 : tie.Need-returns-2
 returns-2 c =
-    c .framed .ensures ∙ rw (c .before .before .before .before .before .kind-of .ensures, c .before .before .before .before .told-at .ensures, c .before .before .before .told-at2 .ensures, c .before .before .told-at3 .ensures, c .before .told-at4 .ensures)
+    let fourth = c .before .before in
+    let third = fourth .before in
+    let second = third .before in
+    let first = second .before in
+    c .framed .ensures ∙ rw (first .before .kind-of .ensures, first .told-at .ensures, second .told-at2 .ensures, third .told-at3 .ensures, fourth .told-at4 .ensures)
     (record-framed _ _ (omega arith) (omega (arith, ltb-false)))
 
 pub from-words-spec : {M : Type 1} → statement M
@@ -35,5 +39,8 @@ from-words-spec =
     (λ c κs. search needs)
     (λ c. search needs)
     (λ c κs. search needs)
+    (λ c. search needs)
+    (λ c. search needs)
+    (λ c. search needs)
     (λ c κs. search needs)
     returns-2)

@@ -17,13 +17,13 @@ returns-3 c = λ t d x g. end-document g (omega arith) (omega arith) (c .documen
 
 returns-4 : tie.Need-returns-4
 returns-4 c =
-    let at-keep = c .before .before .before .before .before in
-    let at-end = at-keep .before .before in
+    let at-keep = c .before .before .before .before in
+    let at-end = at-keep .before .before .before in
     let at-if3 = at-end .before in
     let at-if2 = at-if3 .before .before in
     let at-if1 = at-if2 .before .before in
     let at-start = at-if1 .before .before .before .before in
-    λ t d x g. rw (c .before .behind-end2 .ensures)
+    λ t d x g. rw (c .behind-end2 .ensures)
     (end-element g (omega (arith, at-if1 .if1 .left, at-if2 .if2 .left, at-start .pre .2)) (omega (arith, at-if3 .if3 .left))
     (omega (arith, at-start .pre .0)) (at-keep .keep .ensures) (at-end .end .ensures))
 

@@ -34,6 +34,12 @@ string-at-requires c κs =
     let few = there .0 .tidy .counted 3 in
     (left .tidy .room, omega arith, omega arith)
 
+keep-requires : tie.Need-keep-requires
+keep-requires c κs =
+    let at-id = c .before .before .before .before .before .before .before .before .before .before .before .before .before .before .before .before .before .before .before .before .before .before .before in
+    let at-start = at-id .before .before .before .before .before .before .before .before .before in
+    omega (arith, at-start .pre .0 .tidy .size, at-start .pre .1)
+
 moved-requires : tie.Need-moved-requires
 moved-requires c κs =
     let at-content = c .before .before .before .before .before .before .before .before in
@@ -115,7 +121,7 @@ instruction-at-spec =
     (λ c. search needs)
     string-at-requires
     (λ c κs. search needs)
-    (λ c κs. search needs)
+    keep-requires
     moved-requires
     (λ c. search needs)
     (λ c. search needs)

@@ -23,7 +23,9 @@ start-of-requires c κs =
     let a = at-start .args in
     let last = at-name .name .last .1 in
     let read = name-element (a .s .now) (a .counts .now) (a .t .now) _ _ _ (at-name .name .result) (last .1 .0) (last .0) (last .1 .1 .0) (c .before .before .if1 .taken) (at-name .name .ensures) in
-    entry-named (a .s .now) (a .counts .now) (a .t .now) (last .1 .0) (last .0) (last .1 .1 .0) 8 (at-name .name .result) (omega arith) (omega arith) (read .1) (read .2)
+    let size = at-start .pre .0 .tidy .size in
+    let inside = at-start .pre .1 .inside in
+    (entry-named (a .s .now) (a .counts .now) (a .t .now) (last .1 .0) (last .0) (last .1 .1 .0) 8 (at-name .name .result) (omega arith) (omega arith) (read .1) (read .2), omega arith)
 
 returns : tie.Need-returns
 returns c =
@@ -59,8 +61,12 @@ keep-named-requires c κs =
     let read = name-attribute (a .s .now) (a .counts .now) (a .t .now) _ _ _ (at-name .name .result) (last .1 .0) (last .0) (last .1 .1 .0) nine (at-start .pre .1 .octet nine) (at-name .name .ensures) in
     let there = rw (at-read2 .read2 .given .1) at (read .1) in
     let said = at-value .value .ensures _ (there .0 .tidy) in
-    attribute-there (a .s .now) (lent (a .t .now) (a .counts .now) (a .index .now) (a .records .now)) (lent (last .0) (last .1 .0) (last .1 .1 .0) (a .records .now))
-    (lent (at-value .value .last .1 .0) (at-value .value .last .1 .1 .0) (last .1 .1 .0) (a .records .now)) (at-read2 .read2 .given .1) (read .1) (read .2) (c .before .before .before .v .given .1) (said .1)
+    let size = at-start .pre .0 .tidy .size in
+    let inside = at-start .pre .1 .inside in (
+      attribute-there (a .s .now) (lent (a .t .now) (a .counts .now) (a .index .now) (a .records .now)) (lent (last .0) (last .1 .0) (last .1 .1 .0) (a .records .now))
+          (lent (at-value .value .last .1 .0) (at-value .value .last .1 .1 .0) (last .1 .1 .0) (a .records .now)) (at-read2 .read2 .given .1) (read .1) (read .2) (c .before .before .before .v .given .1) (said .1),
+      omega arith,
+    )
 
 moved-requires : tie.Need-moved-requires
 moved-requires c κs =

@@ -25,6 +25,12 @@ string-at-requires-2 c κs =
     let left = rw (c .before .before .before .before .prefix .given .1) at (at-declared .declared .ensures .1) in
     (left .0 .tidy .room, omega arith, left .2)
 
+keep-requires : tie.Need-keep-requires
+keep-requires c κs =
+    let at-declared = c .before .before .before .before .before .before .before .before .before .before .before .before .before .before .before in
+    let at-start = at-declared .before .before .before .before .before .before .before .before .before in
+    omega (arith, at-start .pre .0 .tidy .size, at-start .pre .1)
+
 moved-requires : tie.Need-moved-requires
 moved-requires c κs =
     let at-prefix = c .before .before .before .before .before .before .before .before .before .before .before in
@@ -38,6 +44,9 @@ returns c =
     rw (c .stop .ensures .0)
     (namespace-refused _ _ (at-declared .declared .ensures .0) (at-declared .declared .ensures .1) (c .before .before .number .given .1)
     (c .stop .ensures .1) refl)
+
+same-length-4 : tie.Need-same-length-4
+same-length-4 c = omega (arith, c .before .before .before .before .before .before .before .before .before .before .before .before .before .before .before .before .before .before .before .before .declared .kept)
 
 returns-2 : tie.Need-returns-2
 returns-2 c =
@@ -63,14 +72,14 @@ namespace-at-spec =
     string-at-requires
     string-at-requires-2
     (λ c κs. search needs)
-    (λ c κs. search needs)
+    keep-requires
     (λ c κs. search needs)
     moved-requires
     (λ c. search needs)
     (λ c. search needs)
     (λ c. search needs)
     returns
-    (λ c. search needs)
+    same-length-4
     (λ c. search needs)
     (λ c. search needs)
     (λ c. search needs)

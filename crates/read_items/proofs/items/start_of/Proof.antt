@@ -14,13 +14,13 @@ returns c = start-deep _ _ _ _ _ _ (c .before .before .before .before .r2 .given
 keep-named-requires : tie.Need-keep-named-requires
 keep-named-requires c κs =
     let at-start = c .before .before .before .before .before .before .before .before in
-    let named = rw (c .before .before .before .before .r2 .given .1) at (at-start .pre) in named .0
+    let named = rw (c .before .before .before .before .r2 .given .1) at (at-start .pre .0) in (named .0, omega arith)
 
 opened-requires : tie.Need-opened-requires
 opened-requires c κs =
     let at-r2 = c .before .before .before .before .before .before .before in
     let at-start = at-r2 .before .before .before .before in
-    let named = rw (at-r2 .r2 .given .1) at (at-start .pre) in let near = named .1 in (omega arith, omega arith)
+    let named = rw (at-r2 .r2 .given .1) at (at-start .pre .0) in let near = named .1 in (omega arith, omega arith)
 
 returns-2 : tie.Need-returns-2
 returns-2 c = start-refused _ _ _ _ _ _ (c .before .before .r .given .1) (c .stop .ensures .1) (c .stop .ensures .0)

@@ -11,7 +11,7 @@ returns : tie.Need-returns
 returns c = takes-none (c .before .before .before .before .before .before .before .before .pre .0)
 
 keep-chunk-requires : tie.Need-keep-chunk-requires
-keep-chunk-requires c κs = chunk-in-row (c .before .before .before .before .before .before .before .before .before .pre .0 .tidied) _ (omega arith)
+keep-chunk-requires c κs = chunk-in-row (c .before .before .before .before .before .before .before .before .before .pre .0) _ (omega arith)
 
 returns-2 : tie.Need-returns-2
 returns-2 c =

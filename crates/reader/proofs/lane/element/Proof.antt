@@ -17,7 +17,7 @@ returns-2 c =
 keep-start-requires : tie.Need-keep-start-requires
 keep-start-requires c κs =
     let at-start = c .before .before .before .before .before .before .before .before .before .before .before in
-    name-in-row (at-start .pre .0 .tidied) _ (omega arith)
+    name-in-row (at-start .pre .0) _ (omega arith)
 
 returns-3 : tie.Need-returns-3
 returns-3 c =

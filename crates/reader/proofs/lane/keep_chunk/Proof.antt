@@ -9,7 +9,7 @@ use Rattle.reader.proofs.lane.keep_chunk.Statement.{statement}
 use Rattle.reader.proofs.lane.keep_chunk.Tie as tie
 
 returns : tie.Need-returns
-returns c = kept-not _ _ _ (ltb-false _ _ (sym (c .before .has-record .ensures) ∙ not-true _ (c .if1 .taken)))
+returns c = kept-not _ _ _ _ (ltb-false _ _ (sym (c .before .has-record .ensures) ∙ not-true _ (c .if1 .taken)))
 
 returns-4 : tie.Need-returns-4
 returns-4 c =

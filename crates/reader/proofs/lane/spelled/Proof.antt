@@ -5,7 +5,7 @@ use native.Mathlib.Omega.{arith}
 use mathlib.Core.Path.{sym, _∙_}
 use borrow.Author.Tests.{not-true, not-false}
 use Rattle.fields.proofs.Bounds.{field-got}
-use Rattle.reader.proofs.LaneLaws.{takes-none, takes-full, takes-spelled}
+use Rattle.reader.proofs.LaneLaws.{takes-none, takes-full, takes-spelled, place-fits}
 use Rattle.reader.proofs.lane.spelled.Statement.{statement}
 use Rattle.reader.proofs.lane.spelled.Tie as tie
 
@@ -66,6 +66,9 @@ cast-t23 c =
     let z = at-start .pre .0 .tidied .tidy .size in
     omega arith
 
+keep-requires : tie.Need-keep-requires
+keep-requires c κs = place-fits (c .before .before .before .before .before .before .before .before .before .before .before .before .before .before .before .before .before .before .before .before .before .before .before .before .before .pre .0)
+
 add-t16 : tie.Need-add-t16
 add-t16 c =
     let at-length2 = c .before .before .before .before .before .before .before .before .before .before .before .before .before .before .before .before .before .before in
@@ -125,7 +128,7 @@ spelled-spec =
     cast-t23
     (λ c. search needs)
     (λ c κs. search needs)
-    (λ c κs. search needs)
+    keep-requires
     add-t16
     add-t17
     (λ c. search needs)

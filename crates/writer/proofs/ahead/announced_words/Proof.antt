@@ -16,7 +16,7 @@ abbrev Inv-loop : tie.InvT-loop
 Inv-loop records i n₀ n = announced (drop n (recordsOf records)) ≡ announced (drop i (recordsOf records))
 
 abbrev μ-loop : tie.MeasureT-loop
-μ-loop records i n₀ n = length records / 13 - n
+μ-loop records i n₀ n = length records / 14 - n
 
 add-n : tie.Need-add-n Inv-loop μ-loop
 add-n c = omega (arith, begins-inside (c .before .before .before .before .args .records .now) (c .before .before .loop .n) 1 (omega arith) (sym (c .before .is-kind .ensures) ∙ c .if1 .taken))

@@ -7,10 +7,10 @@ use Rattle.writer.proofs.lane.slot.Statement.{statement}
 use Rattle.writer.proofs.lane.slot.Tie as tie
 
 cast-place : tie.Need-cast-place
-cast-place c = omega (arith, c .shared-slice-known .given (13 * c .before .args .i + 8))
+cast-place c = omega (arith, c .shared-slice-known .given (14 * c .before .args .i + 8))
 
 add-result : tie.Need-add-result
-add-result c = omega (arith, c .shared-slice-known .given (13 * c .before .args .i + 8))
+add-result c = omega (arith, c .shared-slice-known .given (14 * c .before .args .i + 8))
 
 pub slot-spec : {M : Type 1} → statement M
 slot-spec =

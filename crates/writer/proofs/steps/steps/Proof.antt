@@ -15,7 +15,7 @@ Inv-loop records text out₀ room t₀ index₀ memory₀ counts₀ st₀ i₀ o
     (length out ≡ length out₀) × (length t ≡ length t₀) × (length index ≡ length index₀) × (length counts ≡ 10) × Stepping (Begins records text room (length t₀) st₀ counts₀ out₀ t₀ index₀) records text room (length t₀) i st counts out t index memory
 
 abbrev μ-loop : tie.MeasureT-loop
-μ-loop records text out₀ room t₀ index₀ memory₀ counts₀ st₀ i₀ out t index memory counts st i = length records / 13 - i
+μ-loop records text out₀ room t₀ index₀ memory₀ counts₀ st₀ i₀ out t index memory counts st i = length records / 14 - i
 
 loop-holds : tie.Need-loop-holds Inv-loop μ-loop
 loop-holds c =

@@ -11,10 +11,10 @@ use Rattle.writer.proofs.lane.Lane.run.Tie as tie
 
 abbrev Inv-loop : tie.InvT-loop
 Inv-loop w memory out₀ room l₀ k₀ out l k =
-    (length out ≡ length out₀) × Safe w memory l × ((k ≡ 0 → ⊥) → Ahead w memory l room k) × Passes w memory room l₀ out₀ l out × Onward (l₀ .i) (l .i) (length w / 13)
+    (length out ≡ length out₀) × Safe w memory l × ((k ≡ 0 → ⊥) → Ahead w memory l room k) × Passes w memory room l₀ out₀ l out × Onward (l₀ .i) (l .i) (length w / 14)
 
 abbrev μ-loop : tie.MeasureT-loop
-μ-loop w memory out₀ room l₀ k₀ out l k = length w / 13 - l .i
+μ-loop w memory out₀ room l₀ k₀ out l k = length w / 14 - l .i
 
 next-requires : tie.Need-next-requires Inv-loop μ-loop
 next-requires c κs = c .before .before .pre
