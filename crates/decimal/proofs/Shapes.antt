@@ -13,7 +13,7 @@ use lib.IntN.{ℤ, pos, negsuc}
 use lib.ListN.{length, length-append}
 use lib.Signed.{mag}
 use Rattle.format.specs.Octets.{Octets}
-use Rattle.format.specs.Characters.{All, characters}
+use Rattle.format.specs.Characters.{All}
 use Rattle.format.specs.Integers.{figures, half, Held, size, digits, decimal, spaced, joined, listText, allOctets, InIntegers}
 use Rattle.format.specs.Forms.{width}
 use Rattle.format.specs.declared.StringForm.{StringForm}

@@ -104,6 +104,6 @@ abbrev pub Gives : Octets → Said → Next → Type 0
 Gives s u (Octet o v) = (ahead s u ≡ o ∷ ahead s v) × Fine s v
 Gives s u Done = ahead s u ≡ []
 
--- A text in which no integers are found, whatever comes behind: a word is none, or starts as none does.
+-- No integers will be found in this text, whatever comes behind: a word before is no integer, or the word under way can become none.
 abbrev pub Lost : Scan → Type 0
 Lost u = (u .word ≡ NoWord) ⊎ (u .before ≡ NoIntegers)

@@ -17,7 +17,7 @@ use decimal::scanning::Word;
 use decimal::scanning::put_ended;
 use format::StringForm;
 
-// A word was read that is no integer, or starts as none does: no integers are found any more.
+// A word before is no integer, or the word under way can become none: no integers will be found.
 fn is_lost(u: Scan) -> bool
     ensures { λ r. ⌜ (r ≡ true → Lost u) ⌝ }
 {

@@ -89,11 +89,6 @@ room-short ver s room h = Whole.too-short ver s room h
 pub room-enough : (ver : Version) (s : Octets) (room : ℕ) → length (marks ver s) ≤ room → reading ver s room ≡ reading ver s (length (marks ver s))
 room-enough ver s room h = Whole.long-enough ver s room h
 
---    PLACED: the events that are handed out have these places, in order.
-pub places-are : (ver : Version) (s : Octets) (room : ℕ) (events : List EventRead) (last : Stand) → reading ver s room ≡ accepted events last
-    → map (λ (e : EventRead). e .place) events ≡ map (λ (k : Mark). k .place) (marks ver s)
-places-are ver s room events last e = Whole.places-are ver s room events last e
-
 -- 4. MADE EARLIER: every number, save the 0 of the empty string, is, when it is used, that of an entry made earlier in the document, listed in its head or built in; and the
 --    entry is the very string, or the whole name, that the event says.
 pub made-earlier : (ver : Version) (h : Head) (items : List (Item Octets)) (z : State Octets) (s : Octets) → Document ver h items z s

@@ -83,7 +83,7 @@ pub data MeasureWordsAnswer (es : List Event) (t c : ℕ) (w : WriteWords.WordsM
 -- ---- what a call that reads owes by demand 3
 -- The places in a row of records (the seventh change): n events of the document s are in its first n records.
 pub record EventPlaces (ver : Version) (s : Octets) (n : ℕ) (row : List Event) : Type 0 where
-  -- with records for i events only, a call refuses event i, from 0, for want of a record (14) at this very place
+  -- a call that is lent records for only i events refuses event number i, counted from 0, as ROOM at this place
   pub of-room : (i : ℕ) → i < n → Read.readOf ver s i tableWords .told ≡ toldRefused ROOM (getD row i blank .place)
   -- places never fall; two records with one place are both Ends
   pub never-fall : (i j : ℕ) → i ≤ j → j < n → getD row i blank .place ≤ getD row j blank .place

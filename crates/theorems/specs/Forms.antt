@@ -29,7 +29,7 @@ pub record FormsExact : Type 0 where
   pub spelled-text : (form : StringForm) (x o : Octets) → Spelled form x o → IsText x
   pub finds : (form : StringForm) (x o : Octets) → Spelled form x o ↔ (IsText x × (said form o ≡ x))
 
--- The form that the writer chooses for a text: the string has it; it is not utf-16; no other form but utf-16 gives a shorter field, and one that gives as short a one has no lower a number.
+-- The form that the writer chooses for a text: the string has it; it is not utf-16; no form but utf-16 gives a shorter field, and no form with a lower number gives one that is as short.
 pub record FewestOctets (bit : ℕ) (x : Octets) : Type 0 where
   pub has-it : Spelled (formFor bit x) x (inForm (formFor bit x) x)
   pub not-utf16 : formFor bit x ≡ Utf16 → ⊥

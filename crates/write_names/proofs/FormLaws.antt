@@ -2,7 +2,7 @@
 -- Assumes nothing.
 use mathlib.Core.Path.{_≡_, refl, sym, ap, _∙_}
 use mathlib.Core.Bool.{true, false}
-use mathlib.Core.List.{List, [], _∷_}
+use mathlib.Core.List.{List, _∷_}
 use Prim.Native.Nat.{ℕ, suc, _+_, _-_, _*_, _/_, _^_, _≤_, _<_}
 use native.Mathlib.Omega.{arith}
 use native.Mathlib.Nat.{mul-le-mul}
@@ -11,8 +11,6 @@ use lib.Dec.{ltb}
 use lib.ListN.{length, getD}
 use Rattle.format.specs.Octets.{Octets}
 use Rattle.format.specs.Numbers.{spell, lengths, longest}
-use Rattle.format.specs.Characters.{All}
-use Rattle.format.specs.Integers.{InIntegers}
 use Rattle.format.specs.Forms.{formNumber, width, numeric, dates}
 use Rattle.format.specs.declared.StringForm.{StringForm}
 use Rattle.format.specs.declared.StringForm.the-variants.{Utf8, Numeric, Dates, Short, Int, Long}
