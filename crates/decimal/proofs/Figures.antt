@@ -21,13 +21,13 @@ figures-length base low zero v = refl
 figures-length base low (suc m) v = ap suc (figures-length base low m v)
 
 module _ (base low : ℕ) (some : 0 < base) where
-  pub power-some : (m : ℕ) → 0 < base ^ m
-  power-some zero = rw (pow-zero base) (lit< tt)
-  power-some (suc m) = rw (pow-suc base m) (mul-pos (power-some m) some)
+  pub power_some : (m : ℕ) → 0 < base ^ m
+  power_some zero = rw (pow-zero base) (lit< tt)
+  power_some (suc m) = rw (pow-suc base m) (mul-pos (power_some m) some)
 
   -- one more figure of v
-  one_more : (m v : ℕ) → v / base ^ suc m * base + v / base ^ m % base ≡ v / base ^ m
-  one_more m v = rw (pow-suc base m, ← div-div-eq-div-mul v (base ^ m) base) (div-add-mod' (v / base ^ m) base)
+  one_more_lem : (m v : ℕ) → v / base ^ suc m * base + v / base ^ m % base ≡ v / base ^ m
+  one_more_lem m v = rw (pow-suc base m, ← div-div-eq-div-mul v (base ^ m) base) (div-add-mod' (v / base ^ m) base)
 
   -- ---- written, then read
 
@@ -36,15 +36,15 @@ module _ (base low : ℕ) (some : 0 < base) where
   number_behind zero v = rw (pow-zero base) (div-one v)
   number_behind (suc m) v =
       let e : low + v / base ^ m % base - low ≡ v / base ^ m % base = omega arith in
-      ap (λ k. number base low k (figures base low m v)) (rw e (one_more m v)) ∙ number_behind m v
+      ap (λ k. number base low k (figures base low m v)) (rw e (one_more_lem m v)) ∙ number_behind m v
 
   pub number-figures : (m v : ℕ) → v < base ^ m → number base low 0 (figures base low m v) ≡ v
   number-figures m v h = rw (div-eq_of_lt h) at (number_behind m v)
 
-  pub figures-are : (m v : ℕ) → Figures base low (figures base low m v)
+  pub figures_are : (m v : ℕ) → Figures base low (figures base low m v)
   unfolding figures Figures
-  figures-are zero v = tt
-  figures-are (suc m) v = let h = mod-lt (v / base ^ m) some in (omega arith, omega arith, figures-are m v)
+  figures_are zero v = tt
+  figures_are (suc m) v = let h = mod-lt (v / base ^ m) some in (omega arith, omega arith, figures_are m v)
 
   -- ---- read, then written
 
@@ -58,8 +58,8 @@ module _ (base low : ℕ) (some : 0 < base) where
       rw (pow-suc base (length ds), ← div-div-eq-div-mul (number base low (x * base + r) ds) (base ^ length ds) base, number-top (x * base + r) ds f.2, mul-add-div_right some x r, div-eq_of_lt h)
       (omega arith)
 
-  pub number-less : (x : ℕ) (ds : List ℕ) → Figures base low ds → number base low x ds < (x + 1) * base ^ length ds
-  number-less x ds f = let e = number-top x ds f in (div-lt_iff_lt-mul (power-some (length ds))).0 (omega arith)
+  pub number_less : (x : ℕ) (ds : List ℕ) → Figures base low ds → number base low x ds < (x + 1) * base ^ length ds
+  number_less x ds f = let e = number-top x ds f in (div-lt_iff_lt-mul (power_some (length ds))).0 (omega arith)
 
   pub figures-number : (x : ℕ) (ds : List ℕ) → Figures base low ds → figures base low (length ds) (number base low x ds) ≡ ds
   unfolding number figures Figures
@@ -70,24 +70,24 @@ module _ (base low : ℕ) (some : 0 < base) where
       let e : low + r ≡ d = (let l = f.0 in omega arith) in
       rw (number-top (x * base + r) ds f.2, mul-add-mod_self_right x base r, mod-eq_of_lt h, e, figures-number (x * base + r) ds f.2)
 
-  pub number-grows : (x : ℕ) (ds : List ℕ) → x ≤ number base low x ds
+  pub number_grows : (x : ℕ) (ds : List ℕ) → x ≤ number base low x ds
   unfolding number
-  number-grows x [] = omega arith
-  number-grows x (d ∷ ds) =
-      let h = number-grows (x * base + (d - low)) ds in
+  number_grows x [] = omega arith
+  number_grows x (d ∷ ds) =
+      let h = number_grows (x * base + (d - low)) ds in
       let m = le-mul_of_pos_right x some in
       omega arith
 
 -- ---- parts of figures are figures
 
-pub take-are : (base low n : ℕ) (ds : List ℕ) → Figures base low ds → Figures base low (take n ds)
+pub take_are : (base low n : ℕ) (ds : List ℕ) → Figures base low ds → Figures base low (take n ds)
 unfolding Figures
-take-are base low zero ds f = tt
-take-are base low (suc n) [] f = tt
-take-are base low (suc n) (d ∷ ds) f = (f.0, f.1, take-are base low n ds f.2)
+take_are base low zero ds f = tt
+take_are base low (suc n) [] f = tt
+take_are base low (suc n) (d ∷ ds) f = (f.0, f.1, take_are base low n ds f.2)
 
-pub drop-are : (base low n : ℕ) (ds : List ℕ) → Figures base low ds → Figures base low (drop n ds)
+pub drop_are : (base low n : ℕ) (ds : List ℕ) → Figures base low ds → Figures base low (drop n ds)
 unfolding Figures
-drop-are base low zero ds f = f
-drop-are base low (suc n) [] f = tt
-drop-are base low (suc n) (d ∷ ds) f = drop-are base low n ds f.2
+drop_are base low zero ds f = f
+drop_are base low (suc n) [] f = tt
+drop_are base low (suc n) (d ∷ ds) f = drop_are base low n ds f.2

@@ -12,8 +12,8 @@ use mir.Val.{to_z, of_z, SFits, hbits}
 use mir.ValLaws.{to_z_pos, to_z-of_z}
 use Rattle.format.specs.Integers.{half, Held}
 use Rattle.decimal.specs.Reading.{signed}
-use Rattle.decimal.proofs.Integers.{halves, half-power, signed_low, signed_high, signed-held}
-use Rattle.decimal.proofs.Figures.{power-some}
+use Rattle.decimal.proofs.Integers.{halves, half_power, signed_low, signed_high, signed_held}
+use Rattle.decimal.proofs.Figures.{power_some}
 
 -- -1 - k is -(k + 1)
 minus : (k : ℕ) → negsuc 0 -ℤ pos k ≡ negsuc k
@@ -21,29 +21,29 @@ minus zero = refl
 minus (suc k) = ap negsuc (omega arith)
 
 module _ (k : ℕ) (h : k < 2 ^ 63) where
-  from-minus-one : negsuc 0 -ℤ to_z w64 k ≡ negsuc k
-  from-minus-one = rw (to_z_pos w64 k h) (minus k)
+  from_minus_one : negsuc 0 -ℤ to_z w64 k ≡ negsuc k
+  from_minus_one = rw (to_z_pos w64 k h) (minus k)
 
   pub negative_fits : SFits w64 (negsuc 0 -ℤ to_z w64 k)
-  negative_fits = rw from-minus-one (record { sfits = h })
+  negative_fits = rw from_minus_one (record { sfits = h })
 
   pub negative : to_z w64 (of_z w64 (negsuc 0 -ℤ to_z w64 k)) ≡ negsuc k
-  negative = to_z-of_z w64 _ negative_fits ∙ from-minus-one
+  negative = to_z-of_z w64 _ negative_fits ∙ from_minus_one
 
 -- ---- the half of w octets, once for every width
 
 module _ (w : ℕ) (some : 1 ≤ w) (few : w ≤ 8) where
-  half-less : 2 ^ (8 * w - 1) ≤ 2 ^ 63
-  half-less = pow-le-pow_right {n = 2} (lit< tt) {j = 63} (omega arith)
+  half_less : 2 ^ (8 * w - 1) ≤ 2 ^ 63
+  half_less = pow-le-pow_right {n = 2} (lit< tt) {j = 63} (omega arith)
 
   pub half_is : (1 * 2 ^ (8 * w - 1)) % 2 ^ 64 ≡ half w
   half_is =
       let o : 1 * 2 ^ (8 * w - 1) ≡ 2 ^ (8 * w - 1) = omega arith in
-      let l = half-less in
-      rw (o, half-power w some) (mod-eq_of_lt (omega arith))
+      let l = half_less in
+      rw (o, half_power w some) (mod-eq_of_lt (omega arith))
 
-  pub half-bounds : (1 ≤ half w) × (half w ≤ 2 ^ 63) × (half w + half w ≡ 256 ^ w)
-  half-bounds = (rw (half-power w some) (power-some 2 0 (lit< tt) (8 * w - 1)), rw (half-power w some) half-less, of w some)
+  pub half_bounds : (1 ≤ half w) × (half w ≤ 2 ^ 63) × (half w + half w ≡ 256 ^ w)
+  half_bounds = (rw (half_power w some) (power_some 2 0 (lit< tt) (8 * w - 1)), rw (half_power w some) half_less, of w some)
     where
       of : (w : ℕ) → 1 ≤ w → half w + half w ≡ 256 ^ w
       of zero h = absurd (omega arith)
@@ -56,14 +56,14 @@ module _ (w : ℕ) (some : 1 ≤ w) (few : w ≤ 8) where
       where
         held : (w : ℕ) → 1 ≤ w → v < 256 ^ w → Held w (signed w v)
         held zero k l = absurd (omega arith)
-        held (suc m) k l = signed-held m v l
+        held (suc m) k l = signed_held m v l
 
     pub low : {r : ℤ} → r ≡ pos v → v < h → (r ≡ signed w v) × Held w r
     low q l = stands (q ∙ signed_low w v (rw (← e) l))
 
     pub high : {r : ℤ} → r ≡ negsuc (h - 1 - (v - h)) → h ≤ v → (r ≡ signed w v) × Held w r
     high q l =
-        let b = half-bounds.2 in
+        let b = half_bounds.2 in
         let k : h - 1 - (v - h) ≡ 256 ^ w - suc v = (omega arith) in
         stands (q ∙ ap negsuc k ∙ signed_high w v (rw (← e) l))
 
@@ -95,5 +95,5 @@ module _ (z : ℤ) (w : Width) (few : hbits w ≤ 63) (f : SFits w z) where
   pub widened : to_z w64 (of_z w64 (to_z w (of_z w z))) ≡ z
   widened = rw self (to_z-of_z w64 z (record { sfits = wide }))
 
-  pub widened-held : mag (to_z w64 (of_z w64 (to_z w (of_z w z)))) < 2 ^ hbits w
-  widened-held = rw widened f.sfits
+  pub widened_held : mag (to_z w64 (of_z w64 (to_z w (of_z w z)))) < 2 ^ hbits w
+  widened_held = rw widened f.sfits

@@ -16,13 +16,13 @@ use Rattle.format.specs.Integers.{half}
 use Rattle.fields.proofs.Laws.{case}
 use Rattle.fields.proofs.Utf8.{told}
 use Rattle.decimal.specs.Reading.{number}
-use Rattle.decimal.specs.Words.{isDigit, areDigits, isPositive, is_empty, isWord, integer, parse}
-use Rattle.decimal.specs.Machine.{most, grown, stepped, steppedBy, integerBy, ended}
+use Rattle.decimal.specs.Words.{is_digit, are_digits, is_positive, is_empty, is_word, integer, parse}
+use Rattle.decimal.specs.Machine.{most, grown, stepped, stepped_by, integer_by, ended}
 use Rattle.decimal.specs.declared.scanning.Word.{Word}
 use Rattle.decimal.specs.declared.scanning.Word.TheVariants.{Empty, Minus, Zero, Digits, NoWord}
 use Rattle.decimal.specs.declared.scanning.Ended.{Ended}
 use Rattle.decimal.specs.declared.scanning.Ended.TheVariants.{Integer, NoInteger}
-use Rattle.decimal.proofs.Figures.{number-grows}
+use Rattle.decimal.proofs.Figures.{number_grows}
 
 -- an integer that eight octets hold
 unfoldable pub within : Option ℤ → Ended
@@ -30,30 +30,30 @@ within none = NoInteger
 within (some z) = pick (ltb (mag z) (half 8)) (Integer z) NoInteger
 
 -- where the word ends behind these octets
-abbrev pub endedBy : Word → Octets → Ended
-endedBy u y = ended (steppedBy u y)
+abbrev pub ended_by : Word → Octets → Ended
+ended_by u y = ended (stepped_by u y)
 
-no_word : (y : Octets) → endedBy NoWord y ≡ NoInteger
-unfolding steppedBy stepped ended
+no_word : (y : Octets) → ended_by NoWord y ≡ NoInteger
+unfolding stepped_by stepped ended
 no_word [] = refl
 no_word (o ∷ y) = no_word y
 
-zero_word : (y : Octets) → endedBy Zero y ≡ pick (is_empty y) (Integer (pos 0)) NoInteger
-unfolding steppedBy stepped ended is_empty
+zero_word : (y : Octets) → ended_by Zero y ≡ pick (is_empty y) (Integer (pos 0)) NoInteger
+unfolding stepped_by stepped ended is_empty
 zero_word [] = refl
 zero_word (o ∷ y) = no_word y
 
 -- ---- digits
 
-too_long : (minus : Bool) (n : ℕ) → half 8 < n → integerBy minus n ≡ NoInteger
-unfolding integerBy
+too_long : (minus : Bool) (n : ℕ) → half 8 < n → integer_by minus n ≡ NoInteger
+unfolding integer_by
 too_long true n h = rw (lt-leb n (half 8) h)
 too_long false n h = rw (le-ltb n (half 8) (omega arith))
 
 -- no digit behind a number above `most` makes an integer
-behind-most : (minus : Bool) (n o : ℕ) (y : Octets) → most < n → integerBy minus (number 10 0x30 (n * 10 + (o - 0x30)) y) ≡ NoInteger
+behind-most : (minus : Bool) (n o : ℕ) (y : Octets) → most < n → integer_by minus (number 10 0x30 (n * 10 + (o - 0x30)) y) ≡ NoInteger
 unfolding half
-behind-most minus n o y h = let g = number-grows 10 0x30 (lit< tt) (n * 10 + (o - 0x30)) y in too_long minus _ (omega arith)
+behind-most minus n o y h = let g = number_grows 10 0x30 (lit< tt) (n * 10 + (o - 0x30)) y in too_long minus _ (omega arith)
 
 either : {A : Type 0} (t : Bool) (a : A) → pick t a a ≡ a
 either true a = refl
@@ -61,70 +61,70 @@ either false a = refl
 
 module _ (minus : Bool) where
   -- a digit more, where the rest is known
-  grown-rest : (n o : ℕ) (y : Octets) → endedBy (Digits minus (n * 10 + (o - 0x30))) y ≡ pick (areDigits y) (integerBy minus (number 10 0x30 (n * 10 + (o - 0x30)) y)) NoInteger
-      → endedBy (grown minus n o) y ≡ pick (isDigit o && areDigits y) (integerBy minus (number 10 0x30 (n * 10 + (o - 0x30)) y)) NoInteger
+  grown_rest : (n o : ℕ) (y : Octets) → ended_by (Digits minus (n * 10 + (o - 0x30))) y ≡ pick (are_digits y) (integer_by minus (number 10 0x30 (n * 10 + (o - 0x30)) y)) NoInteger
+      → ended_by (grown minus n o) y ≡ pick (is_digit o && are_digits y) (integer_by minus (number 10 0x30 (n * 10 + (o - 0x30)) y)) NoInteger
   unfolding grown
-  grown-rest n o y e =
-      told (isDigit o)
+  grown_rest n o y e =
+      told (is_digit o)
       (λ d. rw d (case most n
       (λ h. rw (lt-leb n most h, behind-most minus n o y h, either) (no_word y))
       (λ h. rw (le-leb n most h) e)))
       (λ d. rw d (no_word y))
 
-  digits-word : (n : ℕ) (y : Octets) → endedBy (Digits minus n) y ≡ pick (areDigits y) (integerBy minus (number 10 0x30 n y)) NoInteger
-  unfolding steppedBy stepped ended areDigits number
-  digits-word n [] = refl
-  digits-word n (o ∷ y) = grown-rest n o y (digits-word (n * 10 + (o - 0x30)) y)
+  digits_word : (n : ℕ) (y : Octets) → ended_by (Digits minus n) y ≡ pick (are_digits y) (integer_by minus (number 10 0x30 n y)) NoInteger
+  unfolding stepped_by stepped ended are_digits number
+  digits_word n [] = refl
+  digits_word n (o ∷ y) = grown_rest n o y (digits_word (n * 10 + (o - 0x30)) y)
 
   -- a first digit that is not 0
-  first_word : (o : ℕ) (y : Octets) → (o ≡ 0x30 → ⊥) → endedBy (grown minus 0 o) y ≡ pick (isPositive (o ∷ y)) (integerBy minus (number 10 0x30 0 (o ∷ y))) NoInteger
-  unfolding isPositive number
-  first_word o y h = rw (← positive) (grown-rest 0 o y (digits-word (0 * 10 + (o - 0x30)) y))
+  first_word : (o : ℕ) (y : Octets) → (o ≡ 0x30 → ⊥) → ended_by (grown minus 0 o) y ≡ pick (is_positive (o ∷ y)) (integer_by minus (number 10 0x30 0 (o ∷ y))) NoInteger
+  unfolding is_positive number
+  first_word o y h = rw (← positive) (grown_rest 0 o y (digits_word (0 * 10 + (o - 0x30)) y))
     where
-      positive : isDigit o ≡ (leb 0x31 o && leb o 0x39)
-      positive = unfold isDigit in
+      positive : is_digit o ≡ (leb 0x31 o && leb o 0x39)
+      positive = unfold is_digit in
           case o 0x30 (λ l. rw (lt-leb 0x30 o l, lt-leb 0x31 o (omega arith))) (λ l. rw (le-leb 0x30 o l, le-leb 0x31 o (omega arith)))
 
 -- ---- words
 
-half-some : 0 < half 8
+half_some : 0 < half 8
 unfolding half
-half-some = omega arith
+half_some = omega arith
 
-negative-within : (n : ℕ) → integerBy true n ≡ within (some (neg_ℤ (pos n)))
-unfolding integerBy within
-negative-within zero = rw (le-leb 0 (half 8) (omega arith), lt-ltb 0 (half 8) half-some)
-negative-within (suc n) = refl
+negative_within : (n : ℕ) → integer_by true n ≡ within (some (neg_ℤ (pos n)))
+unfolding integer_by within
+negative_within zero = rw (le-leb 0 (half 8) (omega arith), lt-ltb 0 (half 8) half_some)
+negative_within (suc n) = refl
 
-plain-within : (n : ℕ) → integerBy false n ≡ within (some (pos n))
-unfolding integerBy within
+plain-within : (n : ℕ) → integer_by false n ≡ within (some (pos n))
+unfolding integer_by within
 plain-within n = refl
 
-zero-within : (o : ℕ) (y : Octets) → o ≡ 0x30 → pick (is_empty y) (Integer (pos 0)) NoInteger ≡ within (pick (is_empty y) (some (pos (number 10 0x30 0 (o ∷ y)))) none)
+zero_within : (o : ℕ) (y : Octets) → o ≡ 0x30 → pick (is_empty y) (Integer (pos 0)) NoInteger ≡ within (pick (is_empty y) (some (pos (number 10 0x30 0 (o ∷ y)))) none)
 unfolding is_empty within number
-zero-within o [] e = rw (e, lt-ltb 0 (half 8) half-some)
-zero-within o (b ∷ y) e = refl
+zero_within o [] e = rw (e, lt-ltb 0 (half 8) half_some)
+zero_within o (b ∷ y) e = refl
 
 -- the test of a word and its integer
-by-test : (t : Bool) (z : ℤ) → pick t (within (some z)) NoInteger ≡ within (pick t (some z) none)
+by_test : (t : Bool) (z : ℤ) → pick t (within (some z)) NoInteger ≡ within (pick t (some z) none)
 unfolding within
-by-test true z = refl
-by-test false z = refl
+by_test true z = refl
+by_test false z = refl
 
-minus-word : (y : Octets) → endedBy Minus y ≡ pick (isPositive y) (integerBy true (number 10 0x30 0 y)) NoInteger
-unfolding steppedBy stepped ended
-minus-word [] = unfold isPositive in refl
-minus-word (o ∷ y) =
+minus_word : (y : Octets) → ended_by Minus y ≡ pick (is_positive y) (integer_by true (number 10 0x30 0 y)) NoInteger
+unfolding stepped_by stepped ended
+minus_word [] = unfold is_positive in refl
+minus_word (o ∷ y) =
     told (eqb o 0x30)
-    (λ t. let e = eqb-true o 0x30 t in rw (t, e) (no_word y ∙ unfold isPositive in refl))
+    (λ t. let e = eqb-true o 0x30 t in rw (t, e) (no_word y ∙ unfold is_positive in refl))
     (λ t. rw t (first_word true o y (eqb-false o 0x30 t)))
 
-pub word-is : (y : Octets) → endedBy Empty y ≡ within (parse y)
-unfolding steppedBy stepped ended parse isWord integer
-word-is [] = unfold within in refl
-word-is (o ∷ y) =
+pub word_is : (y : Octets) → ended_by Empty y ≡ within (parse y)
+unfolding stepped_by stepped ended parse is_word integer
+word_is [] = unfold within in refl
+word_is (o ∷ y) =
     told (eqb o 0x2D)
-    (λ t. rw t (minus-word y ∙ rw (negative-within (number 10 0x30 0 y)) (by-test (isPositive y) _)))
+    (λ t. rw t (minus_word y ∙ rw (negative_within (number 10 0x30 0 y)) (by_test (is_positive y) _)))
     (λ t. rw t (told (eqb o 0x30)
-    (λ u. rw u (zero_word y ∙ zero-within o y (eqb-true o 0x30 u)))
-    (λ u. rw u (first_word false o y (eqb-false o 0x30 u) ∙ rw (plain-within (number 10 0x30 0 (o ∷ y))) (by-test (isPositive (o ∷ y)) _)))))
+    (λ u. rw u (zero_word y ∙ zero_within o y (eqb-true o 0x30 u)))
+    (λ u. rw u (first_word false o y (eqb-false o 0x30 u) ∙ rw (plain-within (number 10 0x30 0 (o ∷ y))) (by_test (is_positive (o ∷ y)) _)))))

@@ -40,14 +40,14 @@ module _ (z : ℤ) (ok : SFits w64 z) where
     is : to_z w64 (of_z w64 (negsuc 0 -ℤ self)) ≡ pos (mag z)
     is = to_z-of_z w64 (negsuc 0 -ℤ self) behind-fits ∙ behind
 
-    pub behind-casts : T (non_neg (to_z w64 (of_z w64 (negsuc 0 -ℤ self)))) × Fits w64 (nat_abs (to_z w64 (of_z w64 (negsuc 0 -ℤ self))))
-    behind-casts = rw is (tt, record { fits = (let h = ok.sfits in omega arith) })
+    pub behind_casts : T (non_neg (to_z w64 (of_z w64 (negsuc 0 -ℤ self)))) × Fits w64 (nat_abs (to_z w64 (of_z w64 (negsuc 0 -ℤ self))))
+    behind_casts = rw is (tt, record { fits = (let h = ok.sfits in omega arith) })
 
-    pub folded-negative : (nat_abs (to_z w64 (of_z w64 (negsuc 0 -ℤ self))) ≡ mag z) × (nat_abs (to_z w64 (of_z w64 (negsuc 0 -ℤ self))) < 2 ^ 63)
-    folded-negative = rw is (refl, ok.sfits)
+    pub folded_negative : (nat_abs (to_z w64 (of_z w64 (negsuc 0 -ℤ self))) ≡ mag z) × (nat_abs (to_z w64 (of_z w64 (negsuc 0 -ℤ self))) < 2 ^ 63)
+    folded_negative = rw is (refl, ok.sfits)
 
-    pub magnitude-negative : {n : ℕ} → n ≡ mag self → n + 1 ≡ nat_abs z
-    magnitude-negative e = let k : mag z + 1 ≡ nat_abs z = (below z (rw same at t)).1 in let f = rw same at e in omega arith
+    pub magnitude_negative : {n : ℕ} → n ≡ mag self → n + 1 ≡ nat_abs z
+    magnitude_negative e = let k : mag z + 1 ≡ nat_abs z = (below z (rw same at t)).1 in let f = rw same at e in omega arith
 
   module _ (t : lt_z self (pos 0) ≡ false) where
     pub casts : T (non_neg self) × Fits w64 (nat_abs self)
@@ -57,11 +57,11 @@ module _ (z : ℤ) (ok : SFits w64 z) where
         let e = p.1 in
         rw same (p.0, record { fits = omega arith })
 
-    pub folded-plain : (nat_abs self ≡ mag z) × (nat_abs self < 2 ^ 63)
-    folded-plain = let h = ok.sfits in let e = (above z (rw same at t)).1 in rw same (sym e, omega arith)
+    pub folded_plain : (nat_abs self ≡ mag z) × (nat_abs self < 2 ^ 63)
+    folded_plain = let h = ok.sfits in let e = (above z (rw same at t)).1 in rw same (sym e, omega arith)
 
-    pub magnitude-plain : {n : ℕ} → n ≡ mag self → n ≡ nat_abs z
-    magnitude-plain e = (rw same at e) ∙ (above z (rw same at t)).1
+    pub magnitude_plain : {n : ℕ} → n ≡ mag self → n ≡ nat_abs z
+    magnitude_plain e = (rw same at e) ∙ (above z (rw same at t)).1
 
   -- ---- the number without a sign
 

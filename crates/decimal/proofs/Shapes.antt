@@ -14,63 +14,63 @@ use lib.ListN.{length, length-append}
 use lib.Signed.{mag}
 use Rattle.format.specs.Octets.{Octets}
 use Rattle.format.specs.Characters.{All}
-use Rattle.format.specs.Integers.{figures, half, Held, size, digits, decimal, spaced, joined, listText, allOctets, InIntegers}
+use Rattle.format.specs.Integers.{figures, half, Held, size, digits, decimal, spaced, joined, list_text, all_octets, InIntegers}
 use Rattle.format.specs.Forms.{width}
 use Rattle.format.specs.declared.StringForm.{StringForm}
 use Rattle.format.specs.declared.StringForm.TheVariants.{Utf8, Utf16, Numeric, Dates, Short, Int, Long}
 use Rattle.fields.proofs.Utf8.{never, both as both_true}
-use Rattle.decimal.specs.Words.{wordCount, parseList, allHeld, heldIn, shape, octetsIn, integersIn}
+use Rattle.decimal.specs.Words.{word_count, parse_list, all_held, held_in, shape, octets_in, integers_in}
 use Rattle.decimal.proofs.Figures.{figures-length}
-use Rattle.decimal.proofs.Texts.{words-text, spaced-joined, parse-some, text-parse, parse-not-empty}
-use Rattle.decimal.proofs.Tens.{size-some, size-most}
-use Rattle.decimal.proofs.Said.{all-length}
+use Rattle.decimal.proofs.Texts.{words_text, spaced-joined, parse_some, text_parse, parse_not_empty}
+use Rattle.decimal.proofs.Tens.{size_some, size-most}
+use Rattle.decimal.proofs.Said.{all_length}
 
 -- ---- held, by a test
 
-all_held : (w : ℕ) (zs : List ℤ) → allHeld w zs ≡ true → All (Held w) zs
-unfolding allHeld
-all_held w [] e = tt
-all_held w (z ∷ zs) e = let p = both_true (ltb (mag z) (half w)) (allHeld w zs) e in (ltb-true _ _ p.0, all_held w zs p.1)
+all_held_lem : (w : ℕ) (zs : List ℤ) → all_held w zs ≡ true → All (Held w) zs
+unfolding all_held
+all_held_lem w [] e = tt
+all_held_lem w (z ∷ zs) e = let p = both_true (ltb (mag z) (half w)) (all_held w zs) e in (ltb-true _ _ p.0, all_held_lem w zs p.1)
 
-held-tested : (w : ℕ) (zs : List ℤ) → All (Held w) zs → allHeld w zs ≡ true
-unfolding allHeld
-held-tested w [] h = refl
-held-tested w (z ∷ zs) h = rw (lt-ltb (mag z) (half w) h.0) (held-tested w zs h.1)
+held_tested : (w : ℕ) (zs : List ℤ) → All (Held w) zs → all_held w zs ≡ true
+unfolding all_held
+held_tested w [] h = refl
+held_tested w (z ∷ zs) h = rw (lt-ltb (mag z) (half w) h.0) (held_tested w zs h.1)
 
 -- wider octets hold as much
-pub half-grows : (v w : ℕ) → v ≤ w → half v ≤ half w
+pub half_grows : (v w : ℕ) → v ≤ w → half v ≤ half w
 unfolding half
-half-grows v w h = let p = pow-le-pow_right {n = 256} (lit< tt) {i = v} {j = w} h in omega arith
+half_grows v w h = let p = pow-le-pow_right {n = 256} (lit< tt) {i = v} {j = w} h in omega arith
 
 -- ---- the shape of a text
 
-pub shape-integers : (w : ℕ) (x : Octets) → shape w x ≡ true → (zs : List ℤ) × (parseList x ≡ some zs) × All (Held w) zs
+pub shape_integers : (w : ℕ) (x : Octets) → shape w x ≡ true → (zs : List ℤ) × (parse_list x ≡ some zs) × All (Held w) zs
 unfolding shape
-shape-integers w x e = by (parseList x) refl e
+shape_integers w x e = by (parse_list x) refl e
   where
-    by : (r : Option (List ℤ)) → parseList x ≡ r → heldIn w r ≡ true → (zs : List ℤ) × (parseList x ≡ some zs) × All (Held w) zs
-    by none p q = never (unfold heldIn in q)
-    by (some zs) p q = (zs, p, all_held w zs (unfold heldIn in q))
+    by : (r : Option (List ℤ)) → parse_list x ≡ r → held_in w r ≡ true → (zs : List ℤ) × (parse_list x ≡ some zs) × All (Held w) zs
+    by none p q = never (unfold held_in in q)
+    by (some zs) p q = (zs, p, all_held_lem w zs (unfold held_in in q))
 
-pub integers-shape : (w : ℕ) (x : Octets) (zs : List ℤ) → parseList x ≡ some zs → All (Held w) zs → (shape w x ≡ true) × (integersIn w x ≡ allOctets w zs)
-unfolding shape heldIn integersIn octetsIn
-integers-shape w x zs e h = rw e (held-tested w zs h, refl)
+pub integers_shape : (w : ℕ) (x : Octets) (zs : List ℤ) → parse_list x ≡ some zs → All (Held w) zs → (shape w x ≡ true) × (integers_in w x ≡ all_octets w zs)
+unfolding shape held_in integers_in octets_in
+integers_shape w x zs e h = rw e (held_tested w zs h, refl)
 
-pub shape-spelled : (w : ℕ) (x : Octets) → shape w x ≡ true → InIntegers w x (integersIn w x)
-shape-spelled w x e =
-    let i = shape-integers w x e in
+pub shape_spelled : (w : ℕ) (x : Octets) → shape w x ≡ true → InIntegers w x (integers_in w x)
+shape_spelled w x e =
+    let i = shape_integers w x e in
     record {
       integers = i.0;
-      some = parse-not-empty x i.0 i.1;
+      some = parse_not_empty x i.0 i.1;
       held = i.2;
-      string = sym (text-parse x i.0 i.1);
-      octets = (integers-shape w x i.0 i.1 i.2).1;
+      string = sym (text_parse x i.0 i.1);
+      octets = (integers_shape w x i.0 i.1 i.2).1;
     }
 
-pub spelled-shape : (w : ℕ) (x o : Octets) → InIntegers w x o → (shape w x ≡ true) × (o ≡ integersIn w x)
-spelled-shape w x o s =
+pub spelled_shape : (w : ℕ) (x o : Octets) → InIntegers w x o → (shape w x ≡ true) × (o ≡ integers_in w x)
+spelled_shape w x o s =
     let zs = s.integers in
-    let i = integers-shape w x zs (ap parseList s.string ∙ parse-some zs s.some) s.held in
+    let i = integers_shape w x zs (ap parse_list s.string ∙ parse_some zs s.some) s.held in
     (i.0, s.octets ∙ sym i.1)
 
 -- ---- how many octets and words
@@ -79,44 +79,44 @@ map-length : (zs : List ℤ) → length (map decimal zs) ≡ length zs
 map-length [] = refl
 map-length (z ∷ zs) = ap suc (map-length zs)
 
-count-text : (zs : List ℤ) → 0 < length zs → wordCount (listText zs) ≡ length zs
-unfolding wordCount
-count-text [] h = absurd (omega arith)
-count-text (z ∷ zs) h = ap length (words-text z zs) ∙ map-length (z ∷ zs)
+count_text : (zs : List ℤ) → 0 < length zs → word_count (list_text zs) ≡ length zs
+unfolding word_count
+count_text [] h = absurd (omega arith)
+count_text (z ∷ zs) h = ap length (words_text z zs) ∙ map-length (z ∷ zs)
 
-pub length-in : (w : ℕ) (x : Octets) → shape w x ≡ true → length (integersIn w x) ≡ w * wordCount x
-length-in w x e =
-    let s = shape-spelled w x e in
+pub length_in : (w : ℕ) (x : Octets) → shape w x ≡ true → length (integers_in w x) ≡ w * word_count x
+length_in w x e =
+    let s = shape_spelled w x e in
     let zs = s.integers in
-    ap length s.octets ∙ all-length w zs ∙ mul_comm (length zs) w ∙ ap (λ k. w * k) (sym (ap wordCount s.string ∙ count-text zs s.some))
+    ap length s.octets ∙ all_length w zs ∙ mul_comm (length zs) w ∙ ap (λ k. w * k) (sym (ap word_count s.string ∙ count_text zs s.some))
 
-decimal-some : (z : ℤ) → 1 ≤ length (decimal z)
+decimal_some : (z : ℤ) → 1 ≤ length (decimal z)
 unfolding decimal digits
-decimal-some (pos n) = let e = figures-length 10 0x30 (size n) n in let s = size-some n in omega arith
-decimal-some (negsuc n) = omega arith
+decimal_some (pos n) = let e = figures-length 10 0x30 (size n) n in let s = size_some n in omega arith
+decimal_some (negsuc n) = omega arith
 
-text-spaced : (zs : List ℤ) → 0 < length zs → length (spaced (map decimal zs)) ≡ suc (length (listText zs))
-unfolding listText
-text-spaced zs h = ap length (spaced-joined (map decimal zs) (rw (map-length zs) h))
+text_spaced : (zs : List ℤ) → 0 < length zs → length (spaced (map decimal zs)) ≡ suc (length (list_text zs))
+unfolding list_text
+text_spaced zs h = ap length (spaced-joined (map decimal zs) (rw (map-length zs) h))
 
 -- a word and its space are two octets at least
-spaced-least : (zs : List ℤ) → 2 * length zs ≤ length (spaced (map decimal zs))
+spaced_least : (zs : List ℤ) → 2 * length zs ≤ length (spaced (map decimal zs))
 unfolding spaced
-spaced-least [] = omega arith
-spaced-least (z ∷ zs) =
-    let r = spaced-least zs in
-    let d = decimal-some z in
+spaced_least [] = omega arith
+spaced_least (z ∷ zs) =
+    let r = spaced_least zs in
+    let d = decimal_some z in
     let n = length-append (decimal z) (spaced (map decimal zs)) in
     omega arith
 
-pub few_words : (w : ℕ) (x : Octets) → shape w x ≡ true → 2 * wordCount x ≤ length x + 1
+pub few_words : (w : ℕ) (x : Octets) → shape w x ≡ true → 2 * word_count x ≤ length x + 1
 few_words w x e =
-    let s = shape-spelled w x e in
+    let s = shape_spelled w x e in
     let zs = s.integers in
-    let n = ap wordCount s.string ∙ count-text zs s.some in
+    let n = ap word_count s.string ∙ count_text zs s.some in
     let m = ap length s.string in
-    let b = spaced-least zs in
-    let t = text-spaced zs s.some in
+    let b = spaced_least zs in
+    let t = text_spaced zs s.some in
     omega arith
 
 -- ---- how long a text is
@@ -138,50 +138,50 @@ spaced-most w k l o (z ∷ zs) h =
 
 -- where k digits are enough for w octets
 module _ (w k : ℕ) (l : half w < 10 ^ k) (some : 1 ≤ k) (few : 2 * (k + 2) ≤ 7 * w) (x o : Octets) (s : InIntegers w x o) where
-  text-few : 2 * length x ≤ 7 * length o
-  text-few =
+  text_few : 2 * length x ≤ 7 * length o
+  text_few =
       let zs = s.integers in
       let m = ap length s.string in
-      let n = ap length s.octets ∙ all-length w zs in
+      let n = ap length s.octets ∙ all_length w zs in
       let b = spaced-most w k l some zs s.held in
-      let t = text-spaced zs s.some in
+      let t = text_spaced zs s.some in
       let c = mul-le-mul_left (length zs) few in
       omega arith
 
 -- 7 octets of text for 2 at most, as "-32768 " for 80 00
-pub spelled-few : (form : StringForm) (x o : Octets) → 0 < width form → InIntegers (width form) x o → 2 * length x ≤ 7 * length o
+pub spelled_few : (form : StringForm) (x o : Octets) → 0 < width form → InIntegers (width form) x o → 2 * length x ≤ 7 * length o
 unfolding half
-spelled-few Utf8 x o h s = absurd (omega arith)
-spelled-few Utf16 x o h s = absurd (omega arith)
-spelled-few Numeric x o h s = absurd (omega arith)
-spelled-few Dates x o h s = absurd (omega arith)
-spelled-few Short x o h s = text-few 2 5 (omega arith) (omega arith) (omega arith) x o s
-spelled-few Int x o h s = text-few 4 10 (omega arith) (omega arith) (omega arith) x o s
-spelled-few Long x o h s = text-few 8 19 (omega arith) (omega arith) (omega arith) x o s
+spelled_few Utf8 x o h s = absurd (omega arith)
+spelled_few Utf16 x o h s = absurd (omega arith)
+spelled_few Numeric x o h s = absurd (omega arith)
+spelled_few Dates x o h s = absurd (omega arith)
+spelled_few Short x o h s = text_few 2 5 (omega arith) (omega arith) (omega arith) x o s
+spelled_few Int x o h s = text_few 4 10 (omega arith) (omega arith) (omega arith) x o s
+spelled_few Long x o h s = text_few 8 19 (omega arith) (omega arith) (omega arith) x o s
 
 -- ---- of which characters: digits, "-" and space
 
 module _ (P : ℕ → Type 0) (digit : (d : ℕ) → d < 10 → P (0x30 + d)) (minus : P 0x2D) (space : P 0x20) where
-  in-digits : (m v : ℕ) → All P (figures 10 0x30 m v)
+  in_digits : (m v : ℕ) → All P (figures 10 0x30 m v)
   unfolding figures
-  in-digits zero v = tt
-  in-digits (suc m) v = (digit (v / 10 ^ m % 10) (mod-lt (v / 10 ^ m) (lit< tt)), in-digits m v)
+  in_digits zero v = tt
+  in_digits (suc m) v = (digit (v / 10 ^ m % 10) (mod-lt (v / 10 ^ m) (lit< tt)), in_digits m v)
 
-  in-decimal : (z : ℤ) → All P (decimal z)
+  in_decimal : (z : ℤ) → All P (decimal z)
   unfolding decimal digits
-  in-decimal (pos n) = in-digits (size n) n
-  in-decimal (negsuc n) = (minus, in-digits (size (suc n)) (suc n))
+  in_decimal (pos n) = in_digits (size n) n
+  in_decimal (negsuc n) = (minus, in_digits (size (suc n)) (suc n))
 
   in_both : (a b : Octets) → All P a → All P b → All P (a ++ b)
   in_both [] b h k = k
   in_both (o ∷ a) b h k = (h.0, in_both a b h.1 k)
 
-  in-spaced : (zs : List ℤ) → All P (spaced (map decimal zs))
+  in_spaced : (zs : List ℤ) → All P (spaced (map decimal zs))
   unfolding spaced
-  in-spaced [] = tt
-  in-spaced (z ∷ zs) = (space, in_both (decimal z) (spaced (map decimal zs)) (in-decimal z) (in-spaced zs))
+  in_spaced [] = tt
+  in_spaced (z ∷ zs) = (space, in_both (decimal z) (spaced (map decimal zs)) (in_decimal z) (in_spaced zs))
 
-  pub letters : (zs : List ℤ) → All P (listText zs)
-  unfolding listText joined
+  pub letters : (zs : List ℤ) → All P (list_text zs)
+  unfolding list_text joined
   letters [] = tt
-  letters (z ∷ zs) = in_both (decimal z) (spaced (map decimal zs)) (in-decimal z) (in-spaced zs)
+  letters (z ∷ zs) = in_both (decimal z) (spaced (map decimal zs)) (in_decimal z) (in_spaced zs)

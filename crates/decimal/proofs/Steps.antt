@@ -1,7 +1,7 @@
 -- One step of the code that reads a text: a law for each of its answers.
 -- Assumes nothing.
 use mathlib.Core.Path.{◌≡◌, refl, ap, ◌∙◌}
-use mathlib.Core.Bool.{Bool, true, false, and-false}
+use mathlib.Core.Bool.{Bool, true, false, and_false}
 use mathlib.Core.List.{[], ◌∷◌}
 use mathlib.Core.Logic.{⊎_elim}
 use Prim.Native.Nat.{ℕ, zero, suc, ◌+◌, ◌-◌, ◌*◌, ◌≤◌, ◌<◌, max}
@@ -16,8 +16,8 @@ use Rattle.format.specs.declared.StringForm.{StringForm}
 use Rattle.format.specs.declared.StringForm.TheVariants.{Utf8, Utf16, Numeric, Dates, Short, Int, Long}
 use Rattle.format.specs.Forms.{width}
 use Rattle.format.specs.Integers.{half, Held}
-use Rattle.decimal.specs.Words.{isDigit}
-use Rattle.decimal.specs.Machine.{most, grown, stepped, integerBy, width_of, more, found, scanned, heldBy}
+use Rattle.decimal.specs.Words.{is_digit}
+use Rattle.decimal.specs.Machine.{most, grown, stepped, integer_by, width_of, more, found, scanned, held_by}
 use Rattle.decimal.specs.declared.scanning.Word.{Word}
 use Rattle.decimal.specs.declared.scanning.Word.TheVariants.{Empty, Minus, Zero, Digits, NoWord}
 use Rattle.decimal.specs.declared.scanning.Ended.{Ended}
@@ -29,95 +29,95 @@ use Rattle.decimal.specs.declared.scanning.Scan.{Scan}
 -- ---- a digit more
 
 module _ (minus : Bool) (n o : ℕ) where
-  pub grown-low : o < 0x30 → NoWord ≡ grown minus n o
-  unfolding grown isDigit
-  grown-low h = rw (lt-leb 0x30 o h)
+  pub grown_low : o < 0x30 → NoWord ≡ grown minus n o
+  unfolding grown is_digit
+  grown_low h = rw (lt-leb 0x30 o h)
 
-  pub grown-high : 0x39 < o → NoWord ≡ grown minus n o
-  unfolding grown isDigit
-  grown-high h = rw (lt-leb o 0x39 h, and-false)
+  pub grown_high : 0x39 < o → NoWord ≡ grown minus n o
+  unfolding grown is_digit
+  grown_high h = rw (lt-leb o 0x39 h, and_false)
 
-  pub grown-over : most < n → NoWord ≡ grown minus n o
+  pub grown_over : most < n → NoWord ≡ grown minus n o
   unfolding grown
-  grown-over h = rw (lt-leb n most h, and-false)
+  grown_over h = rw (lt-leb n most h, and_false)
 
   pub grown-more : {d : ℕ} → 0x30 ≤ o → o ≤ 0x39 → n ≤ most → d ≡ o - 0x30 → Digits minus (n * 10 + d) ≡ grown minus n o
-  unfolding grown isDigit
+  unfolding grown is_digit
   grown-more l h k e = rw (le-leb 0x30 o l, le-leb o 0x39 h, le-leb n most k, e)
 
 -- ---- a word's octets
 
 module _ (u : Word) (o : ℕ) where
-  pub step-minus : u ≡ Empty → o ≡ 0x2D → Minus ≡ stepped u o
+  pub step_minus : u ≡ Empty → o ≡ 0x2D → Minus ≡ stepped u o
   unfolding stepped
-  step-minus e q = rw (e, q)
+  step_minus e q = rw (e, q)
 
-  pub step-zero : u ≡ Empty → o ≡ 0x30 → Zero ≡ stepped u o
+  pub step_zero : u ≡ Empty → o ≡ 0x30 → Zero ≡ stepped u o
   unfolding stepped
-  step-zero e q = rw (e, q)
+  step_zero e q = rw (e, q)
 
-  pub step-first : {r : Word} → u ≡ Empty → (o ≡ 0x2D → ⊥) → (o ≡ 0x30 → ⊥) → r ≡ grown false 0 o → r ≡ stepped u o
+  pub step_first : {r : Word} → u ≡ Empty → (o ≡ 0x2D → ⊥) → (o ≡ 0x30 → ⊥) → r ≡ grown false 0 o → r ≡ stepped u o
   unfolding stepped
-  step-first e a b q = rw (e, ne_eqb o 0x2D a, ne_eqb o 0x30 b) q
+  step_first e a b q = rw (e, ne_eqb o 0x2D a, ne_eqb o 0x30 b) q
 
-  pub step-no-zero : u ≡ Minus → o ≡ 0x30 → NoWord ≡ stepped u o
+  pub step_no_zero : u ≡ Minus → o ≡ 0x30 → NoWord ≡ stepped u o
   unfolding stepped
-  step-no-zero e q = rw (e, q)
+  step_no_zero e q = rw (e, q)
 
-  pub step-behind-minus : {r : Word} → u ≡ Minus → (o ≡ 0x30 → ⊥) → r ≡ grown true 0 o → r ≡ stepped u o
+  pub step_behind_minus : {r : Word} → u ≡ Minus → (o ≡ 0x30 → ⊥) → r ≡ grown true 0 o → r ≡ stepped u o
   unfolding stepped
-  step-behind-minus e b q = rw (e, ne_eqb o 0x30 b) q
+  step_behind_minus e b q = rw (e, ne_eqb o 0x30 b) q
 
-  pub step-digit : {r : Word} {minus : Bool} {n : ℕ} → u ≡ Digits minus n → r ≡ grown minus n o → r ≡ stepped u o
+  pub step_digit : {r : Word} {minus : Bool} {n : ℕ} → u ≡ Digits minus n → r ≡ grown minus n o → r ≡ stepped u o
   unfolding stepped
-  step-digit e q = rw e q
+  step_digit e q = rw e q
 
 -- ---- a word's end
 
-pub opposite-is : (n : ℕ) {r : ℤ} → (n ≡ 0 → ⊥) → r ≡ negsuc (n - 1) → r ≡ neg_ℤ (pos n)
-opposite-is zero h e = absurd (h refl)
-opposite-is (suc n) h e = let k : suc n - 1 ≡ n = omega arith in e ∙ ap negsuc k
+pub opposite_is : (n : ℕ) {r : ℤ} → (n ≡ 0 → ⊥) → r ≡ negsuc (n - 1) → r ≡ neg_ℤ (pos n)
+opposite_is zero h e = absurd (h refl)
+opposite_is (suc n) h e = let k : suc n - 1 ≡ n = omega arith in e ∙ ap negsuc k
 
 module _ (minus : Bool) (n : ℕ) where
-  pub below-lowest : minus ≡ true → half 8 < n → NoInteger ≡ integerBy minus n
-  unfolding integerBy
+  pub below-lowest : minus ≡ true → half 8 < n → NoInteger ≡ integer_by minus n
+  unfolding integer_by
   below-lowest e h = rw (e, lt-leb n (half 8) h)
 
-  pub is_negative : {r : ℤ} → minus ≡ true → n ≤ half 8 → r ≡ neg_ℤ (pos n) → Integer r ≡ integerBy minus n
-  unfolding integerBy
+  pub is_negative : {r : ℤ} → minus ≡ true → n ≤ half 8 → r ≡ neg_ℤ (pos n) → Integer r ≡ integer_by minus n
+  unfolding integer_by
   is_negative e h q = rw (e, le-leb n (half 8) h, q)
 
-  pub above-highest : minus ≡ false → half 8 ≤ n → NoInteger ≡ integerBy minus n
-  unfolding integerBy
-  above-highest e h = rw (e, le-ltb n (half 8) h)
+  pub above_highest : minus ≡ false → half 8 ≤ n → NoInteger ≡ integer_by minus n
+  unfolding integer_by
+  above_highest e h = rw (e, le-ltb n (half 8) h)
 
-  pub is_plain : {r : ℤ} → minus ≡ false → n < half 8 → r ≡ pos n → Integer r ≡ integerBy minus n
-  unfolding integerBy
+  pub is_plain : {r : ℤ} → minus ≡ false → n < half 8 → r ≡ pos n → Integer r ≡ integer_by minus n
+  unfolding integer_by
   is_plain e h q = rw (e, lt-ltb n (half 8) h, q)
 
 -- ---- what is found
 
 module _ (z : ℤ) where
-  pub width-short : mag z < half 2 → 2 ≡ width_of z
+  pub width_short : mag z < half 2 → 2 ≡ width_of z
   unfolding width_of
-  width-short h = rw (lt-ltb (mag z) (half 2) h)
+  width_short h = rw (lt-ltb (mag z) (half 2) h)
 
-  pub width-int : half 2 ≤ mag z → mag z < half 4 → 4 ≡ width_of z
+  pub width_int : half 2 ≤ mag z → mag z < half 4 → 4 ≡ width_of z
   unfolding width_of
-  width-int h k = rw (le-ltb (mag z) (half 2) h, lt-ltb (mag z) (half 4) k)
+  width_int h k = rw (le-ltb (mag z) (half 2) h, lt-ltb (mag z) (half 4) k)
 
-  pub width-long : half 2 ≤ mag z → half 4 ≤ mag z → 8 ≡ width_of z
+  pub width_long : half 2 ≤ mag z → half 4 ≤ mag z → 8 ≡ width_of z
   unfolding width_of
-  width-long h k = rw (le-ltb (mag z) (half 2) h, le-ltb (mag z) (half 4) k)
+  width_long h k = rw (le-ltb (mag z) (half 2) h, le-ltb (mag z) (half 4) k)
 
-pub more-none : (f : Found) (e : Ended) → e ≡ NoInteger → NoIntegers ≡ more f e
+pub more_none : (f : Found) (e : Ended) → e ≡ NoInteger → NoIntegers ≡ more f e
 unfolding more
-more-none (Integers k w) e q = rw q
-more-none NoIntegers e q = refl
+more_none (Integers k w) e q = rw q
+more_none NoIntegers e q = refl
 
-pub more-behind-none : (f : Found) (e : Ended) → f ≡ NoIntegers → NoIntegers ≡ more f e
+pub more-behind_none : (f : Found) (e : Ended) → f ≡ NoIntegers → NoIntegers ≡ more f e
 unfolding more
-more-behind-none f e q = rw q
+more-behind_none f e q = rw q
 
 pub wider : (w v n : ℕ) → v ≡ n → w < v → v ≡ max w n
 wider w v n e h = omega arith
@@ -125,20 +125,20 @@ wider w v n e h = omega arith
 pub as_wide : (w v n : ℕ) → v ≡ n → v ≤ w → w ≡ max w n
 as_wide w v n e h = omega arith
 
-pub more-one : {f : Found} {e : Ended} {k w v : ℕ} {z : ℤ} → f ≡ Integers k w → e ≡ Integer z → v ≡ max w (width_of z) → Integers (k + 1) v ≡ more f e
+pub more_one : {f : Found} {e : Ended} {k w v : ℕ} {z : ℤ} → f ≡ Integers k w → e ≡ Integer z → v ≡ max w (width_of z) → Integers (k + 1) v ≡ more f e
 unfolding more
-more-one p q r = rw (p, q, r)
+more_one p q r = rw (p, q, r)
 
 -- ---- a text's octets
 
 module _ (s : Scan) (o : ℕ) where
-  pub scan-space : {f : Found} → o ≡ 0x20 → f ≡ found s → ◌≡◌ {A = Scan} (record { word = Empty; before = f }) (scanned s o)
+  pub scan_space : {f : Found} → o ≡ 0x20 → f ≡ found s → ◌≡◌ {A = Scan} (record { word = Empty; before = f }) (scanned s o)
   unfolding scanned
-  scan-space q e = rw (q, e)
+  scan_space q e = rw (q, e)
 
-  pub scan-other : {u : Word} → (o ≡ 0x20 → ⊥) → u ≡ stepped s.word o → ◌≡◌ {A = Scan} (record { word = u; before = s.before }) (scanned s o)
+  pub scan_other : {u : Word} → (o ≡ 0x20 → ⊥) → u ≡ stepped s.word o → ◌≡◌ {A = Scan} (record { word = u; before = s.before }) (scanned s o)
   unfolding scanned
-  scan-other q e = rw (ne_eqb o 0x20 q, e)
+  scan_other q e = rw (ne_eqb o 0x20 q, e)
 
 -- ---- a form's width
 
@@ -146,20 +146,20 @@ module _ (s : Scan) (o : ℕ) where
 beyond : {X : Type 0} {x : ℕ} → 4 ≤ x → OneOf (0 ∷ 1 ∷ 2 ∷ 3 ∷ []) x → X
 beyond h k = ⊎_elim (λ e. absurd (omega arith)) (⊎_elim (λ e. absurd (omega arith)) (⊎_elim (λ e. absurd (omega arith)) (λ e. absurd (omega arith)))) k
 
-pub no-integers : {X : Type 0} (f : StringForm) → OneOf (0 ∷ 1 ∷ 2 ∷ 3 ∷ []) (tag_of the_type f) → 0 < width f → X
-no-integers Utf8 k h = absurd (omega arith)
-no-integers Utf16 k h = absurd (omega arith)
-no-integers Numeric k h = absurd (omega arith)
-no-integers Dates k h = absurd (omega arith)
-no-integers Short k h = beyond (omega arith) k
-no-integers Int k h = beyond (omega arith) k
-no-integers Long k h = beyond (omega arith) k
+pub no_integers : {X : Type 0} (f : StringForm) → OneOf (0 ∷ 1 ∷ 2 ∷ 3 ∷ []) (tag_of the_type f) → 0 < width f → X
+no_integers Utf8 k h = absurd (omega arith)
+no_integers Utf16 k h = absurd (omega arith)
+no_integers Numeric k h = absurd (omega arith)
+no_integers Dates k h = absurd (omega arith)
+no_integers Short k h = beyond (omega arith) k
+no_integers Int k h = beyond (omega arith) k
+no_integers Long k h = beyond (omega arith) k
 
-pub held-is : (w : ℕ) (z : ℤ) → heldBy w (Integer z) ≡ true → Held w z
-unfolding heldBy
-held-is w z e = ltb-true (mag z) (half w) e
+pub held_is : (w : ℕ) (z : ℤ) → held_by w (Integer z) ≡ true → Held w z
+unfolding held_by
+held_is w z e = ltb-true (mag z) (half w) e
 
-pub held-some : (w : ℕ) (z : ℤ) → Held w z → 0 < w
+pub held_some : (w : ℕ) (z : ℤ) → Held w z → 0 < w
 unfolding half
-held-some zero z h = absurd (omega arith)
-held-some (suc w) z h = omega arith
+held_some zero z h = absurd (omega arith)
+held_some (suc w) z h = omega arith

@@ -1,10 +1,10 @@
--- Contracts of the code, not definitions to be believed. A text's words and integers, by one octet after the other. That this finds what Words has is proofs/Scans: `scan-finds` and `written_is`.
+-- Contracts of the code, not definitions to be believed. A text's words and integers, by one octet after the other. That this finds what Words has is proofs/Scans: `scan_finds` and `written_is`.
 use Rattle.std.specs.Prelude.{ℕ, ◌+◌, ◌-◌, ◌*◌, max, Bool, true, false, ◌&&◌, [], ◌∷◌, ◌++◌, ltb, leb, eqb, ℤ, pos, neg_ℤ}
 use Rattle.std.specs.Int.Signed.{mag}
 use Rattle.format.specs.Octets.{Octets}
 use Rattle.format.specs.Numbers.{pick}
-use Rattle.format.specs.Integers.{half, octetsOf}
-use Rattle.decimal.specs.Words.{isDigit, shape, wordCount}
+use Rattle.format.specs.Integers.{half, octets_of}
+use Rattle.decimal.specs.Words.{is_digit, shape, word_count}
 use Rattle.decimal.specs.declared.scanning.Word.{Word}
 use Rattle.decimal.specs.declared.scanning.Word.TheVariants.{Empty, Minus, Zero, Digits, NoWord}
 use Rattle.decimal.specs.declared.scanning.Ended.{Ended}
@@ -20,7 +20,7 @@ most = 922337203685477580
 
 -- A number with a digit more.
 unfoldable pub grown : (minus : Bool) → ℕ → (o : ℕ) → Word
-grown minus n o = pick (isDigit o && leb n most) (Digits minus (n * 10 + (o - 0x30))) NoWord
+grown minus n o = pick (is_digit o && leb n most) (Digits minus (n * 10 + (o - 0x30))) NoWord
 
 unfoldable pub stepped : Word → (o : ℕ) → Word
 stepped Empty o = pick (eqb o 0x2D) Minus (pick (eqb o 0x30) Zero (grown false 0 o))
@@ -29,20 +29,20 @@ stepped Zero o = NoWord
 stepped (Digits minus n) o = grown minus n o
 stepped NoWord o = NoWord
 
-unfoldable pub steppedBy : Word → Octets → Word
-steppedBy u [] = u
-steppedBy u (o ∷ y) = steppedBy (stepped u o) y
+unfoldable pub stepped_by : Word → Octets → Word
+stepped_by u [] = u
+stepped_by u (o ∷ y) = stepped_by (stepped u o) y
 
 -- The integer that a word is which ends here, if eight octets hold it.
-unfoldable pub integerBy : (minus : Bool) → ℕ → Ended
-integerBy true n = pick (leb n (half 8)) (Integer (neg_ℤ (pos n))) NoInteger
-integerBy false n = pick (ltb n (half 8)) (Integer (pos n)) NoInteger
+unfoldable pub integer_by : (minus : Bool) → ℕ → Ended
+integer_by true n = pick (leb n (half 8)) (Integer (neg_ℤ (pos n))) NoInteger
+integer_by false n = pick (ltb n (half 8)) (Integer (pos n)) NoInteger
 
 unfoldable pub ended : Word → Ended
 ended Empty = NoInteger
 ended Minus = NoInteger
 ended Zero = Integer (pos 0)
-ended (Digits minus n) = integerBy minus n
+ended (Digits minus n) = integer_by minus n
 ended NoWord = NoInteger
 
 -- ---- a text
@@ -64,9 +64,9 @@ found s = more s.before (ended s.word)
 unfoldable pub scanned : Scan → (o : ℕ) → Scan
 scanned s o = pick (eqb o 0x20) (record { word = Empty; before = found s }) (record { word = stepped s.word o; before = s.before })
 
-unfoldable pub scannedBy : Scan → Octets → Scan
-scannedBy s [] = s
-scannedBy s (o ∷ x) = scannedBy (scanned s o) x
+unfoldable pub scanned_by : Scan → Octets → Scan
+scanned_by s [] = s
+scanned_by s (o ∷ x) = scanned_by (scanned s o) x
 
 -- How many integers were found; 0 where a word is none.
 abbrev pub counted : Found → ℕ
@@ -74,31 +74,31 @@ counted (Integers k w) = k
 counted NoIntegers = 0
 
 -- What is found in a whole text: the least width whose shape it has.
-unfoldable pub leastIn : Octets → Found
-leastIn x =
-    pick (shape 2 x) (Integers (wordCount x) 2)
-    (pick (shape 4 x) (Integers (wordCount x) 4)
-    (pick (shape 8 x) (Integers (wordCount x) 8)
+unfoldable pub least_in : Octets → Found
+least_in x =
+    pick (shape 2 x) (Integers (word_count x) 2)
+    (pick (shape 4 x) (Integers (word_count x) 4)
+    (pick (shape 8 x) (Integers (word_count x) 8)
     NoIntegers))
 
 -- ---- octets, while a text is read from a word on
 -- f of each word where it ends, joined.
-unfoldable pub byWords : {A : Type 0} → (join : A → A → A) → (f : Ended → A) → Word → Octets → A
-byWords join f u [] = f (ended u)
-byWords join f u (o ∷ x) = pick (eqb o 0x20) (join (f (ended u)) (byWords join f Empty x)) (byWords join f (stepped u o) x)
+unfoldable pub by_words : {A : Type 0} → (join : A → A → A) → (f : Ended → A) → Word → Octets → A
+by_words join f u [] = f (ended u)
+by_words join f u (o ∷ x) = pick (eqb o 0x20) (join (f (ended u)) (by_words join f Empty x)) (by_words join f (stepped u o) x)
 
 -- The octets of each integer.
-unfoldable pub endedOctets : (w : ℕ) → Ended → Octets
-endedOctets w (Integer z) = octetsOf w z
-endedOctets w NoInteger = []
+unfoldable pub ended_octets : (w : ℕ) → Ended → Octets
+ended_octets w (Integer z) = octets_of w z
+ended_octets w NoInteger = []
 
 unfoldable pub written : (w : ℕ) → Word → Octets → Octets
-written w u x = byWords ◌++◌ (endedOctets w) u x
+written w u x = by_words ◌++◌ (ended_octets w) u x
 
 -- Each word is an integer that w octets hold.
-unfoldable pub heldBy : (w : ℕ) → Ended → Bool
-heldBy w (Integer z) = ltb (mag z) (half w)
-heldBy w NoInteger = false
+unfoldable pub held_by : (w : ℕ) → Ended → Bool
+held_by w (Integer z) = ltb (mag z) (half w)
+held_by w NoInteger = false
 
 unfoldable pub fitting : (w : ℕ) → Word → Octets → Bool
-fitting w u x = byWords ◌&&◌ (heldBy w) u x
+fitting w u x = by_words ◌&&◌ (held_by w) u x

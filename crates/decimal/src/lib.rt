@@ -5,9 +5,9 @@ pub mod scanning;
 
 ghost use Rattle.std.specs.Prelude.{◌≡◌, ◌+◌, ◌-◌, ◌^◌, ◌<◌, ◌≤◌, pos, negsuc, nat_abs, length, take, drop};
 ghost use Rattle.std.specs.Int.Signed.{mag};
-ghost use Rattle.format.specs.Integers.{octetsOf, half, unsigned, Held};
+ghost use Rattle.format.specs.Integers.{octets_of, half, unsigned, Held};
 ghost use Rattle.fields.specs.PutContracts.{Puts};
-ghost use Rattle.decimal.specs.Reading.{number, signed, integerOf};
+ghost use Rattle.decimal.specs.Reading.{number, signed, integer_of};
 
 use fields::put::put_octets;
 
@@ -90,28 +90,28 @@ fn signed(v: u64, w: usize) -> i64
 // The integer of the w octets from `at`.
 fn integer_at(s: &[u8], at: usize, w: usize) -> i64
     requires { (1 ≤ w) × (w ≤ 8) × (at + w ≤ length s.now) }
-    ensures { (result ≡ integerOf w (take w (drop at s.now))) × Held w result }
+    ensures { (result ≡ integer_of w (take w (drop at s.now))) × Held w result }
 {
     signed(number_at(s, at, w), w)
 }
 
 pub fn short_at(s: &[u8], at: usize) -> i16
     requires { at + 2 ≤ length s.now }
-    ensures { result ≡ integerOf 2 (take 2 (drop at s.now)) }
+    ensures { result ≡ integer_of 2 (take 2 (drop at s.now)) }
 {
     integer_at(s, at, 2) as i16
 }
 
 pub fn int_at(s: &[u8], at: usize) -> i32
     requires { at + 4 ≤ length s.now }
-    ensures { result ≡ integerOf 4 (take 4 (drop at s.now)) }
+    ensures { result ≡ integer_of 4 (take 4 (drop at s.now)) }
 {
     integer_at(s, at, 4) as i32
 }
 
 pub fn long_at(s: &[u8], at: usize) -> i64
     requires { at + 8 ≤ length s.now }
-    ensures { result ≡ integerOf 8 (take 8 (drop at s.now)) }
+    ensures { result ≡ integer_of 8 (take 8 (drop at s.now)) }
 {
     integer_at(s, at, 8)
 }
@@ -132,7 +132,7 @@ fn unsigned(z: i64, w: usize) -> u64
 // The w octets of z; what the output has no room for is left out, and counted.
 fn put_integer(out: &mut [u8], at: usize, z: i64, w: usize) -> usize
     requires { (at ≤ 2 ^ 32) × (1 ≤ w) × (w ≤ 8) × Held w z }
-    ensures { Puts out.old at result out.new (octetsOf w z) }
+    ensures { Puts out.old at result out.new (octets_of w z) }
 {
     let v = unsigned(z, w);
     put_octets(out, at, v, w)
@@ -140,21 +140,21 @@ fn put_integer(out: &mut [u8], at: usize, z: i64, w: usize) -> usize
 
 pub fn put_short(out: &mut [u8], at: usize, z: i16) -> usize
     requires { at ≤ 2 ^ 32 }
-    ensures { Puts out.old at result out.new (octetsOf 2 z) }
+    ensures { Puts out.old at result out.new (octets_of 2 z) }
 {
     put_integer(out, at, z as i64, 2)
 }
 
 pub fn put_int(out: &mut [u8], at: usize, z: i32) -> usize
     requires { at ≤ 2 ^ 32 }
-    ensures { Puts out.old at result out.new (octetsOf 4 z) }
+    ensures { Puts out.old at result out.new (octets_of 4 z) }
 {
     put_integer(out, at, z as i64, 4)
 }
 
 pub fn put_long(out: &mut [u8], at: usize, z: i64) -> usize
     requires { at ≤ 2 ^ 32 }
-    ensures { Puts out.old at result out.new (octetsOf 8 z) }
+    ensures { Puts out.old at result out.new (octets_of 8 z) }
 {
     put_integer(out, at, z, 8)
 }

@@ -2,7 +2,7 @@
 ghost use Rattle.std.specs.Prelude.{◌≡◌, ◌+◌, ◌/◌, ◌%◌, ◌^◌, ◌<◌, ◌≤◌, length, take, drop};
 ghost use Rattle.format.specs.Integers.{size, decimal};
 ghost use Rattle.format.specs.Forms.{width};
-ghost use Rattle.decimal.specs.Reading.{integerOf};
+ghost use Rattle.decimal.specs.Reading.{integer_of};
 ghost use Rattle.decimal.specs.Texts.{left, Good};
 
 use crate::{int_at, long_at, magnitude, short_at};
@@ -92,7 +92,7 @@ impl Text {
 // The text of the integer whose octets start at `at`, in a form of integers.
 pub fn text_at(s: &[u8], at: usize, form: StringForm) -> Text
     requires { (1 ≤ width form) × (at + width form ≤ length s.now) }
-    ensures { (left result ≡ decimal (integerOf (width form) (take (width form) (drop at s.now)))) × Good result }
+    ensures { (left result ≡ decimal (integer_of (width form) (take (width form) (drop at s.now)))) × Good result }
 {
     match form {
         StringForm::Short => Text::of(short_at(s, at) as i64),

@@ -1,9 +1,9 @@
 // A text's words and integers, by one octet after the other, so that the text may come from anywhere.
 ghost use Rattle.std.specs.Prelude.{◌≡◌, true, ◌^◌, ◌<◌, ◌≤◌, pos, neg_ℤ};
-ghost use Rattle.format.specs.Integers.{octetsOf, Held};
+ghost use Rattle.format.specs.Integers.{octets_of, Held};
 ghost use Rattle.format.specs.Forms.{width};
 ghost use Rattle.fields.specs.PutContracts.{Puts};
-ghost use Rattle.decimal.specs.Machine.{grown, stepped, integerBy, ended, width_of, more, starting, found, scanned, counted, endedOctets, heldBy};
+ghost use Rattle.decimal.specs.Machine.{grown, stepped, integer_by, ended, width_of, more, starting, found, scanned, counted, ended_octets, held_by};
 
 use crate::{folded, minus, plus, put_int, put_long, put_short, wide};
 use format::StringForm;
@@ -73,7 +73,7 @@ fn opposite(n: u64) -> i64
 }
 
 fn integer_by(minus: bool, n: u64) -> Ended
-    ensures { result ≡ integerBy minus n }
+    ensures { result ≡ integer_by minus n }
 {
     if minus {
         if HALF < n {
@@ -194,7 +194,7 @@ impl Scan {
 // The octets of an integer that is held, in a form of integers; what the output has no room for is left out, and counted.
 fn put_held(out: &mut [u8], at: usize, z: i64, form: StringForm) -> usize
     requires { (at ≤ 2 ^ 32) × Held (width form) z }
-    ensures { Puts out.old at result out.new (octetsOf (width form) z) }
+    ensures { Puts out.old at result out.new (octets_of (width form) z) }
 {
     match form {
         StringForm::Short => put_short(out, at, z as i16),
@@ -206,8 +206,8 @@ fn put_held(out: &mut [u8], at: usize, z: i64, form: StringForm) -> usize
 
 // Where a word ends: the octets of its integer, which is held.
 pub fn put_ended(out: &mut [u8], at: usize, e: Ended, form: StringForm) -> usize
-    requires { (at ≤ 2 ^ 32) × (heldBy (width form) e ≡ true) }
-    ensures { Puts out.old at result out.new (endedOctets (width form) e) }
+    requires { (at ≤ 2 ^ 32) × (held_by (width form) e ≡ true) }
+    ensures { Puts out.old at result out.new (ended_octets (width form) e) }
 {
     match e {
         Ended::Integer(z) => put_held(out, at, z, form),

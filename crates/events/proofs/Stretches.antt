@@ -10,14 +10,14 @@ use lib.Dec.{ltb, leb}
 
 -- a stretch, by its place p and its size n in m octets
 module _ (m p n : ℕ) where
-  pub stretch-empty : n ≡ 0 → false ≡ (ltb 0 n && leb (p + n) m)
-  stretch-empty z = rw z
+  pub stretch_empty : n ≡ 0 → false ≡ (ltb 0 n && leb (p + n) m)
+  stretch_empty z = rw z
 
-  pub stretch-longer : m < n → false ≡ (ltb 0 n && leb (p + n) m)
-  stretch-longer h = let k : 0 < n = omega arith in let l : m < p + n = omega arith in rw (lt-ltb _ _ k, lt-leb _ _ l)
+  pub stretch_longer : m < n → false ≡ (ltb 0 n && leb (p + n) m)
+  stretch_longer h = let k : 0 < n = omega arith in let l : m < p + n = omega arith in rw (lt-ltb _ _ k, lt-leb _ _ l)
 
-  pub stretch-fits : (n ≡ 0 → ⊥) → n ≤ m → leb p (m - n) ≡ (ltb 0 n && leb (p + n) m)
-  stretch-fits z h =
+  pub stretch_fits : (n ≡ 0 → ⊥) → n ≤ m → leb p (m - n) ≡ (ltb 0 n && leb (p + n) m)
+  stretch_fits z h =
       let k : 0 < n = omega arith in
       rw (lt-ltb _ _ k)
       elim (dec_lt (m - n) p) [

@@ -12,7 +12,7 @@ use Rattle.events.specs.declared.Event.{Event}
 use Rattle.events.specs.declared.words.Told.{Told}
 use Rattle.events.specs.declared.words.Told.TheVariants.{Said, Not}
 use Rattle.events.specs.Records.{blank}
-use Rattle.events.specs.Words.{kindNumber, stringForm}
+use Rattle.events.specs.Words.{kind_number, string_form}
 
 -- The kinds by number, from 0.
 abbrev pub kinds : List Kind
@@ -26,27 +26,27 @@ kind_of number = get_or kinds number Blank
 abbrev pub tags : List Told
 tags = Said Absent ∷ Said Empty ∷ Not ∷ Said XmlPrefix ∷ Said XmlNamespace ∷ []
 
-unfoldable pub toldByTag : ℕ → Told
-toldByTag tag = get_or tags tag Not
+unfoldable pub told_by_tag : ℕ → Told
+told_by_tag tag = get_or tags tag Not
 
 -- Only a stretch has a place and a length: beside another tag both are 0. 2 is utf-8; 5 to 10 are the forms 1 to 6.
-unfoldable pub toldBy : (tag place size : ℕ) → Told
-toldBy tag place size =
+unfoldable pub told_by : (tag place size : ℕ) → Told
+told_by tag place size =
     pick (eqb tag 2) (Said (Stretch Utf8 place size))
     (pick (leb 5 tag && leb tag 10) (Said (Stretch (form_of (tag - 4)) place size))
-    (pick (eqb place 0 && eqb size 0) (toldByTag tag) Not))
+    (pick (eqb place 0 && eqb size 0) (told_by_tag tag) Not))
 
 -- The string of the three words from `at` on.
-abbrev pub toldAt : Words → (at : ℕ) → Told
-toldAt w at = toldBy (get_or w at 0) (get_or w (at + 1) 0) (get_or w (at + 2) 0)
+abbrev pub told_at : Words → (at : ℕ) → Told
+told_at w at = told_by (get_or w at 0) (get_or w (at + 1) 0) (get_or w (at + 2) 0)
 
 -- The string that they say; absent where they say none.
 abbrev said : Told → EventString
 said (Said x) = x
 said Not = Absent
 
-unfoldable pub stringFrom : Words → (at : ℕ) → EventString
-stringFrom w at = said (toldAt w at)
+unfoldable pub string_from : Words → (at : ℕ) → EventString
+string_from w at = said (told_at w at)
 
 -- The record of a kind, its four strings and its place, blank where a string is not said.
 abbrev pub framed : Kind → (prefix namespace name value : Told) → (place : ℕ) → Event
@@ -57,20 +57,20 @@ framed k (Said p) (Said n) (Said l) Not place = blank
 framed k (Said p) (Said n) (Said l) (Said v) place = record { kind = k; prefix = p; namespace = n; name = l; value = v; place = place }
 
 -- The record of the 14 words from `at` on: blank unless its kind's number is 1 to 7 and it has all four strings.
-unfoldable pub recordAt : Words → (at : ℕ) → Event
-recordAt w at =
+unfoldable pub record_at : Words → (at : ℕ) → Event
+record_at w at =
     pick (leb 1 (get_or w at 0) && leb (get_or w at 0) 7)
-    (framed (kind_of (get_or w at 0)) (toldAt w (at + 1)) (toldAt w (at + 4)) (toldAt w (at + 7)) (toldAt w (at + 10)) (get_or w (at + 13) 0))
+    (framed (kind_of (get_or w at 0)) (told_at w (at + 1)) (told_at w (at + 4)) (told_at w (at + 7)) (told_at w (at + 10)) (get_or w (at + 13) 0))
     blank
 
 -- n records, the first at word `at`.
-unfoldable pub recordsFrom : Words → (at n : ℕ) → List Event
-recordsFrom w at zero = []
-recordsFrom w at (suc n) = recordAt w at ∷ recordsFrom w (at + 14) n
+unfoldable pub records_from : Words → (at n : ℕ) → List Event
+records_from w at zero = []
+records_from w at (suc n) = record_at w at ∷ records_from w (at + 14) n
 
 -- The records of all whole groups of 14 words, in order; the words behind them say nothing.
-unfoldable pub recordsOf : Words → List Event
-recordsOf w = recordsFrom w 0 (length w / 14)
+unfoldable pub records_of : Words → List Event
+records_of w = records_from w 0 (length w / 14)
 
 -- No record is of kind Blank.
 abbrev pub AllKinded : List Event → Type 0
@@ -78,14 +78,14 @@ AllKinded [] = Unit {0}
 AllKinded (e ∷ es) = (e.kind ≡ Blank → ⊥) × AllKinded es
 
 -- Contracts of the code, not definitions to be believed: three words say a string; the first record is there, and of the kind that has this number.
-abbrev pub isSaid : Told → Bool
-isSaid (Said x) = true
-isSaid Not = false
+abbrev pub is_said : Told → Bool
+is_said (Said x) = true
+is_said Not = false
 
-abbrev pub beginsWith : (number : ℕ) → List Event → Bool
-beginsWith number [] = false
-beginsWith number (e ∷ es) = eqb (kindNumber e.kind) number
+abbrev pub begins_with : (number : ℕ) → List Event → Bool
+begins_with number [] = false
+begins_with number (e ∷ es) = eqb (kind_number e.kind) number
 
 -- And: a record that is blank, or has an identifying string in another form than utf-8.
 abbrev pub Misnamed : Event → Type 0
-Misnamed e = (e.kind ≡ Blank) ⊎ ((stringForm e.prefix ≡ Utf8 → ⊥) ⊎ ((stringForm e.namespace ≡ Utf8 → ⊥) ⊎ (stringForm e.name ≡ Utf8 → ⊥)))
+Misnamed e = (e.kind ≡ Blank) ⊎ ((string_form e.prefix ≡ Utf8 → ⊥) ⊎ ((string_form e.namespace ≡ Utf8 → ⊥) ⊎ (string_form e.name ≡ Utf8 → ⊥)))

@@ -6,8 +6,8 @@ pub mod tags;
 mod words;
 
 ghost use Rattle.std.specs.Prelude.{◌≡◌, ◌&&◌, ◌<◌, ◌+◌, ◌-◌, ◌++◌, eqb, ltb, leb, length, set, get_or, take, replicate};
-ghost use Rattle.events.specs.Records.{blank, namespaceRecord, startRecord, attributeRecord, chunkRecord, commentRecord, instructionRecord, endRecord};
-ghost use Rattle.events.specs.Words.{kindNumber, stringTag, stringForm, stringPlace, stringSize};
+ghost use Rattle.events.specs.Records.{blank, namespace_record, start_record, attribute_record, chunk_record, comment_record, instruction_record, end_record};
+ghost use Rattle.events.specs.Words.{kind_number, string_tag, string_form, string_place, string_size};
 
 use format::StringForm;
 pub use words::{from_words, has_record, is_kind, keep, names_in_utf8};
@@ -55,7 +55,7 @@ pub struct Event {
 // The word that stands for a kind where a record is words, and the three that stand for a string.
 impl Kind {
     pub fn number(self) -> u32
-        ensures { result ≡ kindNumber self }
+        ensures { result ≡ kind_number self }
     {
         match self {
             Kind::Blank => kinds::BLANK,
@@ -73,7 +73,7 @@ impl Kind {
 impl EventString {
     // Which of the five the string is, and a stretch's form. The form is asked first, so that the rest is the variant's own number and costs nothing.
     pub fn tag(self) -> u32
-        ensures { result ≡ stringTag self }
+        ensures { result ≡ string_tag self }
     {
         let form = self.form();
         let other = form.number();
@@ -91,7 +91,7 @@ impl EventString {
 
     // There is no string: told by the variant alone, where the tag asks the form too.
     pub fn is_absent(self) -> bool
-        ensures { result ≡ eqb (stringTag self) 0 }
+        ensures { result ≡ eqb (string_tag self) 0 }
     {
         match self {
             EventString::Absent => true,
@@ -104,7 +104,7 @@ impl EventString {
 
     // utf-8 unless the string is a stretch.
     pub fn form(self) -> StringForm
-        ensures { result ≡ stringForm self }
+        ensures { result ≡ string_form self }
     {
         match self {
             EventString::Absent => StringForm::Utf8,
@@ -117,7 +117,7 @@ impl EventString {
 
     // 0 unless the string is a stretch.
     pub fn place(self) -> u32
-        ensures { result ≡ stringPlace self }
+        ensures { result ≡ string_place self }
     {
         match self {
             EventString::Absent => 0,
@@ -130,7 +130,7 @@ impl EventString {
 
     // 0 unless the string is a stretch.
     pub fn size(self) -> u32
-        ensures { result ≡ stringSize self }
+        ensures { result ≡ string_size self }
     {
         match self {
             EventString::Absent => 0,
@@ -171,7 +171,7 @@ pub fn blank() -> Event
 }
 
 pub fn namespace(prefix: EventString, namespace: EventString) -> Event
-    ensures { result ≡ namespaceRecord prefix namespace }
+    ensures { result ≡ namespace_record prefix namespace }
 {
     Event {
         kind: Kind::Namespace,
@@ -184,7 +184,7 @@ pub fn namespace(prefix: EventString, namespace: EventString) -> Event
 }
 
 pub fn start(prefix: EventString, namespace: EventString, name: EventString) -> Event
-    ensures { result ≡ startRecord prefix namespace name }
+    ensures { result ≡ start_record prefix namespace name }
 {
     Event {
         kind: Kind::Start,
@@ -202,7 +202,7 @@ pub fn attribute(
     name: EventString,
     value: EventString,
 ) -> Event
-    ensures { result ≡ attributeRecord prefix namespace name value }
+    ensures { result ≡ attribute_record prefix namespace name value }
 {
     Event {
         kind: Kind::Attribute,
@@ -215,7 +215,7 @@ pub fn attribute(
 }
 
 pub fn chunk(value: EventString) -> Event
-    ensures { result ≡ chunkRecord value }
+    ensures { result ≡ chunk_record value }
 {
     Event {
         kind: Kind::Chunk,
@@ -228,7 +228,7 @@ pub fn chunk(value: EventString) -> Event
 }
 
 pub fn comment(value: EventString) -> Event
-    ensures { result ≡ commentRecord value }
+    ensures { result ≡ comment_record value }
 {
     Event {
         kind: Kind::Comment,
@@ -241,7 +241,7 @@ pub fn comment(value: EventString) -> Event
 }
 
 pub fn instruction(name: EventString, value: EventString) -> Event
-    ensures { result ≡ instructionRecord name value }
+    ensures { result ≡ instruction_record name value }
 {
     Event {
         kind: Kind::Instruction,
@@ -254,7 +254,7 @@ pub fn instruction(name: EventString, value: EventString) -> Event
 }
 
 pub fn end() -> Event
-    ensures { result ≡ endRecord }
+    ensures { result ≡ end_record }
 {
     Event {
         kind: Kind::End,

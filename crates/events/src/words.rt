@@ -1,9 +1,9 @@
 // Event records from words and into words, for callers that have no enums.
 ghost use Rattle.std.specs.Prelude.{◌≡◌, false, ◌+◌, ◌*◌, ◌/◌, ◌≤◌, ◌<◌, length, drop, ltb};
 ghost use Rattle.std.proofs.lemmas.List.Edits.{sets};
-ghost use Rattle.events.specs.Words.{stringWords};
+ghost use Rattle.events.specs.Words.{string_words};
 ghost use Rattle.events.specs.Kept.{kept};
-ghost use Rattle.events.specs.FromWords.{kind_of, toldByTag, toldBy, toldAt, framed, recordAt, recordsOf, isSaid, beginsWith, Misnamed};
+ghost use Rattle.events.specs.FromWords.{kind_of, told_by_tag, told_by, told_at, framed, record_at, records_of, is_said, begins_with, Misnamed};
 
 use crate::{Event, EventString, Kind, PLACE, RECORD, kinds, strings, tags};
 use format::StringForm;
@@ -34,7 +34,7 @@ fn kind_of(number: u32) -> Kind
 
 // A stretch's tag says nothing without its place and length.
 fn told_by_tag(tag: u32) -> Told
-    ensures { result ≡ toldByTag tag }
+    ensures { result ≡ told_by_tag tag }
 {
     match tag {
         tags::ABSENT => Told::Said(EventString::Absent),
@@ -47,7 +47,7 @@ fn told_by_tag(tag: u32) -> Told
 }
 
 fn told_by(tag: u32, place: u32, size: u32) -> Told
-    ensures { result ≡ toldBy tag place size }
+    ensures { result ≡ told_by tag place size }
 {
     if tag == tags::STRETCH {
         return Told::Said(EventString::Stretch(StringForm::Utf8, place, size));
@@ -70,7 +70,7 @@ fn told_by(tag: u32, place: u32, size: u32) -> Told
 
 fn told_at(w: &[u32], at: usize) -> Told
     requires { at + 3 ≤ length w.now }
-    ensures { result ≡ toldAt w.now at }
+    ensures { result ≡ told_at w.now at }
 {
     told_by(w[at], w[at + 1], w[at + 2])
 }
@@ -104,7 +104,7 @@ fn framed(kind: Kind, prefix: Told, namespace: Told, name: Told, value: Told, pl
 // Record n of the words, blank where it is not well formed.
 pub fn from_words(w: &[u32], n: usize) -> Event
     requires { 14 * n + 14 ≤ length w.now }
-    ensures { result ≡ recordAt w.now (14 * n) }
+    ensures { result ≡ record_at w.now (14 * n) }
 {
     let at = RECORD * n;
     let number = w[at];
@@ -124,7 +124,7 @@ pub fn from_words(w: &[u32], n: usize) -> Event
 // None of the three strings of a name is in another form than utf-8, by their tags. A record where one is stands for no event; one that is told apart here needs no form for them.
 pub fn names_in_utf8(w: &[u32], n: usize) -> bool
     requires { 14 * n + 14 ≤ length w.now }
-    ensures { result ≡ false → Misnamed (recordAt w.now (14 * n)) }
+    ensures { result ≡ false → Misnamed (record_at w.now (14 * n)) }
 {
     let at = RECORD * n;
     w[at + strings::PREFIX] < tags::UTF16
@@ -141,7 +141,7 @@ pub fn has_record(w: &[u32], n: usize) -> bool
 // The three words of a string.
 fn put_string(w: &mut [u32], at: usize, x: EventString)
     requires { at + 3 ≤ length w.old }
-    ensures { w.new ≡ sets w.old at (stringWords x) }
+    ensures { w.new ≡ sets w.old at (string_words x) }
 {
     w[at] = x.tag();
     w[at + 1] = x.place();
@@ -172,7 +172,7 @@ pub fn keep(w: &mut [u32], n: usize, place: usize, e: Event)
 
 fn is_told(w: &[u32], at: usize) -> bool
     requires { at + 3 ≤ length w.now }
-    ensures { result ≡ isSaid (toldAt w.now at) }
+    ensures { result ≡ is_said (told_at w.now at) }
 {
     let tag = w[at];
     if tag == tags::STRETCH {
@@ -187,7 +187,7 @@ fn is_told(w: &[u32], at: usize) -> bool
 // There is a record n in the words, and it is well formed and of the kind that has this number: what a look ahead asks, so no record is made.
 pub fn is_kind(w: &[u32], n: usize, number: u32) -> bool
     requires { (1 ≤ number) × (number ≤ 7) }
-    ensures { result ≡ beginsWith number (drop n (recordsOf w.now)) }
+    ensures { result ≡ begins_with number (drop n (records_of w.now)) }
 {
     if w.len() / RECORD <= n {
         return false;

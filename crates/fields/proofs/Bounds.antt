@@ -5,7 +5,7 @@ use Rattle.format.specs.Numbers.{Form}
 use Rattle.fields.specs.declared.Cursor.{Cursor}
 use Rattle.fields.specs.declared.Number.{Number}
 use Rattle.fields.specs.declared.Number.TheVariants.{Got, Refused}
-use Rattle.fields.specs.Fields.{valueFrom, behind, Share, share, share_of, readIn, field_at}
+use Rattle.fields.specs.Fields.{value_from, behind, Share, share, share_of, read_in, field_at}
 use Rattle.fields.proofs.Laws.{picks}
 
 module _ (top : ℕ) (s : List ℕ) (at : ℕ) where
@@ -16,7 +16,7 @@ module _ (top : ℕ) (s : List ℕ) (at : ℕ) where
   behind-kept : (x more low size : ℕ) → Kept low (behind s at x more low size top)
   unfolding behind
   behind-kept x more low size =
-      let v = valueFrom s (at + 1) x more in
+      let v = value_from s (at + 1) x more in
       picks (Kept low) (ltb (at + more) (length s)) _ _
       (λ t. picks (Kept low) (ltb v size) _ _
       (λ u. picks (Kept low) (leb (low + v) top) _ _
@@ -29,20 +29,20 @@ module _ (top : ℕ) (s : List ℕ) (at : ℕ) where
   lower low size (Got n c) k = omega arith
   lower low size (Refused r p) k = k
 
-  read_kept : (fs : List Share) (low b : ℕ) → Kept low (readIn fs top low s at b)
-  unfolding readIn
+  read_kept : (fs : List Share) (low b : ℕ) → Kept low (read_in fs top low s at b)
+  unfolding read_in
   read_kept [] low b = (omega arith, refl)
   read_kept (share room more size ∷ fs) low b =
       picks (Kept low) (ltb (b * 256 ^ more) size) _ _ (λ t. behind-kept b more low size)
-      (λ t. picks (Kept low) (ltb b room) _ _ (λ u. (omega arith, refl)) (λ u. lower low size (readIn fs top (low + size) s at (b - room)) (read_kept fs (low + size) (b - room))))
+      (λ t. picks (Kept low) (ltb b room) _ _ (λ u. (omega arith, refl)) (λ u. lower low size (read_in fs top (low + size) s at (b - room)) (read_kept fs (low + size) (b - room))))
 
   module _ (fs : List Form) (bit : ℕ) where
-    field-kept : Kept 1 (field_at fs top bit s at)
+    field_kept : Kept 1 (field_at fs top bit s at)
     unfolding field_at
-    field-kept = picks (Kept 1) (ltb at (length s)) _ _ (λ t. read_kept (map share_of fs) 1 (get_or s at 0 % 2 ^ (9 - bit))) (λ t. (omega arith, refl))
+    field_kept = picks (Kept 1) (ltb at (length s)) _ _ (λ t. read_kept (map share_of fs) 1 (get_or s at 0 % 2 ^ (9 - bit))) (λ t. (omega arith, refl))
 
-    pub field-got : {n : ℕ} {c : Cursor} → field_at fs top bit s at ≡ Got n c → (1 ≤ n) × (n ≤ top) × (at < c.at) × (c.at ≤ length s)
-    field-got e = rw e at field-kept
+    pub field_got : {n : ℕ} {c : Cursor} → field_at fs top bit s at ≡ Got n c → (1 ≤ n) × (n ≤ top) × (at < c.at) × (c.at ≤ length s)
+    field_got e = rw e at field_kept
 
-    pub field-refused : {k p : ℕ} → field_at fs top bit s at ≡ Refused k p → (k ≤ 7) × (p ≡ at)
-    field-refused e = rw e at field-kept
+    pub field_refused : {k p : ℕ} → field_at fs top bit s at ≡ Refused k p → (k ≤ 7) × (p ≡ at)
+    field_refused e = rw e at field_kept

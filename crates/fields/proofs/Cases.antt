@@ -5,57 +5,57 @@ use native.Mathlib.Nat.{pow-le-pow_right}
 use borrow.Author.Tests.{lt-leb}
 use Rattle.format.specs.Numbers.{Form}
 use Rattle.fields.specs.declared.Number.TheVariants.{Got, Refused}
-use Rattle.fields.specs.Fields.{valueFrom, behind, Share, share, share_of, readIn, field_at}
-use Rattle.fields.proofs.Laws.{sizesIn, roomsIn, Roomy, past_room}
+use Rattle.fields.specs.Fields.{value_from, behind, Share, share, share_of, read_in, field_at}
+use Rattle.fields.proofs.Laws.{sizes_in, rooms_in, Roomy, past_room}
 
 -- ---- the octets behind the first one
 
 module _ (s : List ℕ) (at more : ℕ) where
-  pub value-next : (w v o i : ℕ) → i < more → o ≡ get_or s (at + i) 0 → valueFrom s (at + i) v (more - i) ≡ w
-      → valueFrom s (at + (i + 1)) (v * 256 + o) (more - (i + 1)) ≡ w
-  unfolding valueFrom
-  value-next w v o i h e q =
+  pub value_next : (w v o i : ℕ) → i < more → o ≡ get_or s (at + i) 0 → value_from s (at + i) v (more - i) ≡ w
+      → value_from s (at + (i + 1)) (v * 256 + o) (more - (i + 1)) ≡ w
+  unfolding value_from
+  value_next w v o i h e q =
       let m : more - i ≡ suc (more - (i + 1)) = omega arith in
       let f : at + (i + 1) ≡ suc (at + i) = omega arith in
       rw (e, f) (rw m at q)
 
-  pub value-end : (v i : ℕ) → more ≤ i → valueFrom s (at + i) v (more - i) ≡ v
-  unfolding valueFrom
-  value-end v i h = let m : more - i ≡ 0 = omega arith in rw m
+  pub value_end : (v i : ℕ) → more ≤ i → value_from s (at + i) v (more - i) ≡ v
+  unfolding value_from
+  value_end v i h = let m : more - i ≡ 0 = omega arith in rw m
 
 pub value_grows : (v o i : ℕ) → v < 256 ^ (i + 1) → o < 256 → v * 256 + o < 256 ^ (i + 1 + 1)
 value_grows v o i h k = rw (add-one (i + 1), pow-suc 256 (i + 1)) (omega arith)
 
-pub value-small : (v i : ℕ) → i ≤ 4 → v < 256 ^ (i + 1) → v < 2 ^ 40
-value-small v i h l = lt_of_lt_of_le l (pow-le-pow_right {n = 256} (lit< tt) {i = i + 1} {j = 5} (omega arith))
+pub value_small : (v i : ℕ) → i ≤ 4 → v < 256 ^ (i + 1) → v < 2 ^ 40
+value_small v i h l = lt_of_lt_of_le l (pow-le-pow_right {n = 256} (lit< tt) {i = i + 1} {j = 5} (omega arith))
 
 module _ (s : List ℕ) (at x more low size top : ℕ) where
-  pub behind-short : length s - at ≤ more → Refused 2 at ≡ behind s at x more low size top
+  pub behind_short : length s - at ≤ more → Refused 2 at ≡ behind s at x more low size top
   unfolding behind
-  behind-short h = let k : length s ≤ at + more = omega arith in rw (le-ltb _ _ k)
+  behind_short h = let k : length s ≤ at + more = omega arith in rw (le-ltb _ _ k)
 
-  module _ (v : ℕ) (h : more < length s - at) (e : v ≡ valueFrom s (at + 1) x more) where
+  module _ (v : ℕ) (h : more < length s - at) (e : v ≡ value_from s (at + 1) x more) where
     enough : at + more < length s
     enough = omega arith
 
-    pub behind-padding : size ≤ v → Refused 6 at ≡ behind s at x more low size top
+    pub behind_padding : size ≤ v → Refused 6 at ≡ behind s at x more low size top
     unfolding behind
-    behind-padding k = rw (lt-ltb _ _ enough, ← e, le-ltb _ _ k)
+    behind_padding k = rw (lt-ltb _ _ enough, ← e, le-ltb _ _ k)
 
-    pub behind-range : v < size → top < low + v → Refused 7 at ≡ behind s at x more low size top
+    pub behind_range : v < size → top < low + v → Refused 7 at ≡ behind s at x more low size top
     unfolding behind
-    behind-range k t = rw (lt-ltb _ _ enough, ← e, lt-ltb _ _ k, lt-leb _ _ t)
+    behind_range k t = rw (lt-ltb _ _ enough, ← e, lt-ltb _ _ k, lt-leb _ _ t)
 
-    pub behind-got : v < size → low + v ≤ top → Got (low + v) (record { at = at + 1 + more }) ≡ behind s at x more low size top
+    pub behind_got : v < size → low + v ≤ top → Got (low + v) (record { at = at + 1 + more }) ≡ behind s at x more low size top
     unfolding behind
-    behind-got k t = rw (lt-ltb _ _ enough, ← e, lt-ltb _ _ k, le-leb _ _ t)
+    behind_got k t = rw (lt-ltb _ _ enough, ← e, lt-ltb _ _ k, le-leb _ _ t)
 
 -- ---- the first octet
 
 -- k shares are passed over
-passed : (k : ℕ) (fs : List Share) (top low : ℕ) (s : List ℕ) (at b x : ℕ) → Roomy (take k fs) → b ≡ roomsIn (take k fs) + x
-    → readIn fs top low s at b ≡ readIn (drop k fs) top (low + sizesIn (take k fs)) s at x
-unfolding readIn roomsIn sizesIn
+passed : (k : ℕ) (fs : List Share) (top low : ℕ) (s : List ℕ) (at b x : ℕ) → Roomy (take k fs) → b ≡ rooms_in (take k fs) + x
+    → read_in fs top low s at b ≡ read_in (drop k fs) top (low + sizes_in (take k fs)) s at x
+unfolding read_in rooms_in sizes_in
 passed zero fs top low s at b x ok e =
     let k : b ≡ x = omega arith in
     let l : low ≡ low + 0 = omega arith in
@@ -64,28 +64,28 @@ passed (suc k) [] top low s at b x ok e = refl
 passed (suc k) (share room more size ∷ fs) top low s at b x ok e =
     let r1 : room ≤ b = omega arith in
     let r2 = past_room _ _ _ _ ok.0 r1 in
-    let l : low + (size + sizesIn (take k fs)) ≡ low + size + sizesIn (take k fs) = omega arith in
+    let l : low + (size + sizes_in (take k fs)) ≡ low + size + sizes_in (take k fs) = omega arith in
     rw (le-ltb _ _ r2, le-ltb _ _ r1, l) (passed k fs top (low + size) s at (b - room) x ok.1 (omega arith))
 
 module _ (top bit : ℕ) (s : List ℕ) (at : ℕ) (fs : List Form) where
-  pub field-missing : length s ≤ at → Refused 2 at ≡ field_at fs top bit s at
+  pub field_missing : length s ≤ at → Refused 2 at ≡ field_at fs top bit s at
   unfolding field_at
-  field-missing h = rw (le-ltb _ _ h)
+  field_missing h = rw (le-ltb _ _ h)
 
   module _ (gs : List Share) (are : map share_of fs ≡ gs) (h : at < length s) (k : ℕ) (ok : Roomy (take k gs)) where
-    from-form : (x : ℕ) → get_or s at 0 % 2 ^ (9 - bit) ≡ roomsIn (take k gs) + x → field_at fs top bit s at ≡ readIn (drop k gs) top (1 + sizesIn (take k gs)) s at x
+    from_form : (x : ℕ) → get_or s at 0 % 2 ^ (9 - bit) ≡ rooms_in (take k gs) + x → field_at fs top bit s at ≡ read_in (drop k gs) top (1 + sizes_in (take k gs)) s at x
     unfolding field_at
-    from-form x e = rw (lt-ltb _ _ h, are) (passed k gs top 1 s at _ x ok e)
+    from_form x e = rw (lt-ltb _ _ h, are) (passed k gs top 1 s at _ x ok e)
 
-    pub field-code : drop k gs ≡ [] → roomsIn (take k gs) ≤ get_or s at 0 % 2 ^ (9 - bit) → Refused 5 at ≡ field_at fs top bit s at
-    unfolding readIn
-    field-code d g = rw (from-form (get_or s at 0 % 2 ^ (9 - bit) - roomsIn (take k gs)) (omega arith), d)
+    pub field_code : drop k gs ≡ [] → rooms_in (take k gs) ≤ get_or s at 0 % 2 ^ (9 - bit) → Refused 5 at ≡ field_at fs top bit s at
+    unfolding read_in
+    field_code d g = rw (from_form (get_or s at 0 % 2 ^ (9 - bit) - rooms_in (take k gs)) (omega arith), d)
 
-    module _ (room more size : ℕ) (ss : List Share) (d : drop k gs ≡ share room more size ∷ ss) (x : ℕ) (e : get_or s at 0 % 2 ^ (9 - bit) ≡ roomsIn (take k gs) + x) where
-      pub field-form : (low many : ℕ) → low ≡ 1 + sizesIn (take k gs) → many ≡ size → x * 256 ^ more < size → behind s at x more low many top ≡ field_at fs top bit s at
-      unfolding readIn
-      field-form low many l m g = rw (from-form x e, d, lt-ltb _ _ g, l, m)
+    module _ (room more size : ℕ) (ss : List Share) (d : drop k gs ≡ share room more size ∷ ss) (x : ℕ) (e : get_or s at 0 % 2 ^ (9 - bit) ≡ rooms_in (take k gs) + x) where
+      pub field_form : (low many : ℕ) → low ≡ 1 + sizes_in (take k gs) → many ≡ size → x * 256 ^ more < size → behind s at x more low many top ≡ field_at fs top bit s at
+      unfolding read_in
+      field_form low many l m g = rw (from_form x e, d, lt-ltb _ _ g, l, m)
 
-      pub field-padding : size ≤ x * 256 ^ more → x < room → Refused 6 at ≡ field_at fs top bit s at
-      unfolding readIn
-      field-padding g r = rw (from-form x e, d, le-ltb _ _ g, lt-ltb _ _ r)
+      pub field_padding : size ≤ x * 256 ^ more → x < room → Refused 6 at ≡ field_at fs top bit s at
+      unfolding read_in
+      field_padding g r = rw (from_form x e, d, le-ltb _ _ g, lt-ltb _ _ r)

@@ -1,12 +1,12 @@
--- The test of text is exact: octets pass it exactly when they are those of some characters (`text-exact`), and of one list of characters only (`one_list`).
+-- The test of text is exact: octets pass it exactly when they are those of some characters (`text_exact`), and of one list of characters only (`one_list`).
 -- Assumes nothing.
 use Rattle.std.proofs.Common.{◌≡◌, ℕ, zero, suc, ◌+◌, ◌-◌, ◌*◌, ◌/◌, ◌%◌, ◌<◌, ◌≤◌, true, ◌&&◌, leb, ◌↔◌, List, [], ◌∷◌, ◌++◌, length, get_or, take, drop, sym, refl, ap, ◌∙◌, ap₂, arith, length-append, length-drop, take-append-drop, le-ltb, lt-ltb, le-leb, leb-true}
 use native.Mathlib.Nat.{div-div-eq-div-mul}
 use lib.Seq.{take-append_seam, drop-append_seam}
 use Rattle.format.specs.Characters.{Range, ◌‥◌, among, characters, IsCharacter, tail, utf8, utf8s, All, IsText}
-use Rattle.fields.specs.Utf8.{rows, fits, startedBy, fromFirst, character, isText}
+use Rattle.fields.specs.Utf8.{rows, fits, started_by, from_first, character, is_text}
 use Rattle.fields.proofs.Laws.{case}
-use Rattle.fields.proofs.Utf8.{told, never, both, alike, started, some-character, no-character, text-end}
+use Rattle.fields.proofs.Utf8.{told, never, both, alike, started, some_character, no_character, text_end}
 
 -- what holds of each of a list, one after the other
 infixr 20 ◌also◌
@@ -18,24 +18,24 @@ a also b = (a, b)
 abbrev pub In : Range → ℕ → Type 0
 In (a ‥ z) n = (a ≤ n) × (n ≤ z)
 
-pub in-range : (a z n : ℕ) → (leb a n && leb n z) ≡ true → In (a ‥ z) n
-in-range a z n e = let p = both (leb a n) (leb n z) e in (leb-true _ _ p.0, leb-true _ _ p.1)
+pub in_range : (a z n : ℕ) → (leb a n && leb n z) ≡ true → In (a ‥ z) n
+in_range a z n e = let p = both (leb a n) (leb n z) e in (leb-true _ _ p.0, leb-true _ _ p.1)
 
-pub range-in : (a z n : ℕ) → In (a ‥ z) n → (leb a n && leb n z) ≡ true
-range-in a z n h = rw (le-leb _ _ h.0, le-leb _ _ h.1)
+pub range_in : (a z n : ℕ) → In (a ‥ z) n → (leb a n && leb n z) ≡ true
+range_in a z n h = rw (le-leb _ _ h.0, le-leb _ _ h.1)
 
 -- a number in the range at place i is among them; a number among them is in one of them
-pub in-among : (rs : List Range) (i n : ℕ) → In (get_or rs i (1 ‥ 0)) n → among rs n ≡ true
+pub in_among : (rs : List Range) (i n : ℕ) → In (get_or rs i (1 ‥ 0)) n → among rs n ≡ true
 unfolding among
-in-among [] zero n h = absurd (omega arith)
-in-among [] (suc i) n h = absurd (omega arith)
-in-among (a ‥ z ∷ rs) zero n h = rw (range-in a z n h)
-in-among (a ‥ z ∷ rs) (suc i) n h = told (leb a n && leb n z) (λ e. rw e) (λ e. rw e (in-among rs i n h))
+in_among [] zero n h = absurd (omega arith)
+in_among [] (suc i) n h = absurd (omega arith)
+in_among (a ‥ z ∷ rs) zero n h = rw (range_in a z n h)
+in_among (a ‥ z ∷ rs) (suc i) n h = told (leb a n && leb n z) (λ e. rw e) (λ e. rw e (in_among rs i n h))
 
 pub among_in : {X : Type 0} (rs : List Range) (n : ℕ) → among rs n ≡ true → All (λ r. In r n → X) rs → X
 unfolding among
 among_in [] n e fs = never e
-among_in (a ‥ z ∷ rs) n e fs = told (leb a n && leb n z) (λ t. fs.0 (in-range a z n t)) (λ t. among_in rs n (rw t at e) fs.1)
+among_in (a ‥ z ∷ rs) n e fs = told (leb a n && leb n z) (λ t. fs.0 (in_range a z n t)) (λ t. among_in rs n (rw t at e) fs.1)
 
 abbrev InNth : ℕ → ℕ → Type 0
 InNth i n = In (get_or characters i (1 ‥ 0)) n
@@ -52,13 +52,13 @@ unfolding fits
 fit [] [] y f = (refl, refl)
 fit [] (b ∷ q) y f = absurd f
 fit (r ∷ rs) [] y f = absurd f
-fit (a ‥ z ∷ rs) (b ∷ q) y f = let p = fit rs q y f.1 in (rw (range-in a z b f.0) p.0, ap suc p.1)
+fit (a ‥ z ∷ rs) (b ∷ q) y f = let p = fit rs q y f.1 in (rw (range_in a z b f.0) p.0, ap suc p.1)
 
-pub fit-back : (r : List Range) (x : List ℕ) → fits r x ≡ true → Fits r (take (length r) x)
+pub fit_back : (r : List Range) (x : List ℕ) → fits r x ≡ true → Fits r (take (length r) x)
 unfolding fits
-fit-back [] x e = tt
-fit-back (r ∷ rs) [] e = never e
-fit-back (a ‥ z ∷ rs) (b ∷ x) e = let p = both (leb a b && leb b z) (fits rs x) e in (in-range a z b p.0, fit-back rs x p.1)
+fit_back [] x e = tt
+fit_back (r ∷ rs) [] e = never e
+fit_back (a ‥ z ∷ rs) (b ∷ x) e = let p = both (leb a b && leb b z) (fits rs x) e in (in_range a z b p.0, fit_back rs x p.1)
 
 -- ---- by the number of octets
 
@@ -121,20 +121,20 @@ back =
 
 -- ---- every character's octets are seen whole
 
-first-row : (r : List Range) (rs : List (List Range)) (x : List ℕ) → fits r x ≡ true → fromFirst (r ∷ rs) x ≡ length r + 1
-unfolding fromFirst
-first-row r rs x e = rw e
+first_row : (r : List Range) (rs : List (List Range)) (x : List ℕ) → fits r x ≡ true → from_first (r ∷ rs) x ≡ length r + 1
+unfolding from_first
+first_row r rs x e = rw e
 
-second-row : (q r : List Range) → length q ≡ length r → (x : List ℕ) → fits r x ≡ true → fromFirst (q ∷ r ∷ []) x ≡ length r + 1
-unfolding fromFirst
-second-row q r l x e = told (fits q x) (λ t. rw (t, l)) (λ t. rw (t, e))
+second_row : (q r : List Range) → length q ≡ length r → (x : List ℕ) → fits r x ≡ true → from_first (q ∷ r ∷ []) x ≡ length r + 1
+unfolding from_first
+second_row q r l x e = told (fits q x) (λ t. rw (t, l)) (λ t. rw (t, e))
 
 module _ (n : ℕ) (y : List ℕ) where
   abbrev Whole : Type 0
   Whole = character (utf8 n ++ y) ≡ length (utf8 n)
 
   -- the first octet is one from lo to hi, which the table does not tell apart, and the others fit a row r that it may start
-  led : (b : ℕ) (o : List ℕ) (lo hi : ℕ) (r : List Range) → utf8 n ≡ b ∷ o → ((x : List ℕ) → fits r x ≡ true → fromFirst (startedBy lo rows) x ≡ length r + 1)
+  led : (b : ℕ) (o : List ℕ) (lo hi : ℕ) (r : List Range) → utf8 n ≡ b ∷ o → ((x : List ℕ) → fits r x ≡ true → from_first (started_by lo rows) x ≡ length r + 1)
       → alike lo hi rows ≡ true → In (lo ‥ hi) b × Fits r o → Whole
   unfolding character
   led b o lo hi r e s t f =
@@ -142,30 +142,30 @@ module _ (n : ℕ) (y : List ℕ) where
       rw (e, started b lo hi f.0.0 f.0.1 rows t, s (o ++ y) p.0) (omega (arith, p.1))
 
   front : IsCharacter n → Whole
-  unfolding characters startedBy rows alike
+  unfolding characters started_by rows alike
   front h =
       among_in characters n h
-      ((λ r. led _ _ 0x09 0x0A _ (one n (omega arith)) (first-row _ _) refl (omega arith))
-      also (λ r. led _ _ 0x0D 0x0D _ (one n (omega arith)) (first-row _ _) refl (omega arith))
+      ((λ r. led _ _ 0x09 0x0A _ (one n (omega arith)) (first_row _ _) refl (omega arith))
+      also (λ r. led _ _ 0x0D 0x0D _ (one n (omega arith)) (first_row _ _) refl (omega arith))
       also (λ r. case n 0x80
-      (λ k. led _ _ 0x20 0x7F _ (one n k) (first-row _ _) refl (omega arith))
+      (λ k. led _ _ 0x20 0x7F _ (one n k) (first_row _ _) refl (omega arith))
       (λ k. case n 0x800
-      (λ l. led _ _ 0xC2 0xDF _ (two n k l) (first-row _ _) refl (omega arith))
+      (λ l. led _ _ 0xC2 0xDF _ (two n k l) (first_row _ _) refl (omega arith))
       (λ l. case n 0x1000
-      (λ m. led _ _ 0xE0 0xE0 _ (three n l (omega arith)) (first-row _ _) refl (omega arith))
+      (λ m. led _ _ 0xE0 0xE0 _ (three n l (omega arith)) (first_row _ _) refl (omega arith))
       (λ m. case n 0xD000
-      (λ o. led _ _ 0xE1 0xEC _ (three n l (omega arith)) (first-row _ _) refl (omega arith))
-      (λ o. led _ _ 0xED 0xED _ (three n l (omega arith)) (first-row _ _) refl (omega arith))))))
+      (λ o. led _ _ 0xE1 0xEC _ (three n l (omega arith)) (first_row _ _) refl (omega arith))
+      (λ o. led _ _ 0xED 0xED _ (three n l (omega arith)) (first_row _ _) refl (omega arith))))))
       also (λ r. case n 0xF000
-      (λ k. led _ _ 0xEE 0xEE _ (three n (omega arith) (omega arith)) (first-row _ _) refl (omega arith))
+      (λ k. led _ _ 0xEE 0xEE _ (three n (omega arith) (omega arith)) (first_row _ _) refl (omega arith))
       (λ k. case n 0xFFC0
-      (λ l. led _ _ 0xEF 0xEF _ (three n (omega arith) (omega arith)) (first-row _ _) refl (omega arith))
-      (λ l. led _ _ 0xEF 0xEF _ (three n (omega arith) (omega arith)) (second-row _ _ refl) refl (omega arith))))
+      (λ l. led _ _ 0xEF 0xEF _ (three n (omega arith) (omega arith)) (first_row _ _) refl (omega arith))
+      (λ l. led _ _ 0xEF 0xEF _ (three n (omega arith) (omega arith)) (second_row _ _ refl) refl (omega arith))))
       also (λ r. case n 0x40000
-      (λ l. led _ _ 0xF0 0xF0 _ (four n r.0) (first-row _ _) refl (omega arith))
+      (λ l. led _ _ 0xF0 0xF0 _ (four n r.0) (first_row _ _) refl (omega arith))
       (λ l. case n 0x100000
-      (λ m. led _ _ 0xF1 0xF3 _ (four n r.0) (first-row _ _) refl (omega arith))
-      (λ m. led _ _ 0xF4 0xF4 _ (four n r.0) (first-row _ _) refl (omega arith))))
+      (λ m. led _ _ 0xF1 0xF3 _ (four n r.0) (first_row _ _) refl (omega arith))
+      (λ m. led _ _ 0xF4 0xF4 _ (four n r.0) (first_row _ _) refl (omega arith))))
       also tt)
 
 -- ---- octets that are seen as a character are one's
@@ -234,22 +234,22 @@ module _ (a : ℕ) where
   Good r = (q : List ℕ) → Fits r q → OfOne (a ∷ q)
 
   module _ (i : ℕ) where
-    character-of : (n : ℕ) (o : List ℕ) → InNth i n → o ≡ utf8 n → OfOne o
-    character-of n o h e = record { says = n; is = in-among characters i n h; octets = e }
+    character_of : (n : ℕ) (o : List ℕ) → InNth i n → o ≡ utf8 n → OfOne o
+    character_of n o h e = record { says = n; is = in_among characters i n h; octets = e }
 
     good1 : InNth i a × (a < 0x80) → Good []
-    good1 h [] f = character-of a _ h.0 (sym (one a h.1))
+    good1 h [] f = character_of a _ h.0 (sym (one a h.1))
     good1 h (b ∷ q) f = absurd f
 
     good2 : (r : Range) → ((b n : ℕ) → n ≡ (a - 0xC0) * 64 + (b - 0x80) → In r b → InNth i n × Two n a b) → Good (r ∷ [])
     good2 r h [] f = absurd f
-    good2 r h (b ∷ []) f = let p = h b _ refl f.0 in character-of _ _ p.0 (made2 _ a b p.1)
+    good2 r h (b ∷ []) f = let p = h b _ refl f.0 in character_of _ _ p.0 (made2 _ a b p.1)
     good2 r h (b ∷ c ∷ q) f = absurd f.1
 
     good3 : (r s : Range) → ((b c n : ℕ) → n ≡ (a - 0xE0) * 4096 + (b - 0x80) * 64 + (c - 0x80) → In r b → In s c → InNth i n × Three n a b c) → Good (r ∷ s ∷ [])
     good3 r s h [] f = absurd f
     good3 r s h (b ∷ []) f = absurd f.1
-    good3 r s h (b ∷ c ∷ []) f = let p = h b c _ refl f.0 f.1.0 in character-of _ _ p.0 (made3 _ a b c p.1)
+    good3 r s h (b ∷ c ∷ []) f = let p = h b c _ refl f.0 f.1.0 in character_of _ _ p.0 (made3 _ a b c p.1)
     good3 r s h (b ∷ c ∷ d ∷ q) f = absurd f.1.1
 
     good4 : (r s t : Range)
@@ -258,7 +258,7 @@ module _ (a : ℕ) where
     good4 r s t h [] f = absurd f
     good4 r s t h (b ∷ []) f = absurd f.1
     good4 r s t h (b ∷ c ∷ []) f = absurd f.1.1
-    good4 r s t h (b ∷ c ∷ d ∷ []) f = let p = h b c d _ refl f.0 f.1.0 f.1.1.0 in character-of _ _ p.0 (made4 _ a b c d p.1)
+    good4 r s t h (b ∷ c ∷ d ∷ []) f = let p = h b c d _ refl f.0 f.1.0 f.1.1.0 in character_of _ _ p.0 (made4 _ a b c d p.1)
     good4 r s t h (b ∷ c ∷ d ∷ e ∷ q) f = absurd f.1.1.1
 
   -- of a row whose first range takes a
@@ -285,8 +285,8 @@ module _ (a : ℕ) where
       also tt
 
   -- the first character that is seen
-  seen : (k : ℕ) (x : List ℕ) (rs : List (List Range)) → All GoodRow rs → suc k ≡ fromFirst (startedBy a rs) x → OfOne (a ∷ take k x)
-  unfolding fromFirst startedBy
+  seen : (k : ℕ) (x : List ℕ) (rs : List (List Range)) → All GoodRow rs → suc k ≡ from_first (started_by a rs) x → OfOne (a ∷ take k x)
+  unfolding from_first started_by
   seen k x [] g e = absurd (omega arith)
   seen k x ([] ∷ rs) g e = seen k x rs g.1 e
   seen k x ((l ‥ h ∷ r) ∷ rs) g e =
@@ -295,49 +295,49 @@ module _ (a : ℕ) where
       (λ f.
       let m : suc k ≡ length r + 1 = rw (t, f) at e in
       let n : length r ≡ k = omega arith in
-      rw (← n) (g.0 (in-range l h a t) (take (length r) x) (fit-back r x f)))
+      rw (← n) (g.0 (in_range l h a t) (take (length r) x) (fit_back r x f)))
       (λ f. seen k x rs g.1 (rw (t, f) at e)))
       (λ t. seen k x rs g.1 (rw t at e))
 
 -- ---- the laws
 
 -- the octets of characters pass
-passes : (ns : List ℕ) → All IsCharacter ns → isText (utf8s ns) ≡ true
+passes : (ns : List ℕ) → All IsCharacter ns → is_text (utf8s ns) ≡ true
 unfolding utf8s
-passes [] h = text-end [] 0 0 (omega arith)
+passes [] h = text_end [] 0 0 (omega arith)
 passes (n ∷ ns) h =
     let y = utf8s ns in
-    (some-character (length (utf8 n)) (utf8 n ++ y) (sym (front n y h.0)) (λ z. let l = long n in omega arith)).1
-    ∙ ap isText (drop-append_seam (utf8 n) y)
+    (some_character (length (utf8 n)) (utf8 n ++ y) (sym (front n y h.0)) (λ z. let l = long n in omega arith)).1
+    ∙ ap is_text (drop-append_seam (utf8 n) y)
     ∙ passes ns h.1
 
 -- what passes, no longer than m, is the octets of characters
-passed : (m : ℕ) (x : List ℕ) → length x ≤ m → isText x ≡ true → IsText x
+passed : (m : ℕ) (x : List ℕ) → length x ≤ m → is_text x ≡ true → IsText x
 unfolding utf8s
 passed zero [] l e = record { says = []; are = tt; octets = refl }
 passed (suc m) [] l e = record { says = []; are = tt; octets = refl }
 passed zero (b ∷ x) l e = absurd (omega arith)
 passed (suc m) (b ∷ x) l e = go (character (b ∷ x)) refl (λ y. passed m y)
   where
-    go : (k : ℕ) → k ≡ character (b ∷ x) → ((y : List ℕ) → length y ≤ m → isText y ≡ true → IsText y) → IsText (b ∷ x)
-    go zero c r = never (sym (no-character b x c) ∙ e)
+    go : (k : ℕ) → k ≡ character (b ∷ x) → ((y : List ℕ) → length y ≤ m → is_text y ≡ true → IsText y) → IsText (b ∷ x)
+    go zero c r = never (sym (no_character b x c) ∙ e)
     go (suc k) c r =
-        let s = some-character (suc k) (b ∷ x) c (λ z. omega arith) in
+        let s = some_character (suc k) (b ∷ x) c (λ z. omega arith) in
         let o = seen b k x rows (good b) (unfold character in c) in
         let t = r (drop k x) (rw (length-drop k x) (omega arith)) (sym s.1 ∙ e) in
         record { says = o.says ∷ t.says; are = (o.is, t.are); octets = ap (λ y. b ∷ y) (sym (take-append-drop k x)) ∙ ap₂ (λ y z. y ++ z) o.octets t.octets }
 
-pub text-exact : (x : List ℕ) → (isText x ≡ true) ↔ IsText x
-text-exact x = (λ e. passed (length x) x (omega arith) e, λ t. rw t.octets (passes t.says t.are))
+pub text_exact : (x : List ℕ) → (is_text x ≡ true) ↔ IsText x
+text_exact x = (λ e. passed (length x) x (omega arith) e, λ t. rw t.octets (passes t.says t.are))
 
-some-octets : (n : ℕ) (y : List ℕ) → [] ≡ utf8 n ++ y → ⊥
-some-octets n y e = let l = long n in let a = length-append (utf8 n) y in let z = ap length e in omega arith
+some_octets : (n : ℕ) (y : List ℕ) → [] ≡ utf8 n ++ y → ⊥
+some_octets n y e = let l = long n in let a = length-append (utf8 n) y in let z = ap length e in omega arith
 
 pub one_list : (ns ms : List ℕ) → All IsCharacter ns → All IsCharacter ms → utf8s ns ≡ utf8s ms → ns ≡ ms
 unfolding utf8s
 one_list [] [] h k e = refl
-one_list [] (m ∷ ms) h k e = absurd (some-octets m _ e)
-one_list (n ∷ ns) [] h k e = absurd (some-octets n _ (sym e))
+one_list [] (m ∷ ms) h k e = absurd (some_octets m _ e)
+one_list (n ∷ ns) [] h k e = absurd (some_octets n _ (sym e))
 one_list (n ∷ ns) (m ∷ ms) h k e =
     let l : length (utf8 n) ≡ length (utf8 m) = sym (front n _ h.0) ∙ ap character e ∙ front m _ k.0 in
     let o : utf8 n ≡ utf8 m = sym (take-append_seam (utf8 n) _) ∙ ap₂ take l e ∙ take-append_seam (utf8 m) _ in

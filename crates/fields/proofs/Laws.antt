@@ -9,20 +9,20 @@ use Rattle.format.specs.Numbers.{pick, octets}
 use Rattle.fields.specs.declared.Cursor.{Cursor}
 use Rattle.fields.specs.declared.Number.{Number}
 use Rattle.fields.specs.declared.Number.TheVariants.{Got, Refused}
-use Rattle.fields.specs.Fields.{valueFrom, behind, Share, share, readIn}
+use Rattle.fields.specs.Fields.{value_from, behind, Share, share, read_in}
 
 pub case : {X : Type 0} (a b : ℕ) → (a < b → X) → (b ≤ a → X) → X
 case a b f g = elim (dec_lt a b) [ yes h ↦ f h | no h ↦ g (omega arith) ]
 
 -- how many numbers the shares have
-unfoldable pub sizesIn : List Share → ℕ
-sizesIn [] = 0
-sizesIn (share room more size ∷ fs) = size + sizesIn fs
+unfoldable pub sizes_in : List Share → ℕ
+sizes_in [] = 0
+sizes_in (share room more size ∷ fs) = size + sizes_in fs
 
 -- how many values of the first octet's bits they take
-unfoldable pub roomsIn : List Share → ℕ
-roomsIn [] = 0
-roomsIn (share room more size ∷ fs) = room + roomsIn fs
+unfoldable pub rooms_in : List Share → ℕ
+rooms_in [] = 0
+rooms_in (share room more size ∷ fs) = room + rooms_in fs
 
 -- each has room for its numbers
 abbrev pub Roomy : List Share → Type 0
@@ -30,17 +30,17 @@ Roomy [] = Unit {0}
 Roomy (share room more size ∷ fs) = (size ≤ room * 256 ^ more) × Roomy fs
 
 -- the value v from 0 on, by shares: each holds the value less what those before it have; `lead` has the codes of those before it
-unfoldable pub spellIn : List Share → ℕ → ℕ → List ℕ
-spellIn [] lead v = []
-spellIn (share room more size ∷ fs) lead v = pick (ltb v size) ((lead + v / 256 ^ more) ∷ octets more v) (spellIn fs (lead + room) (v - size))
+unfoldable pub spell_in : List Share → ℕ → ℕ → List ℕ
+spell_in [] lead v = []
+spell_in (share room more size ∷ fs) lead v = pick (ltb v size) ((lead + v / 256 ^ more) ∷ octets more v) (spell_in fs (lead + room) (v - size))
 
 pub pos256 : (m : ℕ) → 0 < 256 ^ m
 pos256 zero = lit< tt
 pos256 (suc m) = let h = pos256 m in rw (pow-suc 256 m) (omega arith)
 
 -- what the first octet holds of a value that a form spells is one of the form's values; and the form spells a value with that
-pub in-room : (v room more size : ℕ) → size ≤ room * 256 ^ more → v < size → v / 256 ^ more < room
-in-room v room more size h y = (div-lt_iff_lt-mul (pos256 more)).1 (omega arith)
+pub in_room : (v room more size : ℕ) → size ≤ room * 256 ^ more → v < size → v / 256 ^ more < room
+in_room v room more size h y = (div-lt_iff_lt-mul (pos256 more)).1 (omega arith)
 
 in_size : (v more size : ℕ) → v < size → v / 256 ^ more * 256 ^ more < size
 in_size v more size y = let e = div-add-mod' v (256 ^ more) in omega arith
@@ -56,25 +56,25 @@ unfolding octets
 octets-length zero v = refl
 octets-length (suc m) v = ap suc (octets-length m v)
 
-length-snoc : (xs : List ℕ) (a : ℕ) → length (xs ++ (a ∷ [])) ≡ suc (length xs)
-length-snoc xs a = length-append xs (a ∷ []) ∙ add-one (length xs)
+length_snoc : (xs : List ℕ) (a : ℕ) → length (xs ++ (a ∷ [])) ≡ suc (length xs)
+length_snoc xs a = length-append xs (a ∷ []) ∙ add-one (length xs)
 
 -- one more octet of v
 digit : (m v : ℕ) → v / 256 ^ suc m * 256 + v / 256 ^ m % 256 ≡ v / 256 ^ m
 digit m v = rw (pow-suc 256 m, ← div-div-eq-div-mul v (256 ^ m) 256) (div-add-mod' (v / 256 ^ m) 256)
 
 -- reading the octets of v, after what stands above them
-value-octets : (m v : ℕ) (pre rest : List ℕ) → valueFrom (pre ++ (octets m v ++ rest)) (length pre) (v / 256 ^ m) m ≡ v
-unfolding valueFrom octets
-value-octets zero v pre rest = omega arith
-value-octets (suc m) v pre rest =
+value_octets_lem : (m v : ℕ) (pre rest : List ℕ) → value_from (pre ++ (octets m v ++ rest)) (length pre) (v / 256 ^ m) m ≡ v
+unfolding value_from octets
+value_octets_lem zero v pre rest = omega arith
+value_octets_lem (suc m) v pre rest =
     let d : ℕ = v / 256 ^ m % 256 in
     let s : List ℕ = pre ++ (d ∷ (octets m v ++ rest)) in
     let e : (pre ++ (d ∷ [])) ++ (octets m v ++ rest) ≡ s = append_snoc pre d (octets m v ++ rest) in
-    ap (λ (x : ℕ). valueFrom s (suc (length pre)) (v / 256 ^ suc m * 256 + x) m) (get_or-append_seam pre d (octets m v ++ rest) 0)
-    ∙ ap (λ (x : ℕ). valueFrom s (suc (length pre)) x m) (digit m v)
-    ∙ ap₂ (λ (l : List ℕ) (k : ℕ). valueFrom l k (v / 256 ^ m) m) (sym e) (sym (length-snoc pre d))
-    ∙ value-octets m v (pre ++ (d ∷ [])) rest
+    ap (λ (x : ℕ). value_from s (suc (length pre)) (v / 256 ^ suc m * 256 + x) m) (get_or-append_seam pre d (octets m v ++ rest) 0)
+    ∙ ap (λ (x : ℕ). value_from s (suc (length pre)) x m) (digit m v)
+    ∙ ap₂ (λ (l : List ℕ) (k : ℕ). value_from l k (v / 256 ^ m) m) (sym e) (sym (length_snoc pre d))
+    ∙ value_octets_lem m v (pre ++ (d ∷ [])) rest
 
 behind-octets : (more size v low top first : ℕ) (pre rest : List ℕ) → v < size → low + v ≤ top
     → behind (pre ++ (first ∷ octets more v ++ rest)) (length pre) (v / 256 ^ more) more low size top
@@ -83,27 +83,27 @@ unfolding behind
 behind-octets more size v low top first pre rest h t =
     let s : List ℕ = pre ++ (first ∷ (octets more v ++ rest)) in
     let n : length s ≡ length pre + suc (more + length rest) = simp (length-append, octets-length) in
-    let e : valueFrom s (length pre + 1) (v / 256 ^ more) more ≡ v =
-    ap₂ (λ (l : List ℕ) (k : ℕ). valueFrom l k (v / 256 ^ more) more) (sym (append_snoc pre first (octets more v ++ rest))) (add-one (length pre) ∙ sym (length-snoc pre first))
-    ∙ value-octets more v (pre ++ (first ∷ [])) rest in
+    let e : value_from s (length pre + 1) (v / 256 ^ more) more ≡ v =
+    ap₂ (λ (l : List ℕ) (k : ℕ). value_from l k (v / 256 ^ more) more) (sym (append_snoc pre first (octets more v ++ rest))) (add-one (length pre) ∙ sym (length_snoc pre first))
+    ∙ value_octets_lem more v (pre ++ (first ∷ [])) rest in
     let p : length pre + 1 + more ≡ length pre + suc more = omega arith in
     let q : length pre + more < length s = omega arith in
     rw (lt-ltb _ _ q, e, lt-ltb _ _ h, le-leb _ _ t, p)
 
 -- the first octet holds at least what it held already
-pub first-ge : (fs : List Share) (lead v : ℕ) → v < sizesIn fs → lead ≤ get_or (spellIn fs lead v) 0 0
-unfolding spellIn sizesIn
-first-ge [] lead v h = omega arith
-first-ge (share room more size ∷ fs) lead v h =
+pub first_ge : (fs : List Share) (lead v : ℕ) → v < sizes_in fs → lead ≤ get_or (spell_in fs lead v) 0 0
+unfolding spell_in sizes_in
+first_ge [] lead v h = omega arith
+first_ge (share room more size ∷ fs) lead v h =
     case v size (λ y. rw (lt-ltb v size y) (omega arith))
-    (λ n. rw (le-ltb v size n) (let i = first-ge fs (lead + room) (v - size) (omega arith) in omega arith))
+    (λ n. rw (le-ltb v size n) (let i = first_ge fs (lead + room) (v - size) (omega arith) in omega arith))
 
-pub read-spelled : (fs : List Share) (top low lead v : ℕ) (pre rest : List ℕ) → Roomy fs → v < sizesIn fs → low + v ≤ top
-    → readIn fs top low (pre ++ (spellIn fs lead v ++ rest)) (length pre) (get_or (spellIn fs lead v) 0 0 - lead)
-    ≡ Got (low + v) (record { at = length pre + length (spellIn fs lead v) })
-unfolding readIn spellIn sizesIn
-read-spelled [] top low lead v pre rest ok h t = absurd (omega arith)
-read-spelled (share room more size ∷ fs) top low lead v pre rest ok h t =
+pub read_spelled : (fs : List Share) (top low lead v : ℕ) (pre rest : List ℕ) → Roomy fs → v < sizes_in fs → low + v ≤ top
+    → read_in fs top low (pre ++ (spell_in fs lead v ++ rest)) (length pre) (get_or (spell_in fs lead v) 0 0 - lead)
+    ≡ Got (low + v) (record { at = length pre + length (spell_in fs lead v) })
+unfolding read_in spell_in sizes_in
+read_spelled [] top low lead v pre rest ok h t = absurd (omega arith)
+read_spelled (share room more size ∷ fs) top low lead v pre rest ok h t =
     case v size
     (λ y.
     let b : lead + v / 256 ^ more - lead ≡ v / 256 ^ more = omega arith in
@@ -111,27 +111,27 @@ read-spelled (share room more size ∷ fs) top low lead v pre rest ok h t =
     let n : length pre + suc (length (octets more v)) ≡ length pre + suc more = ap (λ (k : ℕ). length pre + suc k) (octets-length more v) in
     rw (lt-ltb v size y, b, lt-ltb _ _ sp, n) (behind-octets more size v low top (lead + v / 256 ^ more) pre rest y t))
     (λ n.
-    let i = first-ge fs (lead + room) (v - size) (omega arith) in
-    let w : List ℕ = spellIn fs (lead + room) (v - size) in
+    let i = first_ge fs (lead + room) (v - size) (omega arith) in
+    let w : List ℕ = spell_in fs (lead + room) (v - size) in
     let r1 : room ≤ get_or w 0 0 - lead = omega arith in
     let r2 = past_room _ _ _ _ ok.0 r1 in
     let e : get_or w 0 0 - lead - room ≡ get_or w 0 0 - (lead + room) = omega arith in
     let l : low + size + (v - size) ≡ low + v = omega arith in
-    let ih = read-spelled fs top (low + size) (lead + room) (v - size) pre rest ok.1 (omega arith) (omega arith) in
+    let ih = read_spelled fs top (low + size) (lead + room) (v - size) pre rest ok.1 (omega arith) (omega arith) in
     rw (le-ltb v size n, le-ltb _ _ r2, le-ltb _ _ r1, e) (rw l at ih))
 
 -- ---- read, then written
 
 -- the octets of the value that was read are those that were read
-octets-value : (m : ℕ) (s : List ℕ) (at x : ℕ) → at + m ≤ length s → AreOctets s
-    → (valueFrom s at x m / 256 ^ m ≡ x) × (octets m (valueFrom s at x m) ≡ take m (drop at s))
-unfolding valueFrom octets
-octets-value zero s at x h bytes = (omega arith, refl)
-octets-value (suc m) s at x h bytes =
+octets_value : (m : ℕ) (s : List ℕ) (at x : ℕ) → at + m ≤ length s → AreOctets s
+    → (value_from s at x m / 256 ^ m ≡ x) × (octets m (value_from s at x m) ≡ take m (drop at s))
+unfolding value_from octets
+octets_value zero s at x h bytes = (omega arith, refl)
+octets_value (suc m) s at x h bytes =
     let b = get_or s at 0 in
     let lb = bytes at in
-    let v = valueFrom s (suc at) (x * 256 + b) m in
-    let ih = octets-value m s (suc at) (x * 256 + b) (omega arith) bytes in
+    let v = value_from s (suc at) (x * 256 + b) m in
+    let ih = octets_value m s (suc at) (x * 256 + b) (omega arith) bytes in
     let q : v / 256 ^ suc m ≡ x = rw (pow-suc 256 m, ← div-div-eq-div-mul v (256 ^ m) 256, ih.0) (omega arith) in
     let r : v / 256 ^ m % 256 ≡ b = rw ih.0 (omega arith) in
     let at< : at < length s = omega arith in
@@ -153,24 +153,24 @@ pub record Spelled (fs : List Share) (top low lead : ℕ) (s : List ℕ) (at b n
   pub v : ℕ
   pub m : ℕ
   pub is : n ≡ low + v
-  pub small : v < sizesIn fs
+  pub small : v < sizes_in fs
   pub under : n ≤ top
   pub room : at + m < length s
   pub next : c.at ≡ at + 1 + m
-  pub written : spellIn fs lead v ≡ (lead + b) ∷ take m (drop (at + 1) s)
+  pub written : spell_in fs lead v ≡ (lead + b) ∷ take m (drop (at + 1) s)
 
-behind-back : (more size top low : ℕ) (s : List ℕ) (at x n : ℕ) (c : Cursor) → AreOctets s
+behind_back : (more size top low : ℕ) (s : List ℕ) (at x n : ℕ) (c : Cursor) → AreOctets s
     → behind s at x more low size top ≡ Got n c
     → (v : ℕ) × (n ≡ low + v) × (v < size) × (n ≤ top) × (at + more < length s) × (c.at ≡ at + 1 + more) × (v / 256 ^ more ≡ x) × (octets more v ≡ take more (drop (at + 1) s))
 unfolding behind
-behind-back more size top low s at x n c bytes e =
-    let v = valueFrom s (at + 1) x more in
+behind_back more size top low s at x n c bytes e =
+    let v = value_from s (at + 1) x more in
     picked (ltb (at + more) (length s)) _ _ _ e
     (λ t1 e1. picked (ltb v size) _ _ _ e1
     (λ t2 e2. picked (leb (low + v) top) _ _ _ e2
     (λ t3 e3.
     let l : at + more < length s = ltb-true _ _ t1 in
-    let o = octets-value more s (at + 1) x (omega arith) bytes in
+    let o = octets_value more s (at + 1) x (omega arith) bytes in
     let en : low + v ≡ n = cc in
     let ec : at + 1 + more ≡ c.at = ap (elim [ Got a k ↦ k.at | Refused a k ↦ 0 ]) e3 in
     let t : low + v ≤ top = leb-true _ _ t3 in
@@ -180,13 +180,13 @@ behind-back more size top low s at x n c bytes e =
     (λ t1 e1. never 2 at n c e1)
 
 pub accepted : (fs : List Share) (top low lead : ℕ) (s : List ℕ) (at b n : ℕ) (c : Cursor) → AreOctets s
-    → readIn fs top low s at b ≡ Got n c → Spelled fs top low lead s at b n c
-unfolding readIn spellIn sizesIn
+    → read_in fs top low s at b ≡ Got n c → Spelled fs top low lead s at b n c
+unfolding read_in spell_in sizes_in
 accepted [] top low lead s at b n c bytes e = never 5 at n c e
 accepted (share room more size ∷ fs) top low lead s at b n c bytes e =
     picked (ltb (b * 256 ^ more) size) _ _ _ e
     (λ t1 e1.
-    let t = behind-back more size top low s at b n c bytes e1 in
+    let t = behind_back more size top low s at b n c bytes e1 in
     record { v = t.0; m = more; is = t.1; small = omega arith; under = t.3; room = t.4; next = t.5; written = rw (lt-ltb _ _ t.2, t.6, t.7) })
     (λ t1 e1. picked (ltb b room) _ _ _ e1
     (λ t2 e2. never 6 at n c e2)
@@ -197,5 +197,5 @@ accepted (share room more size ∷ fs) top low lead s at b n c bytes e =
     let ib : lead + room + (b - room) ≡ lead + b = omega arith in
     let no : size ≤ size + i.v = omega arith in
     let isn : n ≡ low + size + i.v = i.is in
-    let ism : i.v < sizesIn fs = i.small in
+    let ism : i.v < sizes_in fs = i.small in
     record { v = size + i.v; m = i.m; is = omega arith; small = omega arith; under = i.under; room = i.room; next = i.next; written = rw (le-ltb _ _ no, iv, i.written, ib) }))

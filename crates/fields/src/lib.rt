@@ -4,9 +4,9 @@ pub mod put;
 
 ghost use Rattle.std.specs.Prelude.{◌≡◌, ℕ, ◌+◌, ◌-◌, ◌*◌, ◌/◌, ◌^◌, ◌<◌, ◌≤◌, true, ◌&&◌, length, take, drop, ◌≢◌, bit_and, nat_le, slice_index, slice_range};
 ghost use Rattle.format.specs.Numbers.{lengths, numbers, c21, c25, top};
-ghost use Rattle.fields.specs.Fields.{bits_of, valueFrom, behind, field_at, noTop};
-ghost use Rattle.fields.specs.WeightContracts.{weight, Small, high_bits, notPlain, Plain, Alone};
-ghost use Rattle.fields.specs.Utf8.{alone, fits, ranges, Holds, byRows, character, isText};
+ghost use Rattle.fields.specs.Fields.{bits_of, value_from, behind, field_at, no_top};
+ghost use Rattle.fields.specs.WeightContracts.{weight, Small, high_bits, not_plain, Plain, Alone};
+ghost use Rattle.fields.specs.Utf8.{alone, fits, ranges, Holds, by_rows, character, is_text};
 
 // The link's version: the octets before the body, which are E0 00 (12.6), version 1 (12.7, 12.9) and no optional part (12.8); where the body starts; octets of the longest document.
 pub const HEADER: [u8; 5] = [0xE0, 0x00, 0x00, 0x01, 0x00];
@@ -64,7 +64,7 @@ fn wide(x: u8) -> u64
 // The value that x and then the `more` octets from `at` spell, the higher first.
 pub fn value_from(s: &[u8], at: usize, x: u8, more: usize) -> u64
     requires { (more ≤ 4) × (at + more ≤ length s.now) }
-    ensures { (result ≡ valueFrom s.now at x more) × (result < 2 ^ 40) }
+    ensures { (result ≡ value_from s.now at x more) × (result < 2 ^ 40) }
 {
     let mut v = wide(x);
     let mut i = 0;
@@ -176,7 +176,7 @@ impl Cursor {
     // C.22, C.23, C.24: a length from bit 2, 5 or 7, coded 0, or 10 or 11 and padding.
     pub fn length(self, s: &[u8], bit: u32) -> Number
         requires { (1 ≤ bit) × (bit ≤ 7) }
-        ensures { result ≡ field_at (lengths bit) noTop bit s.now self.at }
+        ensures { result ≡ field_at (lengths bit) no_top bit s.now self.at }
     {
         let at = self.at;
         if s.len() <= at {
@@ -286,7 +286,7 @@ fn by_rows(
     n: usize,
 ) -> usize
     requires { (first ≤ end) × (end ≤ length rows.now) × (i ≤ to) × (to ≤ length s.now) × (n ≤ 4) }
-    ensures { result ≡ byRows n (slice_range rows.now first end) (slice_range s.now i to) }
+    ensures { result ≡ by_rows n (slice_range rows.now first end) (slice_range s.now i to) }
 {
     if to - i < n {
         return 0;
@@ -423,7 +423,7 @@ pub const SPACES: u64 = 0x2020_2020_2020_2020;
 
 // Of eight octets the first that is not plain has its high bit set in the answer: it had, or it is less than a space. No octet before it has.
 pub fn not_plain(x: u64) -> u64
-    ensures { result ≡ notPlain x }
+    ensures { result ≡ not_plain x }
 {
     x | std::num::wrapping_sub_u64(x, SPACES)
 }
@@ -480,7 +480,7 @@ const SHORT: usize = 32;
 // The octets from `from` to before `to` are text: many at once where that tells it, or character by character.
 fn by_characters(s: &[u8], from: usize, to: usize) -> bool
     requires { (from ≤ to) × (to ≤ length s.now) }
-    ensures { result ≡ isText (slice_range s.now from to) }
+    ensures { result ≡ is_text (slice_range s.now from to) }
 {
     if SHORT < to - from && is_easy(s, from, to) {
         return true;
@@ -499,7 +499,7 @@ fn by_characters(s: &[u8], from: usize, to: usize) -> bool
 // The octets from `from` to before `to` are text. `by_characters` stands twice, so that it is called, and a short string costs none of its registers.
 pub fn is_text(s: &[u8], from: usize, to: usize) -> bool
     requires { (from ≤ to) × (to ≤ length s.now) }
-    ensures { result ≡ isText (slice_range s.now from to) }
+    ensures { result ≡ is_text (slice_range s.now from to) }
 {
     if SHORT < to - from {
         return by_characters(s, from, to);

@@ -14,16 +14,16 @@ use Rattle.format.specs.Forms.{numeric, dates}
 use Rattle.format.specs.declared.StringForm.{StringForm}
 use Rattle.format.specs.declared.StringForm.TheVariants.{Utf8, Utf16, Numeric, Dates, Short, Int, Long}
 use Rattle.fields.proofs.Utf8.{told, never, both}
-use Rattle.forms.specs.Packing.{alphabet, isLetter, allLetters, place_in, packedBy, alphabetFor}
+use Rattle.forms.specs.Packing.{alphabet, is_letter, all_letters, place_in, packed_by, alphabet_for}
 use Rattle.forms.specs.Streams.{part}
-use Rattle.forms.proofs.Streams.{part_none, part-cons}
+use Rattle.forms.proofs.Streams.{part_none, part_cons}
 use Rattle.forms.proofs.Alphabets as A
-use Rattle.forms.proofs.Alphabets.{Alphabet, every, below, letter-place}
+use Rattle.forms.proofs.Alphabets.{Alphabet, every, below, letter_place}
 
 -- ---- values that a branch leaves: of `p || b` and of `p && b`
 module _ (v p b : Bool) where
-  pub or-then : p ≡ true → v ≡ p → v ≡ (p || b)
-  or-then e f = rw e (f ∙ e)
+  pub or_then : p ≡ true → v ≡ p → v ≡ (p || b)
+  or_then e f = rw e (f ∙ e)
 
   pub or_else : p ≡ false → v ≡ b → v ≡ (p || b)
   or_else e f = rw e f
@@ -31,47 +31,47 @@ module _ (v p b : Bool) where
   pub and_then : p ≡ true → v ≡ b → v ≡ (p && b)
   and_then e f = rw e f
 
-  pub and-else : p ≡ false → v ≡ p → v ≡ (p && b)
-  and-else e f = rw e (f ∙ e)
+  pub and_else : p ≡ false → v ≡ p → v ≡ (p && b)
+  and_else e f = rw e (f ∙ e)
 
-pub range-then : (v : Bool) (a z n : ℕ) → a ≤ n → v ≡ leb n z → v ≡ (leb a n && leb n z)
-range-then v a z n h e = rw (le-leb a n h) e
+pub range_then : (v : Bool) (a z n : ℕ) → a ≤ n → v ≡ leb n z → v ≡ (leb a n && leb n z)
+range_then v a z n h e = rw (le-leb a n h) e
 
-pub range-else : (v : Bool) (a z n : ℕ) → n < a → v ≡ leb a n → v ≡ (leb a n && leb n z)
-range-else v a z n h e = let f = lt-leb a n h in rw f (e ∙ f)
+pub range_else : (v : Bool) (a z n : ℕ) → n < a → v ≡ leb a n → v ≡ (leb a n && leb n z)
+range_else v a z n h e = let f = lt-leb a n h in rw f (e ∙ f)
 
 -- ---- the letters of an alphabet, by the tests of the code: a digit, a hyphen, a space, or one of three
-abbrev pub letterBy : (p q r o : ℕ) → Bool
-letterBy p q r o = (((((leb 0x30 o && leb o 0x39) || eqb o 0x2D) || eqb o 0x20) || eqb o p) || eqb o q) || eqb o r
+abbrev pub letter_by : (p q r o : ℕ) → Bool
+letter_by p q r o = (((((leb 0x30 o && leb o 0x39) || eqb o 0x2D) || eqb o 0x20) || eqb o p) || eqb o q) || eqb o r
 
 pub by_tests : (p q r o : ℕ) (d a b x y z : Bool) → d ≡ (leb 0x30 o && leb o 0x39) → a ≡ (d || eqb o 0x2D) → b ≡ (a || eqb o 0x20)
-    → x ≡ (b || eqb o p) → y ≡ (x || eqb o q) → z ≡ (y || eqb o r) → z ≡ letterBy p q r o
+    → x ≡ (b || eqb o p) → y ≡ (x || eqb o q) → z ≡ (y || eqb o r) → z ≡ letter_by p q r o
 by_tests p q r o d a b x y z e f g h i j = rw (j, i, h, g, f, e)
 
 abbrev agree : Bool → Bool → Bool
 agree a b = pick a b (not b)
 
-agree-eq : (a b : Bool) → agree a b ≡ true → a ≡ b
-agree-eq true b e = sym e
-agree-eq false true e = never e
-agree-eq false false e = refl
+agree_eq : (a b : Bool) → agree a b ≡ true → a ≡ b
+agree_eq true b e = sym e
+agree_eq false true e = never e
+agree_eq false false e = refl
 
 module _ (o : ℕ) (h : o < 256) where
-  pub numeric-letters : letterBy 0x2B 0x2E 0x65 o ≡ isLetter numeric o
-  unfolding every numeric isLetter
-  numeric-letters = agree-eq _ _ (below (λ n. agree (letterBy 0x2B 0x2E 0x65 n) (isLetter numeric n)) 256 refl o h)
+  pub numeric-letters : letter_by 0x2B 0x2E 0x65 o ≡ is_letter numeric o
+  unfolding every numeric is_letter
+  numeric-letters = agree_eq _ _ (below (λ n. agree (letter_by 0x2B 0x2E 0x65 n) (is_letter numeric n)) 256 refl o h)
 
-  pub dates-letters : letterBy 0x3A 0x54 0x5A o ≡ isLetter dates o
-  unfolding every dates isLetter
-  dates-letters = agree-eq _ _ (below (λ n. agree (letterBy 0x3A 0x54 0x5A n) (isLetter dates n)) 256 refl o h)
+  pub dates-letters : letter_by 0x3A 0x54 0x5A o ≡ is_letter dates o
+  unfolding every dates is_letter
+  dates-letters = agree_eq _ _ (below (λ n. agree (letter_by 0x3A 0x54 0x5A n) (is_letter dates n)) 256 refl o h)
 
   -- a digit is one of both
-  pub digit-letter : 0x30 ≤ o → o ≤ 0x39 → (true ≡ isLetter numeric o) × (true ≡ isLetter dates o)
-  digit-letter l m = (rw (le-leb 0x30 o l, le-leb o 0x39 m) at numeric-letters, rw (le-leb 0x30 o l, le-leb o 0x39 m) at dates-letters)
+  pub digit_letter : 0x30 ≤ o → o ≤ 0x39 → (true ≡ is_letter numeric o) × (true ≡ is_letter dates o)
+  digit_letter l m = (rw (le-leb 0x30 o l, le-leb o 0x39 m) at numeric-letters, rw (le-leb 0x30 o l, le-leb o 0x39 m) at dates-letters)
 
   -- an octet that is none of either
-  pub no-letter : 0x3B ≤ o → (o ≡ 0x54 → ⊥) → (o ≡ 0x5A → ⊥) → (o ≡ 0x65 → ⊥) → (isLetter numeric o ≡ false) × (isLetter dates o ≡ false)
-  no-letter l t z e = (
+  pub no_letter : 0x3B ≤ o → (o ≡ 0x54 → ⊥) → (o ≡ 0x5A → ⊥) → (o ≡ 0x65 → ⊥) → (is_letter numeric o ≡ false) × (is_letter dates o ≡ false)
+  no_letter l t z e = (
     sym numeric-letters ∙ rw (lt-leb o 0x39 (omega arith), le-leb 0x30 o (omega arith), ne_eqb o 0x2D (omega arith), ne_eqb o 0x20 (omega arith), ne_eqb o 0x2B (omega arith), ne_eqb o 0x2E (omega arith), ne_eqb o 0x65 e),
     sym dates-letters ∙ rw (lt-leb o 0x39 (omega arith), le-leb 0x30 o (omega arith), ne_eqb o 0x2D (omega arith), ne_eqb o 0x20 (omega arith), ne_eqb o 0x3A (omega arith), ne_eqb o 0x54 t, ne_eqb o 0x5A z),
   )
@@ -79,24 +79,24 @@ module _ (o : ℕ) (h : o < 256) where
 -- ---- the place of a letter
 -- a letter that is at place r of each alphabet that has it
 abbrev pub lies : List ℕ → (k r : ℕ) → Bool
-lies as' k r = not (isLetter as' k) || eqb r (place_in as' k)
+lies as' k r = not (is_letter as' k) || eqb r (place_in as' k)
 
-lies-there : (as' : List ℕ) (k r : ℕ) → lies as' k r ≡ true → isLetter as' k ≡ true → r ≡ place_in as' k
-lies-there as' k r e l = eqb-true r (place_in as' k) (rw l at e)
+lies_there : (as' : List ℕ) (k r : ℕ) → lies as' k r ≡ true → is_letter as' k ≡ true → r ≡ place_in as' k
+lies_there as' k r e l = eqb-true r (place_in as' k) (rw l at e)
 
 module _ (k r : ℕ) (e : ((lies numeric k r && lies dates k r) && ltb r 15) ≡ true) where
-  pub known-place : (f : StringForm) (o : ℕ) → o ≡ k → isLetter (alphabet f) o ≡ true → (r ≡ place_in (alphabet f) o) × (r < 15)
-  unfolding isLetter
+  pub known-place : (f : StringForm) (o : ℕ) → o ≡ k → is_letter (alphabet f) o ≡ true → (r ≡ place_in (alphabet f) o) × (r < 15)
+  unfolding is_letter
   known-place Utf8 o d l = never l
   known-place Utf16 o d l = never l
   known-place Numeric o d l =
       let p = both (lies numeric k r && lies dates k r) (ltb r 15) e in
       let q = both (lies numeric k r) (lies dates k r) p.0 in
-      rw d (lies-there numeric k r q.0 (rw d at l), ltb-true r 15 p.1)
+      rw d (lies_there numeric k r q.0 (rw d at l), ltb-true r 15 p.1)
   known-place Dates o d l =
       let p = both (lies numeric k r && lies dates k r) (ltb r 15) e in
       let q = both (lies numeric k r) (lies dates k r) p.0 in
-      rw d (lies-there dates k r q.1 (rw d at l), ltb-true r 15 p.1)
+      rw d (lies_there dates k r q.1 (rw d at l), ltb-true r 15 p.1)
   known-place Short o d l = never l
   known-place Int o d l = never l
   known-place Long o d l = never l
@@ -105,21 +105,21 @@ module _ (k r : ℕ) (e : ((lies numeric k r && lies dates k r) && ltb r 15) ≡
 abbrev pub others : List ℕ
 others = 0x2D ∷ 0x2B ∷ 0x3A ∷ 0x2E ∷ 0x54 ∷ 0x65 ∷ 0x5A ∷ 0x20 ∷ []
 
-none_of : (ks : List ℕ) (o : ℕ) → All (λ k. o ≡ k → ⊥) ks → isLetter ks o ≡ false
-unfolding isLetter
+none_of : (ks : List ℕ) (o : ℕ) → All (λ k. o ≡ k → ⊥) ks → is_letter ks o ≡ false
+unfolding is_letter
 none_of [] o n = refl
 none_of (k ∷ ks) o n = rw (ne_eqb k o (λ e. n.0 (sym e))) (none_of ks o n.1)
 
 abbrev digit : List ℕ → ℕ → Bool
-digit as' k = isLetter others (get_or as' k 0) || (leb 0x30 (get_or as' k 0) && eqb (get_or as' k 0 - 0x30) k)
+digit as' k = is_letter others (get_or as' k 0) || (leb 0x30 (get_or as' k 0) && eqb (get_or as' k 0 - 0x30) k)
 
 module _ (o : ℕ) (n : All (λ k. o ≡ k → ⊥) others) where
   abbrev Digit : List ℕ → Type 0
   Digit as' = (0x30 ≤ o) × (o - 0x30 ≡ place_in as' o) × (o - 0x30 < 15)
 
-  digit-place : (as' : List ℕ) → Alphabet as' → every (digit as') 15 ≡ true → isLetter as' o ≡ true → Digit as'
-  digit-place as' a t l =
-      let p = letter-place o as' l in
+  digit_place : (as' : List ℕ) → Alphabet as' → every (digit as') 15 ≡ true → is_letter as' o ≡ true → Digit as'
+  digit_place as' a t l =
+      let p = letter_place o as' l in
       let m = a.fifteen in
       let k : place_in as' o < 15 = omega arith in
       let d = rw (p.1, none_of others o n) at (below (digit as') 15 t (place_in as' o) k) in
@@ -127,84 +127,84 @@ module _ (o : ℕ) (n : All (λ k. o ≡ k → ⊥) others) where
       let e = eqb-true (o - 0x30) (place_in as' o) q.1 in
       (leb-true 0x30 o q.0, e, omega arith)
 
-  pub rest-place : (f : StringForm) → isLetter (alphabet f) o ≡ true → Digit (alphabet f)
-  unfolding isLetter every numeric dates
-  rest-place Utf8 l = never l
-  rest-place Utf16 l = never l
-  rest-place Numeric l = digit-place numeric A.is-numeric refl l
-  rest-place Dates l = digit-place dates A.is-dates refl l
-  rest-place Short l = never l
-  rest-place Int l = never l
-  rest-place Long l = never l
+  pub rest_place : (f : StringForm) → is_letter (alphabet f) o ≡ true → Digit (alphabet f)
+  unfolding is_letter every numeric dates
+  rest_place Utf8 l = never l
+  rest_place Utf16 l = never l
+  rest_place Numeric l = digit_place numeric A.is_numeric refl l
+  rest_place Dates l = digit_place dates A.is_dates refl l
+  rest_place Short l = never l
+  rest_place Int l = never l
+  rest_place Long l = never l
 
 -- ---- all letters, octet by octet
 -- t tells it of those already seen, and these are to come
 abbrev pub Seen : (as' : List ℕ) (t : Bool) (rest all : List ℕ) → Type 0
-Seen as' t rest all = (t && allLetters as' rest) ≡ allLetters as' all
+Seen as' t rest all = (t && all_letters as' rest) ≡ all_letters as' all
 
 module _ (as' : List ℕ) (t : Bool) (rest all : List ℕ) (i : Seen as' t rest all) where
-  pub seen_next : (o : ℕ) (more : List ℕ) (u l : Bool) → rest ≡ o ∷ more → l ≡ isLetter as' o → u ≡ (t && l) → Seen as' u more all
-  unfolding allLetters
+  pub seen_next : (o : ℕ) (more : List ℕ) (u l : Bool) → rest ≡ o ∷ more → l ≡ is_letter as' o → u ≡ (t && l) → Seen as' u more all
+  unfolding all_letters
   seen_next o more u l e f g = told t (λ q. rw (g, f, q) (rw (e, q) at i)) (λ q. rw (g, q) (rw q at i))
 
-  pub seen_end : rest ≡ [] → t ≡ allLetters as' all
-  unfolding allLetters
+  pub seen_end : rest ≡ [] → t ≡ all_letters as' all
+  unfolding all_letters
   seen_end e = told t (λ q. q ∙ (rw (e, q) at i)) (λ q. q ∙ (rw q at i))
 
-  pub seen-not : t ≡ false → false ≡ allLetters as' all
-  seen-not q = rw q at i
+  pub seen_not : t ≡ false → false ≡ all_letters as' all
+  seen_not q = rw q at i
 
 -- ---- packed, two at a time
 module _ (as' rest : List ℕ) where
-  pub pack-none : rest ≡ [] → packedBy as' rest ≡ []
-  unfolding packedBy
-  pack-none e = rw e
+  pub pack_none : rest ≡ [] → packed_by as' rest ≡ []
+  unfolding packed_by
+  pack_none e = rw e
 
   module _ (o : ℕ) (more : List ℕ) (e : rest ≡ o ∷ more) where
-    pub letter-first : allLetters as' rest ≡ true → (isLetter as' o ≡ true) × (allLetters as' more ≡ true)
-    unfolding allLetters
-    letter-first l = both (isLetter as' o) (allLetters as' more) (rw e at l)
+    pub letter_first : all_letters as' rest ≡ true → (is_letter as' o ≡ true) × (all_letters as' more ≡ true)
+    unfolding all_letters
+    letter_first l = both (is_letter as' o) (all_letters as' more) (rw e at l)
 
     module _ (h : ℕ) (d : h ≡ place_in as' o) where
-      pub pack_one : more ≡ [] → packedBy as' rest ≡ (16 * h + 15) ∷ []
-      unfolding packedBy
+      pub pack_one : more ≡ [] → packed_by as' rest ≡ (16 * h + 15) ∷ []
+      unfolding packed_by
       pack_one f = rw (e, f, d)
 
-      pub pack_two : (p : ℕ) (after : List ℕ) (l : ℕ) → more ≡ p ∷ after → l ≡ place_in as' p → packedBy as' rest ≡ (16 * h + l) ∷ packedBy as' after
-      unfolding packedBy
+      pub pack_two : (p : ℕ) (after : List ℕ) (l : ℕ) → more ≡ p ∷ after → l ≡ place_in as' p → packed_by as' rest ≡ (16 * h + l) ∷ packed_by as' after
+      unfolding packed_by
       pack_two p after l f g = rw (e, f, d, g)
 
 -- and in a slice
 module _ (as' s : List ℕ) (i to : ℕ) (h : to ≤ length s) where
-  pub slice_first : allLetters as' (part s i to) ≡ true → i < to → isLetter as' (get_or s i 0) ≡ true
-  slice_first l m = (letter-first as' _ _ _ (part-cons s i to m h) l).0
+  pub slice_first : all_letters as' (part s i to) ≡ true → i < to → is_letter as' (get_or s i 0) ≡ true
+  slice_first l m = (letter_first as' _ _ _ (part_cons s i to m h) l).0
 
-  pub slice-last : i < to → to ≤ i + 1 → (p : ℕ) → p ≡ place_in as' (get_or s i 0) → packedBy as' (part s i to) ≡ (16 * p + 15) ∷ []
-  slice-last m n p d = pack_one as' _ _ _ (part-cons s i to m h) p d (part_none s (i + 1) to n)
+  pub slice_last : i < to → to ≤ i + 1 → (p : ℕ) → p ≡ place_in as' (get_or s i 0) → packed_by as' (part s i to) ≡ (16 * p + 15) ∷ []
+  slice_last m n p d = pack_one as' _ _ _ (part_cons s i to m h) p d (part_none s (i + 1) to n)
 
   module _ (m : i + 1 < to) where
     first : part s i to ≡ get_or s i 0 ∷ part s (i + 1) to
-    first = part-cons s i to (omega arith) h
+    first = part_cons s i to (omega arith) h
 
     second : part s (i + 1) to ≡ get_or s (i + 1) 0 ∷ part s (i + 2) to
-    second = let e : i + 1 + 1 ≡ i + 2 = omega arith in part-cons s (i + 1) to m h ∙ rw e
+    second = let e : i + 1 + 1 ≡ i + 2 = omega arith in part_cons s (i + 1) to m h ∙ rw e
 
-    pub slice-second : allLetters as' (part s i to) ≡ true → (isLetter as' (get_or s (i + 1) 0) ≡ true) × (allLetters as' (part s (i + 2) to) ≡ true)
-    slice-second l = letter-first as' _ _ _ second (letter-first as' _ _ _ first l).1
+    pub slice_second : all_letters as' (part s i to) ≡ true → (is_letter as' (get_or s (i + 1) 0) ≡ true) × (all_letters as' (part s (i + 2) to) ≡ true)
+    slice_second l = letter_first as' _ _ _ second (letter_first as' _ _ _ first l).1
 
-    pub slice-two : (p q : ℕ) → p ≡ place_in as' (get_or s i 0) → q ≡ place_in as' (get_or s (i + 1) 0) → packedBy as' (part s i to) ≡ (16 * p + q) ∷ packedBy as' (part s (i + 2) to)
-    slice-two p q d e = pack_two as' _ _ _ first p d _ _ q second e
+    pub slice_two : (p q : ℕ) → p ≡ place_in as' (get_or s i 0) → q ≡ place_in as' (get_or s (i + 1) 0) → packed_by as' (part s i to) ≡ (16 * p + q) ∷ packed_by as' (part s (i + 2) to)
+    slice_two p q d e = pack_two as' _ _ _ first p d _ _ q second e
 
 -- ---- the alphabet that is chosen
 module _ (x : List ℕ) where
-  pub first-chosen : true ≡ allLetters numeric x → Numeric ≡ alphabetFor x
-  unfolding alphabetFor
-  first-chosen e = rw (← e)
+  pub first_chosen : true ≡ all_letters numeric x → Numeric ≡ alphabet_for x
+  unfolding alphabet_for
+  first_chosen e = rw (← e)
 
-  pub second-chosen : false ≡ allLetters numeric x → true ≡ allLetters dates x → Dates ≡ alphabetFor x
-  unfolding alphabetFor
-  second-chosen e f = rw (← e, ← f)
+  pub second_chosen : false ≡ all_letters numeric x → true ≡ all_letters dates x → Dates ≡ alphabet_for x
+  unfolding alphabet_for
+  second_chosen e f = rw (← e, ← f)
 
-  pub none-chosen : false ≡ allLetters numeric x → false ≡ allLetters dates x → Utf8 ≡ alphabetFor x
-  unfolding alphabetFor
-  none-chosen e f = rw (← e, ← f)
+  pub none_chosen : false ≡ all_letters numeric x → false ≡ all_letters dates x → Utf8 ≡ alphabet_for x
+  unfolding alphabet_for
+  none_chosen e f = rw (← e, ← f)

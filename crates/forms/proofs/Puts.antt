@@ -6,18 +6,18 @@ use Prim.Native.Nat.{ℕ, ◌+◌}
 use lib.ListN.{length, set}
 use lib.Seq.{sets, length-sets}
 use Rattle.fields.specs.PutContracts.{Puts}
-use Rattle.fields.proofs.Puts.{puts-kept, puts-nothing, puts-octet}
+use Rattle.fields.proofs.Puts.{puts_kept, puts_nothing, puts_octet}
 
 -- Once `rest` is put from i on, all of it is put from `at` on.
 abbrev pub Left : (out₀ : List ℕ) (at : ℕ) (all out : List ℕ) (i : ℕ) (rest : List ℕ) → Type 0
 Left out₀ at all out i rest = (r : ℕ) (out' : List ℕ) → Puts out i r out' rest → Puts out₀ at r out' all
 
 module _ (out₀ : List ℕ) (at : ℕ) (all out : List ℕ) (i : ℕ) where
-  pub left-done : (rest : List ℕ) → rest ≡ [] → Left out₀ at all out i rest → Puts out₀ at i out all
-  left-done rest e f = f i out (rw e (puts-nothing refl))
+  pub left_done : (rest : List ℕ) → rest ≡ [] → Left out₀ at all out i rest → Puts out₀ at i out all
+  left_done rest e f = f i out (rw e (puts_nothing refl))
 
-  pub left-next : (rest : List ℕ) (b : ℕ) (more out₁ : List ℕ) → rest ≡ b ∷ more → out₁ ≡ set out i b → Left out₀ at all out i rest → Left out₀ at all out₁ (i + 1) more
-  left-next rest b more out₁ e d f r out' p = f r out' (rw e (puts-octet d p))
+  pub left_next : (rest : List ℕ) (b : ℕ) (more out₁ : List ℕ) → rest ≡ b ∷ more → out₁ ≡ set out i b → Left out₀ at all out i rest → Left out₀ at all out₁ (i + 1) more
+  left_next rest b more out₁ e d f r out' p = f r out' (rw e (puts_octet d p))
 
   module _ (rest : List ℕ) (f : Left out₀ at all out i rest) where
     finished : Puts out₀ at (i + length rest) (sets out i rest) all
@@ -27,4 +27,4 @@ module _ (out₀ : List ℕ) (at : ℕ) (all out : List ℕ) (i : ℕ) where
     left-place = finished.behind
 
     pub left-kept : length out ≡ length out₀
-    left-kept = sym (length-sets out i rest) ∙ puts-kept finished
+    left-kept = sym (length-sets out i rest) ∙ puts_kept finished

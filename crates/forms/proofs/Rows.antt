@@ -12,7 +12,7 @@ use lib.Seq.{take-append_seam}
 use Rattle.format.specs.Characters.{Range, All}
 use Rattle.fields.specs.Utf8.{fits}
 use Rattle.fields.proofs.Utf8.{told, both}
-use Rattle.fields.proofs.Characters.{In, Fits, fit, fit-back}
+use Rattle.fields.proofs.Characters.{In, Fits, fit, fit_back}
 use Rattle.forms.specs.Reading.{size, whole, decoded}
 
 -- two and four octets, in ranges
@@ -45,21 +45,21 @@ size_is P (row ∷ rows) x k e ps =
     told (fits row x)
     (λ t.
     let l : length row ≡ suc k = rw t at e in
-    let f = rw l at (fit-back row x t) in
+    let f = rw l at (fit_back row x t) in
     (ps.0 (take (suc k) x) f, sym (fit row (take (suc k) x) [] f).1 ∙ l))
     (λ t. size_is P rows x k (rw t at e) ps.1)
 
 -- something is, where the octets fit row i
-pub size-some : (rows : List (List Range)) (i : ℕ) (o x : List ℕ) → proper rows ≡ true → Fits (get_or rows i []) o → 0 < length o → 0 < size rows (o ++ x)
+pub size_some : (rows : List (List Range)) (i : ℕ) (o x : List ℕ) → proper rows ≡ true → Fits (get_or rows i []) o → 0 < length o → 0 < size rows (o ++ x)
 unfolding size
-size-some [] zero [] x t f h = absurd (omega arith)
-size-some [] zero (b ∷ o) x t f h = absurd f
-size-some [] (suc i) [] x t f h = absurd (omega arith)
-size-some [] (suc i) (b ∷ o) x t f h = absurd f
-size-some (row ∷ rows) zero o x t f h = let p = fit row o x f in rw p.0 (omega arith)
-size-some (row ∷ rows) (suc i) o x t f h =
+size_some [] zero [] x t f h = absurd (omega arith)
+size_some [] zero (b ∷ o) x t f h = absurd f
+size_some [] (suc i) [] x t f h = absurd (omega arith)
+size_some [] (suc i) (b ∷ o) x t f h = absurd f
+size_some (row ∷ rows) zero o x t f h = let p = fit row o x f in rw p.0 (omega arith)
+size_some (row ∷ rows) (suc i) o x t f h =
     let p = both (ltb 0 (length row)) (proper rows) t in
-    told (fits row (o ++ x)) (λ s. rw s (leb-true _ _ p.0)) (λ s. rw s (size-some rows i o x p.1 f h))
+    told (fits row (o ++ x)) (λ s. rw s (leb-true _ _ p.0)) (λ s. rw s (size_some rows i o x p.1 f h))
 
 module _ (rows : List (List Range)) (value : List ℕ → ℕ) where
   passes : (y x : List ℕ) → (whole rows (length y) (y ++ x) ≡ whole rows 0 x) × (decoded rows value (length y) (y ++ x) ≡ decoded rows value 0 x)

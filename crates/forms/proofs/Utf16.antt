@@ -13,9 +13,9 @@ use Rattle.format.specs.Characters.{Range, ◌‥◌, characters, IsCharacter, A
 use Rattle.format.specs.Forms.{unit, utf16, utf16s}
 use Rattle.fields.proofs.Laws.{case}
 use Rattle.fields.proofs.Utf8.{never}
-use Rattle.fields.proofs.Characters.{◌also◌, In, in-among, among_in, Fits}
-use Rattle.forms.specs.Reading.{size, whole, decoded, rows16, value16, isText16, characters16}
-use Rattle.forms.proofs.Rows.{fit2, fit4, size_is, size-some, step}
+use Rattle.fields.proofs.Characters.{◌also◌, In, in_among, among_in, Fits}
+use Rattle.forms.specs.Reading.{size, whole, decoded, rows16, value16, is_text16, characters16}
+use Rattle.forms.proofs.Rows.{fit2, fit4, size_is, size_some, step}
 
 -- the two surrogates of a character above 0xFFFF
 abbrev pub upper : ℕ → ℕ
@@ -100,7 +100,7 @@ good2 i r s p =
     let q = p a b n refl h k in
     let x : n / 256 ≡ a = omega arith in
     let y : n % 256 ≡ b = omega arith in
-    (in-among characters i n q.0, one n q.1 ∙ rw (x, y)))
+    (in_among characters i n q.0, one n q.1 ∙ rw (x, y)))
 
 made4 : (n a b c d : ℕ) → n ≡ 0x10000 + ((a - 0xD8) * 256 + b) * 1024 + ((c - 0xDC) * 256 + d) → In (0xD8 ‥ 0xDB) a → b < 256 → In (0xDC ‥ 0xDF) c → d < 256
     → utf16 n ≡ a ∷ b ∷ c ∷ d ∷ []
@@ -123,20 +123,20 @@ good =
     also good2 3 (0xE0 ‥ 0xFE) any (λ a b n e h k. omega arith)
     also good2 3 (0xFF ‥ 0xFF) (0x00 ‥ 0xFD) (λ a b n e h k. omega arith)
     also fit4 Good (0xD8 ‥ 0xDB) any (0xDC ‥ 0xDF) any
-    (λ a b c d h k j i. (in-among characters 4 _ (omega arith), made4 _ a b c d refl h (omega arith) j (omega arith)))
+    (λ a b c d h k j i. (in_among characters 4 _ (omega arith), made4 _ a b c d refl h (omega arith) j (omega arith)))
     also tt
 
 -- ---- the laws
 
-head-same : (o x : List ℕ) (k : ℕ) → 0 < length o → get_or (take (suc k) (o ++ x)) 0 0 ≡ get_or o 0 0
-head-same [] x k h = absurd (omega arith)
-head-same (b ∷ o) x k h = refl
+head_same : (o x : List ℕ) (k : ℕ) → 0 < length o → get_or (take (suc k) (o ++ x)) 0 0 ≡ get_or o 0 0
+head_same [] x k h = absurd (omega arith)
+head_same (b ∷ o) x k h = refl
 
 -- The character at the front of what is written is seen whole. A row that fits has the octets of some character, and the first octet makes its length that of the one written.
 front : (n : ℕ) (x : List ℕ) → IsCharacter n → size rows16 (utf16 n ++ x) ≡ length (utf16 n)
 front n x h =
     let l = long n h in
-    go (size rows16 (utf16 n ++ x)) refl (let r = row n h in size-some rows16 r.0 (utf16 n) x (unfold rows16 in refl) r.1 (omega arith))
+    go (size rows16 (utf16 n ++ x)) refl (let r = row n h in size_some rows16 r.0 (utf16 n) x (unfold rows16 in refl) r.1 (omega arith))
   where
     go : (m : ℕ) → size rows16 (utf16 n ++ x) ≡ m → 0 < size rows16 (utf16 n ++ x) → size rows16 (utf16 n ++ x) ≡ length (utf16 n)
     go zero e p = absurd (omega arith)
@@ -145,11 +145,11 @@ front n x h =
         let o = take (suc k) (utf16 n ++ x) in
         let l : length o ≡ lead (get_or o 0 0) = rw g.0.1 at (leads (value16 o) g.0.0) in
         let m = long n h in
-        e ∙ sym g.1 ∙ l ∙ ap lead (head-same (utf16 n) x k (omega arith)) ∙ sym (leads n h)
+        e ∙ sym g.1 ∙ l ∙ ap lead (head_same (utf16 n) x k (omega arith)) ∙ sym (leads n h)
 
 -- what is written is read
-pub reads : (ns : List ℕ) → All IsCharacter ns → (isText16 (utf16s ns) ≡ true) × (characters16 (utf16s ns) ≡ ns)
-unfolding isText16 characters16 whole decoded utf16s
+pub reads : (ns : List ℕ) → All IsCharacter ns → (is_text16 (utf16s ns) ≡ true) × (characters16 (utf16s ns) ≡ ns)
+unfolding is_text16 characters16 whole decoded utf16s
 reads [] h = (refl, refl)
 reads (n ∷ ns) h =
     let l = long n h.0 in
@@ -177,8 +177,8 @@ written zero (b ∷ x) e = go (size rows16 (b ∷ x)) refl (λ k. written k x) e
         rw (s, m) ((g.0.0, r.0), rw (g.0.1, r.1, take-append-drop k x))
 written (suc k) (b ∷ x) e = written k x e
 
-pub writes : (x : List ℕ) → isText16 x ≡ true → All IsCharacter (characters16 x) × (utf16s (characters16 x) ≡ x)
-unfolding isText16 characters16
+pub writes : (x : List ℕ) → is_text16 x ≡ true → All IsCharacter (characters16 x) × (utf16s (characters16 x) ≡ x)
+unfolding is_text16 characters16
 writes x e = written 0 x e
 
 -- what comes first in octets that are characters
@@ -187,10 +187,10 @@ pub record First (x : List ℕ) : Type 0 where
   pub y : List ℕ
   pub is : IsCharacter n
   pub octets : x ≡ utf16 n ++ y
-  pub rest : isText16 y ≡ true
+  pub rest : is_text16 y ≡ true
   pub says : characters16 x ≡ n ∷ characters16 y
 
-pub first : (x : List ℕ) → isText16 x ≡ true → 0 < length x → First x
+pub first : (x : List ℕ) → is_text16 x ≡ true → 0 < length x → First x
 unfolding utf16s
 first x e h = let w = writes x e in go (characters16 x) refl w.0 w.1
   where

@@ -1,12 +1,12 @@
--- What the octets of a string say, by their form: tests and decoders that compute. That they are exact is proofs/Forms: `said-spelled` and `spelled-said`.
+-- What the octets of a string say, by their form: tests and decoders that compute. That they are exact is proofs/Forms: `said_spelled` and `spelled_said`.
 use Rattle.std.specs.Prelude.{ℕ, zero, suc, ◌+◌, ◌-◌, ◌*◌, ◌/◌, ◌%◌, Bool, true, false, ◌&&◌, List, [], ◌∷◌, ltb, eqb, length, take}
 use Rattle.format.specs.Octets.{Octets}
 use Rattle.format.specs.Numbers.{pick}
 use Rattle.format.specs.Characters.{Range, ◌‥◌, utf8s}
-use Rattle.format.specs.Forms.{numeric, dates, atPlaces, width}
+use Rattle.format.specs.Forms.{numeric, dates, at_places, width}
 use Rattle.format.specs.declared.StringForm.{StringForm}
 use Rattle.format.specs.declared.StringForm.TheVariants.{Utf8, Utf16, Numeric, Dates, Short, Int, Long}
-use Rattle.decimal.specs.Reading.{is_whole, saidIn}
+use Rattle.decimal.specs.Reading.{is_whole, said_in}
 use Rattle.fields.specs.Utf8.{fits}
 
 -- ---- utf-16
@@ -47,18 +47,18 @@ value16 (a ∷ b ∷ []) = a * 256 + b
 value16 (a ∷ b ∷ c ∷ []) = 0
 value16 (a ∷ b ∷ c ∷ d ∷ x) = 0x10000 + ((a - 0xD8) * 256 + b) * 1024 + ((c - 0xDC) * 256 + d)
 
-unfoldable pub isText16 : Octets → Bool
-isText16 x = whole rows16 0 x
+unfoldable pub is_text16 : Octets → Bool
+is_text16 x = whole rows16 0 x
 
 unfoldable pub characters16 : Octets → List ℕ
 characters16 x = decoded rows16 value16 0 x
 
 -- ---- alphabets
 -- The halves of these octets are places of an alphabet, 0 to 14; the very last may be 15, which fills up. And the places.
-unfoldable pub arePlaces : Octets → Bool
-arePlaces [] = true
-arePlaces (o ∷ []) = ltb (o / 16) 15
-arePlaces (o ∷ p ∷ x) = ltb (o / 16) 15 && ltb (o % 16) 15 && arePlaces (p ∷ x)
+unfoldable pub are_places : Octets → Bool
+are_places [] = true
+are_places (o ∷ []) = ltb (o / 16) 15
+are_places (o ∷ p ∷ x) = ltb (o / 16) 15 && ltb (o % 16) 15 && are_places (p ∷ x)
 
 unfoldable pub places_of : Octets → List ℕ
 places_of [] = []
@@ -67,23 +67,23 @@ places_of (o ∷ p ∷ x) = o / 16 ∷ o % 16 ∷ places_of (p ∷ x)
 
 -- ---- integers
 -- These numbers are octets: each is below 256, as those of a document and of a text area always are.
-unfoldable pub areOctets : Octets → Bool
-areOctets [] = true
-areOctets (o ∷ x) = ltb o 256 && areOctets x
+unfoldable pub are_octets : Octets → Bool
+are_octets [] = true
+are_octets (o ∷ x) = ltb o 256 && are_octets x
 
 -- Octets that are integers of w octets each, at least one.
-unfoldable pub areIntegers : (w : ℕ) → Octets → Bool
-areIntegers w o = is_whole w o && areOctets o
+unfoldable pub are_integers : (w : ℕ) → Octets → Bool
+are_integers w o = is_whole w o && are_octets o
 
 -- ---- what octets say in a form: the string, known by its octets in UTF-8. Octets that are no string in their form say FF, which is no text.
-abbrev pub noText : Octets
-noText = 0xFF ∷ []
+abbrev pub no_text : Octets
+no_text = 0xFF ∷ []
 
 abbrev pub said : StringForm → Octets → Octets
 said Utf8 o = o
-said Utf16 o = pick (isText16 o) (utf8s (characters16 o)) noText
-said Numeric o = pick (arePlaces o) (utf8s (atPlaces numeric (places_of o))) noText
-said Dates o = pick (arePlaces o) (utf8s (atPlaces dates (places_of o))) noText
-said Short o = pick (areIntegers (width Short) o) (saidIn (width Short) o) noText
-said Int o = pick (areIntegers (width Int) o) (saidIn (width Int) o) noText
-said Long o = pick (areIntegers (width Long) o) (saidIn (width Long) o) noText
+said Utf16 o = pick (is_text16 o) (utf8s (characters16 o)) no_text
+said Numeric o = pick (are_places o) (utf8s (at_places numeric (places_of o))) no_text
+said Dates o = pick (are_places o) (utf8s (at_places dates (places_of o))) no_text
+said Short o = pick (are_integers (width Short) o) (said_in (width Short) o) no_text
+said Int o = pick (are_integers (width Int) o) (said_in (width Int) o) no_text
+said Long o = pick (are_integers (width Long) o) (said_in (width Long) o) no_text

@@ -2,8 +2,8 @@
 ghost use Rattle.std.specs.Prelude.{◌≡◌, ◌∷◌, [], ◌+◌, ◌%◌, ◌<◌, ◌≤◌, length, true, ◌&&◌, leb, ltb, eqb};
 ghost use Rattle.format.specs.Numbers.{pick};
 ghost use Rattle.format.specs.Characters.{◌‥◌};
-ghost use Rattle.fields.specs.Utf8.{fits, isText};
-ghost use Rattle.forms.specs.Reading.{size, rows16, isText16, arePlaces, said};
+ghost use Rattle.fields.specs.Utf8.{fits, is_text};
+ghost use Rattle.forms.specs.Reading.{size, rows16, is_text16, are_places, said};
 ghost use Rattle.forms.specs.Streams.{part, Sound};
 
 use format::StringForm;
@@ -104,7 +104,7 @@ fn size16(s: &[u8], at: usize, to: usize) -> usize
 // Characters in UTF-16.
 fn is_text16(s: &[u8], from: usize, to: usize) -> bool
     requires { (from ≤ to) × (to ≤ length s.now) }
-    ensures { result ≡ isText16 (part s.now from to) }
+    ensures { result ≡ is_text16 (part s.now from to) }
 {
     let mut i = from;
     while i < to {
@@ -120,7 +120,7 @@ fn is_text16(s: &[u8], from: usize, to: usize) -> bool
 // Halves that are places of an alphabet.
 fn are_places(s: &[u8], from: usize, to: usize) -> bool
     requires { (from ≤ to) × (to ≤ length s.now) }
-    ensures { result ≡ arePlaces (part s.now from to) }
+    ensures { result ≡ are_places (part s.now from to) }
 {
     let mut i = from;
     while i < to {
@@ -150,7 +150,7 @@ fn is_whole(n: usize, w: usize) -> bool
 // The octets from `at` to `to` are text in this form.
 pub fn is_text(s: &[u8], form: StringForm, at: usize, to: usize) -> bool
     requires { (at ≤ to) × (to ≤ length s.now) }
-    ensures { (result ≡ isText (said form (part s.now at to))) × (result ≡ true → Sound form (part s.now at to)) }
+    ensures { (result ≡ is_text (said form (part s.now at to))) × (result ≡ true → Sound form (part s.now at to)) }
 {
     match form {
         StringForm::Utf8 => fields::is_text(s, at, to),

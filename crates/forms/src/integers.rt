@@ -2,8 +2,8 @@
 ghost use Rattle.std.specs.Prelude.{◌≡◌, true, ◌+◌, ◌-◌, ◌<◌, ◌≤◌, length};
 ghost use Rattle.format.specs.Forms.{width};
 ghost use Rattle.fields.specs.PutContracts.{Puts};
-ghost use Rattle.decimal.specs.Words.{shape, integersIn};
-ghost use Rattle.decimal.specs.Machine.{leastIn};
+ghost use Rattle.decimal.specs.Words.{shape, integers_in};
+ghost use Rattle.decimal.specs.Machine.{least_in};
 ghost use Rattle.forms.specs.Reading.{said};
 ghost use Rattle.forms.specs.Streams.{part, ahead, Sound, Fine, Lost};
 
@@ -29,7 +29,7 @@ fn is_lost(u: Scan) -> bool
 // Octets as they stand, for utf-8. Most strings are told by their first one.
 fn found_octets(s: &[u8], from: usize, to: usize) -> Found
     requires { (from ≤ to) × (to ≤ length s.now) × (length s.now ≤ 0x1_0000_0000) }
-    ensures { result ≡ leastIn (part s.now from to) }
+    ensures { result ≡ least_in (part s.now from to) }
 {
     let mut u = Scan::start();
     let mut i = from;
@@ -46,7 +46,7 @@ fn found_octets(s: &[u8], from: usize, to: usize) -> Found
 // And of a string in another form.
 fn found_said(s: &[u8], x: Said) -> Found
     requires { Fine s.now x × (length (ahead s.now x) ≤ 0x10_0000_0000) }
-    ensures { result ≡ leastIn (ahead s.now x) }
+    ensures { result ≡ least_in (ahead s.now x) }
 {
     let mut scan = Scan::start();
     let mut u = x;
@@ -69,7 +69,7 @@ fn found_said(s: &[u8], x: Said) -> Found
 // The integers whose decimal text a string is: how many, and the least of 2, 4 and 8 octets that holds each.
 pub fn integers_for(s: &[u8], form: StringForm, from: usize, to: usize) -> Found
     requires { (from ≤ to) × (to ≤ length s.now) × (length s.now ≤ 0x1_0000_0000) × Sound form (part s.now from to) }
-    ensures { result ≡ leastIn (said form (part s.now from to)) }
+    ensures { result ≡ least_in (said form (part s.now from to)) }
 {
     match form {
         StringForm::Utf8 => found_octets(s, from, to),
@@ -88,7 +88,7 @@ pub fn put_integers(
     integers: StringForm,
 ) -> usize
     requires { (at ≤ 0xC000_0000) × (from ≤ to) × (to ≤ length s.now) × (length s.now ≤ 0x100_0000) × Sound form (part s.now from to) × (shape (width integers) (said form (part s.now from to)) ≡ true) }
-    ensures { Puts out.old at result out.new (integersIn (width integers) (said form (part s.now from to))) }
+    ensures { Puts out.old at result out.new (integers_in (width integers) (said form (part s.now from to))) }
 {
     let mut u = Said::over(s, form, from, to);
     let mut word = Word::Empty;

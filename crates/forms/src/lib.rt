@@ -9,9 +9,9 @@ ghost use Rattle.std.specs.Prelude.{◌≡◌, true, ◌+◌, ◌-◌, ◌*◌, 
 ghost use Rattle.format.specs.Characters.{utf8};
 ghost use Rattle.format.specs.Tables.{same};
 ghost use Rattle.fields.specs.PutContracts.{Puts};
-ghost use Rattle.forms.specs.Reading.{isText16, characters16, said};
+ghost use Rattle.forms.specs.Reading.{is_text16, characters16, said};
 ghost use Rattle.forms.specs.Packing.{alphabet};
-ghost use Rattle.forms.specs.Streams.{part, letters, given, givenDigit, givenText, unread, ahead, Sound, Rest, Fine, Gives};
+ghost use Rattle.forms.specs.Streams.{part, letters, given, given_digit, given_text, unread, ahead, Sound, Rest, Fine, Gives};
 
 pub use deciding::is_text;
 use decimal::printing::{Text, digit_at, text_at};
@@ -64,7 +64,7 @@ fn unit(s: &[u8], at: usize) -> u32
 
 // The first character of a stretch in UTF-16.
 fn character16(s: &[u8], at: usize, to: usize) -> u32
-    requires { (at < to) × (to ≤ length s.now) × (isText16 (part s.now at to) ≡ true) }
+    requires { (at < to) × (to ≤ length s.now) × (is_text16 (part s.now at to) ≡ true) }
     ensures { result ≡ get_or (characters16 (part s.now at to)) 0 0 }
 {
     let u = unit(s, at);
@@ -218,7 +218,7 @@ fn letters(form: StringForm, at: usize, to: usize, o: u8) -> Next
 // The first of an integer's digits that are left is given, the others wait.
 fn digit(form: StringForm, at: usize, to: usize, number: u64, count: u32) -> Next
     requires { (1 ≤ count) × (count ≤ 20) }
-    ensures { result ≡ givenDigit form at to number count }
+    ensures { result ≡ given_digit form at to number count }
 {
     let o = digit_at(number, count - 1);
     let left = if count == 1 && at < to { 1 } else { 0 };
@@ -241,7 +241,7 @@ fn digit(form: StringForm, at: usize, to: usize, number: u64, count: u32) -> Nex
 // An integer's text: its first octet is given, the digits behind it wait.
 fn integer(form: StringForm, at: usize, to: usize, text: Text) -> Next
     requires { (1 ≤ text.count) × (text.count ≤ 20) }
-    ensures { result ≡ givenText form at to text }
+    ensures { result ≡ given_text form at to text }
 {
     if text.minus {
         return Next::Octet(

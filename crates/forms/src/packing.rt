@@ -4,7 +4,7 @@ ghost use Rattle.format.specs.Forms.{numeric, dates};
 ghost use Rattle.format.specs.declared.StringForm.TheVariants.{Utf8};
 ghost use Rattle.fields.specs.PutContracts.{Puts};
 ghost use Rattle.forms.specs.Reading.{said};
-ghost use Rattle.forms.specs.Packing.{alphabet, isLetter, allLetters, place_in, packedBy, alphabetFor};
+ghost use Rattle.forms.specs.Packing.{alphabet, is_letter, all_letters, place_in, packed_by, alphabet_for};
 ghost use Rattle.forms.specs.Streams.{part, ahead, Sound, Fine};
 
 use crate::{Next, Said};
@@ -20,7 +20,7 @@ struct Fit {
 
 // Most of what an alphabet has are digits.
 fn fit_octet(o: u8) -> Fit
-    ensures { (result.numeric ≡ isLetter numeric o) × (result.dates ≡ isLetter dates o) }
+    ensures { (result.numeric ≡ is_letter numeric o) × (result.dates ≡ is_letter dates o) }
 {
     if 0x30 <= o && o <= 0x39 {
         return Fit {
@@ -37,7 +37,7 @@ fn fit_octet(o: u8) -> Fit
 
 // A string that begins with another octet has no alphabet: most strings are told by this.
 pub fn may_begin(o: u8) -> bool
-    ensures { result ≡ false → (isLetter numeric o ≡ false) × (isLetter dates o ≡ false) }
+    ensures { result ≡ false → (is_letter numeric o ≡ false) × (is_letter dates o ≡ false) }
 {
     if o < 0x3B {
         return true;
@@ -53,7 +53,7 @@ pub fn may_begin(o: u8) -> bool
 
 // The place of a character of an alphabet.
 fn place_in(form: StringForm, o: u8) -> u8
-    requires { isLetter (alphabet form) o ≡ true }
+    requires { is_letter (alphabet form) o ≡ true }
     ensures { (result ≡ place_in (alphabet form) o) × (result < 15) }
 {
     match o {
@@ -72,7 +72,7 @@ fn place_in(form: StringForm, o: u8) -> u8
 // Octets as they stand, for utf-8. Most strings are told by their first one.
 fn fit_octets(s: &[u8], from: usize, to: usize) -> Fit
     requires { (from ≤ to) × (to ≤ length s.now) }
-    ensures { (result.numeric ≡ allLetters numeric (part s.now from to)) × (result.dates ≡ allLetters dates (part s.now from to)) }
+    ensures { (result.numeric ≡ all_letters numeric (part s.now from to)) × (result.dates ≡ all_letters dates (part s.now from to)) }
 {
     let mut n = true;
     let mut d = true;
@@ -98,7 +98,7 @@ fn fit_octets(s: &[u8], from: usize, to: usize) -> Fit
 // And of a string in another form.
 fn fit_said(s: &[u8], x: Said) -> Fit
     requires { Fine s.now x }
-    ensures { (result.numeric ≡ allLetters numeric (ahead s.now x)) × (result.dates ≡ allLetters dates (ahead s.now x)) }
+    ensures { (result.numeric ≡ all_letters numeric (ahead s.now x)) × (result.dates ≡ all_letters dates (ahead s.now x)) }
 {
     let mut n = true;
     let mut d = true;
@@ -123,7 +123,7 @@ fn fit_said(s: &[u8], x: Said) -> Fit
 
 fn fits(s: &[u8], form: StringForm, from: usize, to: usize) -> Fit
     requires { (from ≤ to) × (to ≤ length s.now) × Sound form (part s.now from to) }
-    ensures { (result.numeric ≡ allLetters numeric (said form (part s.now from to))) × (result.dates ≡ allLetters dates (said form (part s.now from to))) }
+    ensures { (result.numeric ≡ all_letters numeric (said form (part s.now from to))) × (result.dates ≡ all_letters dates (said form (part s.now from to))) }
 {
     match form {
         StringForm::Utf8 => fit_octets(s, from, to),
@@ -134,7 +134,7 @@ fn fits(s: &[u8], form: StringForm, from: usize, to: usize) -> Fit
 // The alphabet with the lower number that has all characters of a string; utf-8 where none has.
 pub fn alphabet_for(s: &[u8], form: StringForm, from: usize, to: usize) -> StringForm
     requires { (from ≤ to) × (to ≤ length s.now) × Sound form (part s.now from to) }
-    ensures { result ≡ alphabetFor (said form (part s.now from to)) }
+    ensures { result ≡ alphabet_for (said form (part s.now from to)) }
 {
     let f = fits(s, form, from, to);
     if f.numeric {
@@ -155,8 +155,8 @@ fn pack_octets(
     to: usize,
     letters: StringForm,
 ) -> usize
-    requires { (at ≤ 0x1_0000_0000) × (from ≤ to) × (to ≤ length s.now) × (length s.now ≤ 0x1_0000_0000) × (allLetters (alphabet letters) (part s.now from to) ≡ true) }
-    ensures { Puts out.old at result out.new (packedBy (alphabet letters) (part s.now from to)) }
+    requires { (at ≤ 0x1_0000_0000) × (from ≤ to) × (to ≤ length s.now) × (length s.now ≤ 0x1_0000_0000) × (all_letters (alphabet letters) (part s.now from to) ≡ true) }
+    ensures { Puts out.old at result out.new (packed_by (alphabet letters) (part s.now from to)) }
 {
     let mut behind = at;
     let mut i = from;
@@ -175,8 +175,8 @@ fn pack_octets(
 
 // And of a string in another form.
 fn pack_said(out: &mut [u8], at: usize, s: &[u8], x: Said, letters: StringForm) -> usize
-    requires { (at ≤ 0x1_0000_0000) × (length (ahead s.now x) ≤ 0x4_0000_0000) × Fine s.now x × (allLetters (alphabet letters) (ahead s.now x) ≡ true) }
-    ensures { Puts out.old at result out.new (packedBy (alphabet letters) (ahead s.now x)) }
+    requires { (at ≤ 0x1_0000_0000) × (length (ahead s.now x) ≤ 0x4_0000_0000) × Fine s.now x × (all_letters (alphabet letters) (ahead s.now x) ≡ true) }
+    ensures { Puts out.old at result out.new (packed_by (alphabet letters) (ahead s.now x)) }
 {
     let mut u = x;
     let mut i = at;
@@ -209,8 +209,8 @@ pub fn put_packed(
     to: usize,
     letters: StringForm,
 ) -> usize
-    requires { (at ≤ 0x1_0000_0000) × (from ≤ to) × (to ≤ length s.now) × (length s.now ≤ 0x1_0000_0000) × Sound form (part s.now from to) × (allLetters (alphabet letters) (said form (part s.now from to)) ≡ true) }
-    ensures { Puts out.old at result out.new (packedBy (alphabet letters) (said form (part s.now from to))) }
+    requires { (at ≤ 0x1_0000_0000) × (from ≤ to) × (to ≤ length s.now) × (length s.now ≤ 0x1_0000_0000) × Sound form (part s.now from to) × (all_letters (alphabet letters) (said form (part s.now from to)) ≡ true) }
+    ensures { Puts out.old at result out.new (packed_by (alphabet letters) (said form (part s.now from to))) }
 {
     match form {
         StringForm::Utf8 => pack_octets(out, at, s, from, to, letters),

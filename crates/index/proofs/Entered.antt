@@ -11,41 +11,41 @@ use lib.ListN.{length, get_or, set, replicate, length-set, length-replicate, get
 use lib.Seq.{get_or-set_other}
 use Rattle.format.specs.Tables.{Triple, same}
 use Rattle.format.specs.declared.StringForm.{StringForm}
-use Rattle.tables.specs.Located.{stretch, octetsOf}
-use Rattle.tables.specs.Counts.{tableWords}
-use Rattle.tables.specs.Rows.{table_of, builtIn, formIn, stringAt, tripleAt, entries}
-use Rattle.tables.specs.Search.{number_in, numberOfTriple}
+use Rattle.tables.specs.Located.{stretch, octets_of}
+use Rattle.tables.specs.Counts.{table_words}
+use Rattle.tables.specs.Rows.{table_of, built_in, form_in, string_at, triple_at, entries}
+use Rattle.tables.specs.Search.{number_in, number_of_triple}
 use Rattle.tables.specs.Kept.{stored}
-use Rattle.tables.proofs.Entries.{stored_other, stored-0, stored-1, stored-2}
+use Rattle.tables.proofs.Entries.{stored_other, stored_0, stored_1, stored_2}
 use Rattle.tables.proofs.Found.{clash, same_refl}
-use Rattle.index.specs.Hash.{bucket, nameBucket}
+use Rattle.index.specs.Hash.{bucket, name_bucket}
 use Rattle.index.specs.Chain.{reached, pushed}
-use Rattle.index.specs.Indexed.{slots, strings, stringsAt, names, StringsIndexed, NamesIndexed, Indexed, OneMore, Keeps, StringEntered, NameEntered}
-use Rattle.index.proofs.Chain.{chains-ext, chains-none, entered, entered-known, entered-apart, entered-last}
-use Rattle.index.proofs.Hash.{bucket-lt, name-bucket-lt}
-use Rattle.index.proofs.Walks.{number-string, number-name}
+use Rattle.index.specs.Indexed.{slots, strings, strings_at, names, StringsIndexed, NamesIndexed, Indexed, OneMore, Keeps, StringEntered, NameEntered}
+use Rattle.index.proofs.Chain.{chains_ext, chains_none, entered, entered_known, entered_apart, entered_last}
+use Rattle.index.proofs.Hash.{bucket_lt, name_bucket_lt}
+use Rattle.index.proofs.Walks.{number_string, number_name}
 
 -- ---- at the start: rows without octets, no names, and an index of zeros
 module _ (only : ℕ → Bool) (s t : List ℕ) (count : ℕ → ℕ) (small : (k : ℕ) → count k ≤ 256)
     (bare : (k i : ℕ) → k < 8 → i < count k → get_or t (768 * k + 3 * i + 1) 0 ≡ 0) (unnamed : (k : ℕ) → 8 ≤ k → k < 10 → count k ≡ 0) where
-  zero-head : (k h : ℕ) → k < 10 → h < 128 → get_or {A = ℕ} (replicate slots 0) (384 * k + h) 0 ≡ 0
-  zero-head k h l u = get_or-replicate {A = ℕ} slots (384 * k + h) 0 0 (omega arith)
+  zero_head : (k h : ℕ) → k < 10 → h < 128 → get_or {A = ℕ} (replicate slots 0) (384 * k + h) 0 ≡ 0
+  zero_head k h l u = get_or-replicate {A = ℕ} slots (384 * k + h) 0 0 (omega arith)
 
-  bare-strings : (k : ℕ) → k < 8 → StringsIndexed s t (replicate slots 0) k (count k)
-  unfolding StringsIndexed strings stringsAt stringAt
-  bare-strings k l =
-      chains-none (strings s k) (stringsAt s t k) (768 * k) (reached (count k)) (384 * k) (replicate slots 0)
-      (λ i u. rw (eq-eqb _ 0 (bare k i l (omega arith)), same_refl (octetsOf s (builtIn (table_of k))))) (λ h u. zero-head k h (omega arith) u)
+  bare_strings : (k : ℕ) → k < 8 → StringsIndexed s t (replicate slots 0) k (count k)
+  unfolding StringsIndexed strings strings_at string_at
+  bare_strings k l =
+      chains_none (strings s k) (strings_at s t k) (768 * k) (reached (count k)) (384 * k) (replicate slots 0)
+      (λ i u. rw (eq-eqb _ 0 (bare k i l (omega arith)), same_refl (octets_of s (built_in (table_of k))))) (λ h u. zero_head k h (omega arith) u)
 
-  bare-names : (k : ℕ) → 8 ≤ k → k < 10 → NamesIndexed t (replicate slots 0) k (count k)
+  bare_names : (k : ℕ) → 8 ≤ k → k < 10 → NamesIndexed t (replicate slots 0) k (count k)
   unfolding NamesIndexed
-  bare-names k l u =
+  bare_names k l u =
       let z = unnamed k l u in
-      chains-none names (tripleAt t) (768 * k) (reached (count k)) (384 * k) (replicate slots 0) (λ i v. absurd (omega arith)) (λ h v. zero-head k h u v)
+      chains_none names (triple_at t) (768 * k) (reached (count k)) (384 * k) (replicate slots 0) (λ i v. absurd (omega arith)) (λ h v. zero_head k h u v)
 
-  pub indexed-bare : Indexed only s count t (replicate slots 0)
-  indexed-bare =
-      record { size = length-replicate {A = ℕ} slots 0; within = small; ofStrings = λ k l o. bare-strings k l; ofNames = λ k l u o. bare-names k l u }
+  pub indexed_bare : Indexed only s count t (replicate slots 0)
+  indexed_bare =
+      record { size = length-replicate {A = ℕ} slots 0; within = small; of_strings = λ k l o. bare_strings k l; of_names = λ k l u o. bare_names k l u }
 
 -- ---- a row is stored
 module _ (s t : List ℕ) (table n a b c : ℕ) where
@@ -61,34 +61,34 @@ module _ (s t : List ℕ) (table n a b c : ℕ) where
     pub word_kept : get_or (stored t table n a b c) (768 * k + 3 * j) 0 ≡ get_or t (768 * k + 3 * j) 0
     word_kept = let z : 768 * k + 3 * j + 0 ≡ 768 * k + 3 * j = omega arith in rw z at (row_kept k j l u r e 0 (omega arith))
 
-    string-kept : stringsAt s (stored t table n a b c) k (768 * k + 3 * j) ≡ stringsAt s t k (768 * k + 3 * j)
-    unfolding stringsAt stringAt
-    string-kept = rw (word_kept, row_kept k j l u r e 1 (omega arith), row_kept k j l u r e 2 (omega arith))
+    string_kept : strings_at s (stored t table n a b c) k (768 * k + 3 * j) ≡ strings_at s t k (768 * k + 3 * j)
+    unfolding strings_at string_at
+    string_kept = rw (word_kept, row_kept k j l u r e 1 (omega arith), row_kept k j l u r e 2 (omega arith))
 
-    name-kept : tripleAt (stored t table n a b c) (768 * k + 3 * j) ≡ tripleAt t (768 * k + 3 * j)
-    unfolding tripleAt
-    name-kept = rw (word_kept, row_kept k j l u r e 1 (omega arith), row_kept k j l u r e 2 (omega arith))
+    name_kept : triple_at (stored t table n a b c) (768 * k + 3 * j) ≡ triple_at t (768 * k + 3 * j)
+    unfolding triple_at
+    name_kept = rw (word_kept, row_kept k j l u r e 1 (omega arith), row_kept k j l u r e 2 (omega arith))
 
   -- the row itself
-  module _ (l : table < 10) (r : n < 256) (size : length t ≡ tableWords) where
-    string-here : 1 ≤ b → (f : StringForm) → formIn (table_of table) c ≡ f → stringsAt s (stored t table n a b c) table (768 * table + 3 * n) ≡ octetsOf s (stretch f a b)
-    unfolding stringsAt stringAt
-    string-here g f is =
-        let y = stored-1 t table n a b c (omega arith) in
-        rw (y, stored-0 t table n a b c (omega arith), stored-2 t table n a b c (omega arith), ne_eqb b 0 (omega arith), is)
+  module _ (l : table < 10) (r : n < 256) (size : length t ≡ table_words) where
+    string_here : 1 ≤ b → (f : StringForm) → form_in (table_of table) c ≡ f → strings_at s (stored t table n a b c) table (768 * table + 3 * n) ≡ octets_of s (stretch f a b)
+    unfolding strings_at string_at
+    string_here g f is =
+        let y = stored_1 t table n a b c (omega arith) in
+        rw (y, stored_0 t table n a b c (omega arith), stored_2 t table n a b c (omega arith), ne_eqb b 0 (omega arith), is)
 
-    name-here : tripleAt (stored t table n a b c) (768 * table + 3 * n) ≡ record { prefix = a; namespace = b; local = c }
-    unfolding tripleAt
-    name-here = rw (stored-0 t table n a b c (omega arith), stored-1 t table n a b c (omega arith), stored-2 t table n a b c (omega arith))
+    name_here : triple_at (stored t table n a b c) (768 * table + 3 * n) ≡ record { prefix = a; namespace = b; local = c }
+    unfolding triple_at
+    name_here = rw (stored_0 t table n a b c (omega arith), stored_1 t table n a b c (omega arith), stored_2 t table n a b c (omega arith))
 
 -- ---- the other tables, and their part of the index
 -- table k's part of the index is as it was
 abbrev pub Apart : (table : ℕ) (index other : List ℕ) → Type 0
 Apart table index other = (k i : ℕ) → (k ≡ table → ⊥) → i < 384 → get_or other (384 * k + i) 0 ≡ get_or index (384 * k + i) 0
 
-pub apart-pushed : (table h n : ℕ) (index : List ℕ) → h < 128 → n < 256 → Apart table index (pushed index (384 * table) h n)
+pub apart_pushed : (table h n : ℕ) (index : List ℕ) → h < 128 → n < 256 → Apart table index (pushed index (384 * table) h n)
 unfolding pushed
-apart-pushed table h n index l r k i ne u =
+apart_pushed table h n index l r k i ne u =
     get_or-set_other (set index (384 * table + 128 + n) (get_or index (384 * table + h) 0)) (384 * table + h) (384 * k + i) (n + 1) 0 (λ e. ne (omega arith))
     ∙ get_or-set_other index (384 * table + 128 + n) (384 * k + i) (get_or index (384 * table + h) 0) 0 (λ e. ne (omega arith))
 
@@ -97,20 +97,20 @@ unfolding pushed
 length-pushed base h n index = simp length-set
 
 module _ (s t : List ℕ) (table n a b c : ℕ) (index other : List ℕ) (r : n < 256) (apart : Apart table index other) (same_size : length other ≡ length index) where
-  links-apart : (k i : ℕ) → (k ≡ table → ⊥) → i < 256 → get_or other (384 * k + 128 + i) 0 ≡ get_or index (384 * k + 128 + i) 0
-  links-apart k i ne l = let z : 384 * k + 128 + i ≡ 384 * k + (128 + i) = omega arith in rw z (apart k (128 + i) ne (omega arith))
+  links_apart : (k i : ℕ) → (k ≡ table → ⊥) → i < 256 → get_or other (384 * k + 128 + i) 0 ≡ get_or index (384 * k + 128 + i) 0
+  links_apart k i ne l = let z : 384 * k + 128 + i ≡ 384 * k + (128 + i) = omega arith in rw z (apart k (128 + i) ne (omega arith))
 
-  others-strings : (k m : ℕ) → k < 8 → (k ≡ table → ⊥) → m ≤ 256 → StringsIndexed s t index k m → StringsIndexed s (stored t table n a b c) other k m
+  others_strings : (k m : ℕ) → k < 8 → (k ≡ table → ⊥) → m ≤ 256 → StringsIndexed s t index k m → StringsIndexed s (stored t table n a b c) other k m
   unfolding StringsIndexed
-  others-strings k m l ne w x =
-      chains-ext (strings s k) (stringsAt s t k) (stringsAt s (stored t table n a b c) k) (768 * k) (reached m) (384 * k) index other x
-      (λ j u. string-kept s t table n a b c k j (omega arith) (omega arith) r (λ z y. ne z)) (λ h u. apart k h ne (omega arith)) (λ i u. links-apart k i ne (omega arith))
+  others_strings k m l ne w x =
+      chains_ext (strings s k) (strings_at s t k) (strings_at s (stored t table n a b c) k) (768 * k) (reached m) (384 * k) index other x
+      (λ j u. string_kept s t table n a b c k j (omega arith) (omega arith) r (λ z y. ne z)) (λ h u. apart k h ne (omega arith)) (λ i u. links_apart k i ne (omega arith))
 
-  others-names : (k m : ℕ) → 8 ≤ k → k < 10 → (k ≡ table → ⊥) → m ≤ 256 → NamesIndexed t index k m → NamesIndexed (stored t table n a b c) other k m
+  others_names : (k m : ℕ) → 8 ≤ k → k < 10 → (k ≡ table → ⊥) → m ≤ 256 → NamesIndexed t index k m → NamesIndexed (stored t table n a b c) other k m
   unfolding NamesIndexed
-  others-names k m g l ne w x =
-      chains-ext names (tripleAt t) (tripleAt (stored t table n a b c)) (768 * k) (reached m) (384 * k) index other x
-      (λ j u. name-kept s t table n a b c k j l (omega arith) r (λ z y. ne z)) (λ h u. apart k h ne (omega arith)) (λ i u. links-apart k i ne (omega arith))
+  others_names k m g l ne w x =
+      chains_ext names (triple_at t) (triple_at (stored t table n a b c)) (768 * k) (reached m) (384 * k) index other x
+      (λ j u. name_kept s t table n a b c k j l (omega arith) r (λ z y. ne z)) (λ h u. apart k h ne (omega arith)) (λ i u. links_apart k i ne (omega arith))
 
   -- all tables, where the table itself is
   pub keeps : (length index ≡ slots → table < 8 → StringsIndexed s t index table n → StringsIndexed s (stored t table n a b c) other table (n + 1))
@@ -124,112 +124,112 @@ module _ (s t : List ℕ) (table n a b c : ℕ) (index other : List ℕ) (r : n 
             | yes z ↦ (rw (z, m.here) (omega arith))
             | no z ↦ (rw (m.elsewhere k z) (x.within k))
           ];
-          ofStrings = λ k l o. elim (ℕ_discrete k table) [
-            | yes z ↦ (rw (z, m.here) (one x.size (omega arith) (rw (z, m.was) at (x.ofStrings k l o))))
-            | no z ↦ (rw (m.elsewhere k z) (others-strings k (count k) l z (x.within k) (x.ofStrings k l o)))
+          of_strings = λ k l o. elim (ℕ_discrete k table) [
+            | yes z ↦ (rw (z, m.here) (one x.size (omega arith) (rw (z, m.was) at (x.of_strings k l o))))
+            | no z ↦ (rw (m.elsewhere k z) (others_strings k (count k) l z (x.within k) (x.of_strings k l o)))
           ];
-          ofNames = λ k g l o. elim (ℕ_discrete k table) [
-            | yes z ↦ (rw (z, m.here) (two x.size (omega arith) (omega arith) (rw (z, m.was) at (x.ofNames k g l o))))
-            | no z ↦ (rw (m.elsewhere k z) (others-names k (count k) g l z (x.within k) (x.ofNames k g l o)))
+          of_names = λ k g l o. elim (ℕ_discrete k table) [
+            | yes z ↦ (rw (z, m.here) (two x.size (omega arith) (omega arith) (rw (z, m.was) at (x.of_names k g l o))))
+            | no z ↦ (rw (m.elsewhere k z) (others_names k (count k) g l z (x.within k) (x.of_names k g l o)))
           ];
         };
       }
 
 -- ---- a string more, in the form f, which the word c says in its table
-module _ (s t : List ℕ) (table n a b c : ℕ) (f : StringForm) (index : List ℕ) (l : table < 8) (r : n < 256) (size : length t ≡ tableWords) (g : 1 ≤ b) (is : formIn (table_of table) c ≡ f) where
-  rows : (j : ℕ) → j < n → stringsAt s (stored t table n a b c) table (768 * table + 3 * j) ≡ stringsAt s t table (768 * table + 3 * j)
-  rows j u = string-kept s t table n a b c table j (omega arith) (omega arith) r (λ z y. omega arith)
+module _ (s t : List ℕ) (table n a b c : ℕ) (f : StringForm) (index : List ℕ) (l : table < 8) (r : n < 256) (size : length t ≡ table_words) (g : 1 ≤ b) (is : form_in (table_of table) c ≡ f) where
+  rows : (j : ℕ) → j < n → strings_at s (stored t table n a b c) table (768 * table + 3 * j) ≡ strings_at s t table (768 * table + 3 * j)
+  rows j u = string_kept s t table n a b c table j (omega arith) (omega arith) r (λ z y. omega arith)
 
   -- where the row is put in no chain, the index stays
-  string-stays : (StringsIndexed s t index table n → StringsIndexed s (stored t table n a b c) index table (n + 1)) → Keeps s table n t index (stored t table n a b c) index
-  string-stays f = keeps s t table n a b c index index r (λ k i ne u. refl) refl (λ z v x. f x) (λ z u v x. absurd (omega arith))
+  string_stays : (StringsIndexed s t index table n → StringsIndexed s (stored t table n a b c) index table (n + 1)) → Keeps s table n t index (stored t table n a b c) index
+  string_stays f = keeps s t table n a b c index index r (λ k i ne u. refl) refl (λ z v x. f x) (λ z u v x. absurd (omega arith))
 
-  pub string-known : (number_in (map (octetsOf s) (entries (stringAt (table_of table) t) (768 * table) n)) (octetsOf s (stretch f a b)) ≡ 0 → ⊥)
+  pub string_known : (number_in (map (octets_of s) (entries (string_at (table_of table) t) (768 * table) n)) (octets_of s (stretch f a b)) ≡ 0 → ⊥)
       → Keeps s table n t index (stored t table n a b c) index
   unfolding StringsIndexed
-  string-known old =
-      string-stays
-      (λ x. entered-known (strings s table) (stringsAt s t table) (stringsAt s (stored t table n a b c) table) (768 * table) n (384 * table) index (octetsOf s (stretch f a b)) r x rows
-      (string-here s t table n a b c (omega arith) r size g f is) (λ e. old (sym (number-string s t table n (octetsOf s (stretch f a b))) ∙ e)))
+  string_known old =
+      string_stays
+      (λ x. entered_known (strings s table) (strings_at s t table) (strings_at s (stored t table n a b c) table) (768 * table) n (384 * table) index (octets_of s (stretch f a b)) r x rows
+      (string_here s t table n a b c (omega arith) r size g f is) (λ e. old (sym (number_string s t table n (octets_of s (stretch f a b))) ∙ e)))
 
-  pub string-apart : same (octetsOf s (builtIn (table_of table))) (octetsOf s (stretch f a b)) ≡ true → Keeps s table n t index (stored t table n a b c) index
+  pub string_apart : same (octets_of s (built_in (table_of table))) (octets_of s (stretch f a b)) ≡ true → Keeps s table n t index (stored t table n a b c) index
   unfolding StringsIndexed strings
-  string-apart e =
-      string-stays
-      (λ x. entered-apart (strings s table) (stringsAt s t table) (stringsAt s (stored t table n a b c) table) (768 * table) n (384 * table) index (octetsOf s (stretch f a b)) r x rows
-      (string-here s t table n a b c (omega arith) r size g f is) (rw e))
+  string_apart e =
+      string_stays
+      (λ x. entered_apart (strings s table) (strings_at s t table) (strings_at s (stored t table n a b c) table) (768 * table) n (384 * table) index (octets_of s (stretch f a b)) r x rows
+      (string_here s t table n a b c (omega arith) r size g f is) (rw e))
 
-  pub string-last : 255 ≤ n → Keeps s table n t index (stored t table n a b c) index
+  pub string_last : 255 ≤ n → Keeps s table n t index (stored t table n a b c) index
   unfolding StringsIndexed
-  string-last u =
-      string-stays
-      (λ x. entered-last (strings s table) (stringsAt s t table) (stringsAt s (stored t table n a b c) table) (768 * table) n (384 * table) index (octetsOf s (stretch f a b)) r x rows
-      (string-here s t table n a b c (omega arith) r size g f is) u)
+  string_last u =
+      string_stays
+      (λ x. entered_last (strings s table) (strings_at s t table) (strings_at s (stored t table n a b c) table) (768 * table) n (384 * table) index (octets_of s (stretch f a b)) r x rows
+      (string_here s t table n a b c (omega arith) r size g f is) u)
 
-  pub string-entered : n < 255 → number_in (map (octetsOf s) (entries (stringAt (table_of table) t) (768 * table) n)) (octetsOf s (stretch f a b)) ≡ 0
-      → same (octetsOf s (builtIn (table_of table))) (octetsOf s (stretch f a b)) ≡ false
-      → Keeps s table n t index (stored t table n a b c) (pushed index (384 * table) (bucket (octetsOf s (stretch f a b))) n)
+  pub string_entered : n < 255 → number_in (map (octets_of s) (entries (string_at (table_of table) t) (768 * table) n)) (octets_of s (stretch f a b)) ≡ 0
+      → same (octets_of s (built_in (table_of table))) (octets_of s (stretch f a b)) ≡ false
+      → Keeps s table n t index (stored t table n a b c) (pushed index (384 * table) (bucket (octets_of s (stretch f a b))) n)
   unfolding StringsIndexed strings
-  string-entered u new e =
-      let y = octetsOf s (stretch f a b) in
-      keeps s t table n a b c index (pushed index (384 * table) (bucket y) n) r (apart-pushed table (bucket y) n index (bucket-lt y) r) (length-pushed (384 * table) (bucket y) n index)
-      (λ z v x. entered (strings s table) (stringsAt s t table) (stringsAt s (stored t table n a b c) table) (768 * table) n (384 * table) index y r x rows
-      (string-here s t table n a b c (omega arith) r size g f is) u (rw e) (number-string s t table n y ∙ new) (bucket-lt y) (omega arith))
+  string_entered u new e =
+      let y = octets_of s (stretch f a b) in
+      keeps s t table n a b c index (pushed index (384 * table) (bucket y) n) r (apart_pushed table (bucket y) n index (bucket_lt y) r) (length-pushed (384 * table) (bucket y) n index)
+      (λ z v x. entered (strings s table) (strings_at s t table) (strings_at s (stored t table n a b c) table) (768 * table) n (384 * table) index y r x rows
+      (string_here s t table n a b c (omega arith) r size g f is) u (rw e) (number_string s t table n y ∙ new) (bucket_lt y) (omega arith))
       (λ z v w x. absurd (omega arith))
 
-  pub string-added : (u other : List ℕ) → u ≡ stored t table n a b c → Keeps s table n t index (stored t table n a b c) other
+  pub string_added : (u other : List ℕ) → u ≡ stored t table n a b c → Keeps s table n t index (stored t table n a b c) other
       → StringEntered s table n (record { a = a; b = b; c = c }) t index u other
-  string-added u other e kept = rw e (record { words = refl; keeps = kept })
+  string_added u other e kept = rw e (record { words = refl; keeps = kept })
 
 -- ---- a name more
-module _ (s t : List ℕ) (table n a b c : ℕ) (index : List ℕ) (m : 8 ≤ table) (l : table < 10) (r : n < 256) (size : length t ≡ tableWords) where
-  triples : (j : ℕ) → j < n → tripleAt (stored t table n a b c) (768 * table + 3 * j) ≡ tripleAt t (768 * table + 3 * j)
-  triples j u = name-kept s t table n a b c table j l (omega arith) r (λ z y. omega arith)
+module _ (s t : List ℕ) (table n a b c : ℕ) (index : List ℕ) (m : 8 ≤ table) (l : table < 10) (r : n < 256) (size : length t ≡ table_words) where
+  triples : (j : ℕ) → j < n → triple_at (stored t table n a b c) (768 * table + 3 * j) ≡ triple_at t (768 * table + 3 * j)
+  triples j u = name_kept s t table n a b c table j l (omega arith) r (λ z y. omega arith)
 
-  name-stays : (NamesIndexed t index table n → NamesIndexed (stored t table n a b c) index table (n + 1)) → Keeps s table n t index (stored t table n a b c) index
-  name-stays f = keeps s t table n a b c index index r (λ k i ne u. refl) refl (λ z v x. absurd (omega arith)) (λ z u v x. f x)
+  name_stays : (NamesIndexed t index table n → NamesIndexed (stored t table n a b c) index table (n + 1)) → Keeps s table n t index (stored t table n a b c) index
+  name_stays f = keeps s t table n a b c index index r (λ k i ne u. refl) refl (λ z v x. absurd (omega arith)) (λ z u v x. f x)
 
-  pub name-known : (numberOfTriple (entries (tripleAt t) (768 * table) n) (record { prefix = a; namespace = b; local = c }) ≡ 0 → ⊥)
+  pub name_known : (number_of_triple (entries (triple_at t) (768 * table) n) (record { prefix = a; namespace = b; local = c }) ≡ 0 → ⊥)
       → Keeps s table n t index (stored t table n a b c) index
   unfolding NamesIndexed
-  name-known old =
-      name-stays
-      (λ x. entered-known names (tripleAt t) (tripleAt (stored t table n a b c)) (768 * table) n (384 * table) index (record { prefix = a; namespace = b; local = c }) r x triples
-      (name-here s t table n a b c l r size) (λ e. old (sym (number-name t table n (record { prefix = a; namespace = b; local = c })) ∙ e)))
+  name_known old =
+      name_stays
+      (λ x. entered_known names (triple_at t) (triple_at (stored t table n a b c)) (768 * table) n (384 * table) index (record { prefix = a; namespace = b; local = c }) r x triples
+      (name_here s t table n a b c l r size) (λ e. old (sym (number_name t table n (record { prefix = a; namespace = b; local = c })) ∙ e)))
 
-  pub name-last : 255 ≤ n → Keeps s table n t index (stored t table n a b c) index
+  pub name_last : 255 ≤ n → Keeps s table n t index (stored t table n a b c) index
   unfolding NamesIndexed
-  name-last u =
-      name-stays
-      (λ x. entered-last names (tripleAt t) (tripleAt (stored t table n a b c)) (768 * table) n (384 * table) index (record { prefix = a; namespace = b; local = c }) r x triples
-      (name-here s t table n a b c l r size) u)
+  name_last u =
+      name_stays
+      (λ x. entered_last names (triple_at t) (triple_at (stored t table n a b c)) (768 * table) n (384 * table) index (record { prefix = a; namespace = b; local = c }) r x triples
+      (name_here s t table n a b c l r size) u)
 
-  pub name-entered : n < 255 → numberOfTriple (entries (tripleAt t) (768 * table) n) (record { prefix = a; namespace = b; local = c }) ≡ 0
-      → Keeps s table n t index (stored t table n a b c) (pushed index (384 * table) (nameBucket (record { prefix = a; namespace = b; local = c })) n)
+  pub name_entered : n < 255 → number_of_triple (entries (triple_at t) (768 * table) n) (record { prefix = a; namespace = b; local = c }) ≡ 0
+      → Keeps s table n t index (stored t table n a b c) (pushed index (384 * table) (name_bucket (record { prefix = a; namespace = b; local = c })) n)
   unfolding NamesIndexed names
-  name-entered u new =
+  name_entered u new =
       let y : Triple = record { prefix = a; namespace = b; local = c } in
-      keeps s t table n a b c index (pushed index (384 * table) (nameBucket y) n) r (apart-pushed table (nameBucket y) n index (name-bucket-lt y) r) (length-pushed (384 * table) (nameBucket y) n index)
+      keeps s t table n a b c index (pushed index (384 * table) (name_bucket y) n) r (apart_pushed table (name_bucket y) n index (name_bucket_lt y) r) (length-pushed (384 * table) (name_bucket y) n index)
       (λ z v x. absurd (omega arith))
-      (λ z v w x. entered names (tripleAt t) (tripleAt (stored t table n a b c)) (768 * table) n (384 * table) index y r x triples
-      (name-here s t table n a b c l r size) u refl (number-name t table n y ∙ new) (name-bucket-lt y) (omega arith))
+      (λ z v w x. entered names (triple_at t) (triple_at (stored t table n a b c)) (768 * table) n (384 * table) index y r x triples
+      (name_here s t table n a b c l r size) u refl (number_name t table n y ∙ new) (name_bucket_lt y) (omega arith))
 
-  pub name-added : (u other : List ℕ) → u ≡ stored t table n a b c → Keeps s table n t index (stored t table n a b c) other
+  pub name_added : (u other : List ℕ) → u ≡ stored t table n a b c → Keeps s table n t index (stored t table n a b c) other
       → NameEntered s table n (record { prefix = a; namespace = b; local = c }) t index u other
-  name-added u other e kept = rw e (record { words = refl; keeps = kept })
+  name_added u other e kept = rw e (record { words = refl; keeps = kept })
 
 -- ---- an entry more in a table that is not indexed
-pub keeps-elsewhere : (only : ℕ → Bool) (s t index : List ℕ) (table n a b c : ℕ) (count more : ℕ → ℕ) → n < 256 → only table ≡ false → OneMore table n count more
+pub keeps_elsewhere : (only : ℕ → Bool) (s t index : List ℕ) (table n a b c : ℕ) (count more : ℕ → ℕ) → n < 256 → only table ≡ false → OneMore table n count more
     → Indexed only s count t index → Indexed only s more (stored t table n a b c) index
-keeps-elsewhere only s t index table n a b c count more r o m x =
+keeps_elsewhere only s t index table n a b c count more r o m x =
     record {
       size = x.size;
       within = λ k. elim (ℕ_discrete k table) [
         | yes z ↦ (rw (z, m.here) (omega arith))
         | no z ↦ (rw (m.elsewhere k z) (x.within k))
       ];
-      ofStrings = λ k l p. (let z : k ≡ table → ⊥ = λ e. clash (sym o ∙ ap only (sym e) ∙ p) in
-          rw (m.elsewhere k z) (others-strings s t table n a b c index index r (λ k i ne u. refl) refl k (count k) l z (x.within k) (x.ofStrings k l p)));
-      ofNames = λ k g l p. (let z : k ≡ table → ⊥ = λ e. clash (sym o ∙ ap only (sym e) ∙ p) in
-          rw (m.elsewhere k z) (others-names s t table n a b c index index r (λ k i ne u. refl) refl k (count k) g l z (x.within k) (x.ofNames k g l p)));
+      of_strings = λ k l p. (let z : k ≡ table → ⊥ = λ e. clash (sym o ∙ ap only (sym e) ∙ p) in
+          rw (m.elsewhere k z) (others_strings s t table n a b c index index r (λ k i ne u. refl) refl k (count k) l z (x.within k) (x.of_strings k l p)));
+      of_names = λ k g l p. (let z : k ≡ table → ⊥ = λ e. clash (sym o ∙ ap only (sym e) ∙ p) in
+          rw (m.elsewhere k z) (others_names s t table n a b c index index r (λ k i ne u. refl) refl k (count k) g l z (x.within k) (x.of_names k g l p)));
     }

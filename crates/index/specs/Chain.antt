@@ -8,7 +8,7 @@ use Rattle.tables.specs.Search.{lowest}
 -- What an entry is to the index: which are the same, its bucket, and whether it is indexed at all.
 pub record Kind (A : Type 0) : Type 0 where
   pub alike : A → A → Bool
-  pub bucketOf : A → ℕ
+  pub bucket_of : A → ℕ
   pub indexed : A → Bool
 
 -- The lowest number of an entry among n rows; 0 if there is none.
@@ -20,12 +20,12 @@ abbrev pub reached : ℕ → ℕ
 reached n = n - n / 256
 
 -- What row 255 says where the others do not have x: 256 or 0.
-unfoldable pub lastRow : {A : Type 0} → Kind A → (g : ℕ → A) (at n : ℕ) → A → ℕ
-lastRow k g at n x = pick (eqb n 256) (pick (k.alike (g (at + 765)) x) 256 0) 0
+unfoldable pub last_row : {A : Type 0} → Kind A → (g : ℕ → A) (at n : ℕ) → A → ℕ
+last_row k g at n x = pick (eqb n 256) (pick (k.alike (g (at + 765)) x) 256 0) 0
 
 -- Row i is in the chain of bucket h: its entry is indexed, has this bucket, and is in no row before it.
 unfoldable pub chained : {A : Type 0} → Kind A → (g : ℕ → A) (at h i : ℕ) → Bool
-chained k g at h i = k.indexed (g (at + 3 * i)) && (eqb (k.bucketOf (g (at + 3 * i))) h && eqb (numbered k g at i (g (at + 3 * i))) 0)
+chained k g at h i = k.indexed (g (at + 3 * i)) && (eqb (k.bucket_of (g (at + 3 * i))) h && eqb (numbered k g at i (g (at + 3 * i))) 0)
 
 -- The highest number of a row below n that passes the test; 0 if none does.
 unfoldable pub latest : (ℕ → Bool) → ℕ → ℕ

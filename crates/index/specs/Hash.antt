@@ -6,7 +6,7 @@ use Rattle.format.specs.Numbers.{pick}
 use Rattle.format.specs.Tables.{Triple}
 use Rattle.format.specs.declared.StringForm.TheVariants.{Utf8}
 use Rattle.fields.specs.WeightContracts.{weight, high_bits, Plain}
-use Rattle.tables.specs.Located.{stretch, octetsOf}
+use Rattle.tables.specs.Located.{stretch, octets_of}
 
 -- A number of 32 bits and one of 64, in one sum that fits 64 bits. Factors and shifts were chosen by trial on names of many shapes.
 unfoldable pub summed : ℕ → ℕ → ℕ
@@ -43,8 +43,8 @@ bucket l =
 -- What the code takes of the string at a place: two numbers that its bucket is made of, and one whose high bits tell that each octet is plain.
 abbrev pub Takes : Octets → (place len number last other : ℕ) → Type 0
 Takes s place len number last other =
-    (number < 4294967296) × (spread number last ≡ bucket (octetsOf s (stretch Utf8 place len)))
+    (number < 4294967296) × (spread number last ≡ bucket (octets_of s (stretch Utf8 place len)))
     × (bit_and other (high_bits 8) ≡ 0 → len ≤ 65 → Plain s place (place + len))
 
-unfoldable pub nameBucket : Triple → ℕ
-nameBucket x = spread x.prefix (x.local + 4294967296 * x.namespace)
+unfoldable pub name_bucket : Triple → ℕ
+name_bucket x = spread x.prefix (x.local + 4294967296 * x.namespace)

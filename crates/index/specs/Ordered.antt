@@ -1,7 +1,7 @@
 -- Contracts of the code, not definitions to be believed. What reader and writer keep of the tables in lent words.
 use Rattle.std.specs.Prelude.{ℕ, ◌≤◌, ◌≡◌, Bool, length}
 use Rattle.format.specs.Octets.{Octets, Words}
-use Rattle.tables.specs.Counts.{tableWords}
+use Rattle.tables.specs.Counts.{table_words}
 use Rattle.tables.specs.Rows.{vocabulary}
 use Rattle.tables.specs.Kept.{Counted, Clean, AllInside, count_of, unlisted}
 use Rattle.index.specs.Indexed.{Indexed}
@@ -11,7 +11,7 @@ use Rattle.index.specs.Indexed.{Indexed}
 pub record Ordered (only : ℕ → Bool) (s : Octets) (c w : Words) (x : Octets) (More : Type 0) : Type 0 where
   pub size : length s ≤ 16384
   pub ten : length c ≡ 10
-  pub room : length w ≡ tableWords
+  pub room : length w ≡ table_words
   pub counted : Counted (unlisted c)
   pub clean : Clean (unlisted c) w
   pub inside : AllInside s (vocabulary (unlisted c) w)

@@ -1,20 +1,20 @@
 // A hash index over the tables, local to a run: the lowest number of a string or a name, in a few comparisons.
 // May depend on format, fields, forms and tables.
 ghost use Rattle.std.specs.Prelude.{◌≡◌, true, List, map, ℕ, ◌+◌, ◌-◌, ◌*◌, ◌/◌, ◌<◌, ◌≤◌, length, get_or};
-ghost use Rattle.format.specs.Tables.{same, OTHER-STRING};
+ghost use Rattle.format.specs.Tables.{same, OTHER_STRING};
 ghost use Rattle.format.specs.declared.StringForm.TheVariants.{Utf8};
 ghost use Rattle.fields.specs.WeightContracts.{Plain};
-ghost use Rattle.fields.specs.Utf8.{isText};
-ghost use Rattle.tables.specs.Located.{stretch, octetsOf};
-ghost use Rattle.tables.specs.Counts.{tableWords};
-ghost use Rattle.tables.specs.Rows.{table_of, builtIn, stringAt, tripleAt, entries};
-ghost use Rattle.tables.specs.Search.{number_in, numberOfTriple};
+ghost use Rattle.fields.specs.Utf8.{is_text};
+ghost use Rattle.tables.specs.Located.{stretch, octets_of};
+ghost use Rattle.tables.specs.Counts.{table_words};
+ghost use Rattle.tables.specs.Rows.{table_of, built_in, string_at, triple_at, entries};
+ghost use Rattle.tables.specs.Search.{number_in, number_of_triple};
 ghost use Rattle.format.specs.Characters.{All};
 ghost use Rattle.format.specs.Forms.{form_of};
 ghost use Rattle.tables.specs.Kept.{Inside, IsSound};
-ghost use Rattle.index.specs.Hash.{summed, blended, spread, bucket, nameBucket, Takes};
-ghost use Rattle.index.specs.Chain.{lastRow, pushed};
-ghost use Rattle.index.specs.Indexed.{slots, strings, stringsAt, names, StringsIndexed, NamesIndexed, StringEntered, NameEntered, listed, NewString, Sought, SoughtInChain, SoughtToAdd, SoughtSaid};
+ghost use Rattle.index.specs.Hash.{summed, blended, spread, bucket, name_bucket, Takes};
+ghost use Rattle.index.specs.Chain.{last_row, pushed};
+ghost use Rattle.index.specs.Indexed.{slots, strings, strings_at, names, StringsIndexed, NamesIndexed, StringEntered, NameEntered, listed, NewString, Sought, SoughtInChain, SoughtToAdd, SoughtSaid};
 
 use format::StringForm;
 use tables::{Counts, Row};
@@ -179,7 +179,7 @@ struct Seen {
 // The string of s at place.
 fn look(s: &[u8], place: usize, len: usize) -> Seen
     requires { (1 ≤ len) × (place + len ≤ length s.now) }
-    ensures { (result.bucket ≡ bucket (octetsOf s.now (stretch Utf8 place len))) × (result.bucket < 128) × (result.plain ≡ true → Plain s.now place (place + len)) }
+    ensures { (result.bucket ≡ bucket (octets_of s.now (stretch Utf8 place len))) × (result.bucket < 128) × (result.plain ≡ true → Plain s.now place (place + len)) }
 {
     let x = take(s, place, len);
     Seen {
@@ -191,7 +191,7 @@ fn look(s: &[u8], place: usize, len: usize) -> Seen
 // The bucket of the string of s at place.
 pub fn bucket_of(s: &[u8], place: usize, len: usize) -> usize
     requires { (1 ≤ len) × (place + len ≤ length s.now) }
-    ensures { (result ≡ bucket (octetsOf s.now (stretch Utf8 place len))) × (result < 128) }
+    ensures { (result ≡ bucket (octets_of s.now (stretch Utf8 place len))) × (result < 128) }
 {
     let x = look(s, place, len);
     x.bucket
@@ -207,7 +207,7 @@ pub struct Marked {
 // The string of s at place. One look tells both of most strings.
 pub fn mark(s: &[u8], place: usize, len: usize) -> Marked
     requires { (1 ≤ len) × (place + len ≤ length s.now) }
-    ensures { (result.bucket ≡ bucket (octetsOf s.now (stretch Utf8 place len))) × (result.bucket < 128) × (result.text ≡ isText (octetsOf s.now (stretch Utf8 place len))) }
+    ensures { (result.bucket ≡ bucket (octets_of s.now (stretch Utf8 place len))) × (result.bucket < 128) × (result.text ≡ is_text (octets_of s.now (stretch Utf8 place len))) }
 {
     let x = look(s, place, len);
     if x.plain {
@@ -224,8 +224,8 @@ pub fn mark(s: &[u8], place: usize, len: usize) -> Marked
 
 // The number of the string of s at place in row 255 of a full table, 0 elsewhere: what is left where a chain ends.
 fn find_last(s: &[u8], t: &[u32], table: usize, n: u32, place: usize, len: usize) -> u32
-    requires { (length t.now ≡ tableWords) × (table < 5) × (n ≤ 256) × (place + len ≤ length s.now) × Inside s.now (entries (stringAt (table_of table) t.now) (768 * table) n) }
-    ensures { result ≡ lastRow (strings s.now table) (stringsAt s.now t.now table) (768 * table) n (octetsOf s.now (stretch Utf8 place len)) }
+    requires { (length t.now ≡ table_words) × (table < 5) × (n ≤ 256) × (place + len ≤ length s.now) × Inside s.now (entries (string_at (table_of table) t.now) (768 * table) n) }
+    ensures { result ≡ last_row (strings s.now table) (strings_at s.now t.now table) (768 * table) n (octets_of s.now (stretch Utf8 place len)) }
 {
     if n <= LAST {
         return 0;
@@ -248,7 +248,7 @@ fn find_chained(
     h: usize,
 ) -> u32
     requires { SoughtInChain s.now t.now index.now table n place len h }
-    ensures { result ≡ number_in (map (octetsOf s.now) (entries (stringAt (table_of table) t.now) (768 * table) n)) (octetsOf s.now (stretch Utf8 place len)) }
+    ensures { result ≡ number_in (map (octets_of s.now) (entries (string_at (table_of table) t.now) (768 * table) n)) (octets_of s.now (stretch Utf8 place len)) }
 {
     let last = s[place + (len - 1)];
     let head = PART * table + h;
@@ -275,7 +275,7 @@ pub fn find_in(
     h: usize,
 ) -> u32
     requires { Sought s.now t.now index.now table n place len h }
-    ensures { result ≡ number_in (map (octetsOf s.now) (entries (stringAt (table_of table) t.now) (768 * table) n)) (octetsOf s.now (stretch Utf8 place len)) }
+    ensures { result ≡ number_in (map (octets_of s.now) (entries (string_at (table_of table) t.now) (768 * table) n)) (octets_of s.now (stretch Utf8 place len)) }
 {
     if tables::is_built_in(s, table, place, len) {
         return tables::find_any(s, t, table, n, place, len);
@@ -293,8 +293,8 @@ pub fn find(
     place: usize,
     len: usize,
 ) -> u32
-    requires { (length t.now ≡ tableWords) × (length index.now ≡ slots) × (table < 5) × (n ≤ 256) × (place + len ≤ length s.now) × Inside s.now (entries (stringAt (table_of table) t.now) (768 * table) n) × StringsIndexed s.now t.now index.now table n }
-    ensures { result ≡ number_in (map (octetsOf s.now) (entries (stringAt (table_of table) t.now) (768 * table) n)) (octetsOf s.now (stretch Utf8 place len)) }
+    requires { (length t.now ≡ table_words) × (length index.now ≡ slots) × (table < 5) × (n ≤ 256) × (place + len ≤ length s.now) × Inside s.now (entries (string_at (table_of table) t.now) (768 * table) n) × StringsIndexed s.now t.now index.now table n }
+    ensures { result ≡ number_in (map (octets_of s.now) (entries (string_at (table_of table) t.now) (768 * table) n)) (octets_of s.now (stretch Utf8 place len)) }
 {
     if len == 0 {
         return tables::find_any(s, t, table, n, place, len);
@@ -325,7 +325,7 @@ pub fn enter_in(
     known: u32,
     h: usize,
 )
-    requires { (length t.old ≡ tableWords) × (length index.old ≡ slots) × (table < 8) × (n < 256) × (1 ≤ x.b) × (x.a + x.b ≤ length s.now) × (table < 5 → x.c ≡ 0) × (known ≡ number_in (map (octetsOf s.now) (entries (stringAt (table_of table) t.old) (768 * table) n)) (octetsOf s.now (stretch (form_of x.c) x.a x.b))) × (h ≡ bucket (octetsOf s.now (stretch (form_of x.c) x.a x.b))) × (h < 128) }
+    requires { (length t.old ≡ table_words) × (length index.old ≡ slots) × (table < 8) × (n < 256) × (1 ≤ x.b) × (x.a + x.b ≤ length s.now) × (table < 5 → x.c ≡ 0) × (known ≡ number_in (map (octets_of s.now) (entries (string_at (table_of table) t.old) (768 * table) n)) (octets_of s.now (stretch (form_of x.c) x.a x.b))) × (h ≡ bucket (octets_of s.now (stretch (form_of x.c) x.a x.b))) × (h < 128) }
     ensures { StringEntered s.now table n x t.old index.old t.new index.new }
 {
     tables::add(t, table, n, x.a, x.b, x.c);
@@ -344,7 +344,7 @@ pub fn enter_in(
 // The bucket of what the octets of s at place say in another form than utf-8: they are put in UTF-8 as far as they count.
 fn bucket_other(s: &[u8], form: StringForm, place: usize, len: usize) -> usize
     requires { (1 ≤ len) × (place + len ≤ length s.now) × (length s.now ≤ 16384) × IsSound s.now (stretch form place len) }
-    ensures { (result ≡ bucket (octetsOf s.now (stretch form place len))) × (result < 128) }
+    ensures { (result ≡ bucket (octets_of s.now (stretch form place len))) × (result < 128) }
 {
     let mut first = [0; COUNTED];
     let n = forms::put_said(&mut first, 0, s, form, place, place + len);
@@ -357,7 +357,7 @@ fn bucket_other(s: &[u8], form: StringForm, place: usize, len: usize) -> usize
 // The same in any form.
 pub fn bucket_said(s: &[u8], form: StringForm, place: usize, len: usize) -> usize
     requires { (1 ≤ len) × (place + len ≤ length s.now) × (length s.now ≤ 16384) × IsSound s.now (stretch form place len) }
-    ensures { (result ≡ bucket (octetsOf s.now (stretch form place len))) × (result < 128) }
+    ensures { (result ≡ bucket (octets_of s.now (stretch form place len))) × (result < 128) }
 {
     if form.number() == 0 {
         return bucket_of(s, place, len);
@@ -375,8 +375,8 @@ fn find_last_said(
     place: usize,
     len: usize,
 ) -> u32
-    requires { (length t.now ≡ tableWords) × (5 ≤ table) × (table < 8) × (n ≤ 256) × (1 ≤ len) × (place + len ≤ length s.now) × IsSound s.now (stretch form place len) × Inside s.now (entries (stringAt (table_of table) t.now) (768 * table) n) × All (IsSound s.now) (entries (stringAt (table_of table) t.now) (768 * table) n) }
-    ensures { result ≡ lastRow (strings s.now table) (stringsAt s.now t.now table) (768 * table) n (octetsOf s.now (stretch form place len)) }
+    requires { (length t.now ≡ table_words) × (5 ≤ table) × (table < 8) × (n ≤ 256) × (1 ≤ len) × (place + len ≤ length s.now) × IsSound s.now (stretch form place len) × Inside s.now (entries (string_at (table_of table) t.now) (768 * table) n) × All (IsSound s.now) (entries (string_at (table_of table) t.now) (768 * table) n) }
+    ensures { result ≡ last_row (strings s.now table) (strings_at s.now t.now table) (768 * table) n (octets_of s.now (stretch form place len)) }
 {
     if n <= LAST {
         return 0;
@@ -397,8 +397,8 @@ fn is_alike(
     len: usize,
     last: u8,
 ) -> bool
-    requires { (length t.now ≡ tableWords) × (j + 3 ≤ tableWords) × (1 ≤ len) × (place + len ≤ length s.now) × (last ≡ get_or s.now (place + (len - 1)) 0) × IsSound s.now (stretch form place len) × ((get_or t.now (j + 1) 0 ≡ 0 → ⊥) → (get_or t.now j 0 + get_or t.now (j + 1) 0 ≤ length s.now) × IsSound s.now (stretch (form_of (get_or t.now (j + 2) 0)) (get_or t.now j 0) (get_or t.now (j + 1) 0))) }
-    ensures { result ≡ same (octetsOf s.now (stringAt OTHER-STRING t.now j)) (octetsOf s.now (stretch form place len)) }
+    requires { (length t.now ≡ table_words) × (j + 3 ≤ table_words) × (1 ≤ len) × (place + len ≤ length s.now) × (last ≡ get_or s.now (place + (len - 1)) 0) × IsSound s.now (stretch form place len) × ((get_or t.now (j + 1) 0 ≡ 0 → ⊥) → (get_or t.now j 0 + get_or t.now (j + 1) 0 ≤ length s.now) × IsSound s.now (stretch (form_of (get_or t.now (j + 2) 0)) (get_or t.now j 0) (get_or t.now (j + 1) 0))) }
+    ensures { result ≡ same (octets_of s.now (string_at OTHER_STRING t.now j)) (octets_of s.now (stretch form place len)) }
 {
     if t[j + 2] == form.number() {
         return tables::is_spelled(s, t, j, place, len, last);
@@ -418,7 +418,7 @@ pub fn find_said(
     len: usize,
 ) -> u32
     requires { SoughtSaid s.now t.now index.now table n form place len }
-    ensures { result ≡ number_in (map (octetsOf s.now) (entries (stringAt (table_of table) t.now) (768 * table) n)) (octetsOf s.now (stretch form place len)) }
+    ensures { result ≡ number_in (map (octets_of s.now) (entries (string_at (table_of table) t.now) (768 * table) n)) (octets_of s.now (stretch form place len)) }
 {
     let h = if form.number() == 0 {
         bucket_of(s, place, len)
@@ -481,7 +481,7 @@ fn narrow(x: usize) -> u32
 
 // The built-in string, which is in no chain, becomes an entry behind a table's n where it is none yet.
 fn add_built_in(s: &[u8], t: &mut [u32], table: usize, n: u32, place: usize, len: usize) -> Added
-    requires { (length t.old ≡ tableWords) × (table < 5) × (n ≤ 256) × (1 ≤ len) × (place + len ≤ length s.now) × (length s.now < 0x1_0000_0000) × Inside s.now (entries (stringAt (table_of table) t.old) (768 * table) n) × (same (octetsOf s.now (builtIn (table_of table))) (octetsOf s.now (stretch Utf8 place len)) ≡ true) }
+    requires { (length t.old ≡ table_words) × (table < 5) × (n ≤ 256) × (1 ≤ len) × (place + len ≤ length s.now) × (length s.now < 0x1_0000_0000) × Inside s.now (entries (string_at (table_of table) t.old) (768 * table) n) × (same (octets_of s.now (built_in (table_of table))) (octets_of s.now (stretch Utf8 place len)) ≡ true) }
     ensures { (index : List ℕ) → NewString s.now table n place len t.old index result t.new index }
 {
     if tables::find_any(s, t, table, n, place, len) != 0 {
@@ -526,15 +526,15 @@ pub fn add_new(
 
 // The bucket of a name.
 fn name_bucket(prefix: u32, namespace: u32, local: u32) -> usize
-    ensures { (result ≡ nameBucket (record { prefix = prefix; namespace = namespace; local = local })) × (result < 128) }
+    ensures { (result ≡ name_bucket (record { prefix = prefix; namespace = namespace; local = local })) × (result < 128) }
 {
     spread(word(prefix), word(local) + 0x1_0000_0000 * word(namespace))
 }
 
 // The number of the name with these numbers in row 255 of a full table, 0 elsewhere.
 fn find_last_name(t: &[u32], table: usize, n: u32, prefix: u32, namespace: u32, local: u32) -> u32
-    requires { (length t.now ≡ tableWords) × (table < 10) × (n ≤ 256) }
-    ensures { result ≡ lastRow names (tripleAt t.now) (768 * table) n (record { prefix = prefix; namespace = namespace; local = local }) }
+    requires { (length t.now ≡ table_words) × (table < 10) × (n ≤ 256) }
+    ensures { result ≡ last_row names (triple_at t.now) (768 * table) n (record { prefix = prefix; namespace = namespace; local = local }) }
 {
     if n <= LAST {
         return 0;
@@ -555,8 +555,8 @@ pub fn find_name(
     namespace: u32,
     local: u32,
 ) -> u32
-    requires { (length t.now ≡ tableWords) × (length index.now ≡ slots) × (table < 10) × (n ≤ 256) × NamesIndexed t.now index.now table n }
-    ensures { result ≡ numberOfTriple (entries (tripleAt t.now) (768 * table) n) (record { prefix = prefix; namespace = namespace; local = local }) }
+    requires { (length t.now ≡ table_words) × (length index.now ≡ slots) × (table < 10) × (n ≤ 256) × NamesIndexed t.now index.now table n }
+    ensures { result ≡ number_of_triple (entries (triple_at t.now) (768 * table) n) (record { prefix = prefix; namespace = namespace; local = local }) }
 {
     let first = PART * table + name_bucket(prefix, namespace, local);
     let mut j = number(index[first]);
@@ -580,7 +580,7 @@ pub fn enter_name(
     local: u32,
     found: u32,
 )
-    requires { (length t.old ≡ tableWords) × (length index.old ≡ slots) × (8 ≤ table) × (table < 10) × (n < 256) × (found ≡ numberOfTriple (entries (tripleAt t.old) (768 * table) n) (record { prefix = prefix; namespace = namespace; local = local })) }
+    requires { (length t.old ≡ table_words) × (length index.old ≡ slots) × (8 ≤ table) × (table < 10) × (n < 256) × (found ≡ number_of_triple (entries (triple_at t.old) (768 * table) n) (record { prefix = prefix; namespace = namespace; local = local })) }
     ensures { (s : List ℕ) → NameEntered s table n (record { prefix = prefix; namespace = namespace; local = local }) t.old index.old t.new index.new }
 {
     tables::add(t, table, n, prefix, namespace, local);

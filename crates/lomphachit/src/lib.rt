@@ -2,15 +2,15 @@
 // May depend on all crates but read_rows, write_rows, listing, writing and theorems.
 ghost use Rattle.std.specs.Prelude.{◌≡◌, length};
 ghost use Rattle.format.specs.Tables.{link};
-ghost use Rattle.reader.specs.Reading.{checkOf};
-ghost use Rattle.reader.specs.Words.{leaving, readWords};
-ghost use Rattle.writer.specs.Words.{leaving as written, writeWords, measured, measureWords};
+ghost use Rattle.reader.specs.Reading.{check_of};
+ghost use Rattle.reader.specs.Words.{leaving, read_words};
+ghost use Rattle.writer.specs.Words.{leaving as written, write_words, measured, measure_words};
 
 // 0 for a document of the link, else the place times 32 plus the refusal's number.
 // No octets: 1, which is SIZE at place 0; 0 would be wrong. E0 00 00 01 00 and nothing behind it: 162, which is TRUNCATED at place 5; 2, without the place, would be wrong.
 #[unsafe(no_mangle)]
 pub extern "C" fn lomphachit_check(octets: &[u8]) -> u32
-    ensures { result ≡ checkOf link octets.now }
+    ensures { result ≡ check_of link octets.now }
 {
     reader::check(octets)
 }
@@ -25,7 +25,7 @@ pub extern "C" fn lomphachit_read(
     tables: &mut [u32],
     counts: &mut [u32],
 ) -> u64
-    ensures { leaving result records.new tables.new counts.new ≡ readWords link octets.now (length records.old) (length tables.old) (length counts.old) }
+    ensures { leaving result records.new tables.new counts.new ≡ read_words link octets.now (length records.old) (length tables.old) (length counts.old) }
 {
     reader::read_words(octets, records, tables, counts)
 }
@@ -44,7 +44,7 @@ pub extern "C" fn lomphachit_write(
     tables: &mut [u32],
     counts: &mut [u32],
 ) -> u64
-    ensures { written result out.new tables.new counts.new ≡ writeWords link given.now records.now text.now (length out.old) (length tables.old) (length counts.old) }
+    ensures { written result out.new tables.new counts.new ≡ write_words link given.now records.now text.now (length out.old) (length tables.old) (length counts.old) }
 {
     writer::write_words(given, records, text, out, tables, counts)
 }
@@ -61,7 +61,7 @@ pub extern "C" fn lomphachit_measure(
     tables: &mut [u32],
     counts: &mut [u32],
 ) -> u64
-    ensures { measured result tables.new counts.new ≡ measureWords link given.now records.now text.now (length tables.old) (length counts.old) }
+    ensures { measured result tables.new counts.new ≡ measure_words link given.now records.now text.now (length tables.old) (length counts.old) }
 {
     writer::measure_words(given, records, text, tables, counts)
 }

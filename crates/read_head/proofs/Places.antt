@@ -7,14 +7,14 @@ use native.Mathlib.Omega.{arith}
 use lib.Dec.{eqb, ltb, leb}
 use lib.ListN.{length, get_or}
 use Rattle.format.specs.Numbers.{c25, top}
-use Rattle.format.specs.Tables.{StringTable, NameTable, Triple, Vocabulary, names, holdsName, Version}
+use Rattle.format.specs.Tables.{StringTable, NameTable, Triple, Vocabulary, names, holds_name, Version}
 use Rattle.format.specs.Head.{c19}
 use Rattle.tables.specs.Located.{Located}
-use Rattle.read_names.specs.Strings.{Got, got, refused, id_at, spelledAt}
-use Rattle.read_names.specs.NameContracts.{newName}
+use Rattle.read_names.specs.Strings.{Got, got, refused, id_at, spelled_at}
+use Rattle.read_names.specs.NameContracts.{new_name}
 use Rattle.read_names.proofs.StringLaws.{tests}
-use Rattle.read_names.proofs.Places.{Within, number-within, id-within, spelled-within}
-use Rattle.read_head.specs.Head.{passing, part_at, identifyingAt, anotherAt}
+use Rattle.read_names.proofs.Places.{Within, number-within, id_within, spelled_within}
+use Rattle.read_head.specs.Head.{passing, part_at, identifying_at, another_at}
 
 module _ (s : List ℕ) where
   pub passing-within : {B : Type 0} (g : Got B) → Within s g → Within s (passing g)
@@ -31,16 +31,16 @@ module _ (s : List ℕ) where
       (λ _. omega arith)
 
   module _ (ver : Version) where
-    pub new-within : (t : NameTable) (x : Triple) (k next : ℕ) (v : Vocabulary Located) → k ≤ length s → next ≤ length s → Within s (newName ver t x k next v)
-    unfolding newName
-    new-within t x k next v h l =
-        tests (Within s) (holdsName (names v t) x) _ _ (λ _. omega arith) λ _. tests (Within s) (ltb (length (names v t)) ver.entries) _ _ (λ _. l) (λ _. omega arith)
+    pub new_within : (t : NameTable) (x : Triple) (k next : ℕ) (v : Vocabulary Located) → k ≤ length s → next ≤ length s → Within s (new_name ver t x k next v)
+    unfolding new_name
+    new_within t x k next v h l =
+        tests (Within s) (holds_name (names v t) x) _ _ (λ _. omega arith) λ _. tests (Within s) (ltb (length (names v t)) ver.entries) _ _ (λ _. l) (λ _. omega arith)
 
-    pub identifying-within : (t : StringTable) (k : ℕ) (v : Vocabulary Located) → k ≤ length s → Within s (identifyingAt ver t s k v)
-    unfolding identifyingAt
-    identifying-within t k v h = tests (Within s) (ltb (get_or s k 0) 0x80) _ _ (λ _. passing-within (id_at ver s t k v) (id-within s ver t k v h)) (λ _. omega arith)
+    pub identifying_within : (t : StringTable) (k : ℕ) (v : Vocabulary Located) → k ≤ length s → Within s (identifying_at ver t s k v)
+    unfolding identifying_at
+    identifying_within t k v h = tests (Within s) (ltb (get_or s k 0) 0x80) _ _ (λ _. passing-within (id_at ver s t k v) (id_within s ver t k v h)) (λ _. omega arith)
 
-    pub another-within : (t : StringTable) (k : ℕ) (v : Vocabulary Located) → k ≤ length s → Within s (anotherAt ver t s k v)
-    unfolding anotherAt
+    pub another-within : (t : StringTable) (k : ℕ) (v : Vocabulary Located) → k ≤ length s → Within s (another_at ver t s k v)
+    unfolding another_at
     another-within t k v h =
-        tests (Within s) (ltb (get_or s k 0) 0x40) _ _ (λ _. passing-within (spelledAt ver c19.lengthBit s t k true v) (spelled-within s ver c19.lengthBit t k true v h)) (λ _. omega arith)
+        tests (Within s) (ltb (get_or s k 0) 0x40) _ _ (λ _. passing-within (spelled_at ver c19.length_bit s t k true v) (spelled_within s ver c19.length_bit t k true v h)) (λ _. omega arith)

@@ -4,10 +4,10 @@ mod listed;
 
 ghost use Rattle.std.specs.Prelude.{◌≡◌, ◌-◌, ◌/◌, ◌%◌, ◌^◌, ◌<◌, ◌≤◌, length, eqb};
 ghost use Rattle.format.specs.Tables.{link};
-ghost use Rattle.format.specs.Head.{tenTables};
-ghost use Rattle.read_names.specs.Contracts.{Tidy};
-ghost use Rattle.read_head.specs.Head.{entries_at, tablesAt, headAt};
-ghost use Rattle.read_head.specs.Contracts.{Passes, table_at, presentAt};
+ghost use Rattle.format.specs.Head.{ten_tables};
+ghost use Rattle.read_names.specs.Promises.{Tidy};
+ghost use Rattle.read_head.specs.Head.{entries_at, tables_at, head_at};
+ghost use Rattle.read_head.specs.Promises.{Passes, table_at, present_at};
 
 use crate::listed::entry;
 use fields::{Cursor, Number};
@@ -73,7 +73,7 @@ fn table(
     at: usize,
 ) -> Passed
     requires { (Tidy s.now counts.old t.old index.old) × (at ≤ length s.now) × (table < 10) }
-    ensures { Passes s.now counts.old t.old result counts.new t.new index.new (presentAt (table_at table) (presence / 2 ^ (9 - table) % 2) s.now at) }
+    ensures { Passes s.now counts.old t.old result counts.new t.new index.new (present_at (table_at table) (presence / 2 ^ (9 - table) % 2) s.now at) }
 {
     if !present(presence, table) {
         return Passed::Behind(at);
@@ -95,7 +95,7 @@ fn tables(
     at: usize,
 ) -> Passed
     requires { (Tidy s.now counts.old t.old index.old) × (at ≤ length s.now) }
-    ensures { Passes s.now counts.old t.old result counts.new t.new index.new (tablesAt link tenTables presence s.now at) }
+    ensures { Passes s.now counts.old t.old result counts.new t.new index.new (tables_at link ten_tables presence s.now at) }
 {
     let mut place = at;
     let mut i = 0;
@@ -115,7 +115,7 @@ fn tables(
 // Wrong would be: the entries of a table put into the one before it, as when the presence bits are read from the wrong end.
 pub fn head(s: &[u8], t: &mut [u32], counts: &mut [u32], index: &mut [u8], at: usize) -> Passed
     requires { (Tidy s.now counts.old t.old index.old) × (at ≤ length s.now) }
-    ensures { Passes s.now counts.old t.old result counts.new t.new index.new (headAt link s.now at) }
+    ensures { Passes s.now counts.old t.old result counts.new t.new index.new (head_at link s.now at) }
 {
     if s.len() <= at {
         return Passed::Refused(TRUNCATED, at);

@@ -1,13 +1,13 @@
 // One entry of a table that the head lists: C.2.5.3, C.2.5.4, C.2.5.5. Each function reads one from octet `at` on.
 ghost use Rattle.std.specs.Prelude.{◌≡◌, ◌<◌, ◌≤◌, length, get_or};
 ghost use Rattle.format.specs.Tables.{link};
-ghost use Rattle.tables.specs.Counts.{tableWords};
+ghost use Rattle.tables.specs.Counts.{table_words};
 ghost use Rattle.tables.specs.Rows.{table_of};
-ghost use Rattle.tables.specs.Kept.{count_of, unlisted, nameTableOf};
-ghost use Rattle.read_names.specs.Contracts.{Tidy};
+ghost use Rattle.tables.specs.Kept.{count_of, unlisted, name_table_of};
+ghost use Rattle.read_names.specs.Promises.{Tidy};
 ghost use Rattle.read_names.specs.NameContracts.{Addable, AddsName};
-ghost use Rattle.read_head.specs.Head.{identifyingAt, anotherAt, surrogateAt, entry_at};
-ghost use Rattle.read_head.specs.Contracts.{Passes, PassesBeside, ReadsPart, behindEntry, behindField, table_at};
+ghost use Rattle.read_head.specs.Head.{identifying_at, another_at, surrogate_at, entry_at};
+ghost use Rattle.read_head.specs.Promises.{Passes, PassesBeside, ReadsPart, behind_entry, behind_field, table_at};
 
 use crate::Passed;
 use fields::{Cursor, bits};
@@ -19,7 +19,7 @@ use tables::{Counts, Row};
 
 // The place behind an entry, whose number nobody asks for.
 fn behind_entry(e: Entry) -> Passed
-    ensures { result ≡ behindEntry e }
+    ensures { result ≡ behind_entry e }
 {
     match e {
         Entry::Refused(k, place) => Passed::Refused(k, place),
@@ -28,7 +28,7 @@ fn behind_entry(e: Entry) -> Passed
 }
 
 fn behind_field(e: Field) -> Passed
-    ensures { result ≡ behindField e }
+    ensures { result ≡ behind_field e }
 {
     match e {
         Field::Refused(k, place) => Passed::Refused(k, place),
@@ -46,7 +46,7 @@ fn identifying(
     at: usize,
 ) -> Passed
     requires { (Tidy s.now counts.old t.old index.old) × (at ≤ length s.now) × (table < 5) }
-    ensures { Passes s.now counts.old t.old result counts.new t.new index.new (identifyingAt link (table_of table) s.now at) }
+    ensures { Passes s.now counts.old t.old result counts.new t.new index.new (identifying_at link (table_of table) s.now at) }
 {
     if 0x80 <= read_names::octet(s, at) {
         return Passed::Refused(PADDING, at);
@@ -56,8 +56,8 @@ fn identifying(
 
 // Another string, of one of the tables 5 to 7, which are not searched.
 fn another(s: &[u8], t: &mut [u32], counts: &mut [u32], table: usize, at: usize) -> Passed
-    requires { (length t.old ≡ tableWords) × (length counts.old ≡ 10) × (length s.now ≤ 16384) × (at ≤ length s.now) × (5 ≤ table) × (table < 8) }
-    ensures { PassesBeside s.now counts.old t.old result counts.new t.new (anotherAt link (table_of table) s.now at) }
+    requires { (length t.old ≡ table_words) × (length counts.old ≡ 10) × (length s.now ≤ 16384) × (at ≤ length s.now) × (5 ≤ table) × (table < 8) }
+    ensures { PassesBeside s.now counts.old t.old result counts.new t.new (another_at link (table_of table) s.now at) }
 {
     let o = read_names::octet(s, at);
     if 0x40 <= o {
@@ -128,7 +128,7 @@ fn parts(
     b: u8,
 ) -> Passed
     requires { (Tidy s.now counts.old t.old index.old) × (at < length s.now) × (8 ≤ table) × (table < 10) × (b ≡ get_or s.now at 0) × (b < 4) × (b ≡ 2 → ⊥) }
-    ensures { Passes s.now counts.old t.old result counts.new t.new index.new (surrogateAt link (nameTableOf table) s.now at) }
+    ensures { Passes s.now counts.old t.old result counts.new t.new index.new (surrogate_at link (name_table_of table) s.now at) }
 {
     let first = part(s, counts, PREFIX, at + 1, 2 <= b);
     let Entry::Got(p, behind_prefix) = first else {
@@ -155,7 +155,7 @@ fn surrogate(
     at: usize,
 ) -> Passed
     requires { (Tidy s.now counts.old t.old index.old) × (at ≤ length s.now) × (8 ≤ table) × (table < 10) }
-    ensures { Passes s.now counts.old t.old result counts.new t.new index.new (surrogateAt link (nameTableOf table) s.now at) }
+    ensures { Passes s.now counts.old t.old result counts.new t.new index.new (surrogate_at link (name_table_of table) s.now at) }
 {
     if s.len() <= at {
         return Passed::Refused(TRUNCATED, at);

@@ -14,7 +14,7 @@ use Rattle.states.specs.declared.State.{State}
 use Rattle.states.specs.States.{farthest, moved_to, coming}
 use Rattle.events.specs.declared.EventString.{EventString}
 use Rattle.events.specs.declared.EventString.TheVariants.{Absent}
-use Rattle.events.specs.Records.{eventString, optionalEventString}
+use Rattle.events.specs.Records.{event_string, optional_event_string}
 use Rattle.read_names.specs.declared.Entry.{Entry}
 use Rattle.read_names.specs.declared.Entry.TheVariants.{Got as Numbered, Refused as NotNumbered}
 use Rattle.read_names.specs.declared.Field.{Field}
@@ -25,104 +25,104 @@ use Rattle.read_names.specs.declared.Parts.{Parts}
 use Rattle.read_names.specs.Strings as S
 use Rattle.read_names.specs.Strings.{IdRead, StringRead}
 use Rattle.read_names.specs.Names.{NameRead, DeclaredRead}
-use Rattle.read_names.specs.Contracts.{Tidy, Seen, Left, IdLeft, Positive, seenId, idSeen, seenField, stringSeen, seenName, nameSeen, seenDeclared, declaredSeen, eventStringAt, nameStringsAt, NameThere}
-use Rattle.read_names.proofs.Grown.{name-ranged}
-use Rattle.read_items.specs.Contracts.{Lent, Good}
+use Rattle.read_names.specs.Promises.{Tidy, Seen, Left, IdLeft, Positive, seen_id, id_seen, seen_field, string_seen, seen_name, name_seen, seen_declared, declared_seen, event_string_at, name_strings_at, NameThere}
+use Rattle.read_names.proofs.Grown.{name_ranged}
+use Rattle.read_items.specs.Promises.{Lent, Good}
 use Rattle.read_items.specs.ItemContracts.{Named}
 
 -- ---- answers of one shape
-abbrev seenBy : {B C : Type 0} → (B → C) → S.Got B → S.Got C
-seenBy f (S.got b next v) = S.got (f b) next v
-seenBy f (S.refused n p) = S.refused n p
+abbrev seen_by : {B C : Type 0} → (B → C) → S.Got B → S.Got C
+seen_by f (S.got b next v) = S.got (f b) next v
+seen_by f (S.refused n p) = S.refused n p
 
 pub record Is {B C : Type 0} (f : B → C) (a : S.Got B) (x : C) (next : ℕ) (v : Vocabulary Located) : Type 0 where
   pub what : B
   pub is : a ≡ S.got what next v
   pub seen : f what ≡ x
 
-got-is : {B C : Type 0} (f : B → C) (a : S.Got B) (x : C) (next : ℕ) (v : Vocabulary Located) → S.got x next v ≡ seenBy f a → Is f a x next v
-got-is f (S.got b k u) x next v e = record { what = b; is = cc; seen = cc }
-got-is f (S.refused n p) x next v e = absurd (let z : ◌≡◌ {A = ℕ} 0 1 = cc in omega arith)
+got_is : {B C : Type 0} (f : B → C) (a : S.Got B) (x : C) (next : ℕ) (v : Vocabulary Located) → S.got x next v ≡ seen_by f a → Is f a x next v
+got_is f (S.got b k u) x next v e = record { what = b; is = cc; seen = cc }
+got_is f (S.refused n p) x next v e = absurd (let z : ◌≡◌ {A = ℕ} 0 1 = cc in omega arith)
 
-refused-is : {B C : Type 0} (f : B → C) (a : S.Got B) (n p : ℕ) → S.refused n p ≡ seenBy f a → a ≡ S.refused n p
-refused-is f (S.got b k u) n p e = absurd (let z : ◌≡◌ {A = ℕ} 0 1 = cc in omega arith)
-refused-is f (S.refused m q) n p e = cc
+refused_is : {B C : Type 0} (f : B → C) (a : S.Got B) (n p : ℕ) → S.refused n p ≡ seen_by f a → a ≡ S.refused n p
+refused_is f (S.got b k u) n p e = absurd (let z : ◌≡◌ {A = ℕ} 0 1 = cc in omega arith)
+refused_is f (S.refused m q) n p e = cc
 
 -- ---- an identifying string
-abbrev pub asId : IdRead → Seen
-asId b = record { text = eventString b.string; number = b.number }
+abbrev pub as_id : IdRead → Seen
+as_id b = record { text = event_string b.string; number = b.number }
 
-id-seen : (a : S.Got IdRead) → idSeen a ≡ seenBy asId a
-id-seen (S.got b next v) = refl
-id-seen (S.refused n p) = refl
+id_seen_lem : (a : S.Got IdRead) → id_seen a ≡ seen_by as_id a
+id_seen_lem (S.got b next v) = refl
+id_seen_lem (S.refused n p) = refl
 
 module _ (a : S.Got IdRead) (table : ℕ) (d v : Words) {r : Entry} {n p : ℕ} where
-  pub id-not : r ≡ NotNumbered n p → seenId table r d v ≡ idSeen a → a ≡ S.refused n p
-  id-not e q = refused-is asId a _ _ (rw e at q ∙ id-seen a)
+  pub id_not : r ≡ NotNumbered n p → seen_id table r d v ≡ id_seen a → a ≡ S.refused n p
+  id_not e q = refused_is as_id a _ _ (rw e at q ∙ id_seen_lem a)
 
-  pub id-is : r ≡ Numbered n p → seenId table r d v ≡ idSeen a → Is asId a (record { text = eventStringAt v table n; number = n }) p (vocabulary (unlisted d) v)
-  id-is e q = got-is asId a _ _ _ (rw e at q ∙ id-seen a)
+  pub id_is : r ≡ Numbered n p → seen_id table r d v ≡ id_seen a → Is as_id a (record { text = event_string_at v table n; number = n }) p (vocabulary (unlisted d) v)
+  id_is e q = got_is as_id a _ _ _ (rw e at q ∙ id_seen_lem a)
 
 -- ---- a string without a number
-abbrev pub asString : StringRead → EventString
-asString b = eventString b.string
+abbrev pub as_string : StringRead → EventString
+as_string b = event_string b.string
 
-string-seen : (a : S.Got StringRead) → stringSeen a ≡ seenBy asString a
-string-seen (S.got b next v) = refl
-string-seen (S.refused n p) = refl
+string_seen_lem : (a : S.Got StringRead) → string_seen a ≡ seen_by as_string a
+string_seen_lem (S.got b next v) = refl
+string_seen_lem (S.refused n p) = refl
 
 module _ (a : S.Got StringRead) (d v : Words) {r : Field} where
-  pub string-not : {n p : ℕ} → r ≡ Refused n p → seenField r d v ≡ stringSeen a → a ≡ S.refused n p
-  string-not e q = refused-is asString a _ _ (rw e at q ∙ string-seen a)
+  pub string_not : {n p : ℕ} → r ≡ Refused n p → seen_field r d v ≡ string_seen a → a ≡ S.refused n p
+  string_not e q = refused_is as_string a _ _ (rw e at q ∙ string_seen_lem a)
 
-  pub string-is : {y : EventString} {p : ℕ} → r ≡ Got y p → seenField r d v ≡ stringSeen a → Is asString a y p (vocabulary (unlisted d) v)
-  string-is e q = got-is asString a _ _ _ (rw e at q ∙ string-seen a)
+  pub string_is : {y : EventString} {p : ℕ} → r ≡ Got y p → seen_field r d v ≡ string_seen a → Is as_string a y p (vocabulary (unlisted d) v)
+  string_is e q = got_is as_string a _ _ _ (rw e at q ∙ string_seen_lem a)
 
 -- ---- a name
-abbrev pub asName : NameRead → Parts
-asName b = record { prefix = optionalEventString b.name.prefix; namespace = optionalEventString b.name.namespace; local = eventString b.name.local }
+abbrev pub as_name : NameRead → Parts
+as_name b = record { prefix = optional_event_string b.name.prefix; namespace = optional_event_string b.name.namespace; local = event_string b.name.local }
 
-name-seen : (a : S.Got NameRead) → nameSeen a ≡ seenBy asName a
-name-seen (S.got b next v) = refl
-name-seen (S.refused n p) = refl
+name_seen_lem : (a : S.Got NameRead) → name_seen a ≡ seen_by as_name a
+name_seen_lem (S.got b next v) = refl
+name_seen_lem (S.refused n p) = refl
 
 module _ (a : S.Got NameRead) (table : ℕ) (d v : Words) {r : Entry} {n p : ℕ} where
-  pub name-not : r ≡ NotNumbered n p → seenName table r d v ≡ nameSeen a → a ≡ S.refused n p
-  name-not e q = refused-is asName a _ _ (rw e at q ∙ name-seen a)
+  pub name_not : r ≡ NotNumbered n p → seen_name table r d v ≡ name_seen a → a ≡ S.refused n p
+  name_not e q = refused_is as_name a _ _ (rw e at q ∙ name_seen_lem a)
 
-  pub name-is : r ≡ Numbered n p → seenName table r d v ≡ nameSeen a → Is asName a (nameStringsAt v table n) p (vocabulary (unlisted d) v)
-  name-is e q = got-is asName a _ _ _ (rw e at q ∙ name-seen a)
+  pub name_is : r ≡ Numbered n p → seen_name table r d v ≡ name_seen a → Is as_name a (name_strings_at v table n) p (vocabulary (unlisted d) v)
+  name_is e q = got_is as_name a _ _ _ (rw e at q ∙ name_seen_lem a)
 
 -- ---- a declaration
-abbrev pub asDeclared : DeclaredRead → Parts
-asDeclared b = record { prefix = optionalEventString b.prefix; namespace = optionalEventString b.namespace; local = Absent }
+abbrev pub as_declared : DeclaredRead → Parts
+as_declared b = record { prefix = optional_event_string b.prefix; namespace = optional_event_string b.namespace; local = Absent }
 
-declared-seen : (a : S.Got DeclaredRead) → declaredSeen a ≡ seenBy asDeclared a
-declared-seen (S.got b next v) = refl
-declared-seen (S.refused n p) = refl
+declared_seen_lem : (a : S.Got DeclaredRead) → declared_seen a ≡ seen_by as_declared a
+declared_seen_lem (S.got b next v) = refl
+declared_seen_lem (S.refused n p) = refl
 
 module _ (a : S.Got DeclaredRead) (d v : Words) {r : Declaration} where
-  pub declared-not : {n p : ℕ} → r ≡ NotDeclares n p → seenDeclared r d v ≡ declaredSeen a → a ≡ S.refused n p
-  declared-not e q = refused-is asDeclared a _ _ (rw e at q ∙ declared-seen a)
+  pub declared_not : {n p : ℕ} → r ≡ NotDeclares n p → seen_declared r d v ≡ declared_seen a → a ≡ S.refused n p
+  declared_not e q = refused_is as_declared a _ _ (rw e at q ∙ declared_seen_lem a)
 
-  pub declared-is : {x y p : ℕ} → r ≡ Declares x y p → seenDeclared r d v ≡ declaredSeen a
-      → Is asDeclared a (record { prefix = eventStringAt v 0 x; namespace = eventStringAt v 1 y; local = Absent }) p (vocabulary (unlisted d) v)
-  declared-is e q = got-is asDeclared a _ _ _ (rw e at q ∙ declared-seen a)
+  pub declared_is : {x y p : ℕ} → r ≡ Declares x y p → seen_declared r d v ≡ declared_seen a
+      → Is as_declared a (record { prefix = event_string_at v 0 x; namespace = event_string_at v 1 y; local = Absent }) p (vocabulary (unlisted d) v)
+  declared_is e q = got_is as_declared a _ _ _ (rw e at q ∙ declared_seen_lem a)
 
 -- ---- what is left
 pub near : {s d v x : List ℕ} {at : ℕ} → Tidy s d v x → at ≤ length s → at ≤ farthest
 near t h = let z = t.size in omega arith
 
 -- Behind a field the reader is in order again.
-pub moved-good : {s : Octets} {b : Lent} {c w : Words} (st : State) (next m : ℕ) → Left s c w next b.counts b.tables b.index → st.level + coming m ≤ 32
+pub moved_good : {s : Octets} {b : Lent} {c w : Words} (st : State) (next m : ℕ) → Left s c w next b.counts b.tables b.index → st.level + coming m ≤ 32
     → Good s (moved_to st next m) b
-moved-good st next m l d = record { tidy = l.tidy; at = let z = l.within in omega arith; shallow = d }
+moved_good st next m l d = record { tidy = l.tidy; at = let z = l.within in omega arith; shallow = d }
 
 -- The name's number is that of a row whose numbers are those of rows.
-pub name-there : {s d v x : List ℕ} → Tidy s d v x → (table n : ℕ) → 8 ≤ table → table < 10 → 1 ≤ n → n ≤ count_of (unlisted d) table → NameThere v table n
+pub name_there : {s d v x : List ℕ} → Tidy s d v x → (table n : ℕ) → 8 ≤ table → table < 10 → 1 ≤ n → n ≤ count_of (unlisted d) table → NameThere v table n
 unfolding count_of
-name-there {s = s} {d = d} {v = v} {x = x} t table n low high from to =
-    let r = name-ranged s d v x t table n low high from to in
+name_there {s = s} {d = d} {v = v} {x = x} t table n low high from to =
+    let r = name_ranged s d v x t table n low high from to in
     let e = t.counted table in
     let p = t.counted 0 in
     let q = t.counted 1 in
@@ -133,5 +133,5 @@ name-there {s = s} {d = d} {v = v} {x = x} t table n low high from to =
     (t.room, low, high, from, (omega arith), (omega arith), (omega arith), (omega arith))
 
 pub entry_named : (s c w d v x : List ℕ) (table : ℕ) (r : Entry) → 8 ≤ table → table < 10 → IdLeft s c w table r d v x → Positive r → Named v table r
-entry_named s c w d v x table (Numbered n next) low high l p = (name-there l.0.tidy table n low high p l.1, let z = l.0.tidy.size in let h = l.0.within in omega arith)
+entry_named s c w d v x table (Numbered n next) low high l p = (name_there l.0.tidy table n low high p l.1, let z = l.0.tidy.size in let h = l.0.within in omega arith)
 entry_named s c w d v x table (NotNumbered n p) low high l q = tt

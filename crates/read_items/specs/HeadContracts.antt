@@ -2,9 +2,9 @@
 use Rattle.std.specs.Prelude.{ℕ, ◌≤◌, ◌<◌, ◌≡◌, Bool, true, length, get_or, eqb, ltb}
 use Rattle.format.specs.Octets.{Octets}
 use Rattle.format.specs.Numbers.{pick}
-use Rattle.format.specs.Events.{Start, Attribute, forStart, forAttribute, ◌by◌}
-use Rattle.format.specs.Tables.{ATTRIBUTE-VALUE, Vocabulary, link}
-use Rattle.format.specs.Names.{ofElement, ofAttribute}
+use Rattle.format.specs.Events.{Start, Attribute, for_start, for_attribute, ◌by◌}
+use Rattle.format.specs.Tables.{ATTRIBUTE_VALUE, Vocabulary, link}
+use Rattle.format.specs.Names.{of_element, of_attribute}
 use Rattle.format.specs.Items as F
 use Rattle.tables.specs.Located.{Located}
 use Rattle.states.specs.declared.State.{State}
@@ -16,25 +16,25 @@ use Rattle.read_items.specs.declared.items.Spot.{Spot}
 use Rattle.read_items.specs.declared.items.Head.{Head}
 use Rattle.read_items.specs.declared.items.Head.TheVariants.{Stop, Named, Declared, Child}
 use Rattle.read_items.specs.Items as I
-use Rattle.read_items.specs.Items.{namespaceAt, childAt}
+use Rattle.read_items.specs.Items.{namespace_at, child_at}
 
-abbrev pub spotAt : (at number table first : ℕ) → Bool → Spot
-spotAt at number table first listing = record { at = at; number = number; table = table; first = first; listing = listing }
+abbrev pub spot_at : (at number table first : ℕ) → Bool → Spot
+spot_at at number table first listing = record { at = at; number = number; table = table; first = first; listing = listing }
 
 -- A Start whose name is read: depth (13) behind the name's own faults.
 unfoldable pub start_by : ℕ → Bool → F.State Located → S.Got NameRead → I.Step
-start_by k l v g = I.into g λ x next w. pick (ltb v.level link.depth) (I.more k (Start x.name by forStart x.how) (I.octet next (F.opened v w l))) (I.stop 13 k)
+start_by k l v g = I.into g λ x next w. pick (ltb v.level link.depth) (I.more k (Start x.name by for_start x.how) (I.octet next (F.opened v w l))) (I.stop 13 k)
 
 -- The name, and then the value.
-abbrev pub attributeBy : Octets → ℕ → F.State Located → I.Step
-attributeBy s k v =
-    I.into (name_at link ofAttribute s (get_or s k 0) k v.tables)
-    λ x k₁ w₁. I.into (value_at link s ATTRIBUTE-VALUE k₁ w₁)
-    λ y k₂ w₂. I.more k (Attribute x.name y.string by forAttribute x.how y.how) (I.octet k₂ (F.moved v w₂ (F.listing true)))
+abbrev pub attribute_by : Octets → ℕ → F.State Located → I.Step
+attribute_by s k v =
+    I.into (name_at link of_attribute s (get_or s k 0) k v.tables)
+    λ x k₁ w₁. I.into (value_at link s ATTRIBUTE_VALUE k₁ w₁)
+    λ y k₂ w₂. I.more k (Attribute x.name y.string by for_attribute x.how y.how) (I.octet k₂ (F.moved v w₂ (F.listing true)))
 
 -- An element's name, or an attribute's.
 abbrev pub named_by : Octets → Spot → F.State Located → I.Step
-named_by s x v = pick (eqb x.table 8) (start_by x.at x.listing v (name_at link ofElement s x.first x.at v.tables)) (attributeBy s x.at v)
+named_by s x v = pick (eqb x.table 8) (start_by x.at x.listing v (name_at link of_element s x.first x.at v.tables)) (attribute_by s x.at v)
 
 pub record SpotNamed (s : Octets) (x : Spot) : Type 0 where
   pub inside : x.at < length s
@@ -46,8 +46,8 @@ pub record SpotNamed (s : Octets) (x : Spot) : Type 0 where
 abbrev pub told : Octets → Head → F.State Located → I.Step
 told s (Stop x) v = I.stop x.number x.at
 told s (Named x) v = named_by s x v
-told s (Declared x) v = namespaceAt link s x.at v x.listing
-told s (Child x) v = childAt link s x.at v
+told s (Declared x) v = namespace_at link s x.at v x.listing
+told s (Child x) v = child_at link s x.at v
 
 -- And what holds where it stands.
 abbrev pub Stands : Octets → State → Head → Type 0

@@ -5,7 +5,7 @@ use Rattle.format.specs.Numbers.{pick}
 use Rattle.format.specs.Tables.{link}
 use Rattle.format.specs.Refusals.{CODE, PADDING, FORMAT, DEPTH}
 use Rattle.states.specs.declared.State.{State}
-use Rattle.states.specs.States.{openedAt}
+use Rattle.states.specs.States.{opened_at}
 use Rattle.events.specs.declared.EventString.{EventString}
 use Rattle.events.specs.declared.EventString.TheVariants.{Absent}
 use Rattle.events.specs.declared.Kind.{Kind}
@@ -15,13 +15,13 @@ use Rattle.events.specs.Kept.{kept}
 use Rattle.read_names.specs.declared.Entry.{Entry}
 use Rattle.read_names.specs.declared.Entry.TheVariants.{Got, Refused}
 use Rattle.read_names.specs.declared.Parts.{Parts}
-use Rattle.read_names.specs.Contracts.{nameStringsAt, NameThere}
+use Rattle.read_names.specs.Promises.{name_strings_at, NameThere}
 use Rattle.read_items.specs.declared.Step.{Step}
 use Rattle.read_items.specs.declared.Step.TheVariants.{More, Quiet, Done, Stop}
 use Rattle.read_items.specs.Items as I
 use Rattle.read_items.specs.Items.{Stand}
 use Rattle.read_items.specs.Steps.{end_at}
-use Rattle.read_items.specs.Contracts.{Lent, lent, Good, Met}
+use Rattle.read_items.specs.Promises.{Lent, lent, Good, Met}
 
 -- A refusal at an octet.
 abbrev pub Stopped : (number place : ℕ) → Step
@@ -36,8 +36,8 @@ abbrev pub Ended : Octets → State → ℕ → Words → Step → Words → Typ
 Ended s st n r x r' = (t c : Words) (i : Octets) → Good s st (lent t c i r) → Met s st n (lent t c i r) x (lent t c i r') (λ m. end_at s m m.state.mode)
 
 -- The record of a Start or an attribute, from its name's strings.
-abbrev pub namedRecord : Kind → Parts → EventString → Event
-namedRecord kind x value = record { kind = kind; prefix = x.prefix; namespace = x.namespace; name = x.local; value = value; place = 0 }
+abbrev pub named_record : Kind → Parts → EventString → Event
+named_record kind x value = record { kind = kind; prefix = x.prefix; namespace = x.namespace; name = x.local; value = value; place = 0 }
 
 -- A name was read, and its row is there.
 abbrev pub Named : Words → (table : ℕ) → Entry → Type 0
@@ -45,13 +45,13 @@ Named t table (Got n next) = NameThere t table n × (next ≤ 16384)
 Named t table (Refused n p) = Unit {0}
 
 -- A Start at octet k, whose name is read: no more elements may be open (13), or its event is kept in record n.
-unfoldable pub startStep : State → ℕ → Bool → Entry → Step
-startStep st k a (Got n next) = pick (ltb st.level link.depth) (More (openedAt st next a) k) (Stopped DEPTH k)
-startStep st k a (Refused n p) = Stopped n p
+unfoldable pub start_step : State → ℕ → Bool → Entry → Step
+start_step st k a (Got n next) = pick (ltb st.level link.depth) (More (opened_at st next a) k) (Stopped DEPTH k)
+start_step st k a (Refused n p) = Stopped n p
 
-unfoldable pub startRecords : State → ℕ → Words → Entry → Words → ℕ → Words
-startRecords st k t (Got number next) r n = pick (ltb st.level link.depth) (kept r n k (namedRecord Start (nameStringsAt t 8 number) Absent)) r
-startRecords st k t (Refused number p) r n = r
+unfoldable pub start_records : State → ℕ → Words → Entry → Words → ℕ → Words
+start_records st k t (Got number next) r n = pick (ltb st.level link.depth) (kept r n k (named_record Start (name_strings_at t 8 number) Absent)) r
+start_records st k t (Refused number p) r n = r
 
 -- A refusal's number is a word.
 abbrev pub Fits : Step → Type 0
@@ -61,13 +61,13 @@ Fits (Done st k) = Unit {0}
 Fits (Stop st n) = n < 0x1_0000_0000
 
 pub record StartsBy (st : State) (k : ℕ) (a : Bool) (t : Words) (x : Entry) (r : Words) (n : ℕ) (y : Step) (r' : Words) : Type 0 where
-  pub is : y ≡ startStep st k a x
-  pub keeps : r' ≡ startRecords st k t x r n
+  pub is : y ≡ start_step st k a x
+  pub keeps : r' ≡ start_records st k t x r n
   pub fits : Fits y
 
 -- What is no item.
-unfoldable pub otherStep : (level o k : ℕ) → Step
-otherStep level o k =
+unfoldable pub other_step : (level o k : ℕ) → Step
+other_step level o k =
     pick (ltb o 0xF0)
     (pick (eqb (o / 4) (pick (ltb 0 level) 0x32 0x31)) (Stopped FORMAT k) (Stopped CODE k))
     (Stopped PADDING k)

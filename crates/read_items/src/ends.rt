@@ -1,7 +1,7 @@
 // Ends, which stand at halves of an octet, and the padding that is due where an item does not follow at once.
 ghost use Rattle.std.specs.Prelude.{◌≡◌, ◌&&◌, ℕ, ◌*◌, ◌<◌, ◌≤◌, length};
 ghost use Rattle.states.specs.States.{mode_of};
-ghost use Rattle.read_items.specs.Steps.{halfAt, ends_at, padsAt, documentEnd, byHalves};
+ghost use Rattle.read_items.specs.Steps.{half_at, ends_at, pads_at, document_end, by_halves};
 ghost use Rattle.read_items.specs.ItemContracts.{Keeps, Ended};
 
 use crate::Step;
@@ -12,7 +12,7 @@ use states::State;
 
 // The half at a place counted in halves, 16 behind the last.
 fn half(s: &[u8], at: usize) -> u8
-    ensures { result ≡ halfAt s.now at }
+    ensures { result ≡ half_at s.now at }
 {
     let k = at / 2;
     if s.len() <= k {
@@ -26,7 +26,7 @@ fn half(s: &[u8], at: usize) -> u8
 
 // The padding that is due there is right.
 pub fn pads_at(s: &[u8], at: usize) -> bool
-    ensures { result ≡ padsAt s.now at }
+    ensures { result ≡ pads_at s.now at }
 {
     if at % 2 == 0 {
         return true;
@@ -36,7 +36,7 @@ pub fn pads_at(s: &[u8], at: usize) -> bool
 
 // An end stands here; declarations are ended by an octet, and not by a half.
 pub fn ends_here(st: State, s: &[u8]) -> bool
-    ensures { result ≡ (byHalves (mode_of st.mode) && ends_at s.now st.at) }
+    ensures { result ≡ (by_halves (mode_of st.mode) && ends_at s.now st.at) }
 {
     if State::DECLARING <= st.mode {
         return false;
@@ -47,7 +47,7 @@ pub fn ends_here(st: State, s: &[u8]) -> bool
 // The end of all: there was a root, the octet is filled up, and nothing follows.
 fn document_end(st: State, s: &[u8]) -> Step
     requires { st.at < 32768 }
-    ensures { (n : ℕ) → Keeps s.now st n result (documentEnd s.now) }
+    ensures { (n : ℕ) → Keeps s.now st n result (document_end s.now) }
 {
     let at = st.at;
     if st.root == 0 {

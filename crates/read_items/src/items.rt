@@ -5,13 +5,13 @@ ghost use Rattle.format.specs.Numbers.{pick};
 ghost use Rattle.format.specs.Tables.{link};
 ghost use Rattle.states.specs.declared.State.{State};
 ghost use Rattle.states.specs.States.{mode_of, coming};
-ghost use Rattle.read_items.specs.Items.{namePadding, elementAt, named_at, namespaceAt, attributeAt, chunkAt, commentAt, instructionAt, childAt, item_at};
+ghost use Rattle.read_items.specs.Items.{name_padding, element_at, named_at, namespace_at, attribute_at, chunk_at, comment_at, instruction_at, child_at, item_at};
 ghost use Rattle.read_items.specs.Steps.{step};
-ghost use Rattle.read_items.specs.Contracts.{lent, Good, Meets, Met};
-ghost use Rattle.read_items.specs.ItemContracts.{Named, StartsBy, Stopped, namedRecord, otherStep};
-ghost use Rattle.read_items.specs.HeadContracts.{spotAt, SpotNamed, named_by, Tells};
+ghost use Rattle.read_items.specs.Promises.{lent, Good, Meets, Met};
+ghost use Rattle.read_items.specs.ItemContracts.{Named, StartsBy, Stopped, named_record, other_step};
+ghost use Rattle.read_items.specs.HeadContracts.{spot_at, SpotNamed, named_by, Tells};
 ghost use Rattle.events.specs.Kept.{kept};
-ghost use Rattle.read_names.specs.Contracts.{nameStringsAt, NameThere};
+ghost use Rattle.read_names.specs.Promises.{name_strings_at, NameThere};
 
 use crate::{Step, ends};
 use events::{Event, EventString, Kind};
@@ -49,7 +49,7 @@ fn keep_named(
     value: EventString,
 )
     requires { NameThere t.now table number × (k < 0x1_0000_0000) }
-    ensures { records.new ≡ kept records.old n k (namedRecord kind (nameStringsAt t.now table number) value) }
+    ensures { records.new ≡ kept records.old n k (named_record kind (name_strings_at t.now table number) value) }
 {
     if !events::has_record(records, n) {
         return;
@@ -72,7 +72,7 @@ fn keep_named(
 // The six bits of an element's name hold padding: behind 110, or behind 1110.
 fn name_padding(b: u8) -> bool
     requires { b < 64 }
-    ensures { result ≡ namePadding b }
+    ensures { result ≡ name_padding b }
 {
     if bits(b, 3, 5) == 6 {
         return bits(b, 6, 8) != 0;
@@ -95,7 +95,7 @@ fn other_code(level: usize) -> u8
 
 // No item of this profile: one of another (8), or what no rule assigns (5); 1111 is an end that stands where none is due (6).
 fn other_at(level: usize, o: u8, k: usize) -> Step
-    ensures { result ≡ otherStep level o k }
+    ensures { result ≡ other_step level o k }
 {
     if 0xF0 <= o {
         return stop(PADDING, k);
@@ -152,7 +152,7 @@ fn chunk_at(
     k: usize,
 ) -> Step
     requires { (Good s.now st (lent t.old counts.old index.old records.old)) × (k < length s.now) × (0x80 ≤ get_or s.now k 0) × (get_or s.now k 0 < 0xC0) }
-    ensures { Meets s.now st n (lent t.old counts.old index.old records.old) result (lent t.new counts.new index.new records.new) (chunkAt link s.now k) }
+    ensures { Meets s.now st n (lent t.old counts.old index.old records.old) result (lent t.new counts.new index.new records.new) (chunk_at link s.now k) }
 {
     match read_names::chunk(s, t, counts, k) {
         Field::Refused(number, place) => stop(number, place),
@@ -176,7 +176,7 @@ fn comment_at(
     k: usize,
 ) -> Step
     requires { (Good s.now st (lent t.old counts.old index.old records.old)) × (k < length s.now) }
-    ensures { Meets s.now st n (lent t.old counts.old index.old records.old) result (lent t.new counts.new index.new records.new) (commentAt link s.now k) }
+    ensures { Meets s.now st n (lent t.old counts.old index.old records.old) result (lent t.new counts.new index.new records.new) (comment_at link s.now k) }
 {
     match value(s, t, counts, OTHER_STRING, k + 1) {
         Field::Refused(number, place) => stop(number, place),
@@ -200,7 +200,7 @@ fn instruction_at(
     k: usize,
 ) -> Step
     requires { (Good s.now st (lent t.old counts.old index.old records.old)) × (k < length s.now) }
-    ensures { Meets s.now st n (lent t.old counts.old index.old records.old) result (lent t.new counts.new index.new records.new) (instructionAt link s.now k) }
+    ensures { Meets s.now st n (lent t.old counts.old index.old records.old) result (lent t.new counts.new index.new records.new) (instruction_at link s.now k) }
 {
     match read_names::id(s, t, counts, index, OTHER_NCNAME, k + 1) {
         Entry::Refused(number, place) => stop(number, place),
@@ -230,7 +230,7 @@ fn namespace_at(
     x: Spot,
 ) -> Step
     requires { (Good s.now st (lent t.old counts.old index.old records.old)) × (x.at ≤ length s.now) × (st.level < 32) }
-    ensures { Meets s.now st n (lent t.old counts.old index.old records.old) result (lent t.new counts.new index.new records.new) (λ v. namespaceAt link s.now x.at v x.listing) }
+    ensures { Meets s.now st n (lent t.old counts.old index.old records.old) result (lent t.new counts.new index.new records.new) (λ v. namespace_at link s.now x.at v x.listing) }
 {
     let k = x.at;
     match read_names::declared(s, t, counts, index, k) {
@@ -289,7 +289,7 @@ fn child_at(
     k: usize,
 ) -> Step
     requires { (Good s.now st (lent t.old counts.old index.old records.old)) × (k ≤ length s.now) × (k < length s.now → 0x80 ≤ get_or s.now k 0) }
-    ensures { Meets s.now st n (lent t.old counts.old index.old records.old) result (lent t.new counts.new index.new records.new) (childAt link s.now k) }
+    ensures { Meets s.now st n (lent t.old counts.old index.old records.old) result (lent t.new counts.new index.new records.new) (child_at link s.now k) }
 {
     if s.len() <= k {
         return stop(TRUNCATED, k);
@@ -332,7 +332,7 @@ pub enum Head {
 }
 
 fn refusal(number: u32, at: usize) -> Head
-    ensures { result ≡ Head.Stop (spotAt at number 0 0 false) }
+    ensures { result ≡ Head.Stop (spot_at at number 0 0 false) }
 {
     Head::Stop(Spot {
         at,
@@ -344,7 +344,7 @@ fn refusal(number: u32, at: usize) -> Head
 }
 
 fn name_head(table: usize, at: usize, first: u8, listing: bool) -> Head
-    ensures { result ≡ Head.Named (spotAt at 0 table first listing) }
+    ensures { result ≡ Head.Named (spot_at at 0 table first listing) }
 {
     Head::Named(Spot {
         at,
@@ -356,7 +356,7 @@ fn name_head(table: usize, at: usize, first: u8, listing: bool) -> Head
 }
 
 fn declared_head(at: usize, listing: bool) -> Head
-    ensures { result ≡ Head.Declared (spotAt at 0 0 0 listing) }
+    ensures { result ≡ Head.Declared (spot_at at 0 0 0 listing) }
 {
     Head::Declared(Spot {
         at,
@@ -370,7 +370,7 @@ fn declared_head(at: usize, listing: bool) -> Head
 // An element by its first octet, at k, whose attribute bit is a and other six bits are b: a number; or declarations, 1110 00, or a name in parts.
 fn element_head(st: State, k: usize, b: u8, a: bool) -> Head
     requires { (b < 64) × (k < 16384) }
-    ensures { (s : Octets) → k < length s → Tells s st result (elementAt link s k b a) }
+    ensures { (s : Octets) → k < length s → Tells s st result (element_at link s k b a) }
 {
     if name_padding(b) {
         return refusal(PADDING, k);
@@ -416,7 +416,7 @@ fn named_head(s: &[u8], k: usize, a: bool) -> Head
 
 // An attribute at octet k: 0, its name and its value.
 fn attribute_head(s: &[u8], k: usize) -> Head
-    ensures { (st : State) → Tells s.now st result (attributeAt link s.now k) }
+    ensures { (st : State) → Tells s.now st result (attribute_at link s.now k) }
 {
     if s.len() <= k {
         return refusal(TRUNCATED, k);
@@ -434,7 +434,7 @@ fn attribute_head(s: &[u8], k: usize) -> Head
 // A child at octet k: 0 element, or another.
 fn child_head(st: State, s: &[u8], k: usize) -> Head
     requires { (k ≤ length s.now) × (length s.now ≤ 16384) }
-    ensures { Tells s.now st result (childAt link s.now k) }
+    ensures { Tells s.now st result (child_at link s.now k) }
 {
     if k < s.len() {
         let o = s[k];

@@ -11,47 +11,47 @@ use borrow.Author.Tests.{lt-ltb, le-ltb, le-leb, lt-leb, leb-true, eq-eqb, ne_eq
 use lib.Dec.{ltb, leb, eqb}
 use lib.ListN.{length, get_or, set, take, drop, get_or-eq_default}
 use Rattle.format.specs.Numbers.{pick, Form, lengths, numbers, c25, top}
-use Rattle.fields.specs.Utf8.{isText}
+use Rattle.fields.specs.Utf8.{is_text}
 use Rattle.format.specs.Events.{spelled, numbered}
 use Rattle.format.specs.Tables.{Triple, Vocabulary, strings, names, adding, holds, link}
 use Rattle.format.specs.Strings.{Layout, c14, c15, keeping}
-use Rattle.format.specs.Forms.{formNumber, form_of}
+use Rattle.format.specs.Forms.{form_number, form_of}
 use Rattle.format.specs.declared.StringForm.{StringForm}
 use Rattle.format.specs.declared.StringForm.TheVariants.{Utf8, Utf16}
 use Rattle.fields.specs.declared.Cursor.{Cursor}
 use Rattle.fields.specs.declared.Number.{Number}
 use Rattle.fields.specs.declared.Number.TheVariants.{Got as Num, Refused as NoNum}
-use Rattle.fields.specs.Fields.{bits_of, field_at, noTop}
+use Rattle.fields.specs.Fields.{bits_of, field_at, no_top}
 use Rattle.forms.specs.Reading.{said}
 use Rattle.fields.proofs.Laws.{case}
-use Rattle.fields.proofs.Bounds.{field-got}
+use Rattle.fields.proofs.Bounds.{field_got}
 use Rattle.tables.specs.declared.Counts.{Counts}
 use Rattle.tables.specs.declared.Row.{Row}
-use Rattle.tables.specs.Located.{Located, empty, stretch, octetsOf}
-use Rattle.tables.specs.Rows.{table_of, builtIn, formIn, stringAt, entries, vocabulary}
+use Rattle.tables.specs.Located.{Located, empty, stretch, octets_of}
+use Rattle.tables.specs.Rows.{table_of, built_in, form_in, string_at, entries, vocabulary}
 use Rattle.tables.specs.Kept.{unlisted, count_of, stored, row_at, Ends, Inside}
-use Rattle.tables.proofs.Search.{octets-stretch}
-use Rattle.tables.proofs.FormLaws.{MayHold, holds-any, form-identifying, form_in, form-held}
+use Rattle.tables.proofs.Search.{octets_stretch}
+use Rattle.tables.proofs.FormLaws.{MayHold, holds_any, form_identifying, form_in_lem, form_held}
 use Rattle.tables.proofs.Adding.{names-adding}
-use Rattle.tables.proofs.Entries.{stored-0, stored-1, stored-2}
-use Rattle.tables.proofs.Laws.{strings-are, length-strings, string-nth, holds-number, all-table}
+use Rattle.tables.proofs.Entries.{stored_0, stored_1, stored_2}
+use Rattle.tables.proofs.Laws.{strings_are_lem, length-strings, string_nth, holds-number, all_table}
 use Rattle.index.specs.declared.Added.TheVariants.{Done, Known, Full}
 use Rattle.index.specs.Indexed.{listed, NewString, Indexed, StringsIndexed, StringEntered}
-use Rattle.index.proofs.Entered.{keeps-elsewhere}
+use Rattle.index.proofs.Entered.{keeps_elsewhere}
 use Rattle.events.specs.declared.EventString.{EventString}
 use Rattle.events.specs.declared.EventString.TheVariants.{Absent, Empty, Stretch, XmlPrefix, XmlNamespace}
-use Rattle.events.specs.Records.{eventString}
+use Rattle.events.specs.Records.{event_string}
 use Rattle.read_names.specs.declared.Entry.{Entry}
 use Rattle.read_names.specs.declared.Entry.TheVariants.{Got as Numbered, Refused as NotNumbered}
 use Rattle.read_names.specs.declared.Field.{Field}
 use Rattle.read_names.specs.declared.Field.TheVariants.{Got, Refused}
 use Rattle.read_names.specs.Strings as S
-use Rattle.read_names.specs.Strings.{got, refused, then, number, spelling, IdRead, StringRead, id_at, optionalAt, numberBit, methodAt, formBy, methodLength, formedAt, spelledAt, literalAt, value_at}
-use Rattle.read_names.specs.Contracts.{Ranged, searched, Tidy, Left, eventStringAt, Seen, seenId, IdLeft, Positive, seenField, FieldLeft, idSeen, optionalSeen, stringSeen}
-use Rattle.read_names.specs.StringContracts.{LengthRead, stretchOf, NumberPositive, held_of, said_of, addedOf, addedCounts, addedWords}
-use Rattle.index.proofs.Counted.{count_at, one-more-words}
-use Rattle.index.proofs.Ordered.{string-more, ordered-string}
-use Rattle.read_names.proofs.Grown.{searched-string, searched-not, grown-none, grown-stored}
+use Rattle.read_names.specs.Strings.{got, refused, then, number, spelling, IdRead, StringRead, id_at, optional_at, number_bit, method_at, form_by, method_length, formed_at, spelled_at, literal_at, value_at}
+use Rattle.read_names.specs.Promises.{Ranged, searched, Tidy, Left, event_string_at, Seen, seen_id, IdLeft, Positive, seen_field, FieldLeft, id_seen, optional_seen, string_seen}
+use Rattle.read_names.specs.StringContracts.{LengthRead, stretch_of, NumberPositive, held_of, said_of, added_of, added_counts, added_words}
+use Rattle.index.proofs.Counted.{count_at, one_more-words}
+use Rattle.index.proofs.Ordered.{string_more, ordered_string}
+use Rattle.read_names.proofs.Grown.{searched_string, searched_not, grown_none, grown-stored}
 
 -- a test of a definition, taken apart
 pub tests : {A : Type 0} (P : A → Type 0) (t : Bool) (a b : A) → (t ≡ true → P a) → (t ≡ false → P b) → P (pick t a b)
@@ -59,148 +59,148 @@ tests P true a b f g = f refl
 tests P false a b f g = g refl
 
 -- ---- a spelled string's octets: r is the length that was read at k
-pub length-read : (s : List ℕ) (k bit : ℕ) (r : Number) → r ≡ field_at (lengths bit) noTop bit s k → LengthRead s r
+pub length-read : (s : List ℕ) (k bit : ℕ) (r : Number) → r ≡ field_at (lengths bit) no_top bit s k → LengthRead s r
 length-read s k bit (NoNum n p) e = tt
-length-read s k bit (Num n c) e = let g = field-got noTop s k (lengths bit) bit (sym e) in (g.0, g.3)
+length-read s k bit (Num n c) e = let g = field_got no_top s k (lengths bit) bit (sym e) in (g.0, g.3)
 
 pub begins : (s : List ℕ) (r : Number) (n : ℕ) (c : Cursor) → r ≡ Num n c → LengthRead s r → (1 ≤ n) × (c.at ≤ length s)
 begins s r n c e read = rw e at read
 
 module _ (form : StringForm) (s : List ℕ) (k : ℕ) (r : Number) where
-  pub stretch-not : (n p : ℕ) → r ≡ NoNum n p → r ≡ stretchOf form s k r
-  unfolding stretchOf
-  stretch-not n p e = rw e
+  pub stretch_not : (n p : ℕ) → r ≡ NoNum n p → r ≡ stretch_of form s k r
+  unfolding stretch_of
+  stretch_not n p e = rw e
 
   module _ (n : ℕ) (c : Cursor) (e : r ≡ Num n c) where
-    pub stretch-past : length s < c.at + n → NoNum 2 k ≡ stretchOf form s k r
-    unfolding stretchOf
-    stretch-past h = rw (e, lt-leb _ _ h)
+    pub stretch_past : length s < c.at + n → NoNum 2 k ≡ stretch_of form s k r
+    unfolding stretch_of
+    stretch_past h = rw (e, lt-leb _ _ h)
 
-    module _ (b : Bool) (h : c.at + n ≤ length s) (q : b ≡ isText (octetsOf s (stretch form c.at n))) where
-      pub judged-bad : b ≡ false → NoNum 9 k ≡ stretchOf form s k r
-      unfolding stretchOf
-      judged-bad t = rw (e, le-leb _ _ h, ← q, t)
+    module _ (b : Bool) (h : c.at + n ≤ length s) (q : b ≡ is_text (octets_of s (stretch form c.at n))) where
+      pub judged_bad : b ≡ false → NoNum 9 k ≡ stretch_of form s k r
+      unfolding stretch_of
+      judged_bad t = rw (e, le-leb _ _ h, ← q, t)
 
-      pub judged-text : b ≡ true → Num n c ≡ stretchOf form s k r
-      unfolding stretchOf
-      judged-text t = rw (e, le-leb _ _ h, ← q, t)
+      pub judged_text : b ≡ true → Num n c ≡ stretch_of form s k r
+      unfolding stretch_of
+      judged_text t = rw (e, le-leb _ _ h, ← q, t)
 
-    module _ (b : Bool) (to : ℕ) (h : c.at + n ≤ length s) (is-to : to ≡ c.at + n) (q : b ≡ isText (said form (take (to - c.at) (drop c.at s)))) where
-      tested : b ≡ isText (octetsOf s (stretch form c.at n))
-      tested = let z : to - c.at ≡ n = omega arith in rw (octets-stretch s form c.at n, ← z) q
+    module _ (b : Bool) (to : ℕ) (h : c.at + n ≤ length s) (is-to : to ≡ c.at + n) (q : b ≡ is_text (said form (take (to - c.at) (drop c.at s)))) where
+      tested : b ≡ is_text (octets_of s (stretch form c.at n))
+      tested = let z : to - c.at ≡ n = omega arith in rw (octets_stretch s form c.at n, ← z) q
 
-      pub stretch-bad : b ≡ false → NoNum 9 k ≡ stretchOf form s k r
-      stretch-bad = judged-bad b h tested
+      pub stretch_bad : b ≡ false → NoNum 9 k ≡ stretch_of form s k r
+      stretch_bad = judged_bad b h tested
 
-      pub stretch-text : b ≡ true → Num n c ≡ stretchOf form s k r
-      stretch-text = judged-text b h tested
+      pub stretch_text : b ≡ true → Num n c ≡ stretch_of form s k r
+      stretch_text = judged_text b h tested
 
 -- ---- an entry as a string of an event
 module _ (t at : ℕ) (w : List ℕ) (e : Row) (is : e ≡ row_at w at) where
-  entry-stretch : (f : StringForm) → (e.b ≡ 0 → ⊥) → formIn (table_of t) e.c ≡ f → Stretch f e.a e.b ≡ eventString (stringAt (table_of t) w at)
-  unfolding stringAt row_at
-  entry-stretch f h q =
+  entry_stretch : (f : StringForm) → (e.b ≡ 0 → ⊥) → form_in (table_of t) e.c ≡ f → Stretch f e.a e.b ≡ event_string (string_at (table_of t) w at)
+  unfolding string_at row_at
+  entry_stretch f h q =
       let a : get_or w at 0 ≡ e.a = ap (λ (r : Row). r.a) (sym is) in
       let b : get_or w (at + 1) 0 ≡ e.b = ap (λ (r : Row). r.b) (sym is) in
       let c : get_or w (at + 2) 0 ≡ e.c = ap (λ (r : Row). r.c) (sym is) in
       rw (a, b, c, ne_eqb _ _ h, q)
 
-  pub entry-octets : t < 5 → (e.b ≡ 0 → ⊥) → Stretch Utf8 e.a e.b ≡ eventString (stringAt (table_of t) w at)
-  entry-octets l h = entry-stretch Utf8 h (form-identifying t e.c l)
+  pub entry_octets : t < 5 → (e.b ≡ 0 → ⊥) → Stretch Utf8 e.a e.b ≡ event_string (string_at (table_of t) w at)
+  entry_octets l h = entry_stretch Utf8 h (form_identifying t e.c l)
 
-  pub entry-formed : (f : StringForm) → f ≡ form_of e.c → 5 ≤ t → t < 8 → (e.b ≡ 0 → ⊥) → Stretch f e.a e.b ≡ eventString (stringAt (table_of t) w at)
-  entry-formed f q l u h = entry-stretch f h (form_in t e.c u (λ z. absurd (omega arith)) ∙ sym q)
+  pub entry_formed : (f : StringForm) → f ≡ form_of e.c → 5 ≤ t → t < 8 → (e.b ≡ 0 → ⊥) → Stretch f e.a e.b ≡ event_string (string_at (table_of t) w at)
+  entry_formed f q l u h = entry_stretch f h (form_in_lem t e.c u (λ z. absurd (omega arith)) ∙ sym q)
 
-  pub entry-built-in : (x : EventString) → e.b ≡ 0 → x ≡ eventString (builtIn (table_of t)) → x ≡ eventString (stringAt (table_of t) w at)
-  unfolding stringAt row_at
-  entry-built-in x h q =
+  pub entry_built_in : (x : EventString) → e.b ≡ 0 → x ≡ event_string (built_in (table_of t)) → x ≡ event_string (string_at (table_of t) w at)
+  unfolding string_at row_at
+  entry_built_in x h q =
       let b : get_or w (at + 1) 0 ≡ e.b = ap (λ (r : Row). r.b) (sym is) in
       rw (b, h) q
 
-pub built-in-prefix : (t : ℕ) → t ≡ 0 → XmlPrefix ≡ eventString (builtIn (table_of t))
-unfolding builtIn table_of
-built-in-prefix t e = rw e
+pub built_in_prefix_lem : (t : ℕ) → t ≡ 0 → XmlPrefix ≡ event_string (built_in (table_of t))
+unfolding built_in table_of
+built_in_prefix_lem t e = rw e
 
-pub built-in-namespace : (t : ℕ) → t ≡ 1 → XmlNamespace ≡ eventString (builtIn (table_of t))
-unfolding builtIn table_of
-built-in-namespace t e = rw e
+pub built_in_namespace_lem : (t : ℕ) → t ≡ 1 → XmlNamespace ≡ event_string (built_in (table_of t))
+unfolding built_in table_of
+built_in_namespace_lem t e = rw e
 
-pub built-in-none : (t : ℕ) → t < 8 → (t ≡ 0 → ⊥) → (t ≡ 1 → ⊥) → Empty ≡ eventString (builtIn (table_of t))
-unfolding builtIn table_of
-built-in-none zero h a b = absurd (a refl)
-built-in-none (suc zero) h a b = absurd (b refl)
-built-in-none (suc (suc zero)) h a b = refl
-built-in-none (suc (suc (suc zero))) h a b = refl
-built-in-none (suc (suc (suc (suc zero)))) h a b = refl
-built-in-none (suc (suc (suc (suc (suc zero))))) h a b = refl
-built-in-none (suc (suc (suc (suc (suc (suc zero)))))) h a b = refl
-built-in-none (suc (suc (suc (suc (suc (suc (suc zero))))))) h a b = refl
-built-in-none (suc (suc (suc (suc (suc (suc (suc (suc t)))))))) h a b = absurd (omega arith)
+pub built_in_none : (t : ℕ) → t < 8 → (t ≡ 0 → ⊥) → (t ≡ 1 → ⊥) → Empty ≡ event_string (built_in (table_of t))
+unfolding built_in table_of
+built_in_none zero h a b = absurd (a refl)
+built_in_none (suc zero) h a b = absurd (b refl)
+built_in_none (suc (suc zero)) h a b = refl
+built_in_none (suc (suc (suc zero))) h a b = refl
+built_in_none (suc (suc (suc (suc zero)))) h a b = refl
+built_in_none (suc (suc (suc (suc (suc zero))))) h a b = refl
+built_in_none (suc (suc (suc (suc (suc (suc zero)))))) h a b = refl
+built_in_none (suc (suc (suc (suc (suc (suc (suc zero))))))) h a b = refl
+built_in_none (suc (suc (suc (suc (suc (suc (suc (suc t)))))))) h a b = absurd (omega arith)
 
 -- ---- the string behind a number
-pub string-none : (w : List ℕ) (t n : ℕ) → n ≡ 0 → Absent ≡ eventStringAt w t n
-unfolding eventStringAt
-string-none w t n e = rw e
+pub string_none : (w : List ℕ) (t n : ℕ) → n ≡ 0 → Absent ≡ event_string_at w t n
+unfolding event_string_at
+string_none w t n e = rw e
 
-pub string-there : (w : List ℕ) (t n : ℕ) (x : EventString) → 1 ≤ n → x ≡ eventString (stringAt (table_of t) w (768 * t + 3 * (n - 1))) → x ≡ eventStringAt w t n
-unfolding eventStringAt
-string-there w t n x h e = let z : suc (n - 1) ≡ n = omega arith in e ∙ ap (eventStringAt w t) z
+pub string_there : (w : List ℕ) (t n : ℕ) (x : EventString) → 1 ≤ n → x ≡ event_string (string_at (table_of t) w (768 * t + 3 * (n - 1))) → x ≡ event_string_at w t n
+unfolding event_string_at
+string_there w t n x h e = let z : suc (n - 1) ≡ n = omega arith in e ∙ ap (event_string_at w t) z
 
 -- ---- a number that was read
 module _ (count k : ℕ) (r : Number) where
-  pub held-not : (n p : ℕ) → r ≡ NoNum n p → NotNumbered n p ≡ held_of count k r
+  pub held_not : (n p : ℕ) → r ≡ NoNum n p → NotNumbered n p ≡ held_of count k r
   unfolding held_of
-  held-not n p e = rw e
+  held_not n p e = rw e
 
   module _ (n : ℕ) (c : Cursor) (e : r ≡ Num n c) where
-    pub held-beyond : count < n → NotNumbered 10 k ≡ held_of count k r
+    pub held_beyond : count < n → NotNumbered 10 k ≡ held_of count k r
     unfolding held_of
-    held-beyond l = rw (e, lt-leb _ _ l)
+    held_beyond l = rw (e, lt-leb _ _ l)
 
-    pub held-entry : n ≤ count → Numbered n c.at ≡ held_of count k r
+    pub held_entry : n ≤ count → Numbered n c.at ≡ held_of count k r
     unfolding held_of
-    held-entry l = rw (e, le-leb _ _ l)
+    held_entry l = rw (e, le-leb _ _ l)
 
-  pub held-positive : (fs : List Form) (bit : ℕ) (s : List ℕ) → count ≤ 256 → r ≡ field_at fs top bit s k → NumberPositive (held_of count k r)
+  pub held_positive : (fs : List Form) (bit : ℕ) (s : List ℕ) → count ≤ 256 → r ≡ field_at fs top bit s k → NumberPositive (held_of count k r)
   unfolding held_of
-  held-positive fs bit s small e = by r e
+  held_positive fs bit s small e = by r e
     where
       by : (f : Number) → f ≡ field_at fs top bit s k → NumberPositive (held_of count k f)
       by (NoNum n p) q = tt
-      by (Num n c) q = let g = field-got top s k fs bit (sym q) in tests NumberPositive (leb n count) _ _ (λ l. let u : n ≤ count = leb-true _ _ l in (g.0, omega arith)) (λ l. tt)
+      by (Num n c) q = let g = field_got top s k fs bit (sym q) in tests NumberPositive (leb n count) _ _ (λ l. let u : n ≤ count = leb-true _ _ l in (g.0, omega arith)) (λ l. tt)
 
-pub numbers-from-one : (r : Entry) → NumberPositive r → Positive r
-numbers-from-one (Numbered n at) p = p.0
-numbers-from-one (NotNumbered n p) h = tt
+pub numbers_from_one : (r : Entry) → NumberPositive r → Positive r
+numbers_from_one (Numbered n at) p = p.0
+numbers_from_one (NotNumbered n p) h = tt
 
 pub said-number : (r : Entry) (n at : ℕ) → r ≡ Numbered n at → NumberPositive r → (1 ≤ n) × (n ≤ 256)
 said-number r n at e p = rw e at p
 
 module _ (w : List ℕ) (t : ℕ) (r : Entry) where
-  pub said-not : (n p : ℕ) → r ≡ NotNumbered n p → Refused n p ≡ said_of w t r
+  pub said_not : (n p : ℕ) → r ≡ NotNumbered n p → Refused n p ≡ said_of w t r
   unfolding said_of
-  said-not n p e = rw e
+  said_not n p e = rw e
 
-  pub said-entry : (n at : ℕ) (x : EventString) → r ≡ Numbered n at → x ≡ eventString (stringAt (table_of t) w (768 * t + 3 * (n - 1))) → Got x at ≡ said_of w t r
+  pub said_entry : (n at : ℕ) (x : EventString) → r ≡ Numbered n at → x ≡ event_string (string_at (table_of t) w (768 * t + 3 * (n - 1))) → Got x at ≡ said_of w t r
   unfolding said_of
-  said-entry n at x e q = rw (e, q)
+  said_entry n at x e q = rw (e, q)
 
 -- ---- one entry more, where its add bit says so
 module _ (c w : List ℕ) (t k : ℕ) (form : StringForm) (place size : ℕ) (add : Bool) (a b : ℕ) (ea : a ≡ place) (eb : b ≡ size) where
-  pub added-not : add ≡ false
-      → (Got (Stretch form a b) (place + size) ≡ addedOf c t k form place size add) × (c ≡ addedCounts c t add) × (w ≡ addedWords c w t form place size add)
-  unfolding addedOf addedCounts addedWords
-  added-not z = rw (z, ea, eb) (refl, refl, refl)
+  pub added_not : add ≡ false
+      → (Got (Stretch form a b) (place + size) ≡ added_of c t k form place size add) × (c ≡ added_counts c t add) × (w ≡ added_words c w t form place size add)
+  unfolding added_of added_counts added_words
+  added_not z = rw (z, ea, eb) (refl, refl, refl)
 
   pub added_full : add ≡ true → 256 ≤ get_or c t 0
-      → (Refused 12 k ≡ addedOf c t k form place size add) × (c ≡ addedCounts c t add) × (w ≡ addedWords c w t form place size add)
-  unfolding addedOf addedCounts addedWords
+      → (Refused 12 k ≡ added_of c t k form place size add) × (c ≡ added_counts c t add) × (w ≡ added_words c w t form place size add)
+  unfolding added_of added_counts added_words
   added_full z l = rw (z, le-ltb _ _ l) (refl, refl, refl)
 
-  pub added_more : add ≡ true → get_or c t 0 < 256 → (n : ℕ) → n ≡ formNumber form → (v : List ℕ) → v ≡ stored w t (get_or c t 0) a b n
-      → (Got (Stretch form a b) (place + size) ≡ addedOf c t k form place size add) × (set c t (get_or c t 0 + 1) ≡ addedCounts c t add)
-      × (v ≡ addedWords c w t form place size add)
-  unfolding addedOf addedCounts addedWords
+  pub added_more : add ≡ true → get_or c t 0 < 256 → (n : ℕ) → n ≡ form_number form → (v : List ℕ) → v ≡ stored w t (get_or c t 0) a b n
+      → (Got (Stretch form a b) (place + size) ≡ added_of c t k form place size add) × (set c t (get_or c t 0 + 1) ≡ added_counts c t add)
+      × (v ≡ added_words c w t form place size add)
+  unfolding added_of added_counts added_words
   added_more z l n en v ev = rw (z, lt-ltb _ _ l, ev, ea, eb, en) (refl, refl, refl)
 
 -- ---- tables in order stay so
@@ -211,68 +211,68 @@ growing (x ∷ l) zero (suc k) = omega arith
 growing (x ∷ l) (suc t) zero = omega arith
 growing (x ∷ l) (suc t) (suc k) = growing l t k
 
-pub ranged-kept : (c d : Counts) → c.prefix ≤ d.prefix → c.namespace ≤ d.namespace → c.local ≤ d.local → (l : List Triple) → Ranged c l → Ranged d l
-ranged-kept c d p n k [] r = tt
-ranged-kept c d p n k (x ∷ l) r = (omega arith, omega arith, omega arith, omega arith, ranged-kept c d p n k l r.4)
+pub ranged_kept : (c d : Counts) → c.prefix ≤ d.prefix → c.namespace ≤ d.namespace → c.local ≤ d.local → (l : List Triple) → Ranged c l → Ranged d l
+ranged_kept c d p n k [] r = tt
+ranged_kept c d p n k (x ∷ l) r = (omega arith, omega arith, omega arith, omega arith, ranged_kept c d p n k l r.4)
 
 -- a string more in table t, and the index y that is kept with it
 module _ (s c w x : List ℕ) (t : ℕ) (form : StringForm) (place size : ℕ) (tidy : Tidy s c w x) (h : t < 8) (may : MayHold t form) (room : get_or c t 0 < 256) (ends : place + size ≤ length s) (some : 0 < size) where
-  abbrev then-counts : List ℕ
-  then-counts = set c t (get_or c t 0 + 1)
+  abbrev then_counts : List ℕ
+  then_counts = set c t (get_or c t 0 + 1)
 
   abbrev then-words : List ℕ
-  then-words = stored w t (get_or c t 0) place size (formNumber form)
+  then-words = stored w t (get_or c t 0) place size (form_number form)
 
-  is-added : vocabulary (unlisted then-counts) then-words ≡ adding (vocabulary (unlisted c) w) (table_of t) (stretch form place size)
-  is-added = string-more tidy t room form place size h may some
+  is_added : vocabulary (unlisted then_counts) then-words ≡ adding (vocabulary (unlisted c) w) (table_of t) (stretch form place size)
+  is_added = string_more tidy t room form place size h may some
 
-  left-more : (y : List ℕ) → Indexed searched s (count_of (unlisted then-counts)) then-words y → Left s c w (place + size) then-counts then-words y
+  left-more : (y : List ℕ) → Indexed searched s (count_of (unlisted then_counts)) then-words y → Left s c w (place + size) then_counts then-words y
   left-more y keeps =
       record {
         tidy =
-            ordered-string tidy t room form place size h may some ends then-words y refl keeps
-            (λ k. rw (is-added, names-adding (vocabulary (unlisted c) w) (table_of t) (stretch form place size) k)
-            (ranged-kept (unlisted c) (unlisted then-counts) (growing c t 0) (growing c t 1) (growing c t 2) (names (vocabulary (unlisted c) w) k) (tidy.more k)));
+            ordered_string tidy t room form place size h may some ends then-words y refl keeps
+            (λ k. rw (is_added, names-adding (vocabulary (unlisted c) w) (table_of t) (stretch form place size) k)
+            (ranged_kept (unlisted c) (unlisted then_counts) (growing c t 0) (growing c t 1) (growing c t 2) (names (vocabulary (unlisted c) w) k) (tidy.more k)));
         within = ends;
-        grown = grown-stored c w t place size (formNumber form) tidy.ten (omega arith) room tidy.counted;
+        grown = grown-stored c w t place size (form_number form) tidy.ten (omega arith) room tidy.counted;
       }
 
   -- of a table that is searched, and of one that is not
-  left-entered : (y : List ℕ) → StringEntered s t (get_or c t 0) (record { a = place; b = size; c = formNumber form }) w x then-words y → Left s c w (place + size) then-counts then-words y
-  left-entered y e = left-more y (e.keeps.still searched (count_of (unlisted c)) (count_of (unlisted then-counts)) (one-more-words c tidy.ten t (omega arith)) tidy.indexed)
+  left_entered : (y : List ℕ) → StringEntered s t (get_or c t 0) (record { a = place; b = size; c = form_number form }) w x then-words y → Left s c w (place + size) then_counts then-words y
+  left_entered y e = left-more y (e.keeps.still searched (count_of (unlisted c)) (count_of (unlisted then_counts)) (one_more-words c tidy.ten t (omega arith)) tidy.indexed)
 
-  left-elsewhere : 5 ≤ t → Left s c w (place + size) then-counts then-words x
-  left-elsewhere l =
+  left_elsewhere : 5 ≤ t → Left s c w (place + size) then_counts then-words x
+  left_elsewhere l =
       left-more x
-      (keeps-elsewhere searched s w x t (get_or c t 0) place size (formNumber form) (count_of (unlisted c)) (count_of (unlisted then-counts)) room (searched-not t l h)
-      (one-more-words c tidy.ten t (omega arith)) tidy.indexed)
+      (keeps_elsewhere searched s w x t (get_or c t 0) place size (form_number form) (count_of (unlisted c)) (count_of (unlisted then_counts)) room (searched_not t l h)
+      (one_more-words c tidy.ten t (omega arith)) tidy.indexed)
 
   -- the string behind its number
-  new-string : Stretch form place size ≡ eventStringAt then-words t (get_or c t 0 + 1)
-  unfolding eventStringAt stringAt
-  new-string =
+  new_string : Stretch form place size ≡ event_string_at then-words t (get_or c t 0 + 1)
+  unfolding event_string_at string_at
+  new_string =
       let n = count_at c tidy.ten t in
       let fits : 768 * t + 3 * get_or c t 0 + 3 ≤ length w = (let r = tidy.room in omega arith) in
-      let one = stored-1 w t (get_or c t 0) place size (formNumber form) fits in
-      rw (add-one (get_or c t 0), one, stored-0 w t (get_or c t 0) place size (formNumber form) fits, stored-2 w t (get_or c t 0) place size (formNumber form) fits, ne_eqb size 0 (omega arith), form-held t form h may)
+      let one = stored_1 w t (get_or c t 0) place size (form_number form) fits in
+      rw (add-one (get_or c t 0), one, stored_0 w t (get_or c t 0) place size (form_number form) fits, stored_2 w t (get_or c t 0) place size (form_number form) fits, ne_eqb size 0 (omega arith), form_held t form h may)
 
 -- ---- what an answer stands for
 abbrev pub IdAnswers : (s c w : List ℕ) → ℕ → Entry → (d v x : List ℕ) → S.Got Seen → Type 0
-IdAnswers s c w t r d v x a = (seenId t r d v ≡ a) × IdLeft s c w t r d v x × Positive r
+IdAnswers s c w t r d v x a = (seen_id t r d v ≡ a) × IdLeft s c w t r d v x × Positive r
 
 abbrev pub FieldAnswers : (s c w : List ℕ) → Field → (d v x : List ℕ) → S.Got EventString → Type 0
-FieldAnswers s c w r d v x a = (seenField r d v ≡ a) × FieldLeft s c w r d v x
+FieldAnswers s c w r d v x a = (seen_field r d v ≡ a) × FieldLeft s c w r d v x
 
 -- a test of a definition, under a map
 under : {A B : Type 0} (f : A → B) (b : Bool) (x y : A) → f (pick b x y) ≡ pick b (f x) (f y)
 under f true x y = refl
 under f false x y = refl
 
--- the octets of a spelled string are judged in `stretchOf`
-judged : {C : Type 0} (form : StringForm) (s : List ℕ) (k : ℕ) (a : ℕ → ℕ → S.Got C) (f : Number) → number f (λ n next. spelling form s k next n (a n next)) ≡ number (stretchOf form s k f) a
-unfolding spelling stretchOf
+-- the octets of a spelled string are judged in `stretch_of`
+judged : {C : Type 0} (form : StringForm) (s : List ℕ) (k : ℕ) (a : ℕ → ℕ → S.Got C) (f : Number) → number f (λ n next. spelling form s k next n (a n next)) ≡ number (stretch_of form s k f) a
+unfolding spelling stretch_of
 judged form s k a (NoNum n p) = refl
-judged form s k a (Num n c) = by (leb (c.at + n) (length s)) (isText (octetsOf s (stretch form c.at n)))
+judged form s k a (Num n c) = by (leb (c.at + n) (length s)) (is_text (octets_of s (stretch form c.at n)))
   where
     by : (t u : Bool) → pick t (pick u (a n c.at) (refused 9 k)) (refused 2 k) ≡ number (pick t (pick u (Num n c) (NoNum 9 k)) (NoNum 2 k)) a
     by true true = refl
@@ -285,35 +285,35 @@ module _ (form : StringForm) (s : List ℕ) (k : ℕ) where
   Lies r (Num n c) = (r ≡ Num n c) × (c.at + n ≤ length s)
   Lies r (NoNum n p) = Unit {0}
 
-  lies : (r : Number) → Lies r (stretchOf form s k r)
-  unfolding stretchOf
+  lies : (r : Number) → Lies r (stretch_of form s k r)
+  unfolding stretch_of
   lies (NoNum n p) = tt
   lies (Num n c) =
       tests (Lies (Num n c)) (leb (c.at + n) (length s)) _ _
-      (λ t. tests (Lies (Num n c)) (isText (octetsOf s (stretch form c.at n))) _ _ (λ u. (refl, leb-true _ _ t)) (λ u. tt))
+      (λ t. tests (Lies (Num n c)) (is_text (octets_of s (stretch form c.at n))) _ _ (λ u. (refl, leb-true _ _ t)) (λ u. tt))
       (λ t. tt)
 
-  module _ (r : Number) (n : ℕ) (c : Cursor) (e : Num n c ≡ stretchOf form s k r) where
-    pub stretch-within : (r ≡ Num n c) × (c.at + n ≤ length s)
-    stretch-within = rw (← e) at (lies r)
+  module _ (r : Number) (n : ℕ) (c : Cursor) (e : Num n c ≡ stretch_of form s k r) where
+    pub stretch_within : (r ≡ Num n c) × (c.at + n ≤ length s)
+    stretch_within = rw (← e) at (lies r)
 
-    stretch-lies : LengthRead s r → (1 ≤ n) × (c.at + n ≤ length s)
-    stretch-lies read = ((begins s r n c stretch-within.0 read).0, stretch-within.1)
+    stretch_lies : LengthRead s r → (1 ≤ n) × (c.at + n ≤ length s)
+    stretch_lies read = ((begins s r n c stretch_within.0 read).0, stretch_within.1)
 
 -- an octet that is not 0 is one of the document's
-pub there-is : (s : List ℕ) (k : ℕ) → 0 < get_or s k 0 → k < length s
-there-is s k h = case k (length s) (λ l. l) (λ l. let z = get_or-eq_default s 0 {n = k} l in absurd (omega arith))
+pub there_is : (s : List ℕ) (k : ℕ) → 0 < get_or s k 0 → k < length s
+there_is s k h = case k (length s) (λ l. l) (λ l. let z = get_or-eq_default s 0 {n = k} l in absurd (omega arith))
 
 -- ---- what the index is asked
 module _ (s c w x : List ℕ) (t : ℕ) (tidy : Tidy s c w x) where
-  pub table-small : get_or c t 0 ≤ 256
-  table-small = rw (← count_at c tidy.ten t) (tidy.counted t)
+  pub table_small : get_or c t 0 ≤ 256
+  table_small = rw (← count_at c tidy.ten t) (tidy.counted t)
 
-  pub table-inside : t < 8 → Inside s (entries (stringAt (table_of t) w) (768 * t) (get_or c t 0))
-  table-inside l = rw (← count_at c tidy.ten t) (all-table (Ends s) (unlisted c) w t l tidy.inside)
+  pub table_inside : t < 8 → Inside s (entries (string_at (table_of t) w) (768 * t) (get_or c t 0))
+  table_inside l = rw (← count_at c tidy.ten t) (all_table (Ends s) (unlisted c) w t l tidy.inside)
 
-  pub table-indexed : t < 5 → StringsIndexed s w x t (get_or c t 0)
-  table-indexed l = rw (← count_at c tidy.ten t) (tidy.indexed.ofStrings t (omega arith) (searched-string t l))
+  pub table_indexed : t < 5 → StringsIndexed s w x t (get_or c t 0)
+  table_indexed l = rw (← count_at c tidy.ten t) (tidy.indexed.of_strings t (omega arith) (searched_string t l))
 
 -- ---- the code stands at octet k, and the tables are in order
 module _ (s c w x : List ℕ) (t k : ℕ) (tidy : Tidy s c w x) (small : t < 8) where
@@ -327,14 +327,14 @@ module _ (s c w x : List ℕ) (t k : ℕ) (tidy : Tidy s c w x) (small : t < 8) 
   rooms = (tidy.ten, tidy.room)
 
   stays : (at : ℕ) → at ≤ length s → Left s c w at c w x
-  stays at l = record { tidy = tidy; within = l; grown = grown-none c w }
+  stays at l = record { tidy = tidy; within = l; grown = grown_none c w }
 
   -- a number and the entry behind it
   abbrev number_of : ℕ → ℕ → S.Got Seen
-  number_of n next = pick (leb n (length table)) (got (record { text = eventString (get_or table (n - 1) empty); number = n }) next here) (refused 10 k)
+  number_of n next = pick (leb n (length table)) (got (record { text = event_string (get_or table (n - 1) empty); number = n }) next here) (refused 10 k)
 
   abbrev entry_of : ℕ → ℕ → S.Got EventString
-  entry_of n next = pick (leb n (length table)) (got (eventString (get_or table (n - 1) empty)) next here) (refused 10 k)
+  entry_of n next = pick (leb n (length table)) (got (event_string (get_or table (n - 1) empty)) next here) (refused 10 k)
 
   module _ (fs : List Form) (bit : ℕ) (r : Number) (is : r ≡ field_at fs top bit s k) where
     held_number : IdAnswers s c w t (held_of (count_of (unlisted c) t) k r) c w x (number r number_of)
@@ -344,66 +344,66 @@ module _ (s c w x : List ℕ) (t k : ℕ) (tidy : Tidy s c w x) (small : t < 8) 
         by : (f : Number) → f ≡ field_at fs top bit s k → IdAnswers s c w t (held_of (count_of (unlisted c) t) k f) c w x (number f number_of)
         by (NoNum n p) e = (refl, rooms, tt)
         by (Num n i) e =
-            let g = field-got top s k fs bit (sym e) in
+            let g = field_got top s k fs bit (sym e) in
             let len = length-strings (unlisted c) w t small in
             case (count_of (unlisted c) t) n
             (λ l. rw (len, lt-leb _ _ l) (refl, rooms, tt))
-            (λ l. rw (len, le-leb _ _ l, string-nth (unlisted c) w t (n - 1) empty small (omega arith), string-there w t n _ g.0 refl) (refl, (stays i.at g.3, l), g.0))
+            (λ l. rw (len, le-leb _ _ l, string_nth (unlisted c) w t (n - 1) empty small (omega arith), string_there w t n _ g.0 refl) (refl, (stays i.at g.3, l), g.0))
 
-    held-string : FieldAnswers s c w (said_of w t (held_of (count_of (unlisted c) t) k r)) c w x (number r entry_of)
+    held_string : FieldAnswers s c w (said_of w t (held_of (count_of (unlisted c) t) k r)) c w x (number r entry_of)
     unfolding held_of said_of
-    held-string = by r is
+    held_string = by r is
       where
         by : (f : Number) → f ≡ field_at fs top bit s k → FieldAnswers s c w (said_of w t (held_of (count_of (unlisted c) t) k f)) c w x (number f entry_of)
         by (NoNum n p) e = (refl, rooms)
         by (Num n i) e =
-            let g = field-got top s k fs bit (sym e) in
+            let g = field_got top s k fs bit (sym e) in
             let len = length-strings (unlisted c) w t small in
             case (count_of (unlisted c) t) n
             (λ l. rw (len, lt-leb _ _ l) (refl, rooms))
-            (λ l. rw (len, le-leb _ _ l, string-nth (unlisted c) w t (n - 1) empty small (omega arith)) (refl, stays i.at g.3))
+            (λ l. rw (len, le-leb _ _ l, string_nth (unlisted c) w t (n - 1) empty small (omega arith)) (refl, stays i.at g.3))
 
   -- ---- C.13
-  abbrev asId : ℕ → ℕ → S.Got IdRead
-  asId n next =
-      pick (holds (map (octetsOf s) table) (octetsOf s (stretch Utf8 next n))) (refused 11 k)
+  abbrev as_id : ℕ → ℕ → S.Got IdRead
+  as_id n next =
+      pick (holds (map (octets_of s) table) (octets_of s (stretch Utf8 next n))) (refused 11 k)
       (pick (ltb (length table) link.entries)
       (got (record { string = stretch Utf8 next n; how = spelled Utf8 true; number = suc (length table) }) (next + n) (adding here (table_of t) (stretch Utf8 next n)))
       (refused 12 k))
 
   abbrev pub by_id : S.Got Seen
-  by_id = idSeen (id_at link s (table_of t) k here)
+  by_id = id_seen (id_at link s (table_of t) k here)
 
   -- its length was read, m, and its octets judged, r
-  module _ (low : get_or s k 0 < 0x80) (m : Number) (read : m ≡ field_at (lengths 2) noTop 2 s k) (r : Number) (is : r ≡ stretchOf Utf8 s k m) where
-    id-spelled : id_at link s (table_of t) k here ≡ number r asId
+  module _ (low : get_or s k 0 < 0x80) (m : Number) (read : m ≡ field_at (lengths 2) no_top 2 s k) (r : Number) (is : r ≡ stretch_of Utf8 s k m) where
+    id_spelled : id_at link s (table_of t) k here ≡ number r as_id
     unfolding id_at
-    id-spelled = rw (lt-ltb _ _ low, is, read) (judged Utf8 s k asId (field_at (lengths 2) noTop 2 s k))
+    id_spelled = rw (lt-ltb _ _ low, is, read) (judged Utf8 s k as_id (field_at (lengths 2) no_top 2 s k))
 
-    fresh-not : (n p : ℕ) → r ≡ NoNum n p → IdAnswers s c w t (NotNumbered n p) c w x by_id
-    fresh-not n p e = rw (id-spelled, e) (refl, rooms, tt)
+    fresh_not : (n p : ℕ) → r ≡ NoNum n p → IdAnswers s c w t (NotNumbered n p) c w x by_id
+    fresh_not n p e = rw (id_spelled, e) (refl, rooms, tt)
 
     module _ (n : ℕ) (i : Cursor) (e : r ≡ Num n i) where
-      there : holds (map (octetsOf s) table) (octetsOf s (stretch Utf8 i.at n)) ≡ listed s w t (get_or c t 0) i.at n
-      there = rw (strings-are (unlisted c) w t small, count_at c tidy.ten t) (holds-number _ _)
+      there : holds (map (octets_of s) table) (octets_of s (stretch Utf8 i.at n)) ≡ listed s w t (get_or c t 0) i.at n
+      there = rw (strings_are_lem (unlisted c) w t small, count_at c tidy.ten t) (holds-number _ _)
 
       fresh-known : listed s w t (get_or c t 0) i.at n ≡ true → IdAnswers s c w t (NotNumbered 11 k) c w x by_id
-      fresh-known l = rw (id-spelled, e, there, l) (refl, rooms, tt)
+      fresh-known l = rw (id_spelled, e, there, l) (refl, rooms, tt)
 
       module _ (new : listed s w t (get_or c t 0) i.at n ≡ false) where
-        fresh-full : 256 ≤ get_or c t 0 → IdAnswers s c w t (NotNumbered 12 k) c w x by_id
+        fresh_full : 256 ≤ get_or c t 0 → IdAnswers s c w t (NotNumbered 12 k) c w x by_id
         unfolding link
-        fresh-full l = rw (id-spelled, e, there, new, length-strings (unlisted c) w t small, count_at c tidy.ten t, le-ltb _ _ l) (refl, rooms, tt)
+        fresh_full l = rw (id_spelled, e, there, new, length-strings (unlisted c) w t small, count_at c tidy.ten t, le-ltb _ _ l) (refl, rooms, tt)
 
         fresh-stored : (l : get_or c t 0 < 256) (y : List ℕ) → StringEntered s t (get_or c t 0) (record { a = i.at; b = n; c = 0 }) w x (stored w t (get_or c t 0) i.at n 0) y
             → IdAnswers s c w t (Numbered (get_or c t 0 + 1) (i.at + n)) (set c t (get_or c t 0 + 1)) (stored w t (get_or c t 0) i.at n 0) y by_id
         unfolding link
         fresh-stored l y q =
-            let b = stretch-lies Utf8 s k m n i (sym e ∙ is) (length-read s k 2 m read) in
-            let more = (one-more-words c tidy.ten t (omega arith)).here in
-            rw (id-spelled, e, there, new, length-strings (unlisted c) w t small, count_at c tidy.ten t, lt-ltb _ _ l, ← add-one (get_or c t 0)) (
-              rw (← new-string s c w x t Utf8 i.at n tidy small (λ _. refl) l b.1 b.0, ← is-added s c w x t Utf8 i.at n tidy small (λ _. refl) l b.1 b.0) refl,
-              (left-entered s c w x t Utf8 i.at n tidy small (λ _. refl) l b.1 b.0 y q, omega arith),
+            let b = stretch_lies Utf8 s k m n i (sym e ∙ is) (length-read s k 2 m read) in
+            let more = (one_more-words c tidy.ten t (omega arith)).here in
+            rw (id_spelled, e, there, new, length-strings (unlisted c) w t small, count_at c tidy.ten t, lt-ltb _ _ l, ← add-one (get_or c t 0)) (
+              rw (← new_string s c w x t Utf8 i.at n tidy small (λ _. refl) l b.1 b.0, ← is_added s c w x t Utf8 i.at n tidy small (λ _. refl) l b.1 b.0) refl,
+              (left_entered s c w x t Utf8 i.at n tidy small (λ _. refl) l b.1 b.0 y q, omega arith),
               omega arith,
             )
 
@@ -412,193 +412,193 @@ module _ (s c w x : List ℕ) (t k : ℕ) (tidy : Tidy s c w x) (small : t < 8) 
         fresh_added l v y q = rw q.words (fresh-stored l y (rw q.words at q))
 
   -- its length was read, m: n octets from a place on; and what became of them
-  module _ (low : get_or s k 0 < 0x80) (m : Number) (read : m ≡ field_at (lengths 2) noTop 2 s k) where
-    pub fresh-refused : (n p : ℕ) → m ≡ NoNum n p → IdAnswers s c w t (NotNumbered n p) c w x by_id
-    fresh-refused n p e = fresh-not low m read m (stretch-not Utf8 s k m n p e) n p e
+  module _ (low : get_or s k 0 < 0x80) (m : Number) (read : m ≡ field_at (lengths 2) no_top 2 s k) where
+    pub fresh_refused : (n p : ℕ) → m ≡ NoNum n p → IdAnswers s c w t (NotNumbered n p) c w x by_id
+    fresh_refused n p e = fresh_not low m read m (stretch_not Utf8 s k m n p e) n p e
 
     module _ (n : ℕ) (i : Cursor) (e : m ≡ Num n i) where
-      pub fresh-past : length s < i.at + n → IdAnswers s c w t (NotNumbered 2 k) c w x by_id
-      fresh-past h = fresh-not low m read (NoNum 2 k) (stretch-past Utf8 s k m n i e h) 2 k refl
+      pub fresh_past : length s < i.at + n → IdAnswers s c w t (NotNumbered 2 k) c w x by_id
+      fresh_past h = fresh_not low m read (NoNum 2 k) (stretch_past Utf8 s k m n i e h) 2 k refl
 
-      module _ (b : Bool) (h : i.at + n ≤ length s) (q : b ≡ isText (octetsOf s (stretch Utf8 i.at n))) where
-        pub fresh-bad : b ≡ false → IdAnswers s c w t (NotNumbered 9 k) c w x by_id
-        fresh-bad z = fresh-not low m read (NoNum 9 k) (judged-bad Utf8 s k m n i e b h q z) 9 k refl
+      module _ (b : Bool) (h : i.at + n ≤ length s) (q : b ≡ is_text (octets_of s (stretch Utf8 i.at n))) where
+        pub fresh_bad : b ≡ false → IdAnswers s c w t (NotNumbered 9 k) c w x by_id
+        fresh_bad z = fresh_not low m read (NoNum 9 k) (judged_bad Utf8 s k m n i e b h q z) 9 k refl
 
         -- they are text, and v and y are the words of the tables and the index then
         module _ (text : b ≡ true) (v y : List ℕ) where
-          pub new-known : NewString s t (get_or c t 0) i.at n w x Known v y → IdAnswers s c w t (NotNumbered 11 k) c v y by_id
-          new-known a = rw a.1 (fresh-known low m read (Num n i) (judged-text Utf8 s k m n i e b h q text) n i refl a.0)
+          pub new_known : NewString s t (get_or c t 0) i.at n w x Known v y → IdAnswers s c w t (NotNumbered 11 k) c v y by_id
+          new_known a = rw a.1 (fresh-known low m read (Num n i) (judged_text Utf8 s k m n i e b h q text) n i refl a.0)
 
-          pub new-full : NewString s t (get_or c t 0) i.at n w x Full v y → IdAnswers s c w t (NotNumbered 12 k) c v y by_id
-          new-full a = rw a.2 (fresh-full low m read (Num n i) (judged-text Utf8 s k m n i e b h q text) n i refl a.0 a.1)
+          pub new_full : NewString s t (get_or c t 0) i.at n w x Full v y → IdAnswers s c w t (NotNumbered 12 k) c v y by_id
+          new_full a = rw a.2 (fresh_full low m read (Num n i) (judged_text Utf8 s k m n i e b h q text) n i refl a.0 a.1)
 
-          pub new-done : NewString s t (get_or c t 0) i.at n w x Done v y
+          pub new_done : NewString s t (get_or c t 0) i.at n w x Done v y
               → IdAnswers s c w t (Numbered (get_or c t 0 + 1) (i.at + n)) (set c t (get_or c t 0 + 1)) v y by_id
-          new-done a = fresh_added low m read (Num n i) (judged-text Utf8 s k m n i e b h q text) n i refl a.0 a.1 v y a.2
+          new_done a = fresh_added low m read (Num n i) (judged_text Utf8 s k m n i e b h q text) n i refl a.0 a.1 v y a.2
 
   module _ (high : 0x80 ≤ get_or s k 0) (r : Number) (is : r ≡ field_at c25 top 2 s k) where
-    pub id-held : (a : Entry) → a ≡ held_of (count_of (unlisted c) t) k r → IdAnswers s c w t a c w x by_id
+    pub id_held : (a : Entry) → a ≡ held_of (count_of (unlisted c) t) k r → IdAnswers s c w t a c w x by_id
     unfolding id_at
-    id-held a q = rw (q, le-ltb _ _ high, ← is, by r) (held_number c25 2 r is)
+    id_held a q = rw (q, le-ltb _ _ high, ← is, by r) (held_number c25 2 r is)
       where
         by : (r : Number)
-            → idSeen (number r λ n next. pick (leb n (length table)) (got (record { string = get_or table (n - 1) empty; how = numbered n; number = n }) next here) (refused 10 k))
+            → id_seen (number r λ n next. pick (leb n (length table)) (got (record { string = get_or table (n - 1) empty; how = numbered n; number = n }) next here) (refused 10 k))
             ≡ number r number_of
         by (NoNum n p) = refl
-        by (Num n c) = under idSeen (leb n (length table)) _ _
+        by (Num n c) = under id_seen (leb n (length table)) _ _
 
   module _ (there : Bool) where
-    abbrev pub byOptional : S.Got Seen
-    byOptional = optionalSeen (optionalAt link there s (table_of t) k here)
+    abbrev pub by_optional : S.Got Seen
+    by_optional = optional_seen (optional_at link there s (table_of t) k here)
 
-    pub optional-there : there ≡ true → (a : Entry) (d v y : List ℕ) → IdAnswers s c w t a d v y by_id → (seenId t a d v ≡ byOptional) × IdLeft s c w t a d v y
-    unfolding optionalAt
-    optional-there z a d v y p = rw (z, by (id_at link s (table_of t) k here)) (p.0, p.1)
+    pub optional_there : there ≡ true → (a : Entry) (d v y : List ℕ) → IdAnswers s c w t a d v y by_id → (seen_id t a d v ≡ by_optional) × IdLeft s c w t a d v y
+    unfolding optional_at
+    optional_there z a d v y p = rw (z, by (id_at link s (table_of t) k here)) (p.0, p.1)
       where
-        by : (g : S.Got IdRead) → optionalSeen (then g λ i next w. got (record { string = some i.string; how = some i.how; number = i.number }) next w) ≡ idSeen g
+        by : (g : S.Got IdRead) → optional_seen (then g λ i next w. got (record { string = some i.string; how = some i.how; number = i.number }) next w) ≡ id_seen g
         by (got b next v) = refl
         by (refused n p) = refl
 
-    pub optional-absent : there ≡ false → k ≤ length s → (seenId t (Numbered 0 k) c w ≡ byOptional) × IdLeft s c w t (Numbered 0 k) c w x
-    unfolding optionalAt eventStringAt
-    optional-absent z l = rw z (refl, (stays k l, omega arith))
+    pub optional_absent : there ≡ false → k ≤ length s → (seen_id t (Numbered 0 k) c w ≡ by_optional) × IdLeft s c w t (Numbered 0 k) c w x
+    unfolding optional_at event_string_at
+    optional_absent z l = rw z (refl, (stays k l, omega arith))
 
   -- ---- C.14, C.15
   -- a spelled one in a form, whose length was read, m, and whose octets were judged, r
-  module _ (form : StringForm) (add : Bool) (m : Number) (read : LengthRead s m) (r : Number) (is : r ≡ stretchOf form s k m) where
-    abbrev asString : Bool → ℕ → ℕ → S.Got StringRead
-    asString add n next =
+  module _ (form : StringForm) (add : Bool) (m : Number) (read : LengthRead s m) (r : Number) (is : r ≡ stretch_of form s k m) where
+    abbrev as_string : Bool → ℕ → ℕ → S.Got StringRead
+    as_string add n next =
         pick (not add || ltb (length table) link.entries)
         (got (record { string = stretch form next n; how = spelled form add }) (next + n) (keeping add here (table_of t) (stretch form next n)))
         (refused 12 k)
 
-    abbrev pub byFormed : S.Got EventString
-    byFormed = stringSeen (formedAt link form s (table_of t) k add m here)
+    abbrev pub by_formed : S.Got EventString
+    by_formed = string_seen (formed_at link form s (table_of t) k add m here)
 
-    string-formed : formedAt link form s (table_of t) k add m here ≡ number r (asString add)
-    unfolding formedAt
-    string-formed = rw is (judged form s k (asString add) m)
+    string_formed : formed_at link form s (table_of t) k add m here ≡ number r (as_string add)
+    unfolding formed_at
+    string_formed = rw is (judged form s k (as_string add) m)
 
-    pub formed-not : (n p : ℕ) → r ≡ NoNum n p → FieldAnswers s c w (Refused n p) c w x byFormed
-    formed-not n p e = rw (string-formed, e) (refl, rooms)
+    pub formed_not : (n p : ℕ) → r ≡ NoNum n p → FieldAnswers s c w (Refused n p) c w x by_formed
+    formed_not n p e = rw (string_formed, e) (refl, rooms)
 
-    pub formed-added : 5 ≤ t → (n : ℕ) (i : Cursor) → r ≡ Num n i → (a : Field) (d v : List ℕ)
-        → (a ≡ addedOf c t k form i.at n add) × (d ≡ addedCounts c t add) × (v ≡ addedWords c w t form i.at n add) → FieldAnswers s c w a d v x byFormed
-    unfolding addedOf addedCounts addedWords link
-    formed-added l n i e a d v q = rw (q.0, q.1, q.2, string-formed, e) (by add)
+    pub formed_added : 5 ≤ t → (n : ℕ) (i : Cursor) → r ≡ Num n i → (a : Field) (d v : List ℕ)
+        → (a ≡ added_of c t k form i.at n add) × (d ≡ added_counts c t add) × (v ≡ added_words c w t form i.at n add) → FieldAnswers s c w a d v x by_formed
+    unfolding added_of added_counts added_words link
+    formed_added l n i e a d v q = rw (q.0, q.1, q.2, string_formed, e) (by add)
       where
-        by : (b : Bool) → FieldAnswers s c w (addedOf c t k form i.at n b) (addedCounts c t b) (addedWords c w t form i.at n b) x (stringSeen (asString b n i.at))
-        by false = let h = stretch-lies form s k m n i (sym e ∙ is) read in (refl, stays (i.at + n) h.1)
+        by : (b : Bool) → FieldAnswers s c w (added_of c t k form i.at n b) (added_counts c t b) (added_words c w t form i.at n b) x (string_seen (as_string b n i.at))
+        by false = let h = stretch_lies form s k m n i (sym e ∙ is) read in (refl, stays (i.at + n) h.1)
         by true =
-            let h = stretch-lies form s k m n i (sym e ∙ is) read in
-            let may = holds-any t form l in
+            let h = stretch_lies form s k m n i (sym e ∙ is) read in
+            let may = holds_any t form l in
             rw (length-strings (unlisted c) w t small, count_at c tidy.ten t)
             (case (get_or c t 0) 256
-            (λ u. rw (lt-ltb _ _ u, ← is-added s c w x t form i.at n tidy small may u h.1 h.0) (refl, left-elsewhere s c w x t form i.at n tidy small may u h.1 h.0 l))
+            (λ u. rw (lt-ltb _ _ u, ← is_added s c w x t form i.at n tidy small may u h.1 h.0) (refl, left_elsewhere s c w x t form i.at n tidy small may u h.1 h.0 l))
             (λ u. rw (le-ltb _ _ u) (refl, rooms)))
 
   -- by its format f, the two bits before the length's in the first octet o
   module _ (bit : ℕ) (add : Bool) where
-    abbrev pub bySpelled : S.Got EventString
-    bySpelled = stringSeen (spelledAt link bit s (table_of t) k add here)
+    abbrev pub by_spelled : S.Got EventString
+    by_spelled = string_seen (spelled_at link bit s (table_of t) k add here)
 
     module _ (from : 2 ≤ bit) (o f : ℕ) (is : o ≡ get_or s k 0) (ef : f ≡ bits_of o (bit - 2) (bit - 1)) where
-      format-is : get_or s k 0 / 2 ^ (9 - bit) % 4 ≡ f
-      format-is =
+      format_is : get_or s k 0 / 2 ^ (9 - bit) % 4 ≡ f
+      format_is =
           let low : 8 - (bit - 1) ≡ 9 - bit = omega arith in
           let two : bit - 1 + 1 - (bit - 2) ≡ 2 = omega arith in
           rw (← is, ef, low, two)
 
       module _ (m : Number) (a : Field) (d v : List ℕ) where
-        pub spelled-utf8 : f ≡ 0 → m ≡ field_at (lengths bit) noTop bit s k → FieldAnswers s c w a d v x (stringSeen (formedAt link Utf8 s (table_of t) k add m here))
-            → FieldAnswers s c w a d v x bySpelled
-        unfolding spelledAt
-        spelled-utf8 e q p = rw (format-is, e, ← q) p
+        pub spelled_utf8 : f ≡ 0 → m ≡ field_at (lengths bit) no_top bit s k → FieldAnswers s c w a d v x (string_seen (formed_at link Utf8 s (table_of t) k add m here))
+            → FieldAnswers s c w a d v x by_spelled
+        unfolding spelled_at
+        spelled_utf8 e q p = rw (format_is, e, ← q) p
 
-        pub spelled-utf16 : f ≡ 1 → m ≡ field_at (lengths bit) noTop bit s k → FieldAnswers s c w a d v x (stringSeen (formedAt link Utf16 s (table_of t) k add m here))
-            → FieldAnswers s c w a d v x bySpelled
-        unfolding spelledAt
-        spelled-utf16 e q p = rw (format-is, e, ← q) p
+        pub spelled_utf16 : f ≡ 1 → m ≡ field_at (lengths bit) no_top bit s k → FieldAnswers s c w a d v x (string_seen (formed_at link Utf16 s (table_of t) k add m here))
+            → FieldAnswers s c w a d v x by_spelled
+        unfolding spelled_at
+        spelled_utf16 e q p = rw (format_is, e, ← q) p
 
-        pub spelled-method : (form : StringForm) → (f ≡ 0 → ⊥) → (f ≡ 1 → ⊥) → form ≡ formBy (methodAt bit s k) → m ≡ methodLength bit f s k (get_or s (suc k) 0 % 2 ^ (9 - bit))
-            → FieldAnswers s c w a d v x (stringSeen (formedAt link form s (table_of t) k add m here)) → FieldAnswers s c w a d v x bySpelled
-        unfolding spelledAt
-        spelled-method form a₀ a₁ ef q p = rw (format-is, ne_eqb _ _ a₀, ne_eqb _ _ a₁, ← ef, ← q) p
+        pub spelled_method : (form : StringForm) → (f ≡ 0 → ⊥) → (f ≡ 1 → ⊥) → form ≡ form_by (method_at bit s k) → m ≡ method_length bit f s k (get_or s (suc k) 0 % 2 ^ (9 - bit))
+            → FieldAnswers s c w a d v x (string_seen (formed_at link form s (table_of t) k add m here)) → FieldAnswers s c w a d v x by_spelled
+        unfolding spelled_at
+        spelled_method form a₀ a₁ ef q p = rw (format_is, ne_eqb _ _ a₀, ne_eqb _ _ a₁, ← ef, ← q) p
 
   -- which string the first octet says
   module _ (q : Layout) where
-    abbrev asNumbered : ℕ → ℕ → S.Got StringRead
-    asNumbered n next = pick (leb n (length table)) (got (record { string = get_or table (n - 1) empty; how = numbered n }) next here) (refused 10 k)
+    abbrev as_numbered : ℕ → ℕ → S.Got StringRead
+    as_numbered n next = pick (leb n (length table)) (got (record { string = get_or table (n - 1) empty; how = numbered n }) next here) (refused 10 k)
 
     abbrev literal : S.Got StringRead
-    literal = literalAt link q s (table_of t) k here
+    literal = literal_at link q s (table_of t) k here
 
     abbrev octet : ℕ
     octet = get_or s k 0
 
-    literal-plain : octet < q.spelledBits + q.addBit → literal ≡ spelledAt link q.lengthBit s (table_of t) k false here
-    unfolding literalAt
-    literal-plain l = rw (lt-ltb _ _ l)
+    literal_plain : octet < q.spelled_bits + q.add_bit → literal ≡ spelled_at link q.length_bit s (table_of t) k false here
+    unfolding literal_at
+    literal_plain l = rw (lt-ltb _ _ l)
 
-    module _ (p : q.spelledBits + q.addBit ≤ octet) where
-      literal-added : octet < q.numberedBits → literal ≡ spelledAt link q.lengthBit s (table_of t) k true here
-      unfolding literalAt
-      literal-added l = rw (le-ltb _ _ p, lt-ltb _ _ l)
+    module _ (p : q.spelled_bits + q.add_bit ≤ octet) where
+      literal_added : octet < q.numbered_bits → literal ≡ spelled_at link q.length_bit s (table_of t) k true here
+      unfolding literal_at
+      literal_added l = rw (le-ltb _ _ p, lt-ltb _ _ l)
 
-      literal-held : q.numberedBits ≤ octet → (r : Number) → r ≡ field_at q.numberForms top (numberBit q) s k
-          → (a : Entry) (f : Field) → a ≡ held_of (count_of (unlisted c) t) k r → f ≡ said_of w t a → FieldAnswers s c w f c w x (stringSeen literal)
-      unfolding literalAt
-      literal-held l r is a f ea ef = rw (ef, ea, le-ltb _ _ p, le-ltb _ _ l, ← is, by r) (held-string q.numberForms (numberBit q) r is)
+      literal_held : q.numbered_bits ≤ octet → (r : Number) → r ≡ field_at q.number_forms top (number_bit q) s k
+          → (a : Entry) (f : Field) → a ≡ held_of (count_of (unlisted c) t) k r → f ≡ said_of w t a → FieldAnswers s c w f c w x (string_seen literal)
+      unfolding literal_at
+      literal_held l r is a f ea ef = rw (ef, ea, le-ltb _ _ p, le-ltb _ _ l, ← is, by r) (held_string q.number_forms (number_bit q) r is)
         where
-          by : (r : Number) → stringSeen (number r asNumbered) ≡ number r entry_of
+          by : (r : Number) → string_seen (number r as_numbered) ≡ number r entry_of
           by (NoNum n p) = refl
-          by (Num n i) = under stringSeen (leb n (length table)) _ _
+          by (Num n i) = under string_seen (leb n (length table)) _ _
 
   -- ---- C.14 from bit 1: o is the first octet, b its bit 1
-  abbrev pub byValue : S.Got EventString
-  byValue = stringSeen (value_at link s (table_of t) k here)
+  abbrev pub by_value : S.Got EventString
+  by_value = string_seen (value_at link s (table_of t) k here)
 
   module _ (o : ℕ) (is : o ≡ get_or s k 0) where
-    pub value-empty : o ≡ 0xFF → FieldAnswers s c w (Got Empty (k + 1)) c w x byValue
+    pub value_empty : o ≡ 0xFF → FieldAnswers s c w (Got Empty (k + 1)) c w x by_value
     unfolding value_at
-    value-empty e = rw (eq-eqb _ _ (sym is ∙ e), add-one k) (refl, stays (suc k) (there-is s k (omega arith)))
+    value_empty e = rw (eq-eqb _ _ (sym is ∙ e), add-one k) (refl, stays (suc k) (there_is s k (omega arith)))
 
-    is-literal : (o ≡ 0xFF → ⊥) → value_at link s (table_of t) k here ≡ literalAt link c14 s (table_of t) k here
+    is_literal : (o ≡ 0xFF → ⊥) → value_at link s (table_of t) k here ≡ literal_at link c14 s (table_of t) k here
     unfolding value_at
-    is-literal ne = rw (ne_eqb _ _ (λ e. ne (is ∙ e)))
+    is_literal ne = rw (ne_eqb _ _ (λ e. ne (is ∙ e)))
 
     module _ (b : ℕ) (eb : b ≡ o / 128 % 2) where
-      pub value-held : (o ≡ 0xFF → ⊥) → b ≡ 1 → (r : Number) → r ≡ field_at c25 top 2 s k → (a : Entry) (f : Field) → a ≡ held_of (count_of (unlisted c) t) k r → f ≡ said_of w t a → FieldAnswers s c w f c w x byValue
+      pub value_held : (o ≡ 0xFF → ⊥) → b ≡ 1 → (r : Number) → r ≡ field_at c25 top 2 s k → (a : Entry) (f : Field) → a ≡ held_of (count_of (unlisted c) t) k r → f ≡ said_of w t a → FieldAnswers s c w f c w x by_value
       unfolding c14
-      value-held ne one r ir a f ea ef = rw (is-literal ne) (literal-held c14 (omega arith) (omega arith) r ir a f ea ef)
+      value_held ne one r ir a f ea ef = rw (is_literal ne) (literal_held c14 (omega arith) (omega arith) r ir a f ea ef)
 
       -- a is its add bit
-      pub value-spelled : o < 256 → (b ≡ 1 → ⊥) → (a : ℕ) → a ≡ o / 64 % 2 → (g : Field) (d v : List ℕ)
-          → FieldAnswers s c w g d v x (stringSeen (spelledAt link 5 s (table_of t) k (eqb a 1) here)) → FieldAnswers s c w g d v x byValue
+      pub value_spelled : o < 256 → (b ≡ 1 → ⊥) → (a : ℕ) → a ≡ o / 64 % 2 → (g : Field) (d v : List ℕ)
+          → FieldAnswers s c w g d v x (string_seen (spelled_at link 5 s (table_of t) k (eqb a 1) here)) → FieldAnswers s c w g d v x by_value
       unfolding c14
-      value-spelled fits plain a ea g d v p =
+      value_spelled fits plain a ea g d v p =
           let low : o < 0x80 = omega arith in
           case o 0x40
-          (λ l. let e : o / 64 ≡ 0 = omega arith in rw (is-literal (omega arith), literal-plain c14 (omega arith)) (rw (ea, e) at p))
-          (λ l. let e : o / 64 ≡ 1 = omega arith in rw (is-literal (omega arith), literal-added c14 (omega arith) (omega arith)) (rw (ea, e) at p))
+          (λ l. let e : o / 64 ≡ 0 = omega arith in rw (is_literal (omega arith), literal_plain c14 (omega arith)) (rw (ea, e) at p))
+          (λ l. let e : o / 64 ≡ 1 = omega arith in rw (is_literal (omega arith), literal_added c14 (omega arith) (omega arith)) (rw (ea, e) at p))
 
   -- ---- C.15 from bit 3: o is the first octet, b its bit 3
-  abbrev pub byChunk : S.Got EventString
-  byChunk = stringSeen (literalAt link c15 s (table_of t) k here)
+  abbrev pub by_chunk : S.Got EventString
+  by_chunk = string_seen (literal_at link c15 s (table_of t) k here)
 
   module _ (o : ℕ) (is : o ≡ get_or s k 0) (from : 0x80 ≤ o) (to : o < 0xC0) (b : ℕ) (eb : b ≡ o / 32 % 2) where
-    pub chunk-held : b ≡ 1 → (r : Number) → r ≡ field_at (numbers 4) top 4 s k → (a : Entry) (f : Field) → a ≡ held_of (count_of (unlisted c) t) k r → f ≡ said_of w t a → FieldAnswers s c w f c w x byChunk
+    pub chunk_held : b ≡ 1 → (r : Number) → r ≡ field_at (numbers 4) top 4 s k → (a : Entry) (f : Field) → a ≡ held_of (count_of (unlisted c) t) k r → f ≡ said_of w t a → FieldAnswers s c w f c w x by_chunk
     unfolding c15
-    chunk-held one r ir a f ea ef =
+    chunk_held one r ir a f ea ef =
         let l : 0xA0 ≤ o = omega arith in
-        literal-held c15 (omega arith) (omega arith) r ir a f ea ef
+        literal_held c15 (omega arith) (omega arith) r ir a f ea ef
 
     -- a is its add bit
-    pub chunk-spelled : (b ≡ 1 → ⊥) → (a : ℕ) → a ≡ o / 16 % 2 → (g : Field) (d v : List ℕ)
-        → FieldAnswers s c w g d v x (stringSeen (spelledAt link 7 s (table_of t) k (eqb a 1) here)) → FieldAnswers s c w g d v x byChunk
+    pub chunk_spelled : (b ≡ 1 → ⊥) → (a : ℕ) → a ≡ o / 16 % 2 → (g : Field) (d v : List ℕ)
+        → FieldAnswers s c w g d v x (string_seen (spelled_at link 7 s (table_of t) k (eqb a 1) here)) → FieldAnswers s c w g d v x by_chunk
     unfolding c15
-    chunk-spelled plain a ea g d v p =
+    chunk_spelled plain a ea g d v p =
         let below : o < 0xA0 = omega arith in
         case o 0x90
-        (λ l. let e : o / 16 ≡ 8 = omega arith in rw (literal-plain c15 (omega arith)) (rw (ea, e) at p))
-        (λ l. let e : o / 16 ≡ 9 = omega arith in rw (literal-added c15 (omega arith) (omega arith)) (rw (ea, e) at p))
+        (λ l. let e : o / 16 ≡ 8 = omega arith in rw (literal_plain c15 (omega arith)) (rw (ea, e) at p))
+        (λ l. let e : o / 16 ≡ 9 = omega arith in rw (literal_added c15 (omega arith) (omega arith)) (rw (ea, e) at p))

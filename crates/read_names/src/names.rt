@@ -3,13 +3,13 @@ ghost use Rattle.std.specs.Prelude.{◌≡◌, ◌*◌, ◌<◌, ◌≤◌, leng
 ghost use Rattle.format.specs.Numbers.{top};
 ghost use Rattle.format.specs.Tables.{link};
 ghost use Rattle.fields.specs.Fields.{field_at};
-ghost use Rattle.tables.specs.Counts.{tableWords};
-ghost use Rattle.tables.specs.Search.{numberOfTriple};
-ghost use Rattle.tables.specs.Rows.{tripleAt, entries};
+ghost use Rattle.tables.specs.Counts.{table_words};
+ghost use Rattle.tables.specs.Search.{number_of_triple};
+ghost use Rattle.tables.specs.Rows.{triple_at, entries};
 ghost use Rattle.tables.specs.Kept.{count_of, unlisted, layout_of, triple_of};
 ghost use Rattle.index.specs.Indexed.{NamesIndexed};
-ghost use Rattle.read_names.specs.Names.{nameBit, parts_at, name_at, declaredAt};
-ghost use Rattle.read_names.specs.Contracts.{Tidy, Positive, eventStringAt, nameStringsAt, ReadsName, ReadsDeclared, NameThere};
+ghost use Rattle.read_names.specs.Names.{name_bit, parts_at, name_at, declared_at};
+ghost use Rattle.read_names.specs.Promises.{Tidy, Positive, event_string_at, name_strings_at, ReadsName, ReadsDeclared, NameThere};
 ghost use Rattle.read_names.specs.NameContracts.{Addable, NewAbove, AddsName, ReadsNumbered};
 
 use crate::strings::{held, id, optional, string_of};
@@ -22,7 +22,7 @@ use tables::{Counts, Row};
 
 // The number of a name of table 8 or 9, C.27 or C.25.
 fn number(s: &[u8], at: usize, table: usize) -> Number
-    ensures { result ≡ field_at (layout_of table).numberForms top (nameBit (layout_of table).table) s.now at }
+    ensures { result ≡ field_at (layout_of table).number_forms top (name_bit (layout_of table).table) s.now at }
 {
     let cursor = Cursor { at };
     if table == ELEMENT_NAME {
@@ -33,8 +33,8 @@ fn number(s: &[u8], at: usize, table: usize) -> Number
 
 // The string behind a number of a table of identifying strings; 0 is none.
 pub fn string_at(t: &[u32], table: usize, number: u32) -> EventString
-    requires { (length t.now ≡ tableWords) × (table < 5) × (number ≤ 256) }
-    ensures { result ≡ eventStringAt t.now table number }
+    requires { (length t.now ≡ table_words) × (table < 5) × (number ≤ 256) }
+    ensures { result ≡ event_string_at t.now table number }
 {
     if number == 0 {
         return EventString::Absent;
@@ -45,7 +45,7 @@ pub fn string_at(t: &[u32], table: usize, number: u32) -> EventString
 // The strings behind a name's number.
 pub fn strings_of(t: &[u32], table: usize, number: u32) -> Parts
     requires { NameThere t.now table number }
-    ensures { result ≡ nameStringsAt t.now table number }
+    ensures { result ≡ name_strings_at t.now table number }
 {
     let x = tables::entry(t, table, number - 1);
     Parts {
@@ -57,8 +57,8 @@ pub fn strings_of(t: &[u32], table: usize, number: u32) -> Parts
 
 // A name's number in its table, 0 if it has none. A local name above `locals` is in no entry, so that it is not searched for.
 fn find_name(t: &[u32], index: &[u8], table: usize, n: u32, x: Row, locals: u32) -> u32
-    requires { (length t.now ≡ tableWords) × (length index.now ≡ 3840) × (table < 10) × (n ≤ 256) × NamesIndexed t.now index.now table n × (locals < x.c → 0 ≡ numberOfTriple (entries (tripleAt t.now) (768 * table) n) (triple_of x)) }
-    ensures { result ≡ numberOfTriple (entries (tripleAt t.now) (768 * table) n) (triple_of x) }
+    requires { (length t.now ≡ table_words) × (length index.now ≡ 3840) × (table < 10) × (n ≤ 256) × NamesIndexed t.now index.now table n × (locals < x.c → 0 ≡ number_of_triple (entries (triple_at t.now) (768 * table) n) (triple_of x)) }
+    ensures { result ≡ number_of_triple (entries (triple_at t.now) (768 * table) n) (triple_of x) }
 {
     if locals < x.c {
         return 0;
@@ -178,7 +178,7 @@ pub fn declared(
     at: usize,
 ) -> Declaration
     requires { (Tidy s.now counts.old t.old index.old) × (at ≤ length s.now) }
-    ensures { ReadsDeclared s.now counts.old t.old result counts.new t.new index.new (declaredAt link s.now at) }
+    ensures { ReadsDeclared s.now counts.old t.old result counts.new t.new index.new (declared_at link s.now at) }
 {
     if s.len() <= at {
         return Declaration::Refused(TRUNCATED, at);

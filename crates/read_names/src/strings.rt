@@ -1,15 +1,15 @@
 // Strings: C.13, C.14, C.15. Each function reads one string from octet `at` on.
 ghost use Rattle.std.specs.Prelude.{◌≡◌, suc, ◌+◌, ◌-◌, ◌*◌, ◌%◌, ◌^◌, ◌<◌, ◌≤◌, length, get_or};
-ghost use Rattle.format.specs.Tables.{link, CONTENT-CHARACTER-CHUNK};
+ghost use Rattle.format.specs.Tables.{link, CONTENT_CHARACTER_CHUNK};
 ghost use Rattle.format.specs.Strings.{c15};
-ghost use Rattle.tables.specs.Counts.{tableWords};
-ghost use Rattle.tables.specs.Rows.{table_of, stringAt};
+ghost use Rattle.tables.specs.Counts.{table_words};
+ghost use Rattle.tables.specs.Rows.{table_of, string_at};
 ghost use Rattle.tables.specs.Kept.{count_of, unlisted};
-ghost use Rattle.events.specs.Records.{eventString};
-ghost use Rattle.fields.specs.Fields.{bits_of, valueFrom};
-ghost use Rattle.read_names.specs.Strings.{methodAt, isRead, methodBehind, methodLength, id_at, optionalAt, literalAt, value_at};
-ghost use Rattle.read_names.specs.Contracts.{Tidy, ReadsId, ReadsOptional, ReadsField};
-ghost use Rattle.read_names.specs.StringContracts.{LengthRead, stretchOf, NumberPositive, held_of, said_of, addedOf, addedCounts, addedWords, ReadsFormed, ReadsSpelled};
+ghost use Rattle.events.specs.Records.{event_string};
+ghost use Rattle.fields.specs.Fields.{bits_of, value_from};
+ghost use Rattle.read_names.specs.Strings.{method_at, is_read, method_behind, method_length, id_at, optional_at, literal_at, value_at};
+ghost use Rattle.read_names.specs.Promises.{Tidy, ReadsId, ReadsOptional, ReadsField};
+ghost use Rattle.read_names.specs.StringContracts.{LengthRead, stretch_of, NumberPositive, held_of, said_of, added_of, added_counts, added_words, ReadsFormed, ReadsSpelled};
 
 use crate::{Entry, Field};
 use events::EventString;
@@ -41,7 +41,7 @@ fn narrow(x: usize) -> u32
 // A spelled string's length that was read at a place: its octets are there, and are text in its form.
 fn stretch(s: &[u8], at: usize, form: StringForm, r: Number) -> Number
     requires { LengthRead s.now r }
-    ensures { result ≡ stretchOf form s.now at r }
+    ensures { result ≡ stretch_of form s.now at r }
 {
     let Number::Got(n, first) = r else {
         return r;
@@ -59,8 +59,8 @@ fn stretch(s: &[u8], at: usize, form: StringForm, r: Number) -> Number
 
 // Entry i of a table of identifying strings, from 0. One without octets is built in.
 pub fn string_of(t: &[u32], table: usize, i: u32) -> EventString
-    requires { (length t.now ≡ tableWords) × (table < 5) × (i < 256) }
-    ensures { result ≡ eventString (stringAt (table_of table) t.now (768 * table + 3 * i)) }
+    requires { (length t.now ≡ table_words) × (table < 5) × (i < 256) }
+    ensures { result ≡ event_string (string_at (table_of table) t.now (768 * table + 3 * i)) }
 {
     let e = tables::entry(t, table, i);
     if e.b != 0 {
@@ -75,8 +75,8 @@ pub fn string_of(t: &[u32], table: usize, i: u32) -> EventString
 
 // Entry i of a table of other strings, from 0. These have a form, and none of them is built in.
 fn other_string_of(t: &[u32], table: usize, i: u32) -> EventString
-    requires { (length t.now ≡ tableWords) × (5 ≤ table) × (table < 8) × (i < 256) }
-    ensures { result ≡ eventString (stringAt (table_of table) t.now (768 * table + 3 * i)) }
+    requires { (length t.now ≡ table_words) × (5 ≤ table) × (table < 8) × (i < 256) }
+    ensures { result ≡ event_string (string_at (table_of table) t.now (768 * table + 3 * i)) }
 {
     let e = tables::entry(t, table, i);
     if e.b != 0 {
@@ -169,7 +169,7 @@ pub fn optional(
     at: usize,
 ) -> Entry
     requires { (Tidy s.now counts.old t.old index.old) × (at ≤ length s.now) × (table < 5) }
-    ensures { ReadsOptional s.now counts.old t.old table result counts.new t.new index.new (optionalAt link there s.now (table_of table) at) }
+    ensures { ReadsOptional s.now counts.old t.old table result counts.new t.new index.new (optional_at link there s.now (table_of table) at) }
 {
     if there {
         return id(s, t, counts, index, table, at);
@@ -179,7 +179,7 @@ pub fn optional(
 
 // The string behind a number that is that of an entry of a table of other strings.
 fn said(t: &[u32], table: usize, r: Entry) -> Field
-    requires { (length t.now ≡ tableWords) × (5 ≤ table) × (table < 8) × NumberPositive r }
+    requires { (length t.now ≡ table_words) × (5 ≤ table) × (table < 8) × NumberPositive r }
     ensures { result ≡ said_of t.now table r }
 {
     match r {
@@ -199,8 +199,8 @@ fn added(
     size: usize,
     add: bool,
 ) -> Field
-    requires { (length t.old ≡ tableWords) × (length counts.old ≡ 10) × (table < 8) × (place + size ≤ 16384) }
-    ensures { (result ≡ addedOf counts.old table at form place size add) × (counts.new ≡ addedCounts counts.old table add) × (t.new ≡ addedWords counts.old t.old table form place size add) }
+    requires { (length t.old ≡ table_words) × (length counts.old ≡ 10) × (table < 8) × (place + size ≤ 16384) }
+    ensures { (result ≡ added_of counts.old table at form place size add) × (counts.new ≡ added_counts counts.old table add) × (t.new ≡ added_words counts.old t.old table form place size add) }
 {
     let first = narrow(place);
     let len = narrow(size);
@@ -228,7 +228,7 @@ pub fn formed(
     r: Number,
     add: bool,
 ) -> Field
-    requires { (length t.old ≡ tableWords) × (length counts.old ≡ 10) × (length s.now ≤ 16384) × (table < 8) × LengthRead s.now r }
+    requires { (length t.old ≡ table_words) × (length counts.old ≡ 10) × (length s.now ≤ 16384) × (table < 8) × LengthRead s.now r }
     ensures { ReadsFormed s.now counts.old t.old table at form r add result counts.new t.new }
 {
     match stretch(s, at, form, r) {
@@ -240,7 +240,7 @@ pub fn formed(
 // The eight bits of the alphabet's or algorithm's number less 1, which stand before the length.
 fn method(s: &[u8], at: usize, bit: u32) -> u32
     requires { (5 ≤ bit) × (bit ≤ 7) × (at ≤ 16384) }
-    ensures { (result ≡ methodAt bit s.now at) × (result < 256) }
+    ensures { (result ≡ method_at bit s.now at) × (result < 256) }
 {
     let high = bits(octet(s, at), bit, 8) as u32;
     let low = (octet(s, at + 1) >> (9 - bit)) as u32;
@@ -249,7 +249,7 @@ fn method(s: &[u8], at: usize, bit: u32) -> u32
 
 // Alphabets 1 and 2 are read, by format 2, and algorithms 3, 4 and 5.
 fn is_read(format: u8, method: u32) -> bool
-    ensures { result ≡ isRead format method }
+    ensures { result ≡ is_read format method }
 {
     if format == 2 {
         return method < 2;
@@ -271,7 +271,7 @@ fn method_behind(
     clean: bool,
 ) -> Number
     requires { (5 ≤ bit) × (bit ≤ 7) × (more ≤ 4) × (low < 2 ^ 40) × (at ≤ length s.now) × (length s.now ≤ 16384) }
-    ensures { result ≡ methodBehind bit format s.now at more (low + valueFrom s.now (at + 2) 0 more) clean }
+    ensures { result ≡ method_behind bit format s.now at more (low + value_from s.now (at + 2) 0 more) clean }
 {
     let next = at + 2 + more;
     if s.len() < next {
@@ -293,7 +293,7 @@ fn method_behind(
 // C.19, C.20 behind that number: a length from a bit of the second octet, coded 0, 10 or 11. `half` is as many values as the bits behind 10 and 11 have.
 fn method_length(s: &[u8], at: usize, bit: u32, format: u8) -> Number
     requires { (5 ≤ bit) × (bit ≤ 7) × (at ≤ length s.now) × (length s.now ≤ 16384) }
-    ensures { result ≡ methodLength bit format s.now at (get_or s.now (suc at) 0 % 2 ^ (9 - bit)) }
+    ensures { result ≡ method_length bit format s.now at (get_or s.now (suc at) 0 % 2 ^ (9 - bit)) }
 {
     let b = bits(octet(s, at + 1), bit, 8) as u64;
     let half = 1u64 << (7 - bit);
@@ -316,7 +316,7 @@ pub fn in_form(
     bit: u32,
     add: bool,
 ) -> Field
-    requires { (length t.old ≡ tableWords) × (length counts.old ≡ 10) × (length s.now ≤ 16384) × (at ≤ length s.now) × (table < 8) × (5 ≤ bit) × (bit ≤ 7) × (bits_of (get_or s.now at 0) (bit - 2) (bit - 1) ≡ 0 → ⊥) }
+    requires { (length t.old ≡ table_words) × (length counts.old ≡ 10) × (length s.now ≤ 16384) × (at ≤ length s.now) × (table < 8) × (5 ≤ bit) × (bit ≤ 7) × (bits_of (get_or s.now at 0) (bit - 2) (bit - 1) ≡ 0 → ⊥) }
     ensures { ReadsSpelled s.now counts.old t.old table at bit add result counts.new t.new }
 {
     let format = bits(octet(s, at), bit - 2, bit - 1);
@@ -340,7 +340,7 @@ fn spelled(
     o: u8,
     add: bool,
 ) -> Field
-    requires { (length t.old ≡ tableWords) × (length counts.old ≡ 10) × (length s.now ≤ 16384) × (at ≤ length s.now) × (table < 8) × (o ≡ get_or s.now at 0) }
+    requires { (length t.old ≡ table_words) × (length counts.old ≡ 10) × (length s.now ≤ 16384) × (at ≤ length s.now) × (table < 8) × (o ≡ get_or s.now at 0) }
     ensures { ReadsSpelled s.now counts.old t.old table at 5 add result counts.new t.new }
 {
     if bits(o, 3, 4) != 0 {
@@ -353,7 +353,7 @@ fn spelled(
 
 // C.14: a value, comment or content. FF is the empty string.
 pub fn value(s: &[u8], t: &mut [u32], counts: &mut [u32], table: usize, at: usize) -> Field
-    requires { (length t.old ≡ tableWords) × (length counts.old ≡ 10) × (length s.now ≤ 16384) × (at ≤ length s.now) × (5 ≤ table) × (table < 8) × (count_of (unlisted counts.old) table ≤ 256) }
+    requires { (length t.old ≡ table_words) × (length counts.old ≡ 10) × (length s.now ≤ 16384) × (at ≤ length s.now) × (5 ≤ table) × (table < 8) × (count_of (unlisted counts.old) table ≤ 256) }
     ensures { ReadsField s.now counts.old t.old result counts.new t.new (value_at link s.now (table_of table) at) }
 {
     let o = octet(s, at);
@@ -369,8 +369,8 @@ pub fn value(s: &[u8], t: &mut [u32], counts: &mut [u32], table: usize, at: usiz
 
 // C.15: a chunk, whose first octet starts with 10.
 pub fn chunk(s: &[u8], t: &mut [u32], counts: &mut [u32], at: usize) -> Field
-    requires { (length t.old ≡ tableWords) × (length counts.old ≡ 10) × (length s.now ≤ 16384) × (at ≤ length s.now) × (count_of (unlisted counts.old) 6 ≤ 256) × (0x80 ≤ get_or s.now at 0) × (get_or s.now at 0 < 0xC0) }
-    ensures { ReadsField s.now counts.old t.old result counts.new t.new (literalAt link c15 s.now CONTENT-CHARACTER-CHUNK at) }
+    requires { (length t.old ≡ table_words) × (length counts.old ≡ 10) × (length s.now ≤ 16384) × (at ≤ length s.now) × (count_of (unlisted counts.old) 6 ≤ 256) × (0x80 ≤ get_or s.now at 0) × (get_or s.now at 0 < 0xC0) }
+    ensures { ReadsField s.now counts.old t.old result counts.new t.new (literal_at link c15 s.now CONTENT_CHARACTER_CHUNK at) }
 {
     let o = octet(s, at);
     if bits(o, 3, 3) == 1 {

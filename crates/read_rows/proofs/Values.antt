@@ -32,24 +32,24 @@ use Rattle.read_rows.specs.contracts.Next as N
 use Rattle.read_rows.proofs.Next.TheLaws as N'
 
 -- a `&[u8]` at a lifetime, and the references in a `&mut [Event]`, a `&mut [u32]` and a `&mut [u8]`
-abbrev pub docTy : Lifetime → Ty
-docTy ℓ = slice_ty (ty_ref ℓ imm (ty_int w8))
+abbrev pub doc_ty : Lifetime → Ty
+doc_ty ℓ = slice_ty (ty_ref ℓ imm (ty_int w8))
 
-abbrev pub elemTy : Lifetime → Ty
-elemTy ℓ = ty_ref ℓ mut (pointee (E.the_row).written)
+abbrev pub elem_ty : Lifetime → Ty
+elem_ty ℓ = ty_ref ℓ mut (pointee (E.the_row).written)
 
-abbrev pub numTy : Lifetime → Ty
-numTy ℓ = ty_ref ℓ mut (ty_int w32)
+abbrev pub num_ty : Lifetime → Ty
+num_ty ℓ = ty_ref ℓ mut (ty_int w32)
 
-abbrev pub octTy : Lifetime → Ty
-octTy ℓ = ty_ref ℓ mut (ty_int w8)
+abbrev pub oct_ty : Lifetime → Ty
+oct_ty ℓ = ty_ref ℓ mut (ty_int w8)
 
 -- a value in memory, and that it is what the machine value says
-abbrev pub valC : Counts → Val
-valC = LL.val T.the_type T'.the_laws
+abbrev pub val_c : Counts → Val
+val_c = LL.val T.the_type T'.the_laws
 
 abbrev pub IsC : Counts → Type 0
-IsC c = Is T.the_row c (valC c ∷ [])
+IsC c = Is T.the_row c (val_c c ∷ [])
 
 abbrev pub val_p : Place → Val
 val_p = LL.val P.the_type P'.the_laws
@@ -57,17 +57,17 @@ val_p = LL.val P.the_type P'.the_laws
 abbrev pub IsP : Place → Type 0
 IsP p = Is P.the_row p (val_p p ∷ [])
 
-abbrev pub valN : Next → Val
-valN = Le.val N.the_type N'.the_laws
+abbrev pub val_n : Next → Val
+val_n = Le.val N.the_type N'.the_laws
 
 abbrev pub IsN : Next → Type 0
-IsN r = Is N.the_row r (valN r ∷ [])
+IsN r = Is N.the_row r (val_n r ∷ [])
 
-abbrev pub valR : Answer → Val
-valR = Le.val R.the_type R'.the_laws
+abbrev pub val_r : Answer → Val
+val_r = Le.val R.the_type R'.the_laws
 
 abbrev pub IsR : Answer → Type 0
-IsR w = Is R.the_row w (valR w ∷ [])
+IsR w = Is R.the_row w (val_r w ∷ [])
 
 abbrev pub val_f : Front → Val
 val_f = LL.val F.the_type F'.the_laws
@@ -83,17 +83,17 @@ IsO r = Is O.the_row r (val_o r ∷ [])
 
 -- each may be stored where its type is
 module _ {M : Type 1} {𝓤 : Ura M} (𝓛 : Logic 𝓤) where
-  pub typedC : (c : Counts) → IsC c → Holds (has_ty T'.mir (valC c)) × WT (valC c)
-  typedC c is = ((LL.lawful T.the_type T'.the_laws 𝓛).typed c _ is).0
+  pub typed_c : (c : Counts) → IsC c → Holds (has_ty T'.mir (val_c c)) × WT (val_c c)
+  typed_c c is = ((LL.lawful T.the_type T'.the_laws 𝓛).typed c _ is).0
 
-  pub typedP : (p : Place) → IsP p → Holds (has_ty P'.mir (val_p p)) × WT (val_p p)
-  typedP p is = ((LL.lawful P.the_type P'.the_laws 𝓛).typed p _ is).0
+  pub typed_p : (p : Place) → IsP p → Holds (has_ty P'.mir (val_p p)) × WT (val_p p)
+  typed_p p is = ((LL.lawful P.the_type P'.the_laws 𝓛).typed p _ is).0
 
-  pub typedN : (r : Next) → IsN r → Holds (has_ty N'.mir (valN r)) × WT (valN r)
-  typedN r is = ((Le.lawful N.the_type N'.the_laws 𝓛 tt).typed r _ is).0
+  pub typed_n : (r : Next) → IsN r → Holds (has_ty N'.mir (val_n r)) × WT (val_n r)
+  typed_n r is = ((Le.lawful N.the_type N'.the_laws 𝓛 tt).typed r _ is).0
 
   pub typed_f : (f : Front) → IsF f → Holds (has_ty F'.mir (val_f f)) × WT (val_f f)
   typed_f f is = ((LL.lawful F.the_type F'.the_laws 𝓛).typed f _ is).0
 
-  pub typedR : (w : Answer) → IsR w → Holds (has_ty R'.mir (valR w)) × WT (valR w)
-  typedR w is = ((Le.lawful R.the_type R'.the_laws 𝓛 tt).typed w _ is).0
+  pub typed_r : (w : Answer) → IsR w → Holds (has_ty R'.mir (val_r w)) × WT (val_r w)
+  typed_r w is = ((Le.lawful R.the_type R'.the_laws 𝓛 tt).typed w _ is).0

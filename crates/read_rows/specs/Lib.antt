@@ -1,2 +1,2 @@
 -- Contracts of the code alone: what is read is defined in the crate reader.
-pub mod Contracts
+pub mod Promises

@@ -3,12 +3,12 @@
 // May depend on format, fields, tables, index, states, walk, events, read_names, read_head, read_items and reader.
 ghost use Rattle.std.specs.Prelude.{◌≡◌, ◌≤◌, length, replicate};
 ghost use Rattle.format.specs.Tables.{link};
-ghost use Rattle.tables.specs.Counts.{tableWords};
+ghost use Rattle.tables.specs.Counts.{table_words};
 ghost use Rattle.index.specs.Indexed.{slots};
 ghost use Rattle.events.specs.Records.{blank};
-ghost use Rattle.read_items.specs.Contracts.{Good};
+ghost use Rattle.read_items.specs.Promises.{Good};
 ghost use Rattle.reader.specs.Reading.{outcome, Leaves, read_of};
-ghost use Rattle.read_rows.specs.Contracts.{placed, first, lentTo, Nearby, nextBehind, Numbered, nextBy, Reaches, Small, finished, settled, readFrom, Admitted};
+ghost use Rattle.read_rows.specs.Promises.{placed, first, lent_to, Nearby, next_behind, Numbered, next_by, Reaches, Small, finished, settled, read_from, Admitted};
 
 use events::{Event, RECORD};
 use format::refusals::{ROOM, SIZE, TRUNCATED};
@@ -71,7 +71,7 @@ fn begin(front: Front, octets: usize) -> Place
 // What a head comes to, with the steps that are left behind it: the first item of the body, or its refusal.
 fn passed(r: Passed, left: usize) -> Next
     requires { Nearby r }
-    ensures { result ≡ nextBehind r left }
+    ensures { result ≡ next_behind r left }
 {
     match r {
         Passed::Behind(body) => Next::Passed(at_item(State::begin(body), left)),
@@ -82,7 +82,7 @@ fn passed(r: Passed, left: usize) -> Next
 // A step's answer with the event that is kept in a record, and with the steps that are left.
 fn told(r: Step, words: &[u32], left: usize) -> Next
     requires { (length words.now ≡ 14) × Numbered r }
-    ensures { result ≡ nextBy r words.now left }
+    ensures { result ≡ next_by r words.now left }
 {
     match r {
         Step::More(state, place) => {
@@ -97,7 +97,7 @@ fn told(r: Step, words: &[u32], left: usize) -> Next
 
 // One step, or the head, with the counts by value.
 fn advance(p: Place, c: Counts, s: &[u8], t: &mut [u32], index: &mut [u8]) -> Turn
-    requires { Good s.now p.state (lentTo c t.old index.old) }
+    requires { Good s.now p.state (lent_to c t.old index.old) }
     ensures { Reaches s.now p c t.old result.next result.counts t.new index.new }
 {
     let st = p.state;
@@ -128,7 +128,7 @@ fn advance(p: Place, c: Counts, s: &[u8], t: &mut [u32], index: &mut [u8]) -> Tu
 
 // The same on counts that are lent.
 fn step(p: Place, s: &[u8], tables: &mut [u32], index: &mut [u8], counts: &mut Counts) -> Next
-    requires { Good s.now p.state (lentTo counts.old tables.old index.old) }
+    requires { Good s.now p.state (lent_to counts.old tables.old index.old) }
     ensures { Reaches s.now p counts.old tables.old result counts.new tables.new index.new }
 {
     let c = *counts;
@@ -165,8 +165,8 @@ fn fill(
     index: &mut [u8],
     front: Front,
 ) -> Answer
-    requires { (front.at ≤ length s.now) × (length s.now ≤ 16384) × (events.old ≡ replicate (length events.old) blank) × (tables.old ≡ replicate tableWords 0) × (index.old ≡ replicate slots 0) }
-    ensures { settled (length events.old) tableWords result events.new tables.new ≡ outcome (readFrom s.now (length events.old) front) (length events.old) }
+    requires { (front.at ≤ length s.now) × (length s.now ≤ 16384) × (events.old ≡ replicate (length events.old) blank) × (tables.old ≡ replicate table_words 0) × (index.old ≡ replicate slots 0) }
+    ensures { settled (length events.old) table_words result events.new tables.new ≡ outcome (read_from s.now (length events.old) front) (length events.old) }
 {
     let mut counts = Counts::start();
     let mut p = begin(front, s.len());
@@ -200,8 +200,8 @@ fn fill(
 
 // The same with an index of its own.
 fn read_body(s: &[u8], events: &mut [Event], tables: &mut [u32], front: Front) -> Answer
-    requires { (front.at ≤ length s.now) × (length s.now ≤ 16384) × (events.old ≡ replicate (length events.old) blank) × (tables.old ≡ replicate tableWords 0) }
-    ensures { settled (length events.old) tableWords result events.new tables.new ≡ outcome (readFrom s.now (length events.old) front) (length events.old) }
+    requires { (front.at ≤ length s.now) × (length s.now ≤ 16384) × (events.old ≡ replicate (length events.old) blank) × (tables.old ≡ replicate table_words 0) }
+    ensures { settled (length events.old) table_words result events.new tables.new ≡ outcome (read_from s.now (length events.old) front) (length events.old) }
 {
     let mut index = [0u8; index::SLOTS];
     fill(s, events, tables, &mut index, front)

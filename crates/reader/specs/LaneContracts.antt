@@ -8,29 +8,29 @@ use Rattle.fields.specs.declared.Number.TheVariants.{Got}
 use Rattle.fields.specs.Fields.{field_at}
 use Rattle.states.specs.declared.State.{State}
 use Rattle.events.specs.declared.EventString.TheVariants.{Stretch}
-use Rattle.events.specs.Records.{chunkRecord}
+use Rattle.events.specs.Records.{chunk_record}
 use Rattle.events.specs.Kept.{kept}
 use Rattle.read_names.specs.declared.Field.TheVariants as F
-use Rattle.read_names.specs.Contracts.{Tidy, eventStringAt}
-use Rattle.read_names.specs.StringContracts.{addedOf, addedCounts, addedWords}
+use Rattle.read_names.specs.Promises.{Tidy, event_string_at}
+use Rattle.read_names.specs.StringContracts.{added_of, added_counts, added_words}
 use Rattle.read_items.specs.Items.{Stand}
-use Rattle.read_items.specs.Contracts.{Lent, lent, standOf, Good}
+use Rattle.read_items.specs.Promises.{Lent, lent, stand_of, Good}
 use Rattle.reader.specs.declared.lane.Lane.{Lane}
 use Rattle.reader.specs.declared.lane.Named.{Named}
-use Rattle.reader.specs.Reading.{Result, run, fuelOf}
-use Rattle.reader.specs.RunContracts.{endingOf, keptFrom}
+use Rattle.reader.specs.Reading.{Result, run, fuel_of}
+use Rattle.reader.specs.RunContracts.{ending_of, kept_from}
 
 -- A run of a document s from its first item on, with records for `room` events.
 abbrev pub whole : Octets → (room : ℕ) → Stand → Result
-whole s room from = run link s (fuelOf s) room from
+whole s room from = run link s (fuel_of s) room from
 
 -- The words for records were v. There is fuel for `left` steps more, and there were n events; a is what is lent.
 pub record Underway (s v : Words) (room : ℕ) (from : Stand) (left n : ℕ) (st : State) (a : Lent) : Type 0 where
   pub good : Good s st a
   pub fits : n ≤ room
   pub fuel : n + left ≤ 2 * length s + 1
-  pub ends : endingOf n (run link s left (room - n) (standOf st a)) ≡ endingOf 0 (whole s room from)
-  pub keeps : 14 * room ≤ length v → keptFrom a.records n (run link s left (room - n) (standOf st a)) ≡ keptFrom v 0 (whole s room from)
+  pub ends : ending_of n (run link s left (room - n) (stand_of st a)) ≡ ending_of 0 (whole s room from)
+  pub keeps : 14 * room ≤ length v → kept_from a.records n (run link s left (room - n) (stand_of st a)) ≡ kept_from v 0 (whole s room from)
   pub same_length : length a.records ≡ length v
 
 -- ---- the lane
@@ -47,11 +47,11 @@ pub record Onward (s : Octets) (full : ℕ) (st : State) (n : ℕ) (t c r : Word
   pub goes : {v : Words} {room : ℕ} {from : Stand} {left : ℕ} {x : Octets} → full ≤ room → full < n + left → Underway s v room from left n st (lent t c x r) → Underway s v room from (n + left - n') n' st' (lent t' c' x r')
 
 -- Among children inside the root, at an octet.
-abbrev pub inLane : Lane → State
-inLane y = record { at = 2 * y.at; level = y.level; root = 1; mode = 0 }
+abbrev pub in_lane : Lane → State
+in_lane y = record { at = 2 * y.at; level = y.level; root = 1; mode = 0 }
 
-unfoldable pub entersLane : State → Bool
-entersLane st = eqb st.mode 0 && (eqb st.root 1 && (ltb 0 st.level && eqb (st.at % 2) 0))
+unfoldable pub enters_lane : State → Bool
+enters_lane st = eqb st.mode 0 && (eqb st.root 1 && (ltb 0 st.level && eqb (st.at % 2) 0))
 
 -- An item may stand there, with another octet behind its first.
 pub record Stands (s : Octets) (c t : Words) (y : Lane) : Type 0 where
@@ -61,7 +61,7 @@ pub record Stands (s : Octets) (c t : Words) (y : Lane) : Type 0 where
   pub few : y.n < 65536
 
 pub record Skims (s : Octets) (full : ℕ) (y : Lane) (t c r : Words) (z : Lane) (t' c' r' : Words) : Type 0 where
-  pub onward : Onward s full (inLane y) y.n t c r (inLane z) z.n t' c' r'
+  pub onward : Onward s full (in_lane y) y.n t c r (in_lane z) z.n t' c' r'
   pub inside : 1 ≤ z.level
   pub near : z.at ≤ 16384
 
@@ -77,10 +77,10 @@ ReadsShort s at b ones r = (bit : ℕ) → 1 ≤ bit → bit ≤ 6 → ones ≡ 
 
 -- A row more of chunks, where one is to be added, as the reading of a string says it at any place k; or no room for it.
 abbrev pub AddsChunk : Bool → (c t : Words) → (place size : ℕ) → Bool → (c' t' : Words) → Type 0
-AddsChunk true c t place size add c' t' = (k : ℕ) → (F.Got (Stretch Utf8 place size) (place + size) ≡ addedOf c 6 k Utf8 place size add) × (c' ≡ addedCounts c 6 add) × (t' ≡ addedWords c t 6 Utf8 place size add)
+AddsChunk true c t place size add c' t' = (k : ℕ) → (F.Got (Stretch Utf8 place size) (place + size) ≡ added_of c 6 k Utf8 place size add) × (c' ≡ added_counts c 6 add) × (t' ≡ added_words c t 6 Utf8 place size add)
 AddsChunk false c t place size add c' t' = (c' ≡ c) × (t' ≡ t)
 
 -- The chunk in row i, which stands at octet k, is in record n, where there is one; or nothing has changed.
 abbrev pub KeepsChunk : Bool → (t : Words) (i : ℕ) (r : Words) (n k : ℕ) (r' : Words) → Type 0
-KeepsChunk true t i r n k r' = r' ≡ kept r n k (chunkRecord (eventStringAt t 6 (i + 1)))
+KeepsChunk true t i r n k r' = r' ≡ kept r n k (chunk_record (event_string_at t 6 (i + 1)))
 KeepsChunk false t i r n k r' = r' ≡ r

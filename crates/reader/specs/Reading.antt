@@ -6,17 +6,17 @@ use Rattle.format.specs.Events.{Item}
 use Rattle.format.specs.Tables.{Vocabulary, same, Version}
 use Rattle.format.specs.Items.{State}
 use Rattle.format.specs.Document.{beginning}
-use Rattle.format.specs.Refusals.{SIZE, TRUNCATED, HEADER, OPTIONAL-PART, PADDING, ROOM}
-use Rattle.tables.specs.Counts.{countsOf, tableWords, entryWords, words_of}
+use Rattle.format.specs.Refusals.{SIZE, TRUNCATED, HEADER, OPTIONAL_PART, PADDING, ROOM}
+use Rattle.tables.specs.Counts.{counts_of, table_words, entry_words, words_of}
 use Rattle.tables.specs.Kept.{listed}
-use Rattle.tables.specs.Told.{Told, toldAccepted, toldRefused, entriesOf}
+use Rattle.tables.specs.Told.{Told, told_accepted, told_refused, entries_of}
 use Rattle.events.specs.declared.Event.{Event}
-use Rattle.tables.specs.Located.{Located, plain, plainState, start}
-use Rattle.events.specs.Records.{blank, recordAt}
+use Rattle.tables.specs.Located.{Located, plain, plain_state, start}
+use Rattle.events.specs.Records.{blank, record_at}
 use Rattle.reader.specs.declared.Answer as A
 use Rattle.reader.specs.declared.Answer.TheVariants.{Accepted, Refused}
 use Rattle.read_names.specs.Strings.{got, refused}
-use Rattle.read_head.specs.Head.{Passed, headAt}
+use Rattle.read_head.specs.Head.{Passed, head_at}
 use Rattle.read_items.specs.Steps.{step}
 use Rattle.read_items.specs.Items.{Stand, Step, more, quiet, done, stop}
 
@@ -26,11 +26,11 @@ pub record EventRead : Type 0 where
   pub item : Item Located
 
 -- The record that is handed out for it.
-abbrev pub recordRead : EventRead → Event
-recordRead e = recordAt e.place e.item.event
+abbrev pub record_read : EventRead → Event
+record_read e = record_at e.place e.item.event
 
-abbrev pub itemsRead : List EventRead → List (Item Located)
-itemsRead = map (λ (e : EventRead). e.item)
+abbrev pub items_read : List EventRead → List (Item Located)
+items_read = map (λ (e : EventRead). e.item)
 
 -- Events in order and where the reader stands at the end; or a refusal.
 pub data Result : Type 0 where
@@ -81,9 +81,9 @@ pub data Opening : Type 0 where
   halt : (number place : ℕ) → Opening
 
 -- A head lets the body be read from behind it, with its tables.
-abbrev pub behindHead : Passed → Opening
-behindHead (got b next v) = onward next v
-behindHead (refused n p) = halt n p
+abbrev pub behind_head : Passed → Opening
+behind_head (got b next v) = onward next v
+behind_head (refused n p) = halt n p
 
 -- SIZE (1). The identification: missing (2), other octets (3). The octet behind it: missing (2), its padding bit (6), a presence bit (4), unless it is that of a head
 -- alone, which is read then.
@@ -95,7 +95,7 @@ opening ver s =
     (pick (same (take n s) ver.identification)
     (pick (leb (suc n) (length s))
     (pick (ltb (get_or s n 0) 0x80)
-    (pick (eqb (get_or s n 0) 0) (onward (suc n) (start ver)) (pick (ver.heads && eqb (get_or s n 0) 0x20) (behindHead (headAt ver s (suc n) (start ver))) (halt OPTIONAL-PART n)))
+    (pick (eqb (get_or s n 0) 0) (onward (suc n) (start ver)) (pick (ver.heads && eqb (get_or s n 0) 0x20) (behind_head (head_at ver s (suc n) (start ver))) (halt OPTIONAL_PART n)))
     (halt PADDING n))
     (halt TRUNCATED n))
     (halt HEADER 0))
@@ -106,38 +106,38 @@ opening ver s =
 abbrev pub origin : (body : ℕ) → Vocabulary Located → Stand
 origin body tables = record { at = 2 * body; state = beginning tables }
 
-abbrev pub fuelOf : Octets → ℕ
-fuelOf s = suc (2 * length s)
+abbrev pub fuel_of : Octets → ℕ
+fuel_of s = suc (2 * length s)
 
 module _ (ver : Version) (s : Octets) where
   -- With these octets and records for `room` events: what the opening lets be read.
-  abbrev pub resultFrom : (room : ℕ) → Opening → Result
-  resultFrom room (onward body tables) = run ver s (fuelOf s) room (origin body tables)
-  resultFrom room (halt n p) = refusal n p
+  abbrev pub result_from : (room : ℕ) → Opening → Result
+  result_from room (onward body tables) = run ver s (fuel_of s) room (origin body tables)
+  result_from room (halt n p) = refusal n p
 
   unfoldable pub reading : (room : ℕ) → Result
-  reading room = resultFrom room (opening ver s)
+  reading room = result_from room (opening ver s)
 
   -- The marks of the events that the document hands out.
-  abbrev pub marksFrom : Opening → List Mark
-  marksFrom (onward body tables) = trace ver s (fuelOf s) (origin body tables)
-  marksFrom (halt n p) = []
+  abbrev pub marks_from : Opening → List Mark
+  marks_from (onward body tables) = trace ver s (fuel_of s) (origin body tables)
+  marks_from (halt n p) = []
 
   unfoldable pub marks : List Mark
-  marks = marksFrom (opening ver s)
+  marks = marks_from (opening ver s)
 
   -- The octets s are accepted, with records for `room` events; these are the items handed out, and this is known at the end, with octets in place of places.
   pub record Accepts (room : ℕ) (items : List (Item Octets)) (z : State Octets) : Type 0 where
     pub events : List EventRead
     pub last : Stand
     pub reads : reading room ≡ accepted events last
-    pub are : map (plain s) (itemsRead events) ≡ items
-    pub end_is : plainState s last.state ≡ z
+    pub are : map (plain s) (items_read events) ≡ items
+    pub end_is : plain_state s last.state ≡ z
 
 -- What the requirements' table says of each answer.
 abbrev pub told : A.Answer → Told
-told (Accepted n c) = toldAccepted n (listed c)
-told (Refused k p) = toldRefused k p
+told (Accepted n c) = told_accepted n (listed c)
+told (Refused k p) = told_refused k p
 
 -- What a call answers and leaves: the answer, as an enum and in the requirements' numbers, every event record, every table word.
 pub record Outcome : Type 0 where
@@ -152,26 +152,26 @@ Leaves r row tables o = (r ≡ o.answer) × (told r ≡ o.told) × (row ≡ o.ro
 
 -- A refusal blanks all the room that was lent.
 abbrev pub refusing : ℕ → ℕ → ℕ → ℕ → Outcome
-refusing n p room table = record { answer = Refused n p; told = toldRefused n p; row = replicate room blank; tables = replicate table 0 }
+refusing n p room table = record { answer = Refused n p; told = told_refused n p; row = replicate room blank; tables = replicate table 0 }
 
 abbrev pub accepting : List Event → Vocabulary Located → ℕ → Outcome
 accepting es v room =
     record {
-      answer = Accepted (length es) (countsOf v);
-      told = toldAccepted (length es) (entriesOf v);
+      answer = Accepted (length es) (counts_of v);
+      told = told_accepted (length es) (entries_of v);
       row = es ++ replicate (room - length es) blank;
-      tables = words_of entryWords v;
+      tables = words_of entry_words v;
     }
 
 abbrev pub outcome : Result → ℕ → Outcome
-outcome (accepted es m) room = accepting (map recordRead es) m.state.tables room
-outcome (refusal n p) room = refusing n p room tableWords
+outcome (accepted es m) room = accepting (map record_read es) m.state.tables room
+outcome (refusal n p) room = refusing n p room table_words
 
 -- Reading, with `room` event records and `table` table words lent: SIZE, then the table room (14), both at place 0, then the fields.
 unfoldable pub read_of : Version → Octets → (room table : ℕ) → Outcome
 read_of ver s room table =
     pick (sized ver s)
-    (pick (eqb table tableWords) (outcome (reading ver s room) room) (refusing ROOM 0 room table))
+    (pick (eqb table table_words) (outcome (reading ver s room) room) (refusing ROOM 0 room table))
     (refusing SIZE 0 room table)
 
 -- The number that comes back to C: 0, or the place times 32 plus the refusal's number.
@@ -180,5 +180,5 @@ number_of (accepted es m) = 0
 number_of (refusal n p) = p * 32 + n
 
 -- The check: as a reader with an event record for each half of the longest document, which are 32,768 on the link.
-unfoldable pub checkOf : Version → Octets → ℕ
-checkOf ver s = number_of (reading ver s (2 * ver.octets))
+unfoldable pub check_of : Version → Octets → ℕ
+check_of ver s = number_of (reading ver s (2 * ver.octets))

@@ -1,15 +1,15 @@
 // A quick lane for what most of a document is: elements and chunks by number, spelled chunks, and ends. It takes as many of them as it can, each as a step
 // would, without a step's answer around it. All else is left to the step: other items, strings that are not in utf-8, every fault, the root's end, and an event for which there is no record.
 ghost use Rattle.std.specs.Prelude.{◌≡◌, ℕ, ◌+◌, ◌-◌, ◌*◌, ◌/◌, ◌<◌, ◌≤◌, true, length, get_or, take, drop};
-ghost use Rattle.fields.specs.Utf8.{isText};
-ghost use Rattle.tables.specs.Counts.{tableWords};
-ghost use Rattle.tables.specs.Rows.{tripleAt};
+ghost use Rattle.fields.specs.Utf8.{is_text};
+ghost use Rattle.tables.specs.Counts.{table_words};
+ghost use Rattle.tables.specs.Rows.{triple_at};
 ghost use Rattle.events.specs.declared.EventString.TheVariants.{Absent};
 ghost use Rattle.events.specs.declared.Kind.TheVariants.{Start};
 ghost use Rattle.events.specs.Kept.{kept};
-ghost use Rattle.read_names.specs.Contracts.{nameStringsAt, NameThere};
-ghost use Rattle.read_items.specs.ItemContracts.{namedRecord};
-ghost use Rattle.reader.specs.LaneContracts.{Tidied, entersLane, Stands, Skims, Advances, ReadsShort, AddsChunk, KeepsChunk};
+ghost use Rattle.read_names.specs.Promises.{name_strings_at, NameThere};
+ghost use Rattle.read_items.specs.ItemContracts.{named_record};
+ghost use Rattle.reader.specs.LaneContracts.{Tidied, enters_lane, Stands, Skims, Advances, ReadsShort, AddsChunk, KeepsChunk};
 
 use events::EventString;
 use fields::{Cursor, Number, bits};
@@ -74,8 +74,8 @@ fn row_at(s: &[u8], at: usize, b: u8, ones: u8) -> Named
 
 // The Start at octet k of the element whose name is in row i, where there is a record for it. Most names have a local name alone.
 fn keep_start(t: &[u32], records: &mut [u32], n: usize, k: usize, i: u32)
-    requires { (k < 0x1_0000_0000) × NameThere t.now 8 (i + 1) × (1 ≤ (tripleAt t.now (768 * 8 + 3 * (i + 1 - 1))).local) }
-    ensures { records.new ≡ kept records.old n k (namedRecord Start (nameStringsAt t.now 8 (i + 1)) Absent) }
+    requires { (k < 0x1_0000_0000) × NameThere t.now 8 (i + 1) × (1 ≤ (triple_at t.now (768 * 8 + 3 * (i + 1 - 1))).local) }
+    ensures { records.new ≡ kept records.old n k (named_record Start (name_strings_at t.now 8 (i + 1)) Absent) }
 {
     if !events::has_record(records, n) {
         return;
@@ -103,7 +103,7 @@ fn keep_start(t: &[u32], records: &mut [u32], n: usize, k: usize, i: u32)
 
 // The chunk at octet k that is in row i, where there is a record for it; false leaves one that is not in utf-8 to the step.
 fn keep_chunk(t: &[u32], records: &mut [u32], n: usize, k: usize, i: u32) -> bool
-    requires { (k < 0x1_0000_0000) × (length t.now ≡ tableWords) × (i < 256) }
+    requires { (k < 0x1_0000_0000) × (length t.now ≡ table_words) × (i < 256) }
     ensures { KeepsChunk result t.now i records.old n k records.new }
 {
     if !events::has_record(records, n) {
@@ -184,7 +184,7 @@ fn end(s: &[u8], t: &[u32], counts: &[u32], records: &mut [u32], lane: Lane) -> 
 // The octets from `from` to before `to` are text. One or two are looked at here, so that they cost no call; where they are not plain, false leaves them to the step.
 fn is_text(s: &[u8], from: usize, to: usize) -> bool
     requires { (from < to) × (to ≤ length s.now) }
-    ensures { result ≡ true → true ≡ isText (take (to - from) (drop from s.now)) }
+    ensures { result ≡ true → true ≡ is_text (take (to - from) (drop from s.now)) }
 {
     if 2 < to - from {
         return fields::is_text(s, from, to);
@@ -194,7 +194,7 @@ fn is_text(s: &[u8], from: usize, to: usize) -> bool
 
 // A row more of chunks, where one is to be added; false where there is no room for it.
 fn added(t: &mut [u32], counts: &mut [u32], place: u32, size: u32, add: bool) -> bool
-    requires { (length t.old ≡ tableWords) × (length counts.old ≡ 10) }
+    requires { (length t.old ≡ table_words) × (length counts.old ≡ 10) }
     ensures { AddsChunk result counts.old t.old place size add counts.new t.new }
 {
     if !add {
@@ -298,7 +298,7 @@ fn items(
 
 // The lane may be entered: at the start of an octet among children, inside the root.
 fn enters(st: State) -> bool
-    ensures { result ≡ entersLane st }
+    ensures { result ≡ enters_lane st }
 {
     if st.mode != State::CONTENT {
         return false;

@@ -2,15 +2,15 @@
 // refuses nothing of its own. The check and the reader for C are such runs.
 ghost use Rattle.std.specs.Prelude.{◌≡◌, ◌≤◌, length, take, replicate};
 ghost use Rattle.format.specs.Tables.{link, same};
-ghost use Rattle.tables.specs.Counts.{tableWords};
+ghost use Rattle.tables.specs.Counts.{table_words};
 ghost use Rattle.tables.specs.Rows.{vocabulary};
 ghost use Rattle.tables.specs.Kept.{unlisted};
 ghost use Rattle.index.specs.Indexed.{slots};
-ghost use Rattle.read_names.specs.Contracts.{Tidy};
-ghost use Rattle.reader.specs.Reading.{sized, opening, origin, reading, checkOf};
-ghost use Rattle.reader.specs.RunContracts.{Opened, Starts, Ran, Small, answerNumber};
+ghost use Rattle.read_names.specs.Promises.{Tidy};
+ghost use Rattle.reader.specs.Reading.{sized, opening, origin, reading, check_of};
+ghost use Rattle.reader.specs.RunContracts.{Opened, Starts, Ran, Small, answer_number};
 ghost use Rattle.reader.specs.LaneContracts.{whole};
-ghost use Rattle.reader.specs.Words.{leaving, readWords};
+ghost use Rattle.reader.specs.Words.{leaving, read_words};
 
 use crate::lane;
 use events::RECORD;
@@ -107,7 +107,7 @@ pub fn opened(s: &[u8]) -> Opening
 
 // What stands before the first item, into tables and an index that are clear: where the body starts, with the starting tables or those of a head; or the refusal and its place.
 fn begun(s: &[u8], t: &mut [u32], counts: &mut [u32], index: &mut [u8]) -> Passed
-    requires { (t.old ≡ replicate tableWords 0) × (length counts.old ≡ 10) × (index.old ≡ replicate slots 0) }
+    requires { (t.old ≡ replicate table_words 0) × (length counts.old ≡ 10) × (index.old ≡ replicate slots 0) }
     ensures { Starts s.now result counts.new t.new index.new }
 {
     tables::put_counts(counts, Counts::start());
@@ -173,7 +173,7 @@ fn steps(
 
 // A document, with tables that are clear.
 fn reading(s: &[u8], t: &mut [u32], counts: &mut [u32], records: &mut [u32], room: usize) -> Ended
-    requires { (t.old ≡ replicate tableWords 0) × (length counts.old ≡ 10) }
+    requires { (t.old ≡ replicate table_words 0) × (length counts.old ≡ 10) }
     ensures { Ran room records.old result counts.new t.new records.new (reading link s.now room) }
 {
     let mut index = [0u8; index::SLOTS];
@@ -186,7 +186,7 @@ fn reading(s: &[u8], t: &mut [u32], counts: &mut [u32], records: &mut [u32], roo
 // 0, or the place times 32 plus the refusal.
 fn number(a: Ended) -> u32
     requires { Small a }
-    ensures { result ≡ answerNumber a }
+    ensures { result ≡ answer_number a }
 {
     match a {
         Ended::Accepted(_) => 0,
@@ -197,7 +197,7 @@ fn number(a: Ended) -> u32
 // Any octets, as a reader with 32,768 event records, of which none is held.
 // Wrong would be: ROOM, since it needs no records; 0 for a document with octets behind its end, which is STRUCTURE.
 pub fn check(octets: &[u8]) -> u32
-    ensures { result ≡ checkOf link octets.now }
+    ensures { result ≡ check_of link octets.now }
 {
     let mut t = [0u32; Counts::WORDS];
     let mut counts = [0u32; Counts::TABLES];
@@ -209,7 +209,7 @@ pub fn check(octets: &[u8]) -> u32
 // refusal's number, which leaves every word 0.
 // Wrong would be: on a refusal, tables that are left from before the fault; on acceptance, a word behind the last whole record that stood there before the call.
 pub fn read_words(octets: &[u8], records: &mut [u32], tables: &mut [u32], counts: &mut [u32]) -> u64
-    ensures { leaving result records.new tables.new counts.new ≡ readWords link octets.now (length records.old) (length tables.old) (length counts.old) }
+    ensures { leaving result records.new tables.new counts.new ≡ read_words link octets.now (length records.old) (length tables.old) (length counts.old) }
 {
     let room = records.len() / RECORD;
     tables::clear(records);

@@ -8,24 +8,24 @@ use native.Mathlib.Omega.{arith}
 use borrow.Author.Tests.{ne_eqb, lt-leb}
 use lib.Dec.{eqb}
 use Rattle.format.specs.Items as F
-use Rattle.states.specs.States.{mode_of, rootOf, coming, afterStart, declaringMode}
+use Rattle.states.specs.States.{mode_of, root_of, coming, after_start, declaring_mode}
 
-pub mode-content : mode_of 0 ≡ F.content
+pub mode_content : mode_of 0 ≡ F.content
 unfolding mode_of
-mode-content = refl
+mode_content = refl
 
-pub mode-listing : mode_of 1 ≡ F.listing false
+pub mode_listing : mode_of 1 ≡ F.listing false
 unfolding mode_of
-mode-listing = refl
+mode_listing = refl
 
-pub mode-listed : mode_of 2 ≡ F.listing true
+pub mode_listed : mode_of 2 ≡ F.listing true
 unfolding mode_of
-mode-listed = refl
+mode_listed = refl
 
-pub mode-declaring : (a : Bool) → mode_of (declaringMode a) ≡ F.declaring a
+pub mode_declaring : (a : Bool) → mode_of (declaring_mode a) ≡ F.declaring a
 unfolding mode_of
-mode-declaring true = refl
-mode-declaring false = refl
+mode_declaring true = refl
+mode_declaring false = refl
 
 -- A fact of each mode is one of every number: from 4 on all are one mode.
 pub by_mode : (P : ℕ → F.Mode → Type 0) → P 0 F.content → P 1 (F.listing false) → P 2 (F.listing true) → P 3 (F.declaring false) → ((m : ℕ) → 4 ≤ m → P m (F.declaring true)) → (m : ℕ) → P m (mode_of m)
@@ -43,33 +43,33 @@ by_mode P p q r s t m =
     ]
 
 -- ---- behind a Start, and among declarations
-pub after-mode : (a : Bool) → mode_of (afterStart a) ≡ F.afterStart a
-after-mode true = mode-listing
-after-mode false = mode-content
+pub after_mode : (a : Bool) → mode_of (after_start a) ≡ F.after_start a
+after_mode true = mode_listing
+after_mode false = mode_content
 
-pub after-coming : (a : Bool) → coming (afterStart a) ≡ 0
+pub after-coming : (a : Bool) → coming (after_start a) ≡ 0
 unfolding coming
 after-coming true = refl
 after-coming false = refl
 
-pub coming-low : (m : ℕ) → m < 3 → coming m ≡ 0
+pub coming_low : (m : ℕ) → m < 3 → coming m ≡ 0
 unfolding coming
-coming-low m h = rw (lt-leb _ _ h)
+coming_low m h = rw (lt-leb _ _ h)
 
-pub declaring-coming : (a : Bool) → coming (declaringMode a) ≡ 1
+pub declaring_coming : (a : Bool) → coming (declaring_mode a) ≡ 1
 unfolding coming
-declaring-coming true = refl
-declaring-coming false = refl
+declaring_coming true = refl
+declaring_coming false = refl
 
 -- ---- the root
 twice : (b : Bool) → not (not b) ≡ b
 twice true = refl
 twice false = refl
 
-pub root_none : (r : ℕ) → not (rootOf r) ≡ eqb r 0
-unfolding rootOf
+pub root_none : (r : ℕ) → not (root_of r) ≡ eqb r 0
+unfolding root_of
 root_none r = twice (eqb r 0)
 
-pub root-one : rootOf 1 ≡ true
-unfolding rootOf
-root-one = refl
+pub root_one : root_of 1 ≡ true
+unfolding root_of
+root_one = refl

@@ -13,11 +13,11 @@ mode_of m =
     (pick (eqb m 2) (F.listing true)
     (pick (eqb m 3) (F.declaring false) (F.declaring true))))
 
-unfoldable pub rootOf : ℕ → Bool
-rootOf r = not (eqb r 0)
+unfoldable pub root_of : ℕ → Bool
+root_of r = not (eqb r 0)
 
 abbrev pub state_of : State → Vocabulary Located → F.State Located
-state_of st v = record { tables = v; level = st.level; root = rootOf st.root; mode = mode_of st.mode }
+state_of st v = record { tables = v; level = st.level; root = root_of st.root; mode = mode_of st.mode }
 
 -- An element whose declarations are read or written is not open yet, but will be.
 unfoldable pub coming : ℕ → ℕ
@@ -35,17 +35,17 @@ fresh body = record { at = 2 * body; level = 0; root = 0; mode = 0 }
 abbrev pub moved_to : State → (k mode : ℕ) → State
 moved_to st k m = record { at = 2 * k; level = st.level; root = st.root; mode = m }
 
-abbrev pub afterStart : Bool → ℕ
-afterStart true = 1
-afterStart false = 0
+abbrev pub after_start : Bool → ℕ
+after_start true = 1
+after_start false = 0
 
-abbrev pub declaringMode : Bool → ℕ
-declaringMode true = 4
-declaringMode false = 3
+abbrev pub declaring_mode : Bool → ℕ
+declaring_mode true = 4
+declaring_mode false = 3
 
 -- An element more, at the octet k.
-abbrev pub openedAt : State → ℕ → Bool → State
-openedAt st k a = record { at = 2 * k; level = st.level + 1; root = 1; mode = afterStart a }
+abbrev pub opened_at : State → ℕ → Bool → State
+opened_at st k a = record { at = 2 * k; level = st.level + 1; root = 1; mode = after_start a }
 
 -- At the half behind an end, among children at a level.
 abbrev pub after_end : State → ℕ → State

@@ -1,7 +1,7 @@
 // Where a reader or a writer stands in a document, and what it knows beside the tables.
 // May depend on format and tables (for specs/).
 ghost use Rattle.std.specs.Prelude.{◌≡◌, not, ◌||◌, ◌*◌, ◌≤◌, ◌<◌, ltb};
-ghost use Rattle.states.specs.States.{farthest, fresh, moved_to, openedAt, after_end, afterStart, declaringMode, rootOf};
+ghost use Rattle.states.specs.States.{farthest, fresh, moved_to, opened_at, after_end, after_start, declaring_mode, root_of};
 
 // `at` is in halves of an octet; `root` is not 0 once there was a root. Four words without a gap: a struct with gaps is moved in pieces, at every step.
 #[derive(Drop)]
@@ -56,7 +56,7 @@ impl State {
     // An element more, whose attribute bit is a.
     pub fn opened(self, next: usize, a: bool) -> State
         requires { (next ≤ farthest) × (self.level < 32) }
-        ensures { result ≡ openedAt self next a }
+        ensures { result ≡ opened_at self next a }
     {
         State {
             at: 2 * next,
@@ -81,7 +81,7 @@ impl State {
 
     // An element may start inside another, and outside if there was no root yet.
     pub fn may_start(self) -> bool
-        ensures { result ≡ (ltb 0 self.level || not (rootOf self.root)) }
+        ensures { result ≡ (ltb 0 self.level || not (root_of self.root)) }
     {
         if 0 < self.level {
             return true;
@@ -92,7 +92,7 @@ impl State {
 
 // Behind a Start whose attribute bit is a.
 pub fn after_start(a: bool) -> usize
-    ensures { result ≡ afterStart a }
+    ensures { result ≡ after_start a }
 {
     if a {
         return State::LISTING;
@@ -102,7 +102,7 @@ pub fn after_start(a: bool) -> usize
 
 // Among the declarations of an element whose attribute bit is a.
 pub fn declaring(a: bool) -> usize
-    ensures { result ≡ declaringMode a }
+    ensures { result ≡ declaring_mode a }
 {
     if a {
         return State::ANNOUNCING;

@@ -21,13 +21,13 @@ module _ {A : Type 0} (f : ℕ → A) where
   length-entries at zero = refl
   length-entries at (suc n) = ap suc (length-entries (at + 3) n)
 
-  pub entry-nth : (at n k : ℕ) (d : A) → k < n → get_or (entries f at n) k d ≡ f (at + 3 * k)
+  pub entry_nth : (at n k : ℕ) (d : A) → k < n → get_or (entries f at n) k d ≡ f (at + 3 * k)
   unfolding entries
-  entry-nth at zero k d h = absurd (omega arith)
-  entry-nth at (suc n) zero d h = let z : at + 3 * 0 ≡ at = omega arith in rw z
-  entry-nth at (suc n) (suc k) d h =
+  entry_nth at zero k d h = absurd (omega arith)
+  entry_nth at (suc n) zero d h = let z : at + 3 * 0 ≡ at = omega arith in rw z
+  entry_nth at (suc n) (suc k) d h =
       let z : at + 3 * suc k ≡ at + 3 + 3 * k = omega arith in
-      rw z (entry-nth (at + 3) n k d (omega arith))
+      rw z (entry_nth (at + 3) n k d (omega arith))
 
   pub entries-more : (at n : ℕ) → entries f at (n + 1) ≡ entries f at n ++ (f (at + 3 * n) ∷ [])
   unfolding entries
@@ -46,23 +46,23 @@ module _ (w : List ℕ) (t n a b c : ℕ) where
       let j = 768 * t + 3 * n in
       get_or-set_other (set (set w j a) (suc j) b) (suc (suc j)) k c 0 n2 ∙ get_or-set_other (set w j a) (suc j) k b 0 n1 ∙ get_or-set_other w j k a 0 n0
 
-  pub stored-0 : 768 * t + 3 * n + 3 ≤ length w → get_or (stored w t n a b c) (768 * t + 3 * n) 0 ≡ a
+  pub stored_0 : 768 * t + 3 * n + 3 ≤ length w → get_or (stored w t n a b c) (768 * t + 3 * n) 0 ≡ a
   unfolding stored
-  stored-0 h =
+  stored_0 h =
       let j = 768 * t + 3 * n in
       get_or-set_other (set (set w j a) (suc j) b) (suc (suc j)) j c 0 (omega arith) ∙ get_or-set_other (set w j a) (suc j) j b 0 (omega arith)
       ∙ get_or-set_same w j a 0 (omega arith)
 
-  pub stored-1 : 768 * t + 3 * n + 3 ≤ length w → get_or (stored w t n a b c) (768 * t + 3 * n + 1) 0 ≡ b
+  pub stored_1 : 768 * t + 3 * n + 3 ≤ length w → get_or (stored w t n a b c) (768 * t + 3 * n + 1) 0 ≡ b
   unfolding stored
-  stored-1 h =
+  stored_1 h =
       let j = 768 * t + 3 * n in
       rw (add-one j)
       (get_or-set_other (set (set w j a) (suc j) b) (suc (suc j)) (suc j) c 0 (omega arith) ∙ get_or-set_same (set w j a) (suc j) b 0 (simp length-set (omega arith)))
 
-  pub stored-2 : 768 * t + 3 * n + 3 ≤ length w → get_or (stored w t n a b c) (768 * t + 3 * n + 2) 0 ≡ c
+  pub stored_2 : 768 * t + 3 * n + 3 ≤ length w → get_or (stored w t n a b c) (768 * t + 3 * n + 2) 0 ≡ c
   unfolding stored
-  stored-2 h = let j = 768 * t + 3 * n in rw (add-two j) (get_or-set_same (set (set w j a) (suc j) b) (suc (suc j)) c 0 (simp length-set (omega arith)))
+  stored_2 h = let j = 768 * t + 3 * n in rw (add-two j) (get_or-set_same (set (set w j a) (suc j) b) (suc (suc j)) c 0 (simp length-set (omega arith)))
 
 -- ---- the tables, when a row is stored behind table t's entries
 -- an entry is made of the three words of its row and of no others
@@ -80,25 +80,25 @@ module _ {A : Type 0} (f : List ℕ → ℕ → A) (by_Row : ByRow f) where
 
   -- the counts are cs; each table has what it had, and table t one entry more
   module _ (cs w : List ℕ) (t a b c : ℕ) (small : (k : ℕ) → get_or cs k 0 ≤ 256) (room : get_or cs t 0 < 256) where
-    pub other-table : (k : ℕ) → (k ≡ t → ⊥)
+    pub other_table : (k : ℕ) → (k ≡ t → ⊥)
         → entries (f (stored w t (get_or cs t 0) a b c)) (768 * k) (get_or (set cs t (get_or cs t 0 + 1)) k 0) ≡ entries (f w) (768 * k) (get_or cs k 0)
-    other-table k ne =
+    other_table k ne =
         let s = small k in
         rw (get_or-set_other cs t k (get_or cs t 0 + 1) 0 ne)
         (same_entries w _ (get_or cs k 0) (768 * k) (λ i l u. stored_other w t (get_or cs t 0) a b c i (omega arith) (omega arith) (omega arith)))
 
-    this-table : t < length cs → entries (f (stored w t (get_or cs t 0) a b c)) (768 * t) (get_or (set cs t (get_or cs t 0 + 1)) t 0)
+    this_table : t < length cs → entries (f (stored w t (get_or cs t 0) a b c)) (768 * t) (get_or (set cs t (get_or cs t 0 + 1)) t 0)
         ≡ entries (f w) (768 * t) (get_or cs t 0) ++ (f (stored w t (get_or cs t 0) a b c) (768 * t + 3 * get_or cs t 0) ∷ [])
-    this-table h =
+    this_table h =
         let v = stored w t (get_or cs t 0) a b c in
         let kept = same_entries w v (get_or cs t 0) (768 * t) (λ i l u. stored_other w t (get_or cs t 0) a b c i (omega arith) (omega arith) (omega arith)) in
         rw (get_or-set_same cs t (get_or cs t 0 + 1) 0 h, entries-more (f v) (768 * t) (get_or cs t 0), kept)
 
-    pub each-table : (x : A) (k : ℕ) → t < length cs → (t ≡ k → f (stored w t (get_or cs t 0) a b c) (768 * t + 3 * get_or cs t 0) ≡ x)
+    pub each_table : (x : A) (k : ℕ) → t < length cs → (t ≡ k → f (stored w t (get_or cs t 0) a b c) (768 * t + 3 * get_or cs t 0) ≡ x)
         → entries (f (stored w t (get_or cs t 0) a b c)) (768 * k) (get_or (set cs t (get_or cs t 0 + 1)) k 0)
         ≡ extended (eqb t k) (entries (f w) (768 * k) (get_or cs k 0)) x
-    each-table x k h e =
+    each_table x k h e =
         elim (ℕ_discrete t k) [
-          | yes q ↦ rw (eq-eqb t k q, ← q, this-table h, e q)
-          | no q ↦ rw (ne_eqb t k q) (other-table k (λ z. q (sym z)))
+          | yes q ↦ rw (eq-eqb t k q, ← q, this_table h, e q)
+          | no q ↦ rw (ne_eqb t k q) (other_table k (λ z. q (sym z)))
         ]

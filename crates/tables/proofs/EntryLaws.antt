@@ -8,13 +8,13 @@ use lib.ListN.{length, get_or}
 use Rattle.format.specs.Tables.{Entry, first, later}
 
 module _ {A : Type 0} where
-  pub entry-made : {l : List A} {k : ℕ} {x : A} → Entry l k x → k < length l
-  entry-made first = omega arith
-  entry-made (later e) = let h = entry-made e in omega arith
+  pub entry_made : {l : List A} {k : ℕ} {x : A} → Entry l k x → k < length l
+  entry_made first = omega arith
+  entry_made (later e) = let h = entry_made e in omega arith
 
-  pub entry-is : {l : List A} {k : ℕ} {x : A} (d : A) → Entry l k x → get_or l k d ≡ x
-  entry-is d first = refl
-  entry-is d (later e) = entry-is d e
+  pub entry_is : {l : List A} {k : ℕ} {x : A} (d : A) → Entry l k x → get_or l k d ≡ x
+  entry_is d first = refl
+  entry_is d (later e) = entry_is d e
 
   pub entry_at : (l : List A) (k : ℕ) (d : A) → k < length l → Entry l k (get_or l k d)
   entry_at [] k d h = absurd (omega arith)

@@ -11,15 +11,15 @@ pub record Told : Type 0 where
   pub counts : Words
 
 -- Accepted is 0 at place 0; a refusal has no counts.
-abbrev pub toldAccepted : (count : ℕ) (counts : Words) → Told
-toldAccepted count counts = record { number = 0; place = 0; count = count; counts = counts }
+abbrev pub told_accepted : (count : ℕ) (counts : Words) → Told
+told_accepted count counts = record { number = 0; place = 0; count = count; counts = counts }
 
-abbrev pub toldRefused : (number place : ℕ) → Told
-toldRefused number place = record { number = number; place = place; count = 0; counts = replicate 10 0 }
+abbrev pub told_refused : (number place : ℕ) → Told
+told_refused number place = record { number = number; place = place; count = 0; counts = replicate 10 0 }
 
 -- How many entries the ten tables have.
-unfoldable pub entriesOf : {S : Type 0} → Vocabulary S → Words
-entriesOf v =
+unfoldable pub entries_of : {S : Type 0} → Vocabulary S → Words
+entries_of v =
     length v.prefixes
     ∷ length v.namespaces
     ∷ length v.locals
@@ -36,5 +36,5 @@ entriesOf v =
 abbrev pub low_word : Told → ℕ
 low_word t = t.place * 32 + t.number
 
-abbrev pub wholeWord : Told → ℕ
-wholeWord t = t.count * 2 ^ 32 + low_word t
+abbrev pub whole_word : Told → ℕ
+whole_word t = t.count * 2 ^ 32 + low_word t

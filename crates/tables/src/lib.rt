@@ -1,14 +1,14 @@
 // The ten tables in lent room: how many entries each has, and what is found and added there.
 // May depend on format, fields and forms.
 ghost use Rattle.std.specs.Prelude.{◌≡◌, map, ◌+◌, ◌-◌, ◌*◌, ◌<◌, ◌≤◌, length, get_or, replicate};
-ghost use Rattle.format.specs.Tables.{OTHER-STRING, link, same, sameTriple};
+ghost use Rattle.format.specs.Tables.{OTHER_STRING, link, same, same_triple};
 ghost use Rattle.format.specs.declared.StringForm.TheVariants.{Utf8};
 ghost use Rattle.format.specs.Forms.{form_of};
-ghost use Rattle.tables.specs.Located.{stretch, octetsOf, start};
-ghost use Rattle.tables.specs.Counts.{countsOf, tableWords};
-ghost use Rattle.tables.specs.Rows.{table_of, builtIn, stringAt, tripleAt, entries};
+ghost use Rattle.tables.specs.Located.{stretch, octets_of, start};
+ghost use Rattle.tables.specs.Counts.{counts_of, table_words};
+ghost use Rattle.tables.specs.Rows.{table_of, built_in, string_at, triple_at, entries};
 ghost use Rattle.tables.specs.Search.{number_in};
-ghost use Rattle.tables.specs.Kept.{listed, unlisted, count_of, oneMore, row_at, stored, Ends, Inside, IsSound, layout_of};
+ghost use Rattle.tables.specs.Kept.{listed, unlisted, count_of, one_more, row_at, stored, Ends, Inside, IsSound, layout_of};
 
 use format::StringForm;
 use format::table::ELEMENT_NAME;
@@ -38,7 +38,7 @@ impl Counts {
 
     // PREFIX and NAMESPACE NAME start with their built-in entry, the others empty.
     pub fn start() -> Counts
-        ensures { result ≡ countsOf (start link) }
+        ensures { result ≡ counts_of (start link) }
     {
         Counts {
             prefix: 1,
@@ -76,7 +76,7 @@ impl Counts {
     // One entry more.
     pub fn more(mut self, table: usize) -> Counts
         requires { (table < 10) × (count_of self table < 256) }
-        ensures { result ≡ oneMore self table }
+        ensures { result ≡ one_more self table }
     {
         let n = self.of(table) + 1;
         match table {
@@ -151,7 +151,7 @@ fn at(table: usize, i: u32) -> usize
 
 // Entry i of a table, from 0.
 pub fn entry(t: &[u32], table: usize, i: u32) -> Row
-    requires { (length t.now ≡ tableWords) × (table < 10) × (i < 256) }
+    requires { (length t.now ≡ table_words) × (table < 10) × (i < 256) }
     ensures { result ≡ row_at t.now (768 * table + 3 * i) }
 {
     let j = at(table, i);
@@ -164,7 +164,7 @@ pub fn entry(t: &[u32], table: usize, i: u32) -> Row
 
 // One entry more behind a table's n.
 pub fn add(t: &mut [u32], table: usize, n: u32, a: u32, b: u32, c: u32)
-    requires { (length t.old ≡ tableWords) × (table < 10) × (n < 256) }
+    requires { (length t.old ≡ table_words) × (table < 10) × (n < 256) }
     ensures { t.new ≡ stored t.old table n a b c }
 {
     let j = at(table, n);
@@ -187,7 +187,7 @@ pub fn clear(t: &mut [u32])
 // Whether n octets of x, from a on, are those of y, from b on: octet by octet, from the last one back, for strings that have no four.
 fn same_few(x: &[u8], a: usize, y: &[u8], b: usize, n: usize) -> bool
     requires { (a + n ≤ length x.now) × (b + n ≤ length y.now) }
-    ensures { result ≡ same (octetsOf x.now (stretch Utf8 a n)) (octetsOf y.now (stretch Utf8 b n)) }
+    ensures { result ≡ same (octets_of x.now (stretch Utf8 a n)) (octets_of y.now (stretch Utf8 b n)) }
 {
     let mut i = n;
     while 0 < i {
@@ -202,7 +202,7 @@ fn same_few(x: &[u8], a: usize, y: &[u8], b: usize, n: usize) -> bool
 // The same for strings that have no eight: the last four octets, then the first four, some of them a second time.
 fn same_short(x: &[u8], a: usize, y: &[u8], b: usize, n: usize) -> bool
     requires { (a + n ≤ length x.now) × (b + n ≤ length y.now) × (n ≤ 8) }
-    ensures { result ≡ same (octetsOf x.now (stretch Utf8 a n)) (octetsOf y.now (stretch Utf8 b n)) }
+    ensures { result ≡ same (octets_of x.now (stretch Utf8 a n)) (octets_of y.now (stretch Utf8 b n)) }
 {
     if n < 4 {
         return same_few(x, a, y, b, n);
@@ -218,7 +218,7 @@ fn same_short(x: &[u8], a: usize, y: &[u8], b: usize, n: usize) -> bool
 // no multiple of eight: that is cheaper than the few octet by octet.
 pub fn same_octets(x: &[u8], a: usize, m: usize, y: &[u8], b: usize, n: usize) -> bool
     requires { (a + m ≤ length x.now) × (b + n ≤ length y.now) }
-    ensures { result ≡ same (octetsOf x.now (stretch Utf8 a m)) (octetsOf y.now (stretch Utf8 b n)) }
+    ensures { result ≡ same (octets_of x.now (stretch Utf8 a m)) (octets_of y.now (stretch Utf8 b n)) }
 {
     if m != n {
         return false;
@@ -239,7 +239,7 @@ pub fn same_octets(x: &[u8], a: usize, m: usize, y: &[u8], b: usize, n: usize) -
 // Whether the string that is built into a table, empty where none is, is that of s at place.
 pub fn is_built_in(s: &[u8], table: usize, place: usize, len: usize) -> bool
     requires { place + len ≤ length s.now }
-    ensures { result ≡ same (octetsOf s.now (builtIn (table_of table))) (octetsOf s.now (stretch Utf8 place len)) }
+    ensures { result ≡ same (octets_of s.now (built_in (table_of table))) (octets_of s.now (stretch Utf8 place len)) }
 {
     match table {
         0 => same_octets(b"xml", 0, 3, s, place, len),
@@ -257,8 +257,8 @@ pub fn is_built_in(s: &[u8], table: usize, place: usize, len: usize) -> bool
 
 // Whether entry i of a table of identifying strings, from 0, is the string of s at place. The length of a built-in entry is 0.
 pub fn is_string(s: &[u8], t: &[u32], table: usize, i: u32, place: usize, len: usize) -> bool
-    requires { (length t.now ≡ tableWords) × (table < 5) × (i < 256) × (place + len ≤ length s.now) × Ends s.now (stringAt (table_of table) t.now (768 * table + 3 * i)) }
-    ensures { result ≡ same (octetsOf s.now (stringAt (table_of table) t.now (768 * table + 3 * i))) (octetsOf s.now (stretch Utf8 place len)) }
+    requires { (length t.now ≡ table_words) × (table < 5) × (i < 256) × (place + len ≤ length s.now) × Ends s.now (string_at (table_of table) t.now (768 * table + 3 * i)) }
+    ensures { result ≡ same (octets_of s.now (string_at (table_of table) t.now (768 * table + 3 * i))) (octets_of s.now (stretch Utf8 place len)) }
 {
     let e = entry(t, table, i);
     if e.b == 0 {
@@ -269,8 +269,8 @@ pub fn is_string(s: &[u8], t: &[u32], table: usize, i: u32, place: usize, len: u
 
 // The lowest number of the first n entries of such a table that is the string of s at place, whatever an entry may be; 0 if none is.
 pub fn find_any(s: &[u8], t: &[u32], table: usize, n: u32, place: usize, len: usize) -> u32
-    requires { (length t.now ≡ tableWords) × (table < 5) × (n ≤ 256) × (place + len ≤ length s.now) × Inside s.now (entries (stringAt (table_of table) t.now) (768 * table) n) }
-    ensures { result ≡ number_in (map (octetsOf s.now) (entries (stringAt (table_of table) t.now) (768 * table) n)) (octetsOf s.now (stretch Utf8 place len)) }
+    requires { (length t.now ≡ table_words) × (table < 5) × (n ≤ 256) × (place + len ≤ length s.now) × Inside s.now (entries (string_at (table_of table) t.now) (768 * table) n) }
+    ensures { result ≡ number_in (map (octets_of s.now) (entries (string_at (table_of table) t.now) (768 * table) n)) (octets_of s.now (stretch Utf8 place len)) }
 {
     let mut i = 0;
     while i < n {
@@ -284,8 +284,8 @@ pub fn find_any(s: &[u8], t: &[u32], table: usize, n: u32, place: usize, len: us
 
 // Whether the row at word j has the octets of s at place, of which `last` is the last. A built-in entry has no length, so it is none of these.
 pub fn is_spelled(s: &[u8], t: &[u32], j: usize, place: usize, len: usize, last: u8) -> bool
-    requires { (length t.now ≡ tableWords) × (j + 3 ≤ tableWords) × (1 ≤ len) × (place + len ≤ length s.now) × (last ≡ get_or s.now (place + (len - 1)) 0) × ((get_or t.now (j + 1) 0 ≡ 0 → ⊥) → get_or t.now j 0 + get_or t.now (j + 1) 0 ≤ length s.now) }
-    ensures { result ≡ same (octetsOf s.now (stretch Utf8 (get_or t.now j 0) (get_or t.now (j + 1) 0))) (octetsOf s.now (stretch Utf8 place len)) }
+    requires { (length t.now ≡ table_words) × (j + 3 ≤ table_words) × (1 ≤ len) × (place + len ≤ length s.now) × (last ≡ get_or s.now (place + (len - 1)) 0) × ((get_or t.now (j + 1) 0 ≡ 0 → ⊥) → get_or t.now j 0 + get_or t.now (j + 1) 0 ≤ length s.now) }
+    ensures { result ≡ same (octets_of s.now (stretch Utf8 (get_or t.now j 0) (get_or t.now (j + 1) 0))) (octets_of s.now (stretch Utf8 place len)) }
 {
     if wide(t[j + 1]) != len {
         return false;
@@ -300,8 +300,8 @@ pub fn is_spelled(s: &[u8], t: &[u32], j: usize, place: usize, len: usize, last:
 // Whether the row at word j, of a table of other strings, says what the octets of s at place say in their form. In one form equal strings have equal octets. A
 // row that has no length is none of these.
 pub fn is_said(s: &[u8], t: &[u32], j: usize, form: StringForm, place: usize, len: usize) -> bool
-    requires { (length t.now ≡ tableWords) × (j + 3 ≤ tableWords) × (1 ≤ len) × (place + len ≤ length s.now) × IsSound s.now (stretch form place len) × ((get_or t.now (j + 1) 0 ≡ 0 → ⊥) → (get_or t.now j 0 + get_or t.now (j + 1) 0 ≤ length s.now) × IsSound s.now (stretch (form_of (get_or t.now (j + 2) 0)) (get_or t.now j 0) (get_or t.now (j + 1) 0))) }
-    ensures { result ≡ same (octetsOf s.now (stringAt OTHER-STRING t.now j)) (octetsOf s.now (stretch form place len)) }
+    requires { (length t.now ≡ table_words) × (j + 3 ≤ table_words) × (1 ≤ len) × (place + len ≤ length s.now) × IsSound s.now (stretch form place len) × ((get_or t.now (j + 1) 0 ≡ 0 → ⊥) → (get_or t.now j 0 + get_or t.now (j + 1) 0 ≤ length s.now) × IsSound s.now (stretch (form_of (get_or t.now (j + 2) 0)) (get_or t.now j 0) (get_or t.now (j + 1) 0))) }
+    ensures { result ≡ same (octets_of s.now (string_at OTHER_STRING t.now j)) (octets_of s.now (stretch form place len)) }
 {
     let n = wide(t[j + 1]);
     if n == 0 {
@@ -325,8 +325,8 @@ pub fn is_said(s: &[u8], t: &[u32], j: usize, form: StringForm, place: usize, le
 
 // Whether the row at word j is the name with these numbers. Most names of a document have the same prefix and namespace.
 pub fn is_name(t: &[u32], j: usize, prefix: u32, namespace: u32, local: u32) -> bool
-    requires { (length t.now ≡ tableWords) × (j + 3 ≤ tableWords) }
-    ensures { result ≡ sameTriple (tripleAt t.now j) (record { prefix = prefix; namespace = namespace; local = local }) }
+    requires { (length t.now ≡ table_words) × (j + 3 ≤ table_words) }
+    ensures { result ≡ same_triple (triple_at t.now j) (record { prefix = prefix; namespace = namespace; local = local }) }
 {
     if t[j + 2] != local {
         return false;
@@ -339,7 +339,7 @@ pub fn is_name(t: &[u32], j: usize, prefix: u32, namespace: u32, local: u32) -> 
 
 // The octet's part that begins a name of table 8 or 9 in parts: 1111pn, or 11110pn.
 pub fn parts_bits(table: usize) -> u8
-    ensures { (result ≡ (layout_of table).inPartsBits) × (result ≤ 0x78) }
+    ensures { (result ≡ (layout_of table).in_parts_bits) × (result ≤ 0x78) }
 {
     if table == ELEMENT_NAME {
         return 0x3C;

@@ -9,25 +9,25 @@ use Rattle.format.specs.Allowed.{All}
 use Rattle.tables.proofs.Adding.{extended}
 
 module _ {A : Type 0} (P : A → Type 0) where
-  all-last : (l : List A) (x : A) → All P l → P x → All P (l ++ (x ∷ []))
-  all-last [] x a p = (p, tt)
-  all-last (y ∷ l) x a p = (a.0, all-last l x a.1 p)
+  all_last : (l : List A) (x : A) → All P l → P x → All P (l ++ (x ∷ []))
+  all_last [] x a p = (p, tt)
+  all_last (y ∷ l) x a p = (a.0, all_last l x a.1 p)
 
-  pub all-extended : (b : Bool) (l : List A) (x : A) → All P l → (b ≡ true → P x) → All P (extended b l x)
-  all-extended true l x a p = all-last l x a (p refl)
-  all-extended false l x a p = a
+  pub all_extended : (b : Bool) (l : List A) (x : A) → All P l → (b ≡ true → P x) → All P (extended b l x)
+  all_extended true l x a p = all_last l x a (p refl)
+  all_extended false l x a p = a
 
-  pub all-entry : {l : List A} {k : ℕ} {x : A} → All P l → Entry l k x → P x
-  all-entry a first = a.0
-  all-entry a (later e) = all-entry a.1 e
+  pub all_entry : {l : List A} {k : ℕ} {x : A} → All P l → Entry l k x → P x
+  all_entry a first = a.0
+  all_entry a (later e) = all_entry a.1 e
 
   pub all_both : (l m : List A) → All P l → All P m → All P (l ++ m)
   all_both [] m a b = b
   all_both (x ∷ l) m a b = (a.0, all_both l m a.1 b)
 
-  pub both-all : (l m : List A) → All P (l ++ m) → All P l × All P m
-  both-all [] m a = (tt, a)
-  both-all (x ∷ l) m a = let b = both-all l m a.1 in ((a.0, b.0), b.1)
+  pub both_all : (l m : List A) → All P (l ++ m) → All P l × All P m
+  both_all [] m a = (tt, a)
+  both_all (x ∷ l) m a = let b = both_all l m a.1 in ((a.0, b.0), b.1)
 
   pub all_so : {Q : A → Type 0} → ((x : A) → Q x → P x) → (l : List A) → All Q l → All P l
   all_so f [] a = tt

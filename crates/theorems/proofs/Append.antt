@@ -4,15 +4,15 @@ use mathlib.Core.List.{List, [], ◌∷◌, ◌++◌}
 use Rattle.format.specs.Octets.{Octets}
 use Rattle.format.specs.Events.{Event, Item, ◌by◌}
 use Rattle.format.specs.Tables.{Vocabulary, Version}
-use Rattle.write_names.specs.Chosen.{chooseFor, chosen, tablesAfter}
+use Rattle.write_names.specs.Chosen.{choose_for, chosen, tables_after}
 
 module _ (C : Version) where
-  pub chosen-append : (v : Vocabulary Octets) (xs ys : List (Event Octets)) → chosen C v (xs ++ ys) ≡ chosen C v xs ++ chosen C (tablesAfter C v xs) ys
-  unfolding chosen tablesAfter
-  chosen-append v [] ys = refl
-  chosen-append v (e ∷ xs) ys = ap (λ (l : List (Item Octets)). (e by (chooseFor C v e).how) ∷ l) (chosen-append (chooseFor C v e).tables xs ys)
+  pub chosen_append : (v : Vocabulary Octets) (xs ys : List (Event Octets)) → chosen C v (xs ++ ys) ≡ chosen C v xs ++ chosen C (tables_after C v xs) ys
+  unfolding chosen tables_after
+  chosen_append v [] ys = refl
+  chosen_append v (e ∷ xs) ys = ap (λ (l : List (Item Octets)). (e by (choose_for C v e).how) ∷ l) (chosen_append (choose_for C v e).tables xs ys)
 
-  pub tables-append : (v : Vocabulary Octets) (xs ys : List (Event Octets)) → tablesAfter C v (xs ++ ys) ≡ tablesAfter C (tablesAfter C v xs) ys
-  unfolding tablesAfter
-  tables-append v [] ys = refl
-  tables-append v (e ∷ xs) ys = tables-append (chooseFor C v e).tables xs ys
+  pub tables_append : (v : Vocabulary Octets) (xs ys : List (Event Octets)) → tables_after C v (xs ++ ys) ≡ tables_after C (tables_after C v xs) ys
+  unfolding tables_after
+  tables_append v [] ys = refl
+  tables_append v (e ∷ xs) ys = tables_append (choose_for C v e).tables xs ys

@@ -9,25 +9,25 @@ use lib.Dec.{eqb}
 use lib.ListN.{length, length-append}
 use Rattle.format.specs.Octets.{Octets, Halves}
 use Rattle.format.specs.Numbers.{Form, form, pick, spell}
-use Rattle.format.specs.Events.{Name, How, NameHow, Item, isDeclaration, isStart, openThen, openAfter, declaresLast}
-use Rattle.format.specs.Tables.{StringTable, NameTable, Triple, Vocabulary, strings, names, adding, addingName, Version, InLimits}
-use Rattle.format.specs.Strings.{bit, Identifying, id-spelled, id-numbered, Optional, absent, present, Layout, Literal, literal-spelled, literal-numbered, Value, value-empty, value}
-use Rattle.format.specs.Names.{NameLayout, Named, in-parts, by_number, Declared, declared}
-use Rattle.format.specs.Items.{Mode, content, declaring, listing, State, afterStart, moved, ItemWrittenAs, o-start, o-first-namespace, o-namespace, o-named-start, o-attribute, o-text, o-comment, o-instruction}
-use Rattle.format.specs.Document.{halves, pad, aligned, closed, Written, attributes-end, element-end, item, knownAfter, Begun, begun, after-attributes, after-end, after-item}
-use Rattle.write_items.specs.Events.{isDeclaring}
+use Rattle.format.specs.Events.{Name, How, NameHow, Item, is_declaration, is_start, open_then, open_after, declares_last}
+use Rattle.format.specs.Tables.{StringTable, NameTable, Triple, Vocabulary, strings, names, adding, adding_name, Version, InLimits}
+use Rattle.format.specs.Strings.{bit, Identifying, id_spelled, id_numbered, Optional, absent, present, Layout, Literal, literal_spelled, literal_numbered, Value, value_empty, value}
+use Rattle.format.specs.Names.{NameLayout, Named, in_parts_lem, by_number_lem, Declared, declared}
+use Rattle.format.specs.Items.{Mode, content, declaring, listing, State, after_start, moved, ItemWrittenAs, o_start, o_first_namespace, o_namespace, o_named_start, o_attribute, o_text, o_comment, o_instruction}
+use Rattle.format.specs.Document.{halves, pad, aligned, closed, Written, attributes_end, element_end, item, known_after, Begun, begun, after_attributes, after_end_lem, after_item}
+use Rattle.write_items.specs.Events.{is_declaring}
 use Rattle.tables.proofs.Found.{clash}
 use Rattle.tables.specs.Rows.{place}
-use Rattle.tables.proofs.Adding.{sameNames, strings-adding, names-adding, strings-adding-name, names-adding-name}
+use Rattle.tables.proofs.Adding.{same_names, strings-adding, names-adding, strings-adding_name, names-adding_name}
 use Rattle.theorems.proofs.Lists.{halves-length, pad-length}
-use Rattle.write_items.specs.Steps.{isAttribute}
-use Rattle.theorems.proofs.OneWriting.{inList, identifying-one, literal-one, value-one, named-one, declared-one, where-attributes, no_end}
-use Rattle.theorems.proofs.Growing.{same-table, same-name-table, extended-few}
+use Rattle.write_items.specs.Steps.{is_attribute}
+use Rattle.theorems.proofs.OneWriting.{in_list, identifying_one, literal_one, value_one, named_one, declared_one, where_attributes, no_end}
+use Rattle.theorems.proofs.Growing.{same_table, same_name_table, extended_few}
 use Rattle.theorems.proofs.Documents.{events}
 
 -- ---- where one stands behind no half, behind an end, and behind an item; how an item's halves are grouped
-none-on : (at : ℕ) → at + 0 ≡ at
-none-on at = omega arith
+none_on : (at : ℕ) → at + 0 ≡ at
+none_on at = omega arith
 
 end_on : (at n : ℕ) → at + suc n ≡ suc at + n
 end_on at n = omega arith
@@ -35,91 +35,91 @@ end_on at n = omega arith
 item_on : (at : ℕ) (o : Octets) (hs : Halves) → at + length (pad at ++ (halves o ++ hs)) ≡ aligned at + 2 * length o + length hs
 item_on at o hs = let a = pad-length at in let b = halves-length o in simp length-append (omega arith)
 
-item-group : (at : ℕ) (o : Octets) (hs ks : Halves) → (pad at ++ (halves o ++ hs)) ++ ks ≡ pad at ++ (halves o ++ (hs ++ ks))
-item-group at o hs ks = simp append_assoc
+item_group : (at : ℕ) (o : Octets) (hs ks : Halves) → (pad at ++ (halves o ++ hs)) ++ ks ≡ pad at ++ (halves o ++ (hs ++ ks))
+item_group at o hs ks = simp append_assoc
 
 -- What is written, in two: the items xs, and the rest of the document.
 pub record Split (ver : Version) (at : ℕ) (v : State Octets) (xs ys : List (Item Octets)) (hs : Halves) (z : State Octets) : Type 0 where
-  pub front-halves : Halves
-  pub rest-halves : Halves
+  pub front_halves : Halves
+  pub rest_halves : Halves
   pub mid : State Octets
-  pub begun : Begun ver at v xs front-halves mid
-  pub rest : Written ver (at + length front-halves) mid ys rest-halves z
-  pub are : hs ≡ front-halves ++ rest-halves
+  pub begun : Begun ver at v xs front_halves mid
+  pub rest : Written ver (at + length front_halves) mid ys rest_halves z
+  pub are : hs ≡ front_halves ++ rest_halves
 
 module _ {ver : Version} where
   -- ---- what is begun goes on
   pub begun_more : {at : ℕ} {v w z : State Octets} {xs ys : List (Item Octets)} {hs ks : Halves}
       → Begun ver at v xs hs w → Begun ver (at + length hs) w ys ks z → Begun ver at v (xs ++ ys) (hs ++ ks) z
-  begun_more {at} begun r = rw (none-on at) at r
-  begun_more {at} (after-attributes {hs = hs} md b) r = after-attributes md (begun_more b (rw (end_on at (length hs)) at r))
-  begun_more {at} (after-end {hs = hs} md lv b) r = after-end md lv (begun_more b (rw (end_on at (length hs)) at r))
-  begun_more {at} {ks = ks} (after-item {o = o} {hs = hs} u b) r = rw (item-group at o hs ks) (after-item u (begun_more b (rw (item_on at o hs) at r)))
+  begun_more {at} begun r = rw (none_on at) at r
+  begun_more {at} (after_attributes {hs = hs} md b) r = after_attributes md (begun_more b (rw (end_on at (length hs)) at r))
+  begun_more {at} (after_end_lem {hs = hs} md lv b) r = after_end_lem md lv (begun_more b (rw (end_on at (length hs)) at r))
+  begun_more {at} {ks = ks} (after_item {o = o} {hs = hs} u b) r = rw (item_group at o hs ks) (after_item u (begun_more b (rw (item_on at o hs) at r)))
 
-  pub begun-written : {at : ℕ} {v w z : State Octets} {xs ys : List (Item Octets)} {hs ks : Halves}
+  pub begun_written : {at : ℕ} {v w z : State Octets} {xs ys : List (Item Octets)} {hs ks : Halves}
       → Begun ver at v xs hs w → Written ver (at + length hs) w ys ks z → Written ver at v (xs ++ ys) (hs ++ ks) z
-  begun-written {at} begun r = rw (none-on at) at r
-  begun-written {at} (after-attributes {hs = hs} md b) r = attributes-end md (begun-written b (rw (end_on at (length hs)) at r))
-  begun-written {at} (after-end {hs = hs} md lv b) r = element-end md lv (begun-written b (rw (end_on at (length hs)) at r))
-  begun-written {at} {ks = ks} (after-item {o = o} {hs = hs} u b) r = rw (item-group at o hs ks) (item u (begun-written b (rw (item_on at o hs) at r)))
+  begun_written {at} begun r = rw (none_on at) at r
+  begun_written {at} (after_attributes {hs = hs} md b) r = attributes_end md (begun_written b (rw (end_on at (length hs)) at r))
+  begun_written {at} (after_end_lem {hs = hs} md lv b) r = element_end md lv (begun_written b (rw (end_on at (length hs)) at r))
+  begun_written {at} {ks = ks} (after_item {o = o} {hs = hs} u b) r = rw (item_group at o hs ks) (item u (begun_written b (rw (item_on at o hs) at r)))
 
   -- the same, said of another place or of other halves
   elsewhere : {at at' : ℕ} {v z : State Octets} {items : List (Item Octets)} {hs hs' : Halves} → at ≡ at' → hs ≡ hs' → (r : Written ver at v items hs z)
-      → (u : Written ver at' v items hs' z) × (knownAfter ver u ≡ knownAfter ver r)
+      → (u : Written ver at' v items hs' z) × (known_after ver u ≡ known_after ver r)
   elsewhere {at' = at'} {v} {z} {items} {hs} a h r =
-      subst (λ (l : Octets). (u : Written ver at' v items l z) × (knownAfter ver u ≡ knownAfter ver r)) h
-      (subst (λ (k : ℕ). (u : Written ver k v items hs z) × (knownAfter ver u ≡ knownAfter ver r)) a (r, refl))
+      subst (λ (l : Octets). (u : Written ver at' v items l z) × (known_after ver u ≡ known_after ver r)) h
+      (subst (λ (k : ℕ). (u : Written ver k v items hs z) × (known_after ver u ≡ known_after ver r)) a (r, refl))
 
   -- one item in front: what is known behind it is known first
   pub front : {at : ℕ} {v w z : State Octets} {i : Item Octets} {items : List (Item Octets)} {own : Octets} {hs : Halves}
       → Begun ver at v (i ∷ []) own w → (r : Written ver (at + length own) w items hs z)
-      → (u : Written ver at v (i ∷ items) (own ++ hs) z) × (knownAfter ver u ≡ w ∷ knownAfter ver r)
-  unfolding knownAfter
-  front {at} (after-attributes {hs = own} md b) r =
+      → (u : Written ver at v (i ∷ items) (own ++ hs) z) × (known_after ver u ≡ w ∷ known_after ver r)
+  unfolding known_after
+  front {at} (after_attributes {hs = own} md b) r =
       let k = elsewhere (end_on at (length own)) refl r in
       let f = front b k.0 in
-      (attributes-end md f.0, cc)
-  front {at} (after-end {v = v} md lv begun) r =
-      let k = elsewhere (end_on at 0 ∙ none-on (suc at)) refl r in
-      (element-end md lv k.0, ap (λ (l : List (State Octets)). closed v ∷ l) k.1)
-  front {at} {hs = hs} (after-item {u = w} {o = o} u begun) r =
-      let k = elsewhere (item_on at o [] ∙ none-on (aligned at + 2 * length o)) refl r in
-      let f = elsewhere refl (sym (item-group at o [] hs)) (item u k.0) in
+      (attributes_end md f.0, cc)
+  front {at} (after_end_lem {v = v} md lv begun) r =
+      let k = elsewhere (end_on at 0 ∙ none_on (suc at)) refl r in
+      (element_end md lv k.0, ap (λ (l : List (State Octets)). closed v ∷ l) k.1)
+  front {at} {hs = hs} (after_item {u = w} {o = o} u begun) r =
+      let k = elsewhere (item_on at o [] ∙ none_on (aligned at + 2 * length o)) refl r in
+      let f = elsewhere refl (sym (item_group at o [] hs)) (item u k.0) in
       (f.0, f.1 ∙ ap (λ (l : List (State Octets)). w ∷ l) k.1)
 
   -- ---- what is written begins
-  behind-end : {at : ℕ} {v u z : State Octets} {xs xs' ys : List (Item Octets)} {hs : Halves} (s : Split ver (suc at) u xs ys hs z)
-      → Begun ver at v xs' (15 ∷ s.front-halves) s.mid → Split ver at v xs' ys (15 ∷ hs) z
-  behind-end {at} s b =
+  behind_end : {at : ℕ} {v u z : State Octets} {xs xs' ys : List (Item Octets)} {hs : Halves} (s : Split ver (suc at) u xs ys hs z)
+      → Begun ver at v xs' (15 ∷ s.front_halves) s.mid → Split ver at v xs' ys (15 ∷ hs) z
+  behind_end {at} s b =
       record {
-        front-halves = 15 ∷ s.front-halves;
-        rest-halves = s.rest-halves;
+        front_halves = 15 ∷ s.front_halves;
+        rest_halves = s.rest_halves;
         mid = s.mid;
         begun = b;
-        rest = rw (end_on at (length s.front-halves)) s.rest;
+        rest = rw (end_on at (length s.front_halves)) s.rest;
         are = ap (λ (l : Octets). 15 ∷ l) s.are;
       }
 
-  first-split : {at : ℕ} {v z : State Octets} {x : Item Octets} {xs ys items : List (Item Octets)} {hs : Halves}
+  first_split : {at : ℕ} {v z : State Octets} {x : Item Octets} {xs ys items : List (Item Octets)} {hs : Halves}
       → Written ver at v (x ∷ items) hs z → ((k : ℕ) (u : State Octets) (l : Octets) → Written ver k u items l z → Split ver k u xs ys l z)
       → Split ver at v (x ∷ xs) ys hs z
-  first-split (attributes-end md w) go = let s = first-split w go in behind-end s (after-attributes md s.begun)
-  first-split (element-end md lv w) go = let s = go _ _ _ w in behind-end s (after-end md lv s.begun)
-  first-split {at} (item {o = o} u w) go =
+  first_split (attributes_end md w) go = let s = first_split w go in behind_end s (after_attributes md s.begun)
+  first_split (element_end md lv w) go = let s = go _ _ _ w in behind_end s (after_end_lem md lv s.begun)
+  first_split {at} (item {o = o} u w) go =
       let s = go _ _ _ w in
       record {
-        front-halves = pad at ++ (halves o ++ s.front-halves);
-        rest-halves = s.rest-halves;
+        front_halves = pad at ++ (halves o ++ s.front_halves);
+        rest_halves = s.rest_halves;
         mid = s.mid;
-        begun = after-item u s.begun;
-        rest = rw (item_on at o s.front-halves) s.rest;
-        are = ap (λ (l : Octets). pad at ++ (halves o ++ l)) s.are ∙ sym (item-group at o s.front-halves s.rest-halves);
+        begun = after_item u s.begun;
+        rest = rw (item_on at o s.front_halves) s.rest;
+        are = ap (λ (l : Octets). pad at ++ (halves o ++ l)) s.are ∙ sym (item_group at o s.front_halves s.rest_halves);
       }
 
-  pub begun-of-written : {at : ℕ} {v z : State Octets} {hs : Halves} (xs ys : List (Item Octets))
+  pub begun_of_written : {at : ℕ} {v z : State Octets} {hs : Halves} (xs ys : List (Item Octets))
       → Written ver at v (xs ++ ys) hs z → Split ver at v xs ys hs z
-  begun-of-written {at} {v} {hs = hs} [] ys w = record { front-halves = []; rest-halves = hs; mid = v; begun = begun; rest = rw (none-on at) w; are = refl }
-  begun-of-written (x ∷ xs) ys w = first-split w (λ k u l. begun-of-written xs ys)
+  begun_of_written {at} {v} {hs = hs} [] ys w = record { front_halves = []; rest_halves = hs; mid = v; begun = begun; rest = rw (none_on at) w; are = refl }
+  begun_of_written (x ∷ xs) ys w = first_split w (λ k u l. begun_of_written xs ys)
 
 -- ---- one size: the items leave open only which attribute bit announces what follows, and no size depends on it
 -- A mode, without the bit.
@@ -139,14 +139,14 @@ pub record Alike (v v' : State Octets) : Type 0 where
 alike : (v : State Octets) → Alike v v
 alike v = record { tables = refl; level = refl; root = refl; mode = refl }
 
-start-bitless : (a : Bool) → bitless (afterStart a) ≡ content
-start-bitless true = refl
-start-bitless false = refl
+start_bitless : (a : Bool) → bitless (after_start a) ≡ content
+start_bitless true = refl
+start_bitless false = refl
 
-member-bitless : (m : Mode) → bitless m ≡ listing true → inList m ≡ true
-member-bitless content e = cc
-member-bitless (declaring a) e = cc
-member-bitless (listing any) e = refl
+member_bitless : (m : Mode) → bitless m ≡ listing true → in_list m ≡ true
+member_bitless content e = cc
+member_bitless (declaring a) e = cc
+member_bitless (listing any) e = refl
 
 -- a number's octets are as many behind any bits
 length-pick : (b : Bool) (x y : Octets) → length (pick b x y) ≡ pick b (length x) (length y)
@@ -160,193 +160,193 @@ spell-size (form code zeros bits low ∷ fs) lead lead' n = simp (length-pick, s
 
 module _ {ver : Version} where
   -- and so are a name's
-  behind-bits : {q : NameLayout} {lead : ℕ} {v w : Vocabulary Octets} {x : Name Octets} {h : NameHow} {o : Octets} (lead' : ℕ)
+  behind_bits : {q : NameLayout} {lead : ℕ} {v w : Vocabulary Octets} {x : Name Octets} {h : NameHow} {o : Octets} (lead' : ℕ)
       → Named ver q lead v x h o w → (o' : Octets) × Named ver q lead' v x h o' w × (length o ≡ length o')
-  behind-bits lead' (in-parts lone up un ul new room) = (_, in-parts lone up un ul new room, refl)
-  behind-bits {q} {lead} lead' (by_number {k = k} small fits en m) = (_, by_number small fits en m, spell-size q.numberForms lead lead' (suc k))
+  behind_bits lead' (in_parts_lem lone up un ul new room) = (_, in_parts_lem lone up un ul new room, refl)
+  behind_bits {q} {lead} lead' (by_number_lem {k = k} small fits en m) = (_, by_number_lem small fits en m, spell-size q.number_forms lead lead' (suc k))
 
-  octets-alike : {v v' w w' : State Octets} {i : Item Octets} {o o' : Octets} → Alike v v' → ItemWrittenAs ver v i o w → ItemWrittenAs ver v' i o' w'
+  octets_alike : {v v' w w' : State Octets} {i : Item Octets} {o o' : Octets} → Alike v v' → ItemWrittenAs ver v i o w → ItemWrittenAs ver v' i o' w'
       → (length o ≡ length o') × Alike w w'
-  octets-alike e (o-start a md may deep u) (o-start b md' may' deep' u') =
-      let t = behind-bits (64 * bit b) u in
-      let r = named-one t.1 (rw (← e.tables) at u') in
-      (t.2 ∙ ap length r.0, record { tables = r.1; level = ap suc e.level; root = refl; mode = start-bitless a ∙ sym (start-bitless b) })
-  octets-alike e (o-start a md may deep u) (o-named-start md' u') = clash (cc)
-  octets-alike e (o-named-start md u) (o-start a md' may' deep' u') = clash (cc)
-  octets-alike e (o-named-start {a = a} md u) (o-named-start {a = b} md' u') =
-      let r = named-one u (rw (← e.tables) at u') in
-      (ap (λ (l : Octets). suc (length l)) r.0, record { tables = r.1; level = ap suc e.level; root = refl; mode = start-bitless a ∙ sym (start-bitless b) })
-  octets-alike e (o-first-namespace md may deep u) (o-first-namespace md' may' deep' u') =
-      let r = declared-one u (rw (← e.tables) at u') in
+  octets_alike e (o_start a md may deep u) (o_start b md' may' deep' u') =
+      let t = behind_bits (64 * bit b) u in
+      let r = named_one t.1 (rw (← e.tables) at u') in
+      (t.2 ∙ ap length r.0, record { tables = r.1; level = ap suc e.level; root = refl; mode = start_bitless a ∙ sym (start_bitless b) })
+  octets_alike e (o_start a md may deep u) (o_named_start md' u') = clash (cc)
+  octets_alike e (o_named_start md u) (o_start a md' may' deep' u') = clash (cc)
+  octets_alike e (o_named_start {a = a} md u) (o_named_start {a = b} md' u') =
+      let r = named_one u (rw (← e.tables) at u') in
+      (ap (λ (l : Octets). suc (length l)) r.0, record { tables = r.1; level = ap suc e.level; root = refl; mode = start_bitless a ∙ sym (start_bitless b) })
+  octets_alike e (o_first_namespace md may deep u) (o_first_namespace md' may' deep' u') =
+      let r = declared_one u (rw (← e.tables) at u') in
       (ap (λ (l : Octets). suc (length l)) r.0, record { tables = r.1; level = e.level; root = e.root; mode = refl })
-  octets-alike e (o-first-namespace md may deep u) (o-namespace md' u') = clash (cc)
-  octets-alike e (o-namespace md u) (o-first-namespace md' may' deep' u') = clash (cc)
-  octets-alike e (o-namespace md u) (o-namespace md' u') =
-      let r = declared-one u (rw (← e.tables) at u') in
+  octets_alike e (o_first_namespace md may deep u) (o_namespace md' u') = clash (cc)
+  octets_alike e (o_namespace md u) (o_first_namespace md' may' deep' u') = clash (cc)
+  octets_alike e (o_namespace md u) (o_namespace md' u') =
+      let r = declared_one u (rw (← e.tables) at u') in
       (ap length r.0, record { tables = r.1; level = e.level; root = e.root; mode = refl })
-  octets-alike e (o-attribute md u1 u2) (o-attribute md' u1' u2') =
-      let r = named-one u1 (rw (← e.tables) at u1') in
-      let t = value-one u2 (rw (← r.1) at u2') in
+  octets_alike e (o_attribute md u1 u2) (o_attribute md' u1' u2') =
+      let r = named_one u1 (rw (← e.tables) at u1') in
+      let t = value_one u2 (rw (← r.1) at u2') in
       ((λ j. length (r.0 j ++ t.0 j)), record { tables = t.1; level = e.level; root = e.root; mode = refl })
-  octets-alike e (o-text md lv u) (o-text md' lv' u') =
-      let r = literal-one u (rw (← e.tables) at u') in
+  octets_alike e (o_text md lv u) (o_text md' lv' u') =
+      let r = literal_one u (rw (← e.tables) at u') in
       (ap length r.0, record { tables = r.1; level = e.level; root = e.root; mode = e.mode })
-  octets-alike e (o-comment md u) (o-comment md' u') =
-      let r = value-one u (rw (← e.tables) at u') in
+  octets_alike e (o_comment md u) (o_comment md' u') =
+      let r = value_one u (rw (← e.tables) at u') in
       (ap (λ (l : Octets). suc (length l)) r.0, record { tables = r.1; level = e.level; root = e.root; mode = e.mode })
-  octets-alike e (o-instruction md u1 u2) (o-instruction md' u1' u2') =
-      let r = identifying-one u1 (rw (← e.tables) at u1') in
-      let t = value-one u2 (rw (← r.2) at u2') in
+  octets_alike e (o_instruction md u1 u2) (o_instruction md' u1' u2') =
+      let r = identifying_one u1 (rw (← e.tables) at u1') in
+      let t = value_one u2 (rw (← r.2) at u2') in
       ((λ j. suc (length (r.0 j ++ t.0 j))), record { tables = t.1; level = e.level; root = e.root; mode = e.mode })
 
   -- an attribute does not follow the end of its list
-  no-attribute : {at : ℕ} {v w : State Octets} {i : Item Octets} {items : List (Item Octets)} {hs : Halves}
-      → Begun ver at v (i ∷ items) hs w → v.mode ≡ content → isAttribute i.event ≡ false
-  no-attribute (after-attributes md b) e = clash (cc)
-  no-attribute (after-end md lv b) e = refl
-  no-attribute (after-item u b) e = where-attributes u ∙ ap inList e
+  no_attribute : {at : ℕ} {v w : State Octets} {i : Item Octets} {items : List (Item Octets)} {hs : Halves}
+      → Begun ver at v (i ∷ items) hs w → v.mode ≡ content → is_attribute i.event ≡ false
+  no_attribute (after_attributes md b) e = clash (cc)
+  no_attribute (after_end_lem md lv b) e = refl
+  no_attribute (after_item u b) e = where_attributes u ∙ ap in_list e
 
-  no-list : {at : ℕ} {v v' u w : State Octets} {i : Item Octets} {o : Octets} {items : List (Item Octets)} {hs : Halves} {X : Type 0}
+  no_list : {at : ℕ} {v v' u w : State Octets} {i : Item Octets} {o : Octets} {items : List (Item Octets)} {hs : Halves} {X : Type 0}
       → bitless v'.mode ≡ bitless v.mode → v.mode ≡ listing true → Begun ver at (moved v v.tables content) (i ∷ items) hs w → ItemWrittenAs ver v' i o u → X
-  no-list {v' = v'} e md b u = let y = member-bitless v'.mode (cc) in clash (cc (no-attribute b refl, where-attributes u))
+  no_list {v' = v'} e md b u = let y = member_bitless v'.mode (cc) in clash (cc (no_attribute b refl, where_attributes u))
 
-  pub begun-alike : {at : ℕ} {v v' w w' : State Octets} {items : List (Item Octets)} {hs hs' : Halves}
+  pub begun_alike : {at : ℕ} {v v' w w' : State Octets} {items : List (Item Octets)} {hs hs' : Halves}
       → Alike v v' → Begun ver at v items hs w → Begun ver at v' items hs' w' → (length hs ≡ length hs') × Alike w w'
-  begun-alike e begun begun = (refl, e)
-  begun-alike e (after-attributes md b) (after-attributes md' b') =
-      let r = begun-alike (record { tables = e.tables; level = e.level; root = e.root; mode = refl }) b b' in
+  begun_alike e begun begun = (refl, e)
+  begun_alike e (after_attributes md b) (after_attributes md' b') =
+      let r = begun_alike (record { tables = e.tables; level = e.level; root = e.root; mode = refl }) b b' in
       (ap suc r.0, r.1)
-  begun-alike e (after-attributes md b) (after-end md' lv' b') = clash (cc)
-  begun-alike e (after-attributes md b) (after-item u' b') = no-list (sym e.mode) md b u'
-  begun-alike e (after-end md lv b) (after-attributes md' b') = clash (cc)
-  begun-alike e (after-end md lv b) (after-end md' lv' b') =
-      let r = begun-alike (record { tables = e.tables; level = ap (λ (n : ℕ). n - 1) e.level; root = e.root; mode = refl }) b b' in
+  begun_alike e (after_attributes md b) (after_end_lem md' lv' b') = clash (cc)
+  begun_alike e (after_attributes md b) (after_item u' b') = no_list (sym e.mode) md b u'
+  begun_alike e (after_end_lem md lv b) (after_attributes md' b') = clash (cc)
+  begun_alike e (after_end_lem md lv b) (after_end_lem md' lv' b') =
+      let r = begun_alike (record { tables = e.tables; level = ap (λ (n : ℕ). n - 1) e.level; root = e.root; mode = refl }) b b' in
       (ap suc r.0, r.1)
-  begun-alike e (after-end md lv b) (after-item u' b') = no_end u'
-  begun-alike e (after-item u b) (after-attributes md' b') = no-list e.mode md' b' u
-  begun-alike e (after-item u b) (after-end md' lv' b') = no_end u
-  begun-alike {at} e (after-item {o = o} {hs = hs} u b) (after-item {o = o'} {hs = hs'} u' b') =
-      let q = octets-alike e u u' in
-      let r = begun-alike q.1 b (rw (← q.0) at b') in
+  begun_alike e (after_end_lem md lv b) (after_item u' b') = no_end u'
+  begun_alike e (after_item u b) (after_attributes md' b') = no_list e.mode md' b' u
+  begun_alike e (after_item u b) (after_end_lem md' lv' b') = no_end u
+  begun_alike {at} e (after_item {o = o} {hs = hs} u b) (after_item {o = o'} {hs = hs'} u' b') =
+      let q = octets_alike e u u' in
+      let r = begun_alike q.1 b (rw (← q.0) at b') in
       let a = item_on at o hs in
       let c = item_on at o' hs' in
       (omega (arith, q.0, r.0), r.1)
 
-  pub begun-size : {at : ℕ} {v w w' : State Octets} {items : List (Item Octets)} {hs hs' : Halves}
+  pub begun_size : {at : ℕ} {v w w' : State Octets} {items : List (Item Octets)} {hs hs' : Halves}
       → Begun ver at v items hs w → Begun ver at v items hs' w' → (length hs ≡ length hs') × Alike w w'
-  begun-size {v = v} = begun-alike (alike v)
+  begun_size {v = v} = begun_alike (alike v)
 
 -- ---- the limits: a table gets an entry where it has room for one, an element opens where it may
 module _ {ver : Version} where
   adding-fits : {v : Vocabulary Octets} (t : StringTable) (x : Octets) → length (strings v t) < ver.entries → InLimits ver v → InLimits ver (adding v t x)
   adding-fits {v} t x room f =
       record {
-        few = λ u. rw (strings-adding v t x u) (extended-few (eqb (place t) (place u)) ver.entries (strings v u) x (f.few u) (λ e. rw (← (same-table t u e)) room));
-        few-names = λ u. rw (names-adding v t x u) (f.few-names u);
+        few = λ u. rw (strings-adding v t x u) (extended_few (eqb (place t) (place u)) ver.entries (strings v u) x (f.few u) (λ e. rw (← (same_table t u e)) room));
+        few_names = λ u. rw (names-adding v t x u) (f.few_names u);
       }
 
-  adding-name-fits : {v : Vocabulary Octets} (t : NameTable) (x : Triple) → length (names v t) < ver.entries → InLimits ver v → InLimits ver (addingName v t x)
-  adding-name-fits {v} t x room f =
+  adding_name-fits : {v : Vocabulary Octets} (t : NameTable) (x : Triple) → length (names v t) < ver.entries → InLimits ver v → InLimits ver (adding_name v t x)
+  adding_name-fits {v} t x room f =
       record {
-        few = λ u. rw (strings-adding-name v t x u) (f.few u);
-        few-names = λ u. rw (names-adding-name v t x u) (extended-few (sameNames t u) ver.entries (names v u) x (f.few-names u) (λ e. rw (← (same-name-table t u e)) room));
+        few = λ u. rw (strings-adding_name v t x u) (f.few u);
+        few_names = λ u. rw (names-adding_name v t x u) (extended_few (same_names t u) ver.entries (names v u) x (f.few_names u) (λ e. rw (← (same_name_table t u e)) room));
       }
 
-  identifying-fits : {t : StringTable} {v w : Vocabulary Octets} {x : Octets} {h : How} {n : ℕ} {o : Octets} → Identifying ver t v x h n o w → InLimits ver v → InLimits ver w
-  identifying-fits {t} (id-spelled {x = x} sp new room) f = adding-fits t x room f
-  identifying-fits (id-numbered small en) f = f
+  identifying_fits : {t : StringTable} {v w : Vocabulary Octets} {x : Octets} {h : How} {n : ℕ} {o : Octets} → Identifying ver t v x h n o w → InLimits ver v → InLimits ver w
+  identifying_fits {t} (id_spelled {x = x} sp new room) f = adding-fits t x room f
+  identifying_fits (id_numbered small en) f = f
 
-  optional-fits : {t : StringTable} {v w : Vocabulary Octets} {x : Option Octets} {h : Option How} {n : ℕ} {o : Octets} → Optional ver t v x h n o w → InLimits ver v → InLimits ver w
-  optional-fits absent f = f
-  optional-fits (present u) f = identifying-fits u f
+  optional_fits : {t : StringTable} {v w : Vocabulary Octets} {x : Option Octets} {h : Option How} {n : ℕ} {o : Octets} → Optional ver t v x h n o w → InLimits ver v → InLimits ver w
+  optional_fits absent f = f
+  optional_fits (present u) f = identifying_fits u f
 
-  literal-fits : {q : Layout} {t : StringTable} {v w : Vocabulary Octets} {x : Octets} {h : How} {o : Octets} → Literal ver q t v x h o w → InLimits ver v → InLimits ver w
-  literal-fits {t = t} (literal-spelled {x = x} {added = true} sp room) f = adding-fits t x (room refl) f
-  literal-fits (literal-spelled {added = false} sp room) f = f
-  literal-fits (literal-numbered small fits en) f = f
+  literal_fits : {q : Layout} {t : StringTable} {v w : Vocabulary Octets} {x : Octets} {h : How} {o : Octets} → Literal ver q t v x h o w → InLimits ver v → InLimits ver w
+  literal_fits {t = t} (literal_spelled {x = x} {added = true} sp room) f = adding-fits t x (room refl) f
+  literal_fits (literal_spelled {added = false} sp room) f = f
+  literal_fits (literal_numbered small fits en) f = f
 
-  value-fits : {t : StringTable} {v w : Vocabulary Octets} {x : Octets} {h : How} {o : Octets} → Value ver t v x h o w → InLimits ver v → InLimits ver w
-  value-fits value-empty f = f
-  value-fits (value u) f = literal-fits u f
+  value_fits : {t : StringTable} {v w : Vocabulary Octets} {x : Octets} {h : How} {o : Octets} → Value ver t v x h o w → InLimits ver v → InLimits ver w
+  value_fits value_empty f = f
+  value_fits (value u) f = literal_fits u f
 
-  named-fits : {q : NameLayout} {lead : ℕ} {v w : Vocabulary Octets} {x : Name Octets} {h : NameHow} {o : Octets} → Named ver q lead v x h o w → InLimits ver v → InLimits ver w
-  named-fits {q} (in-parts {kp = kp} {kn = kn} {kl = kl} lone up un ul new room) f =
-      adding-name-fits q.table (record { prefix = kp; namespace = kn; local = kl }) room (identifying-fits ul (optional-fits un (optional-fits up f)))
-  named-fits (by_number small fits en m) f = f
+  named_fits : {q : NameLayout} {lead : ℕ} {v w : Vocabulary Octets} {x : Name Octets} {h : NameHow} {o : Octets} → Named ver q lead v x h o w → InLimits ver v → InLimits ver w
+  named_fits {q} (in_parts_lem {kp = kp} {kn = kn} {kl = kl} lone up un ul new room) f =
+      adding_name-fits q.table (record { prefix = kp; namespace = kn; local = kl }) room (identifying_fits ul (optional_fits un (optional_fits up f)))
+  named_fits (by_number_lem small fits en m) f = f
 
-  declared-fits : {v w : Vocabulary Octets} {p n : Option Octets} {hp hn : Option How} {o : Octets} → Declared ver v p n hp hn o w → InLimits ver v → InLimits ver w
-  declared-fits (declared up un) f = optional-fits un (optional-fits up f)
+  declared_fits : {v w : Vocabulary Octets} {p n : Option Octets} {hp hn : Option How} {o : Octets} → Declared ver v p n hp hn o w → InLimits ver v → InLimits ver w
+  declared_fits (declared up un) f = optional_fits un (optional_fits up f)
 
-  octets-fit : {v w : State Octets} {i : Item Octets} {o : Octets} → ItemWrittenAs ver v i o w → InLimits ver v.tables → InLimits ver w.tables
-  octets-fit (o-start a md may deep u) f = named-fits u f
-  octets-fit (o-first-namespace md may deep u) f = declared-fits u f
-  octets-fit (o-namespace md u) f = declared-fits u f
-  octets-fit (o-named-start md u) f = named-fits u f
-  octets-fit (o-attribute md u1 u2) f = value-fits u2 (named-fits u1 f)
-  octets-fit (o-text md lv u) f = literal-fits u f
-  octets-fit (o-comment md u) f = value-fits u f
-  octets-fit (o-instruction md u1 u2) f = value-fits u2 (identifying-fits u1 f)
+  octets_fit : {v w : State Octets} {i : Item Octets} {o : Octets} → ItemWrittenAs ver v i o w → InLimits ver v.tables → InLimits ver w.tables
+  octets_fit (o_start a md may deep u) f = named_fits u f
+  octets_fit (o_first_namespace md may deep u) f = declared_fits u f
+  octets_fit (o_namespace md u) f = declared_fits u f
+  octets_fit (o_named_start md u) f = named_fits u f
+  octets_fit (o_attribute md u1 u2) f = value_fits u2 (named_fits u1 f)
+  octets_fit (o_text md lv u) f = literal_fits u f
+  octets_fit (o_comment md u) f = value_fits u f
+  octets_fit (o_instruction md u1 u2) f = value_fits u2 (identifying_fits u1 f)
 
   pub fits_on : {at : ℕ} {v w : State Octets} {items : List (Item Octets)} {hs : Halves} → Begun ver at v items hs w → InLimits ver v.tables → InLimits ver w.tables
   fits_on begun f = f
-  fits_on (after-attributes md b) f = fits_on b f
-  fits_on (after-end md lv b) f = fits_on b f
-  fits_on (after-item u b) f = fits_on b (octets-fit u f)
+  fits_on (after_attributes md b) f = fits_on b f
+  fits_on (after_end_lem md lv b) f = fits_on b f
+  fits_on (after_item u b) f = fits_on b (octets_fit u f)
 
-  pub shallow-is : {v w : State Octets} {i : Item Octets} {o : Octets} → ItemWrittenAs ver v i o w
-      → (isDeclaration i.event || isStart i.event) ≡ true → isDeclaring v.mode ≡ false → v.level < ver.depth
-  shallow-is (o-start a md may deep u) opens e = deep
-  shallow-is (o-first-namespace md may deep u) opens e = deep
-  shallow-is (o-namespace md u) opens e = clash (cc)
-  shallow-is (o-named-start md u) opens e = clash (cc)
-  shallow-is (o-attribute md u1 u2) opens e = clash opens
-  shallow-is (o-text md lv u) opens e = clash opens
-  shallow-is (o-comment md u) opens e = clash opens
-  shallow-is (o-instruction md u1 u2) opens e = clash opens
+  pub shallow_is : {v w : State Octets} {i : Item Octets} {o : Octets} → ItemWrittenAs ver v i o w
+      → (is_declaration i.event || is_start i.event) ≡ true → is_declaring v.mode ≡ false → v.level < ver.depth
+  shallow_is (o_start a md may deep u) opens e = deep
+  shallow_is (o_first_namespace md may deep u) opens e = deep
+  shallow_is (o_namespace md u) opens e = clash (cc)
+  shallow_is (o_named_start md u) opens e = clash (cc)
+  shallow_is (o_attribute md u1 u2) opens e = clash opens
+  shallow_is (o_text md lv u) opens e = clash opens
+  shallow_is (o_comment md u) opens e = clash opens
+  shallow_is (o_instruction md u1 u2) opens e = clash opens
 
-  pub written-shallow : {at : ℕ} {v z : State Octets} {i : Item Octets} {items : List (Item Octets)} {hs : Halves} → Written ver at v (i ∷ items) hs z
-      → (isDeclaration i.event || isStart i.event) ≡ true → isDeclaring v.mode ≡ false → v.level < ver.depth
-  written-shallow (attributes-end md w) opens e = written-shallow w opens refl
-  written-shallow (element-end md lv w) opens e = clash opens
-  written-shallow (item u w) opens e = shallow-is u opens e
+  pub written_shallow : {at : ℕ} {v z : State Octets} {i : Item Octets} {items : List (Item Octets)} {hs : Halves} → Written ver at v (i ∷ items) hs z
+      → (is_declaration i.event || is_start i.event) ≡ true → is_declaring v.mode ≡ false → v.level < ver.depth
+  written_shallow (attributes_end md w) opens e = written_shallow w opens refl
+  written_shallow (element_end md lv w) opens e = clash opens
+  written_shallow (item u w) opens e = shallow_is u opens e
 
 -- ---- the events say how many elements are open, and whether the last of them is a declaration
-start-declares : (a : Bool) → isDeclaring (afterStart a) ≡ false
-start-declares true = refl
-start-declares false = refl
+start_declares : (a : Bool) → is_declaring (after_start a) ≡ false
+start_declares true = refl
+start_declares false = refl
 
 module _ {ver : Version} where
-  octets-level : {v w : State Octets} {i : Item Octets} {o : Octets} → ItemWrittenAs ver v i o w → w.level ≡ openThen v.level i.event
-  octets-level (o-start a md may deep u) = refl
-  octets-level (o-first-namespace md may deep u) = refl
-  octets-level (o-namespace md u) = refl
-  octets-level (o-named-start md u) = refl
-  octets-level (o-attribute md u1 u2) = refl
-  octets-level (o-text md lv u) = refl
-  octets-level (o-comment md u) = refl
-  octets-level (o-instruction md u1 u2) = refl
+  octets_level : {v w : State Octets} {i : Item Octets} {o : Octets} → ItemWrittenAs ver v i o w → w.level ≡ open_then v.level i.event
+  octets_level (o_start a md may deep u) = refl
+  octets_level (o_first_namespace md may deep u) = refl
+  octets_level (o_namespace md u) = refl
+  octets_level (o_named_start md u) = refl
+  octets_level (o_attribute md u1 u2) = refl
+  octets_level (o_text md lv u) = refl
+  octets_level (o_comment md u) = refl
+  octets_level (o_instruction md u1 u2) = refl
 
-  pub level-is : {at : ℕ} {v w : State Octets} {items : List (Item Octets)} {hs : Halves} → Begun ver at v items hs w → w.level ≡ openAfter v.level (events items)
-  unfolding openAfter
-  level-is begun = refl
-  level-is (after-attributes md b) = level-is b
-  level-is (after-end md lv b) = level-is b
-  level-is (after-item {items = items} u b) = level-is b ∙ ap (λ (n : ℕ). openAfter n (events items)) (octets-level u)
+  pub level_is : {at : ℕ} {v w : State Octets} {items : List (Item Octets)} {hs : Halves} → Begun ver at v items hs w → w.level ≡ open_after v.level (events items)
+  unfolding open_after
+  level_is begun = refl
+  level_is (after_attributes md b) = level_is b
+  level_is (after_end_lem md lv b) = level_is b
+  level_is (after_item {items = items} u b) = level_is b ∙ ap (λ (n : ℕ). open_after n (events items)) (octets_level u)
 
-  octets-declare : {v w : State Octets} {i : Item Octets} {o : Octets} → ItemWrittenAs ver v i o w → isDeclaring w.mode ≡ isDeclaration i.event
-  octets-declare (o-start a md may deep u) = start-declares a
-  octets-declare (o-first-namespace md may deep u) = refl
-  octets-declare (o-namespace md u) = refl
-  octets-declare (o-named-start {a = a} md u) = start-declares a
-  octets-declare (o-attribute md u1 u2) = refl
-  octets-declare (o-text md lv u) = cc
-  octets-declare (o-comment md u) = cc
-  octets-declare (o-instruction md u1 u2) = cc
+  octets_declare : {v w : State Octets} {i : Item Octets} {o : Octets} → ItemWrittenAs ver v i o w → is_declaring w.mode ≡ is_declaration i.event
+  octets_declare (o_start a md may deep u) = start_declares a
+  octets_declare (o_first_namespace md may deep u) = refl
+  octets_declare (o_namespace md u) = refl
+  octets_declare (o_named_start {a = a} md u) = start_declares a
+  octets_declare (o_attribute md u1 u2) = refl
+  octets_declare (o_text md lv u) = cc
+  octets_declare (o_comment md u) = cc
+  octets_declare (o_instruction md u1 u2) = cc
 
-  pub declaring-is : {at : ℕ} {v w : State Octets} {items : List (Item Octets)} {hs : Halves} → Begun ver at v items hs w
-      → isDeclaring w.mode ≡ declaresLast (isDeclaring v.mode) (events items)
-  unfolding declaresLast
-  declaring-is begun = refl
-  declaring-is (after-attributes md b) = declaring-is b
-  declaring-is (after-end md lv b) = declaring-is b
-  declaring-is (after-item {items = items} u b) = declaring-is b ∙ ap (λ (t : Bool). declaresLast t (events items)) (octets-declare u)
+  pub declaring_is : {at : ℕ} {v w : State Octets} {items : List (Item Octets)} {hs : Halves} → Begun ver at v items hs w
+      → is_declaring w.mode ≡ declares_last (is_declaring v.mode) (events items)
+  unfolding declares_last
+  declaring_is begun = refl
+  declaring_is (after_attributes md b) = declaring_is b
+  declaring_is (after_end_lem md lv b) = declaring_is b
+  declaring_is (after_item {items = items} u b) = declaring_is b ∙ ap (λ (t : Bool). declares_last t (events items)) (octets_declare u)

@@ -12,7 +12,7 @@ use Rattle.format.specs.Items.{State}
 use Rattle.tables.specs.Located.{plain}
 use Rattle.read_items.specs.Items.{Stand, Step, more, quiet, done, stop}
 use Rattle.read_items.specs.Steps.{step}
-use Rattle.reader.specs.Reading.{EventRead, itemsRead, Result, accepted, refusal, plus, turn, run, Opening, onward, halt, opening, origin, fuelOf, resultFrom, sized, reading, Accepts}
+use Rattle.reader.specs.Reading.{EventRead, items_read, Result, accepted, refusal, plus, turn, run, Opening, onward, halt, opening, origin, fuel_of, result_from, sized, reading, Accepts}
 
 abbrev Fits : ℕ → Result → Type 0
 Fits room (accepted es m) = length es ≤ room
@@ -34,24 +34,24 @@ unfolding run
 run_fits ver s zero room m = tt
 run_fits ver s (suc fuel) room m = turn-fits (λ r n. run ver s fuel r n) (λ r n. run_fits ver s fuel r n) room m (step ver s m)
 
-from-fits : (ver : Version) (s : Octets) (room : ℕ) (o : Opening) → Fits room (resultFrom ver s room o)
-from-fits ver s room (onward body tables) = run_fits ver s (fuelOf s) room (origin body tables)
-from-fits ver s room (halt n p) = tt
+from_fits : (ver : Version) (s : Octets) (room : ℕ) (o : Opening) → Fits room (result_from ver s room o)
+from_fits ver s room (onward body tables) = run_fits ver s (fuel_of s) room (origin body tables)
+from_fits ver s room (halt n p) = tt
 
-pub accepted-fits : (ver : Version) (s : Octets) (room : ℕ) (items : List (Item Octets)) (z : State Octets) → Accepts ver s room items z → length items ≤ room
+pub accepted_fits : (ver : Version) (s : Octets) (room : ℕ) (items : List (Item Octets)) (z : State Octets) → Accepts ver s room items z → length items ≤ room
 unfolding reading
-accepted-fits ver s room items z a =
-    let h : length a.events ≤ room = subst (Fits room) a.reads (from-fits ver s room (opening ver s)) in
-    let l = length-map (itemsRead a.events) (plain s) in
+accepted_fits ver s room items z a =
+    let h : length a.events ≤ room = subst (Fits room) a.reads (from_fits ver s room (opening ver s)) in
+    let l = length-map (items_read a.events) (plain s) in
     let j = length-map a.events (λ (e : EventRead). e.item) in
     let k = ap length a.are in
     omega arith
 
 -- and it has a document's size
-sized-is : (ver : Version) (s : Octets) (room : ℕ) (es : List EventRead) (m : Stand) → reading ver s room ≡ accepted es m → (b : Bool) → sized ver s ≡ b → sized ver s ≡ true
+sized_is : (ver : Version) (s : Octets) (room : ℕ) (es : List EventRead) (m : Stand) → reading ver s room ≡ accepted es m → (b : Bool) → sized ver s ≡ b → sized ver s ≡ true
 unfolding reading opening
-sized-is ver s room es m r true e = e
-sized-is ver s room es m r false e = let q = rw e at r in absurd (let z : ◌≡◌ {A = ℕ} 0 1 = cc in omega arith)
+sized_is ver s room es m r true e = e
+sized_is ver s room es m r false e = let q = rw e at r in absurd (let z : ◌≡◌ {A = ℕ} 0 1 = cc in omega arith)
 
-pub accepted-sized : (ver : Version) (s : Octets) (room : ℕ) (es : List EventRead) (m : Stand) → reading ver s room ≡ accepted es m → sized ver s ≡ true
-accepted-sized ver s room es m r = sized-is ver s room es m r (sized ver s) refl
+pub accepted_sized : (ver : Version) (s : Octets) (room : ℕ) (es : List EventRead) (m : Stand) → reading ver s room ≡ accepted es m → sized ver s ≡ true
+accepted_sized ver s room es m r = sized_is ver s room es m r (sized ver s) refl

@@ -11,27 +11,27 @@ use lib.ListN.{length, length-append}
 use lib.Seq.{get_or-append-add}
 use Rattle.format.specs.Octets.{Words}
 use Rattle.format.specs.Tables.{Triple}
-use Rattle.tables.specs.Counts.{tripleWords, rows_of}
-use Rattle.tables.specs.Rows.{tripleAt, entries}
-use Rattle.tables.specs.Told.{entriesOf}
+use Rattle.tables.specs.Counts.{triple_words, rows_of}
+use Rattle.tables.specs.Rows.{triple_at, entries}
+use Rattle.tables.specs.Told.{entries_of}
 use Rattle.events.specs.declared.EventString.{EventString}
-use Rattle.events.specs.Words.{stringWords}
-use Rattle.events.specs.FromWords.{stringFrom}
-use Rattle.events.proofs.FromWords.{text-back}
-use Rattle.write_head.specs.Given.{Given, entriesBefore, isGiven, rows_of as row_of, given_of}
-use Rattle.theorems.specs.Given.{givenWords}
+use Rattle.events.specs.Words.{string_words}
+use Rattle.events.specs.FromWords.{string_from}
+use Rattle.events.proofs.FromWords.{text_back}
+use Rattle.write_head.specs.Given.{Given, entries_before, is_given, rows_of as row_of, given_of}
+use Rattle.theorems.specs.Given.{given_words}
 
 -- ---- one entry: its three words are read back, wherever they stand
-string-back : (before : Words) (x : EventString) (rest : Words) → stringFrom (before ++ (stringWords x ++ rest)) (length before) ≡ x
-unfolding stringFrom
-string-back before x rest =
+string_back : (before : Words) (x : EventString) (rest : Words) → string_from (before ++ (string_words x ++ rest)) (length before) ≡ x
+unfolding string_from
+string_back before x rest =
     let z : length before ≡ length before + 0 = omega arith in
-    let past : stringFrom (before ++ (stringWords x ++ rest)) (length before) ≡ stringFrom (stringWords x ++ rest) 0 = rw z (simp (add_assoc, get_or-append-add)) in
-    past ∙ rw (text-back x)
+    let past : string_from (before ++ (string_words x ++ rest)) (length before) ≡ string_from (string_words x ++ rest) 0 = rw z (simp (add_assoc, get_or-append-add)) in
+    past ∙ rw (text_back x)
 
-triple-back : (before : Words) (x : Triple) (rest : Words) → tripleAt (before ++ (tripleWords x ++ rest)) (length before) ≡ x
-unfolding tripleAt
-triple-back before x rest = let z : length before ≡ length before + 0 = omega arith in rw z (simp (add_assoc, get_or-append-add))
+triple_back : (before : Words) (x : Triple) (rest : Words) → triple_at (before ++ (triple_words x ++ rest)) (length before) ≡ x
+unfolding triple_at
+triple_back before x rest = let z : length before ≡ length before + 0 = omega arith in rw z (simp (add_assoc, get_or-append-add))
 
 -- ---- the rows of a table
 module _ {A : Type 0} (readAt : Words → ℕ → A) (words : A → Words) (three : (x : A) → length (words x) ≡ 3)
@@ -71,65 +71,65 @@ module _ {A : Type 0} (readAt : Words → ℕ → A) (words : A → Words) (thre
 
 module _ (g : Given) where
   abbrev w : Words
-  w = givenWords g
+  w = given_words g
 
   -- the rows of names, and what stands behind each table of strings
-  abbrev nameRows : Words
-  nameRows = rows_of tripleWords g.elements ++ rows_of tripleWords g.attributes
+  abbrev name_rows : Words
+  name_rows = rows_of triple_words g.elements ++ rows_of triple_words g.attributes
 
-  abbrev afterChunks : Words
-  afterChunks = rows_of stringWords g.others ++ nameRows
+  abbrev after_chunks : Words
+  after_chunks = rows_of string_words g.others ++ name_rows
 
-  abbrev afterValues : Words
-  afterValues = rows_of stringWords g.chunks ++ afterChunks
+  abbrev after_values : Words
+  after_values = rows_of string_words g.chunks ++ after_chunks
 
-  abbrev afterUris : Words
-  afterUris = rows_of stringWords g.values ++ afterValues
+  abbrev after_uris : Words
+  after_uris = rows_of string_words g.values ++ after_values
 
-  abbrev afterNcnames : Words
-  afterNcnames = rows_of stringWords g.uris ++ afterUris
+  abbrev after_ncnames : Words
+  after_ncnames = rows_of string_words g.uris ++ after_uris
 
-  abbrev afterLocals : Words
-  afterLocals = rows_of stringWords g.ncnames ++ afterNcnames
+  abbrev after_locals : Words
+  after_locals = rows_of string_words g.ncnames ++ after_ncnames
 
-  abbrev afterNamespaces : Words
-  afterNamespaces = rows_of stringWords g.locals ++ afterLocals
+  abbrev after_namespaces : Words
+  after_namespaces = rows_of string_words g.locals ++ after_locals
 
-  abbrev afterPrefixes : Words
-  afterPrefixes = rows_of stringWords g.namespaces ++ afterNamespaces
+  abbrev after_prefixes : Words
+  after_prefixes = rows_of string_words g.namespaces ++ after_namespaces
 
-  abbrev stringsHere : {n : ℕ} (l : List EventString) (rest : Words) (b : Behind w n (rows_of stringWords l ++ rest)) → entries (stringFrom w) (10 + 3 * n) (length l) ≡ l
-  stringsHere = here stringFrom stringWords (λ x. refl) string-back
+  abbrev strings_here : {n : ℕ} (l : List EventString) (rest : Words) (b : Behind w n (rows_of string_words l ++ rest)) → entries (string_from w) (10 + 3 * n) (length l) ≡ l
+  strings_here = here string_from string_words (λ x. refl) string_back
 
-  abbrev stringsNext : {n : ℕ} (l : List EventString) (rest : Words) (b : Behind w n (rows_of stringWords l ++ rest)) → Behind w (n + length l) rest
-  stringsNext = next stringFrom stringWords (λ x. refl) string-back
+  abbrev strings_next : {n : ℕ} (l : List EventString) (rest : Words) (b : Behind w n (rows_of string_words l ++ rest)) → Behind w (n + length l) rest
+  strings_next = next string_from string_words (λ x. refl) string_back
 
-  pub given_back : (isGiven (givenWords g) ≡ true) × (given_of (givenWords g) ≡ g)
-  unfolding givenWords isGiven given_of row_of entriesBefore entriesOf
+  pub given_back : (is_given (given_words g) ≡ true) × (given_of (given_words g) ≡ g)
+  unfolding given_words is_given given_of row_of entries_before entries_of
   given_back =
-      let b0 : Behind w 0 (rows_of stringWords g.prefixes ++ afterPrefixes) = record { before = entriesOf g; is = refl; at = refl } in
-      let b1 = stringsNext g.prefixes afterPrefixes b0 in
-      let b2 = stringsNext g.namespaces afterNamespaces b1 in
-      let b3 = stringsNext g.locals afterLocals b2 in
-      let b4 = stringsNext g.ncnames afterNcnames b3 in
-      let b5 = stringsNext g.uris afterUris b4 in
-      let b6 = stringsNext g.values afterValues b5 in
-      let b7 = stringsNext g.chunks afterChunks b6 in
-      let b8 = stringsNext g.others nameRows b7 in
-      let b9 = last (next tripleAt tripleWords (λ x. refl) triple-back g.elements (rows_of tripleWords g.attributes) b8) in
-      let b10 = next tripleAt tripleWords (λ x. refl) triple-back g.attributes [] b9 in (
+      let b0 : Behind w 0 (rows_of string_words g.prefixes ++ after_prefixes) = record { before = entries_of g; is = refl; at = refl } in
+      let b1 = strings_next g.prefixes after_prefixes b0 in
+      let b2 = strings_next g.namespaces after_namespaces b1 in
+      let b3 = strings_next g.locals after_locals b2 in
+      let b4 = strings_next g.ncnames after_ncnames b3 in
+      let b5 = strings_next g.uris after_uris b4 in
+      let b6 = strings_next g.values after_values b5 in
+      let b7 = strings_next g.chunks after_chunks b6 in
+      let b8 = strings_next g.others name_rows b7 in
+      let b9 = last (next triple_at triple_words (λ x. refl) triple_back g.elements (rows_of triple_words g.attributes) b8) in
+      let b10 = next triple_at triple_words (λ x. refl) triple_back g.attributes [] b9 in (
         whole b10,
         λ i. record {
-          prefixes = stringsHere g.prefixes afterPrefixes b0 i;
-          namespaces = stringsHere g.namespaces afterNamespaces b1 i;
-          locals = stringsHere g.locals afterLocals b2 i;
-          ncnames = stringsHere g.ncnames afterNcnames b3 i;
-          uris = stringsHere g.uris afterUris b4 i;
-          values = stringsHere g.values afterValues b5 i;
-          chunks = stringsHere g.chunks afterChunks b6 i;
-          others = stringsHere g.others nameRows b7 i;
-          elements = here tripleAt tripleWords (λ x. refl) triple-back g.elements (rows_of tripleWords g.attributes) b8 i;
-          attributes = here tripleAt tripleWords (λ x. refl) triple-back g.attributes [] b9 i;
+          prefixes = strings_here g.prefixes after_prefixes b0 i;
+          namespaces = strings_here g.namespaces after_namespaces b1 i;
+          locals = strings_here g.locals after_locals b2 i;
+          ncnames = strings_here g.ncnames after_ncnames b3 i;
+          uris = strings_here g.uris after_uris b4 i;
+          values = strings_here g.values after_values b5 i;
+          chunks = strings_here g.chunks after_chunks b6 i;
+          others = strings_here g.others name_rows b7 i;
+          elements = here triple_at triple_words (λ x. refl) triple_back g.elements (rows_of triple_words g.attributes) b8 i;
+          attributes = here triple_at triple_words (λ x. refl) triple_back g.attributes [] b9 i;
         },
       )
     where

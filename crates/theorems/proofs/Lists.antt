@@ -12,7 +12,7 @@ use lib.Seq.{drop-drop, take_at, drop_at, drop-nil}
 use Rattle.format.specs.Octets.{Octets, Halves}
 use Rattle.format.specs.Numbers.{pick}
 use Rattle.format.specs.Document.{halves, pad, aligned}
-use Rattle.read_items.specs.Steps.{halfAt, ends_at, padsAt}
+use Rattle.read_items.specs.Steps.{half_at, ends_at, pads_at}
 use Rattle.tables.proofs.Found.{clash, both_true}
 
 -- ---- tests
@@ -36,18 +36,18 @@ module _ {X : Type 0} (P : X → Type 0) (r : X) (nay : P r) where
   test true a f = f refl
   test false a f = nay
 
-  pub test-lt : (x y : ℕ) (a : X) → (x < y → P a) → P (pick (ltb x y) a r)
-  test-lt x y a f = test (ltb x y) a λ t. f (ltb-true x y t)
+  pub test_lt : (x y : ℕ) (a : X) → (x < y → P a) → P (pick (ltb x y) a r)
+  test_lt x y a f = test (ltb x y) a λ t. f (ltb-true x y t)
 
-  pub test-le : (x y : ℕ) (a : X) → (x ≤ y → P a) → P (pick (leb x y) a r)
-  test-le x y a f = test (leb x y) a λ t. f (leb-true x y t)
+  pub test_le : (x y : ℕ) (a : X) → (x ≤ y → P a) → P (pick (leb x y) a r)
+  test_le x y a f = test (leb x y) a λ t. f (leb-true x y t)
 
-  pub test-not : (t : Bool) (a : X) → (t ≡ false → P a) → P (pick t r a)
-  test-not true a f = nay
-  test-not false a f = f refl
+  pub test_not : (t : Bool) (a : X) → (t ≡ false → P a) → P (pick t r a)
+  test_not true a f = nay
+  test_not false a f = f refl
 
-  pub test-ge : (x y : ℕ) (a : X) → (y ≤ x → P a) → P (pick (ltb x y) r a)
-  test-ge x y a f = test-not (ltb x y) a λ t. f (ltb-false x y t)
+  pub test_ge : (x y : ℕ) (a : X) → (y ≤ x → P a) → P (pick (ltb x y) r a)
+  test_ge x y a f = test_not (ltb x y) a λ t. f (ltb-false x y t)
 
 pub either : {X : Type 0} (P : X → Type 0) (t : Bool) (a b : X) → (t ≡ true → P a) → (t ≡ false → P b) → P (pick t a b)
 either P true a b f g = f refl
@@ -56,8 +56,8 @@ either P false a b f g = g refl
 pub either_lt : {X : Type 0} (P : X → Type 0) (x y : ℕ) (a b : X) → (x < y → P a) → (y ≤ x → P b) → P (pick (ltb x y) a b)
 either_lt P x y a b f g = either P (ltb x y) a b (λ t. f (ltb-true x y t)) (λ t. g (ltb-false x y t))
 
-pub either-eq : {X : Type 0} (P : X → Type 0) (x y : ℕ) (a b : X) → (x ≡ y → P a) → ((x ≡ y → ⊥) → P b) → P (pick (eqb x y) a b)
-either-eq P x y a b f g = either P (eqb x y) a b (λ t. f (eqb-true x y t)) (λ t. g (eqb-false x y t))
+pub either_eq : {X : Type 0} (P : X → Type 0) (x y : ℕ) (a b : X) → (x ≡ y → P a) → ((x ≡ y → ⊥) → P b) → P (pick (eqb x y) a b)
+either_eq P x y a b f g = either P (eqb x y) a b (λ t. f (eqb-true x y t)) (λ t. g (eqb-false x y t))
 
 pub pick_yes : {X : Type 0} (t : Bool) (a b : X) → t ≡ true → pick t a b ≡ a
 pick_yes true a b e = refl
@@ -67,16 +67,16 @@ pub pick_no : {X : Type 0} (t : Bool) (a b : X) → t ≡ false → pick t a b �
 pick_no false a b e = refl
 pick_no true a b e = absurd (let y : ◌≡◌ {A = ℕ} 0 1 = cc in omega arith)
 
-pub not-true : (b : Bool) → (b ≡ true → ⊥) → b ≡ false
-not-true true f = absurd (f refl)
-not-true false f = refl
+pub not_true : (b : Bool) → (b ≡ true → ⊥) → b ≡ false
+not_true true f = absurd (f refl)
+not_true false f = refl
 
 -- ---- a list from a position on
-pub drop-add : (l : Octets) (a b : ℕ) → drop b (drop a l) ≡ drop (a + b) l
-drop-add l a b = drop-drop b a l
+pub drop_add : (l : Octets) (a b : ℕ) → drop b (drop a l) ≡ drop (a + b) l
+drop_add l a b = drop-drop b a l
 
 pub drop_past : (l : Octets) (at : ℕ) (w t : Octets) → drop at l ≡ w ++ t → drop (at + length w) l ≡ t
-drop_past l at w t e = sym (drop-add l at (length w)) ∙ rw e (drop_at w t (length w) refl)
+drop_past l at w t e = sym (drop_add l at (length w)) ∙ rw e (drop_at w t (length w) refl)
 
 -- an octet
 pub drop_head : (s : Octets) (k o : ℕ) (t : Octets) → drop k s ≡ o ∷ t → (k < length s) × (get_or s k 0 ≡ o) × (drop (suc k) s ≡ t)
@@ -85,22 +85,22 @@ drop_head (x ∷ s) zero o t e = (omega arith, cc, cc)
 drop_head (x ∷ s) (suc k) o t e = let i = drop_head s k o t e in (omega arith, i.1, i.2)
 
 -- n octets
-pub stretch-sound : (s : Octets) (k n : ℕ) → drop k s ≡ take n (drop k s) ++ drop (k + n) s
-stretch-sound s k n = sym (take-append-drop n (drop k s)) ∙ ap (λ (l : Octets). take n (drop k s) ++ l) (drop-add s k n)
+pub stretch_sound : (s : Octets) (k n : ℕ) → drop k s ≡ take n (drop k s) ++ drop (k + n) s
+stretch_sound s k n = sym (take-append-drop n (drop k s)) ∙ ap (λ (l : Octets). take n (drop k s) ++ l) (drop_add s k n)
 
-pub stretch-complete : (s : Octets) (k n : ℕ) (x t : Octets) → length x ≡ n → 0 < n → drop k s ≡ x ++ t
+pub stretch_complete : (s : Octets) (k n : ℕ) (x t : Octets) → length x ≡ n → 0 < n → drop k s ≡ x ++ t
     → (take n (drop k s) ≡ x) × (k + n ≤ length s) × (drop (k + n) s ≡ t)
-stretch-complete s k n x t l h e = (
+stretch_complete s k n x t l h e = (
   rw e (take_at x t n l),
   (let a = length-append x t in let b = length-drop k s in let c = ap length e in omega arith),
-  sym (drop-add s k n) ∙ rw e (drop_at x t n l),
+  sym (drop_add s k n) ∙ rw e (drop_at x t n l),
 )
 
 -- ---- halves
-pub halves-append : (a b : Octets) → halves (a ++ b) ≡ halves a ++ halves b
+pub halves_append : (a b : Octets) → halves (a ++ b) ≡ halves a ++ halves b
 unfolding halves
-halves-append [] b = refl
-halves-append (o ∷ a) b = rw (halves-append a b)
+halves_append [] b = refl
+halves_append (o ∷ a) b = rw (halves_append a b)
 
 pub halves-length : (a : Octets) → length (halves a) ≡ 2 * length a
 unfolding halves
@@ -114,44 +114,44 @@ halves-drop (suc k) [] = drop-nil (2 * suc k)
 halves-drop (suc k) (o ∷ s) = let z : 2 * suc k ≡ suc (suc (2 * k)) = omega arith in rw z (halves-drop k s)
 
 -- octets that stand there stand there as halves, and the other way round
-pub halves-sound : (s : Octets) (k : ℕ) (o : Octets) (n : ℕ) → drop k s ≡ o ++ drop n s → drop (2 * k) (halves s) ≡ halves o ++ drop (2 * n) (halves s)
-halves-sound s k o n e = halves-drop k s ∙ ap halves e ∙ halves-append o (drop n s) ∙ ap (λ (l : Octets). halves o ++ l) (sym (halves-drop n s))
+pub halves_sound : (s : Octets) (k : ℕ) (o : Octets) (n : ℕ) → drop k s ≡ o ++ drop n s → drop (2 * k) (halves s) ≡ halves o ++ drop (2 * n) (halves s)
+halves_sound s k o n e = halves-drop k s ∙ ap halves e ∙ halves_append o (drop n s) ∙ ap (λ (l : Octets). halves o ++ l) (sym (halves-drop n s))
 
-pub octet-is : (a b : ℕ) → a / 16 ≡ b / 16 → a % 16 ≡ b % 16 → a ≡ b
-octet-is a b p q = omega arith
+pub octet_is : (a b : ℕ) → a / 16 ≡ b / 16 → a % 16 ≡ b % 16 → a ≡ b
+octet_is a b p q = omega arith
 
-halves-split : (t w : Octets) (r : Halves) → halves t ≡ halves w ++ r → t ≡ w ++ drop (length w) t
+halves_split : (t w : Octets) (r : Halves) → halves t ≡ halves w ++ r → t ≡ w ++ drop (length w) t
 unfolding halves
-halves-split t [] r e = refl
-halves-split [] (o ∷ w) r e = cc
-halves-split (p ∷ t) (o ∷ w) r e =
-    let z : p ≡ o = octet-is p o (cc) (cc) in
-    ap₂ (λ (a : ℕ) (l : Octets). a ∷ l) z (halves-split t w r (cc))
+halves_split t [] r e = refl
+halves_split [] (o ∷ w) r e = cc
+halves_split (p ∷ t) (o ∷ w) r e =
+    let z : p ≡ o = octet_is p o (cc) (cc) in
+    ap₂ (λ (a : ℕ) (l : Octets). a ∷ l) z (halves_split t w r (cc))
 
-pub halves-complete : (s : Octets) (k : ℕ) (o : Octets) (r : Halves) → drop (2 * k) (halves s) ≡ halves o ++ r → drop k s ≡ o ++ drop (k + length o) s
-halves-complete s k o r e =
-    halves-split (drop k s) o r (sym (halves-drop k s) ∙ e) ∙ ap (λ (l : Octets). o ++ l) (drop-add s k (length o))
+pub halves_complete : (s : Octets) (k : ℕ) (o : Octets) (r : Halves) → drop (2 * k) (halves s) ≡ halves o ++ r → drop k s ≡ o ++ drop (k + length o) s
+halves_complete s k o r e =
+    halves_split (drop k s) o r (sym (halves-drop k s) ∙ e) ∙ ap (λ (l : Octets). o ++ l) (drop_add s k (length o))
 
 -- ---- positions
 pub align_is : (at : ℕ) → 2 * (aligned at / 2) ≡ aligned at
 unfolding aligned
 align_is at = omega arith
 
-pub aligned-ge : (at : ℕ) → at ≤ aligned at
+pub aligned_ge : (at : ℕ) → at ≤ aligned at
 unfolding aligned
-aligned-ge at = omega arith
+aligned_ge at = omega arith
 
-pub aligned-in : (at n : ℕ) → at ≤ 2 * n → aligned at / 2 ≤ n
+pub aligned_in : (at n : ℕ) → at ≤ 2 * n → aligned at / 2 ≤ n
 unfolding aligned
-aligned-in at n h = omega arith
+aligned_in at n h = omega arith
 
 pub pad-length : (at : ℕ) → at + length (pad at) ≡ aligned at
 unfolding pad aligned
 pad-length at = ap (λ (n : ℕ). at + n) (length-replicate (at % 2) 0)
 
 -- ---- a half
-half_is : (s : Octets) (at : ℕ) → get_or (halves s) at 16 ≡ halfAt s at
-unfolding halfAt halves
+half_is : (s : Octets) (at : ℕ) → get_or (halves s) at 16 ≡ half_at s at
+unfolding half_at halves
 half_is [] at = rw (drop-nil {A = ℕ} (at / 2))
 half_is (o ∷ s) zero = refl
 half_is (o ∷ s) (suc zero) = refl
@@ -160,44 +160,44 @@ half_is (o ∷ s) (suc (suc at)) =
     let b : suc (suc at) % 2 ≡ at % 2 = omega arith in
     rw (a, b) (half_is s at)
 
-half-here : (l : Halves) (at h : ℕ) → get_or l at 16 ≡ h → h < 16 → drop at l ≡ h ∷ drop (suc at) l
-half-here [] at h e l = absurd (omega arith)
-half-here (x ∷ l) zero h e k = ap (λ (y : ℕ). y ∷ l) e
-half-here (x ∷ l) (suc at) h e k = half-here l at h e k
+half_here : (l : Halves) (at h : ℕ) → get_or l at 16 ≡ h → h < 16 → drop at l ≡ h ∷ drop (suc at) l
+half_here [] at h e l = absurd (omega arith)
+half_here (x ∷ l) zero h e k = ap (λ (y : ℕ). y ∷ l) e
+half_here (x ∷ l) (suc at) h e k = half_here l at h e k
 
-half-there : (l : Halves) (at h : ℕ) (t : Halves) → drop at l ≡ h ∷ t → get_or l at 16 ≡ h
-half-there [] at h t e = let z : [] ≡ h ∷ t = sym (drop-nil at) ∙ e in absurd (let y : ◌≡◌ {A = ℕ} 0 1 = cc in omega arith)
-half-there (x ∷ l) zero h t e = cc
-half-there (x ∷ l) (suc at) h t e = half-there l at h t e
+half_there : (l : Halves) (at h : ℕ) (t : Halves) → drop at l ≡ h ∷ t → get_or l at 16 ≡ h
+half_there [] at h t e = let z : [] ≡ h ∷ t = sym (drop-nil at) ∙ e in absurd (let y : ◌≡◌ {A = ℕ} 0 1 = cc in omega arith)
+half_there (x ∷ l) zero h t e = cc
+half_there (x ∷ l) (suc at) h t e = half_there l at h t e
 
-pub ends-sound : (s : Octets) (at : ℕ) → ends_at s at ≡ true → drop at (halves s) ≡ 15 ∷ drop (suc at) (halves s)
+pub ends_sound : (s : Octets) (at : ℕ) → ends_at s at ≡ true → drop at (halves s) ≡ 15 ∷ drop (suc at) (halves s)
 unfolding ends_at
-ends-sound s at e = half-here (halves s) at 15 (half_is s at ∙ eqb-true (halfAt s at) 15 e) (omega arith)
+ends_sound s at e = half_here (halves s) at 15 (half_is s at ∙ eqb-true (half_at s at) 15 e) (omega arith)
 
-pub ends-complete : (s : Octets) (at : ℕ) (t : Halves) → drop at (halves s) ≡ 15 ∷ t → ends_at s at ≡ true
+pub ends_complete : (s : Octets) (at : ℕ) (t : Halves) → drop at (halves s) ≡ 15 ∷ t → ends_at s at ≡ true
 unfolding ends_at
-ends-complete s at t e = eq-eqb (halfAt s at) 15 (sym (half_is s at) ∙ half-there (halves s) at 15 t e)
+ends_complete s at t e = eq-eqb (half_at s at) 15 (sym (half_is s at) ∙ half_there (halves s) at 15 t e)
 
 -- the padding, whether there is any or not
 pub parity : {X : Type 0} (at : ℕ) → (at % 2 ≡ 0 → X) → (at % 2 ≡ 1 → X) → X
 parity at f g = elim (ℕ_discrete (at % 2) 0) [ yes h ↦ f h | no h ↦ g (let k : ¬ (at % 2 ≡ 0) = h in omega arith) ]
 
-pub pads-sound : (s : Octets) (at : ℕ) → padsAt s at ≡ true → drop at (halves s) ≡ pad at ++ drop (aligned at) (halves s)
-unfolding padsAt pad aligned
-pads-sound s at e =
+pub pads_sound : (s : Octets) (at : ℕ) → pads_at s at ≡ true → drop at (halves s) ≡ pad at ++ drop (aligned at) (halves s)
+unfolding pads_at pad aligned
+pads_sound s at e =
     parity at
     (λ z. let y : at + 0 ≡ at = omega arith in rw (z, y))
     (λ z.
     let y : at + 1 ≡ suc at = omega arith in
-    let q : eqb (halfAt s at) 0 ≡ true = rw z at e in
-    rw (z, y) (half-here (halves s) at 0 (half_is s at ∙ eqb-true (halfAt s at) 0 q) (omega arith)))
+    let q : eqb (half_at s at) 0 ≡ true = rw z at e in
+    rw (z, y) (half_here (halves s) at 0 (half_is s at ∙ eqb-true (half_at s at) 0 q) (omega arith)))
 
-pub pads-complete : (s : Octets) (at : ℕ) (t : Halves) → drop at (halves s) ≡ pad at ++ t → (padsAt s at ≡ true) × (drop (aligned at) (halves s) ≡ t)
-unfolding padsAt pad aligned
-pads-complete s at t e =
+pub pads_complete : (s : Octets) (at : ℕ) (t : Halves) → drop at (halves s) ≡ pad at ++ t → (pads_at s at ≡ true) × (drop (aligned at) (halves s) ≡ t)
+unfolding pads_at pad aligned
+pads_complete s at t e =
     parity at
     (λ z. let y : at + 0 ≡ at = omega arith in let d : drop at (halves s) ≡ t = rw z at e in rw (z, y) (refl, d))
     (λ z.
     let y : at + 1 ≡ suc at = omega arith in
     let d : drop at (halves s) ≡ 0 ∷ t = rw z at e in
-    rw (z, y) (eq-eqb (halfAt s at) 0 (sym (half_is s at) ∙ half-there (halves s) at 0 t d), (drop_head (halves s) at 0 t d).2))
+    rw (z, y) (eq-eqb (half_at s at) 0 (sym (half_is s at) ∙ half_there (halves s) at 0 t d), (drop_head (halves s) at 0 t d).2))

@@ -10,34 +10,34 @@ use lib.ListN.{length, length-append, length-map}
 use Rattle.format.specs.Octets.{Octets}
 use Rattle.format.specs.Events.{Name, Event, Namespace, Start, Attribute, Text, Comment, Instruction, End, Item}
 use Rattle.format.specs.Numbers.{pick, spell, lengths, c21}
-use Rattle.format.specs.Tables.{StringTable, PREFIX, NAMESPACE-NAME, LOCAL-NAME, OTHER-NCNAME, OTHER-URI, ATTRIBUTE-VALUE, CONTENT-CHARACTER-CHUNK, OTHER-STRING}
-use Rattle.format.specs.Tables.{NameTable, ELEMENT-NAME, ATTRIBUTE-NAME, Triple, Vocabulary, strings, names, vocabularyMap, followedBy, Version, starting}
-use Rattle.format.specs.Strings.{id-spelled, literal-spelled}
-use Rattle.format.specs.Head.{Listed, Head, isIdentifying, Table, tenTables, presence, ofStrings, ofNames, size_of, c19, StringListed, an-identifying, another, Each, no-entry, an-entry, TablesListed, no_table, absent, present, Opens, without-head, with-head}
+use Rattle.format.specs.Tables.{StringTable, PREFIX, NAMESPACE_NAME, LOCAL_NAME, OTHER_NCNAME, OTHER_URI, ATTRIBUTE_VALUE, CONTENT_CHARACTER_CHUNK, OTHER_STRING}
+use Rattle.format.specs.Tables.{NameTable, ELEMENT_NAME, ATTRIBUTE_NAME, Triple, Vocabulary, strings, names, vocabulary_map, followed_by, Version, starting}
+use Rattle.format.specs.Strings.{id_spelled, literal_spelled}
+use Rattle.format.specs.Head.{Listed, Head, is_identifying, Table, ten_tables, presence, of_strings, of_names, size_of, c19, StringListed, an_identifying, another, Each, no_entry, an_entry, TablesListed, no_table, absent, present, Opens, without_head, with_head}
 use Rattle.format.specs.Names.{has}
 use Rattle.format.specs.Allowed.{All}
 use Rattle.format.specs.declared.StringForm.{StringForm}
 use Rattle.format.specs.declared.StringForm.TheVariants.{Utf8}
 use Rattle.tables.specs.Rows.{place}
-use Rattle.tables.specs.Located.{Located, empty, stretch, builtInPrefix, builtInNamespace, octetsOf, formAs, listedAs, plainTables, start}
-use Rattle.tables.proofs.ByNumber.{by-table}
+use Rattle.tables.specs.Located.{Located, empty, stretch, built_in_prefix, built_in_namespace, octets_of, form_as, listed_as, plain_tables, start}
+use Rattle.tables.proofs.ByNumber.{by_table_lem}
 use Rattle.events.specs.declared.EventString.TheVariants.{Absent, Stretch}
-use Rattle.events.specs.Records.{eventString, optionalEventString, recordOf, recordAt}
+use Rattle.events.specs.Records.{event_string, optional_event_string, record_of, record_at}
 use Rattle.events.specs.WellMade as W
-use Rattle.events.specs.WellMade.{IsStretch, inside-utf8, IsString, inside, IsPrefix, IsNamespace, IsValue, IsName, WellMade}
+use Rattle.events.specs.WellMade.{IsStretch, inside_utf8, IsString, inside, IsPrefix, IsNamespace, IsValue, IsName, WellMade}
 use Rattle.read_items.specs.Items.{Stand}
-use Rattle.reader.specs.Reading.{EventRead, itemsRead, recordRead, accepted, reading}
-use Rattle.theorems.specs.Heads.{CanBeListed, NamesParts, allListed}
-use Rattle.theorems.specs.Places.{inEntry, inEntries, inTables, listedIn}
-use Rattle.theorems.proofs.Alls.{all_both, both-all, all_so, all_map}
+use Rattle.reader.specs.Reading.{EventRead, items_read, record_read, accepted, reading}
+use Rattle.theorems.specs.Heads.{CanBeListed, NamesParts, all_listed}
+use Rattle.theorems.specs.Places.{in_entry, in_entries, in_tables, listed_in}
+use Rattle.theorems.proofs.Alls.{all_both, both_all, all_so, all_map}
 use Rattle.theorems.proofs.Words.{strings-map}
-use Rattle.theorems.proofs.Formats.{field-longer}
-use Rattle.theorems.proofs.HeadKeeps.{opens-can}
+use Rattle.theorems.proofs.Formats.{field_longer}
+use Rattle.theorems.proofs.HeadKeeps.{opens_can}
 use Rattle.theorems.proofs.Opening.{OpensAt}
-use Rattle.theorems.proofs.Heads.{opened-named}
-use Rattle.theorems.proofs.TenTables.{list-followed}
-use Rattle.theorems.proofs.Plain.{IfAny, Parts, OrEmpty, is-empty, not-empty, Holds, holds}
-use Rattle.theorems.proofs.ReadEffects.{Lies, reading-done}
+use Rattle.theorems.proofs.Heads.{opened_named}
+use Rattle.theorems.proofs.TenTables.{list_followed}
+use Rattle.theorems.proofs.Plain.{IfAny, Parts, OrEmpty, is_empty_lem, not_empty, Holds, holds}
+use Rattle.theorems.proofs.ReadEffects.{Lies, reading_done}
 
 all_two : {A : Type 0} (P Q : A → Type 0) (l : List A) → All P l → All Q l → All (λ x. P x × Q x) l
 all_two P Q [] a b = tt
@@ -46,179 +46,179 @@ all_two P Q (x ∷ l) a b = ((a.0, b.0), all_two P Q l a.1 b.1)
 module _ (s : Octets) where
   -- a string of table t: a stretch of the document, or what is built into that table
   data Stands : StringTable → Located → Type 0 where
-    spelled-here : {t : StringTable} {x : Located} → Lies s t x → Stands t x
-    the-prefix : Stands PREFIX builtInPrefix
-    the-namespace : Stands NAMESPACE-NAME builtInNamespace
+    spelled_here : {t : StringTable} {x : Located} → Lies s t x → Stands t x
+    the_prefix : Stands PREFIX built_in_prefix
+    the_namespace : Stands NAMESPACE_NAME built_in_namespace
 
-  in-utf8 : (x : Located) → IsString s (eventString x) → formAs x ≡ Utf8 → IsStretch s (eventString x)
-  in-utf8 (stretch form p n) (inside h k) e = subst (λ (f : StringForm). IsStretch s (Stretch f p n)) (sym e) (inside-utf8 h k)
+  in_utf8 : (x : Located) → IsString s (event_string x) → form_as x ≡ Utf8 → IsStretch s (event_string x)
+  in_utf8 (stretch form p n) (inside h k) e = subst (λ (f : StringForm). IsStretch s (Stretch f p n)) (sym e) (inside_utf8 h k)
 
-  lies-utf8 : (t : StringTable) (x : Located) → isIdentifying t ≡ true → Lies s t x → IsStretch s (eventString x)
-  lies-utf8 t x i l = in-utf8 x l.0 (l.1 i)
+  lies_utf8 : (t : StringTable) (x : Located) → is_identifying t ≡ true → Lies s t x → IsStretch s (event_string x)
+  lies_utf8 t x i l = in_utf8 x l.0 (l.1 i)
 
-  as-prefix : (x : Option Located) → IfAny Stands empty PREFIX x → IsPrefix s (optionalEventString x)
-  unfolding isIdentifying
-  as-prefix none a = W.no-prefix
-  as-prefix (some x) (spelled-here l) = W.a-prefix (lies-utf8 PREFIX x refl l)
-  as-prefix (some x) the-prefix = W.xml-prefix
+  as_prefix : (x : Option Located) → IfAny Stands empty PREFIX x → IsPrefix s (optional_event_string x)
+  unfolding is_identifying
+  as_prefix none a = W.no_prefix
+  as_prefix (some x) (spelled_here l) = W.a_prefix (lies_utf8 PREFIX x refl l)
+  as_prefix (some x) the_prefix = W.xml_prefix_lem
 
-  as-namespace : (x : Option Located) → IfAny Stands empty NAMESPACE-NAME x → IsNamespace s (optionalEventString x)
-  unfolding isIdentifying
-  as-namespace none a = W.no-namespace
-  as-namespace (some x) (spelled-here l) = W.a-namespace (lies-utf8 NAMESPACE-NAME x refl l)
-  as-namespace (some x) the-namespace = W.xml-namespace
+  as_namespace : (x : Option Located) → IfAny Stands empty NAMESPACE_NAME x → IsNamespace s (optional_event_string x)
+  unfolding is_identifying
+  as_namespace none a = W.no_namespace
+  as_namespace (some x) (spelled_here l) = W.a_namespace (lies_utf8 NAMESPACE_NAME x refl l)
+  as_namespace (some x) the_namespace = W.xml_namespace_lem
 
   -- nothing is built into the tables behind the first two
-  lies-here : {t : StringTable} {x : Located} → 2 ≤ place t → Stands t x → Lies s t x
+  lies_here : {t : StringTable} {x : Located} → 2 ≤ place t → Stands t x → Lies s t x
   unfolding place
-  lies-here h (spelled-here l) = l
-  lies-here h the-prefix = absurd (omega arith)
-  lies-here h the-namespace = absurd (omega arith)
+  lies_here h (spelled_here l) = l
+  lies_here h the_prefix = absurd (omega arith)
+  lies_here h the_namespace = absurd (omega arith)
 
-  as-stretch : {t : StringTable} {x : Located} → 2 ≤ place t → isIdentifying t ≡ true → Stands t x → IsStretch s (eventString x)
-  as-stretch {t} {x} h i a = lies-utf8 t x i (lies-here h a)
+  as_stretch : {t : StringTable} {x : Located} → 2 ≤ place t → is_identifying t ≡ true → Stands t x → IsStretch s (event_string x)
+  as_stretch {t} {x} h i a = lies_utf8 t x i (lies_here h a)
 
-  as-value : {t : StringTable} {x : Located} → 2 ≤ place t → OrEmpty Stands empty t x → IsValue s (eventString x)
-  as-value h is-empty = W.no-octets
-  as-value h (not-empty a) = W.some-octets (lies-here h a).0
+  as_value : {t : StringTable} {x : Located} → 2 ≤ place t → OrEmpty Stands empty t x → IsValue s (event_string x)
+  as_value h is_empty_lem = W.no_octets
+  as_value h (not_empty a) = W.some_octets (lies_here h a).0
 
-  not-absent : (x : Located) → eventString x ≡ Absent → ⊥
-  not-absent empty e = let y : ◌≡◌ {A = ℕ} 0 1 = cc in omega arith
-  not-absent (stretch form p n) e = let y : ◌≡◌ {A = ℕ} 0 1 = cc in omega arith
-  not-absent builtInPrefix e = let y : ◌≡◌ {A = ℕ} 0 1 = cc in omega arith
-  not-absent builtInNamespace e = let y : ◌≡◌ {A = ℕ} 0 1 = cc in omega arith
+  not_absent : (x : Located) → event_string x ≡ Absent → ⊥
+  not_absent empty e = let y : ◌≡◌ {A = ℕ} 0 1 = cc in omega arith
+  not_absent (stretch form p n) e = let y : ◌≡◌ {A = ℕ} 0 1 = cc in omega arith
+  not_absent built_in_prefix e = let y : ◌≡◌ {A = ℕ} 0 1 = cc in omega arith
+  not_absent built_in_namespace e = let y : ◌≡◌ {A = ℕ} 0 1 = cc in omega arith
 
-  paired : (p n : Option Located) → has p ≤ has n → optionalEventString n ≡ Absent → optionalEventString p ≡ Absent
+  paired : (p n : Option Located) → has p ≤ has n → optional_event_string n ≡ Absent → optional_event_string p ≡ Absent
   paired none n h e = refl
   paired (some x) none h e = absurd (omega arith)
-  paired (some x) (some y) h e = absurd (not-absent y e)
+  paired (some x) (some y) h e = absurd (not_absent y e)
 
-  as-name : (x : Name Located) → Parts Stands empty x → IsName s (optionalEventString x.prefix) (optionalEventString x.namespace) (eventString x.local)
-  unfolding place isIdentifying
-  as-name x a =
+  as_name_lem : (x : Name Located) → Parts Stands empty x → IsName s (optional_event_string x.prefix) (optional_event_string x.namespace) (event_string x.local)
+  unfolding place is_identifying
+  as_name_lem x a =
       record {
-        a-prefix = as-prefix x.prefix a.prefix;
-        a-namespace = as-namespace x.namespace a.namespace;
-        a-local = as-stretch (omega arith) refl a.local;
-        not-alone = paired x.prefix x.namespace a.not-alone;
+        a_prefix = as_prefix x.prefix a.prefix;
+        a_namespace = as_namespace x.namespace a.namespace;
+        a_local = as_stretch (omega arith) refl a.local;
+        not_alone = paired x.prefix x.namespace a.not_alone;
       }
 
-  as-record : (place : ℕ) (e : Event Located) → Holds Stands empty e → WellMade s (recordAt place e)
-  unfolding recordOf place isIdentifying
-  as-record k (Namespace p n) a = W.a-declaration (as-prefix p a.0) (as-namespace n a.1)
-  as-record k (Start x) a = W.a-start (as-name x a)
-  as-record k (Attribute x y) a = W.an-attribute (as-name x a.0) (as-value (omega arith) a.1)
-  as-record k (Text y) a = W.a-chunk (lies-here (omega arith) a).0
-  as-record k (Comment y) a = W.a-comment (as-value (omega arith) a)
-  as-record k (Instruction x y) a = W.an-instruction (as-stretch (omega arith) refl a.0) (as-value (omega arith) a.1)
-  as-record k End a = W.an-end
+  as_record : (place : ℕ) (e : Event Located) → Holds Stands empty e → WellMade s (record_at place e)
+  unfolding record_of place is_identifying
+  as_record k (Namespace p n) a = W.a_declaration (as_prefix p a.0) (as_namespace n a.1)
+  as_record k (Start x) a = W.a_start (as_name_lem x a)
+  as_record k (Attribute x y) a = W.an_attribute (as_name_lem x a.0) (as_value (omega arith) a.1)
+  as_record k (Text y) a = W.a_chunk (lies_here (omega arith) a).0
+  as_record k (Comment y) a = W.a_comment (as_value (omega arith) a)
+  as_record k (Instruction x y) a = W.an_instruction (as_stretch (omega arith) refl a.0) (as_value (omega arith) a.1)
+  as_record k End a = W.an_end
 
-  as-records : (es : List EventRead) → All (λ (i : Item Located). Holds Stands empty i.event) (itemsRead es) → All (WellMade s) (map recordRead es)
-  as-records [] a = tt
-  as-records (e ∷ es) a = (as-record e.place e.item.event a.0, as-records es a.1)
+  as_records : (es : List EventRead) → All (λ (i : Item Located). Holds Stands empty i.event) (items_read es) → All (WellMade s) (map record_read es)
+  as_records [] a = tt
+  as_records (e ∷ es) a = (as_record e.place e.item.event a.0, as_records es a.1)
 
 -- ---- the strings of a head stand where the rules list them
 -- a string in any form lies in the document
 abbrev InDocument : Octets → Located → Type 0
-InDocument s x = IsString s (eventString x)
+InDocument s x = IsString s (event_string x)
 
 -- an identifying string is in utf-8
 abbrev InUtf8 : StringTable → Located → Type 0
-InUtf8 t x = isIdentifying t ≡ true → formAs x ≡ Utf8
+InUtf8 t x = is_identifying t ≡ true → form_as x ≡ Utf8
 
 module _ (s : Octets) where
   -- the octets x, the end of a field's octets
-  at-end : (form : StringForm) (k : ℕ) (x o : Octets) → 0 < length x → length x ≤ length o → k + length o ≤ length s → InDocument s (stretch form (k + length o - length x) (length x))
-  at-end form k x o any long h = inside {place = k + length o - length x} any (omega arith)
+  at_end : (form : StringForm) (k : ℕ) (x o : Octets) → 0 < length x → length x ≤ length o → k + length o ≤ length s → InDocument s (stretch form (k + length o - length x) (length x))
+  at_end form k x o any long h = inside {place = k + length o - length x} any (omega arith)
 
 module _ (ver : Version) (s : Octets) where
-  entry-lies : (k : ℕ) {t : StringTable} {v w : Vocabulary Octets} {x : Listed} {o : Octets} (u : StringListed ver t v x o w) → k + length o ≤ length s → All (InDocument s) (inEntry k u)
-  entry-lies k {o = o} (an-identifying is (id-spelled {x = x} sp new room)) h = (at-end s Utf8 k x o sp.some (let l = length-append (spell (lengths 2) 0 (length x)) x in omega arith) h, tt)
-  entry-lies k {o = o} (another is (literal-spelled {y = y} {form = form} sp room)) h = (at-end s form k y o sp.some (field-longer c19.lengthBit form (c19.spelledBits + c19.addBit * 1) y) h, tt)
+  entry_lies : (k : ℕ) {t : StringTable} {v w : Vocabulary Octets} {x : Listed} {o : Octets} (u : StringListed ver t v x o w) → k + length o ≤ length s → All (InDocument s) (in_entry k u)
+  entry_lies k {o = o} (an_identifying is (id_spelled {x = x} sp new room)) h = (at_end s Utf8 k x o sp.some (let l = length-append (spell (lengths 2) 0 (length x)) x in omega arith) h, tt)
+  entry_lies k {o = o} (another is (literal_spelled {y = y} {form = form} sp room)) h = (at_end s form k y o sp.some (field_longer c19.length_bit form (c19.spelled_bits + c19.add_bit * 1) y) h, tt)
 
-  entries-lie : (k : ℕ) {t : StringTable} {v w : Vocabulary Octets} {xs : List Listed} {o : Octets} (e : Each ver (StringListed ver t) v xs o w) → k + length o ≤ length s → All (InDocument s) (inEntries k e)
-  entries-lie k no-entry h = tt
-  entries-lie k (an-entry {o = o} {os = os} u rest) h =
+  entries_lie : (k : ℕ) {t : StringTable} {v w : Vocabulary Octets} {xs : List Listed} {o : Octets} (e : Each ver (StringListed ver t) v xs o w) → k + length o ≤ length s → All (InDocument s) (in_entries k e)
+  entries_lie k no_entry h = tt
+  entries_lie k (an_entry {o = o} {os = os} u rest) h =
       let l = length-append o os in
-      all_both (InDocument s) (inEntry k u) (inEntries (k + length o) rest) (entry-lies k u (omega arith)) (entries-lie (k + length o) rest (omega arith))
+      all_both (InDocument s) (in_entry k u) (in_entries (k + length o) rest) (entry_lies k u (omega arith)) (entries_lie (k + length o) rest (omega arith))
 
-  tables-lie : (k : ℕ) {h : Head} {v w : Vocabulary Octets} {ts : List Table} {o : Octets} (e : TablesListed ver h ts v o w) → k + length o ≤ length s → All (InDocument s) (inTables k e)
-  unfolding inTables
-  tables-lie k no_table h = tt
-  tables-lie k (absent none-listed rest) h = tables-lie k rest h
-  tables-lie k {h = g} (present {t = ofStrings t} o {os = os} any few u rest) h =
-      let n : Octets = spell c21 0 (size_of g (ofStrings t)) in
+  tables_lie : (k : ℕ) {h : Head} {v w : Vocabulary Octets} {ts : List Table} {o : Octets} (e : TablesListed ver h ts v o w) → k + length o ≤ length s → All (InDocument s) (in_tables k e)
+  unfolding in_tables
+  tables_lie k no_table h = tt
+  tables_lie k (absent none_listed rest) h = tables_lie k rest h
+  tables_lie k {h = g} (present {t = of_strings t} o {os = os} any few u rest) h =
+      let n : Octets = spell c21 0 (size_of g (of_strings t)) in
       let l = length-append n (o ++ os) in
       let m = length-append o os in
-      all_both (InDocument s) (inEntries (k + length n) u) (inTables (k + length n + length o) rest) (entries-lie (k + length n) u (omega arith)) (tables-lie (k + length n + length o) rest (omega arith))
-  tables-lie k {h = g} (present {t = ofNames t} o {os = os} any few u rest) h =
-      let n : Octets = spell c21 0 (size_of g (ofNames t)) in
+      all_both (InDocument s) (in_entries (k + length n) u) (in_tables (k + length n + length o) rest) (entries_lie (k + length n) u (omega arith)) (tables_lie (k + length n + length o) rest (omega arith))
+  tables_lie k {h = g} (present {t = of_names t} o {os = os} any few u rest) h =
+      let n : Octets = spell c21 0 (size_of g (of_names t)) in
       let l = length-append n (o ++ os) in
       let m = length-append o os in
-      tables-lie (k + length n + length o) rest (omega arith)
+      tables_lie (k + length n + length o) rest (omega arith)
 
-  listed-lie : {h : Head} {w : Vocabulary Octets} {o : Octets} (op : Opens ver h o w) → length o ≤ length s → All (InDocument s) (listedIn op)
-  listed-lie without-head long = tt
-  listed-lie {h} (with-head {o = o} heads any u) long =
-      let l = length-append ver.identification (0x20 ∷ presence h tenTables / 256 ∷ presence h tenTables % 256 ∷ o) in
-      tables-lie (length ver.identification + 3) u (omega arith)
+  listed_lie : {h : Head} {w : Vocabulary Octets} {o : Octets} (op : Opens ver h o w) → length o ≤ length s → All (InDocument s) (listed_in op)
+  listed_lie without_head long = tt
+  listed_lie {h} (with_head {o = o} heads any u) long =
+      let l = length-append ver.identification (0x20 ∷ presence h ten_tables / 256 ∷ presence h ten_tables % 256 ∷ o) in
+      tables_lie (length ver.identification + 3) u (omega arith)
 
   -- ---- the tables behind a head
-  if-built-in : {t : StringTable} {x : Located} → Stands s t x → (b : Bool) → All (Stands s t) (pick b (x ∷ []) [])
-  if-built-in h true = (h, tt)
-  if-built-in h false = tt
+  if_built_in : {t : StringTable} {x : Located} → Stands s t x → (b : Bool) → All (Stands s t) (pick b (x ∷ []) [])
+  if_built_in h true = (h, tt)
+  if_built_in h false = tt
 
-  start-stands : (t : StringTable) → All (Stands s t) (strings (start ver) t)
+  start_stands : (t : StringTable) → All (Stands s t) (strings (start ver) t)
   unfolding strings start starting
-  start-stands = by-table _ (if-built-in the-prefix ver.builtIn) (if-built-in the-namespace ver.builtIn) tt tt tt tt tt tt
+  start_stands = by_table_lem _ (if_built_in the_prefix ver.built_in) (if_built_in the_namespace ver.built_in) tt tt tt tt tt tt
 
   -- table by table
-  head-lies : (h : Vocabulary Located) → All (InDocument s) (allListed h) → (t : StringTable) → All (InDocument s) (strings h t)
-  head-lies h a =
+  head_lies : (h : Vocabulary Located) → All (InDocument s) (all_listed h) → (t : StringTable) → All (InDocument s) (strings h t)
+  head_lies h a =
       let P : Located → Type 0 = InDocument s in
-      let b = both-all P (strings h PREFIX) _ a in
-      let c = both-all P (strings h NAMESPACE-NAME) _ b.1 in
-      let d = both-all P (strings h LOCAL-NAME) _ c.1 in
-      let e = both-all P (strings h OTHER-NCNAME) _ d.1 in
-      let f = both-all P (strings h OTHER-URI) _ e.1 in
-      let g = both-all P (strings h ATTRIBUTE-VALUE) _ f.1 in
-      let i = both-all P (strings h CONTENT-CHARACTER-CHUNK) (strings h OTHER-STRING) g.1 in
-      by-table _ b.0 c.0 d.0 e.0 f.0 g.0 i.0 i.1
+      let b = both_all P (strings h PREFIX) _ a in
+      let c = both_all P (strings h NAMESPACE_NAME) _ b.1 in
+      let d = both_all P (strings h LOCAL_NAME) _ c.1 in
+      let e = both_all P (strings h OTHER_NCNAME) _ d.1 in
+      let f = both_all P (strings h OTHER_URI) _ e.1 in
+      let g = both_all P (strings h ATTRIBUTE_VALUE) _ f.1 in
+      let i = both_all P (strings h CONTENT_CHARACTER_CHUNK) (strings h OTHER_STRING) g.1 in
+      by_table_lem _ b.0 c.0 d.0 e.0 f.0 g.0 i.0 i.1
 
-  forms-are : {h : Head} {o : Octets} {v : Vocabulary Octets} (op : Opens ver h o v) (g : Vocabulary Located) → vocabularyMap (listedAs s) g ≡ h
+  forms_are : {h : Head} {o : Octets} {v : Vocabulary Octets} (op : Opens ver h o v) (g : Vocabulary Located) → vocabulary_map (listed_as s) g ≡ h
       → (t : StringTable) → All (InUtf8 t) (strings g t)
-  forms-are op g e t =
+  forms_are op g e t =
       all_so (InUtf8 t) (λ x c. c.plain) (strings g t)
-      ((all_map (listedAs s) (CanBeListed t) (strings g t)).1 (rw (strings-map (listedAs s) g t) at (rw (← e) at (opens-can ver op t))))
+      ((all_map (listed_as s) (CanBeListed t) (strings g t)).1 (rw (strings-map (listed_as s) g t) at (rw (← e) at (opens_can ver op t))))
 
-  tables-stand : (h : Vocabulary Located) → ((t : StringTable) → All (Lies s t) (strings h t)) → (t : StringTable) → All (Stands s t) (strings (followedBy (start ver) h) t)
-  tables-stand h a t =
-      rw (list-followed (start ver) h (ofStrings t))
-      (all_both (Stands s t) (strings (start ver) t) (strings h t) (start-stands t) (all_so (Stands s t) (λ x l. spelled-here l) (strings h t) (a t)))
+  tables_stand : (h : Vocabulary Located) → ((t : StringTable) → All (Lies s t) (strings h t)) → (t : StringTable) → All (Stands s t) (strings (followed_by (start ver) h) t)
+  tables_stand h a t =
+      rw (list_followed (start ver) h (of_strings t))
+      (all_both (Stands s t) (strings (start ver) t) (strings h t) (start_stands t) (all_so (Stands s t) (λ x l. spelled_here l) (strings h t) (a t)))
 
   -- the parts of a name are there, as octets or by where they stand
-  parts-there : (v : Vocabulary Located) (x : Triple) → NamesParts (plainTables s v) x → NamesParts v x
-  unfolding vocabularyMap
-  parts-there v x k =
-      let p = length-map v.prefixes (octetsOf s) in
-      let n = length-map v.namespaces (octetsOf s) in
-      let l = length-map v.locals (octetsOf s) in
+  parts_there : (v : Vocabulary Located) (x : Triple) → NamesParts (plain_tables s v) x → NamesParts v x
+  unfolding vocabulary_map
+  parts_there v x k =
+      let p = length-map v.prefixes (octets_of s) in
+      let n = length-map v.namespaces (octets_of s) in
+      let l = length-map v.locals (octets_of s) in
       let kp = k.prefix in
       let kn = k.namespace in
       let kl = k.local in
-      record { prefix = omega arith; namespace = omega arith; local = omega arith; has-local = k.has-local; not-alone = k.not-alone }
+      record { prefix = omega arith; namespace = omega arith; local = omega arith; has-local = k.has-local; not_alone = k.not_alone }
 
-  pub named-there : (v : Vocabulary Located) → ((t : NameTable) → All (NamesParts (plainTables s v)) (names (plainTables s v) t)) → (t : NameTable) → All (NamesParts v) (names v t)
-  unfolding names vocabularyMap
-  named-there v a ELEMENT-NAME = all_so (NamesParts v) (parts-there v) v.elements (a ELEMENT-NAME)
-  named-there v a ATTRIBUTE-NAME = all_so (NamesParts v) (parts-there v) v.attributes (a ATTRIBUTE-NAME)
+  pub named_there : (v : Vocabulary Located) → ((t : NameTable) → All (NamesParts (plain_tables s v)) (names (plain_tables s v) t)) → (t : NameTable) → All (NamesParts v) (names v t)
+  unfolding names vocabulary_map
+  named_there v a ELEMENT_NAME = all_so (NamesParts v) (parts_there v) v.elements (a ELEMENT_NAME)
+  named_there v a ATTRIBUTE_NAME = all_so (NamesParts v) (parts_there v) v.attributes (a ATTRIBUTE_NAME)
 
-  pub well-made : {h : Head} {o : Octets} {v : Vocabulary Octets} (op : Opens ver h o v) (at : OpensAt ver s op) → length o ≤ length s
-      → (room : ℕ) (es : List EventRead) (m : Stand) → reading ver s room ≡ accepted es m → All (WellMade s) (map recordRead es)
-  well-made {o = o} {v = v} op at long room es m e =
-      let lie = head-lies at.head (rw at.listed-are (listed-lie op long)) in
-      as-records s es
-      (holds (Stands s) empty (Lies s) (λ t x l. spelled-here l)
-      (λ t. rw at.tables-are (tables-stand at.head (λ t. all_two (InDocument s) (InUtf8 t) (strings at.head t) (lie t) (forms-are op at.head at.head-is t)) t))
-      (named-there at.tables (λ t. rw at.are (opened-named op t)))
-      (reading-done ver s room (length o) at.tables at.answers es m e))
+  pub well_made : {h : Head} {o : Octets} {v : Vocabulary Octets} (op : Opens ver h o v) (at : OpensAt ver s op) → length o ≤ length s
+      → (room : ℕ) (es : List EventRead) (m : Stand) → reading ver s room ≡ accepted es m → All (WellMade s) (map record_read es)
+  well_made {o = o} {v = v} op at long room es m e =
+      let lie = head_lies at.head (rw at.listed_are (listed_lie op long)) in
+      as_records s es
+      (holds (Stands s) empty (Lies s) (λ t x l. spelled_here l)
+      (λ t. rw at.tables_are (tables_stand at.head (λ t. all_two (InDocument s) (InUtf8 t) (strings at.head t) (lie t) (forms_are op at.head at.head_is t)) t))
+      (named_there at.tables (λ t. rw at.are (opened_named op t)))
+      (reading_done ver s room (length o) at.tables at.answers es m e))

@@ -5,17 +5,17 @@ use mathlib.Core.List.{List, [], ◌∷◌, ◌++◌, map, append_assoc, append-
 use native.Mathlib.Omega.{arith}
 use borrow.Author.Tests.{eq-eqb, ne_eqb}
 use lib.ListN.{length}
-use Rattle.format.specs.Tables.{StringTable, PREFIX, NAMESPACE-NAME, LOCAL-NAME, OTHER-NCNAME, OTHER-URI, ATTRIBUTE-VALUE, CONTENT-CHARACTER-CHUNK, OTHER-STRING}
-use Rattle.format.specs.Tables.{ELEMENT-NAME, ATTRIBUTE-NAME, Triple, Vocabulary, strings, names, adding, addingName, noEntries, followedBy, vocabularyMap}
-use Rattle.format.specs.Head.{Table, ofStrings, ofNames, tenTables, size_of}
+use Rattle.format.specs.Tables.{StringTable, PREFIX, NAMESPACE_NAME, LOCAL_NAME, OTHER_NCNAME, OTHER_URI, ATTRIBUTE_VALUE, CONTENT_CHARACTER_CHUNK, OTHER_STRING}
+use Rattle.format.specs.Tables.{ELEMENT_NAME, ATTRIBUTE_NAME, Triple, Vocabulary, strings, names, adding, adding_name, no_entries, followed_by, vocabulary_map}
+use Rattle.format.specs.Head.{Table, of_strings, of_names, ten_tables, size_of}
 use Rattle.tables.specs.Rows.{place}
-use Rattle.tables.proofs.Adding.{sameNames, strings-adding, names-adding, strings-adding-name, names-adding-name}
-use Rattle.tables.proofs.ByNumber.{by-table}
+use Rattle.tables.proofs.Adding.{same_names, strings-adding, names-adding, strings-adding_name, names-adding_name}
+use Rattle.tables.proofs.ByNumber.{by_table_lem}
 use Rattle.theorems.proofs.Words.{strings-map, length-strings, names-map, adding-map, adding-name-map}
 
-pub no-list : {A : Type 0} (l : List A) → length l ≡ 0 → l ≡ []
-no-list [] e = refl
-no-list (x ∷ l) e = absurd (omega arith)
+pub no_list : {A : Type 0} (l : List A) → length l ≡ 0 → l ≡ []
+no_list [] e = refl
+no_list (x ∷ l) e = absurd (omega arith)
 
 same-behind : {A : Type 0} (a b c : List A) → a ++ b ≡ a ++ c → b ≡ c
 same-behind [] b c e = e
@@ -23,50 +23,50 @@ same-behind (x ∷ a) b c e = same-behind a b c (cc)
 
 -- ---- one table
 abbrev pub EntryOf : Type 0 → Table → Type 0
-EntryOf S (ofStrings t) = S
-EntryOf S (ofNames t) = Triple
+EntryOf S (of_strings t) = S
+EntryOf S (of_names t) = Triple
 
 abbrev pub code : Table → ℕ
-code (ofStrings t) = place t
-code (ofNames ELEMENT-NAME) = 8
-code (ofNames ATTRIBUTE-NAME) = 9
+code (of_strings t) = place t
+code (of_names ELEMENT_NAME) = 8
+code (of_names ATTRIBUTE_NAME) = 9
 
 module _ {S : Type 0} where
   abbrev pub list_of : Vocabulary S → (t : Table) → List (EntryOf S t)
-  list_of v (ofStrings t) = strings v t
-  list_of v (ofNames t) = names v t
+  list_of v (of_strings t) = strings v t
+  list_of v (of_names t) = names v t
 
-  abbrev pub addTo : Vocabulary S → (t : Table) → EntryOf S t → Vocabulary S
-  addTo v (ofStrings t) x = adding v t x
-  addTo v (ofNames t) x = addingName v t x
+  abbrev pub add_to : Vocabulary S → (t : Table) → EntryOf S t → Vocabulary S
+  add_to v (of_strings t) x = adding v t x
+  add_to v (of_names t) x = adding_name v t x
 
-  abbrev pub addAll : Vocabulary S → (t : Table) → List (EntryOf S t) → Vocabulary S
-  addAll v t [] = v
-  addAll v t (x ∷ xs) = addAll (addTo v t x) t xs
+  abbrev pub add_all : Vocabulary S → (t : Table) → List (EntryOf S t) → Vocabulary S
+  add_all v t [] = v
+  add_all v t (x ∷ xs) = add_all (add_to v t x) t xs
 
-  pub list-own : (v : Vocabulary S) (t : Table) (x : EntryOf S t) → list_of (addTo v t x) t ≡ list_of v t ++ (x ∷ [])
-  unfolding sameNames
-  list-own v (ofStrings t) x = rw (strings-adding v t x t, eq-eqb (place t) (place t) refl)
-  list-own v (ofNames ELEMENT-NAME) x = names-adding-name v ELEMENT-NAME x ELEMENT-NAME
-  list-own v (ofNames ATTRIBUTE-NAME) x = names-adding-name v ATTRIBUTE-NAME x ATTRIBUTE-NAME
+  pub list_own : (v : Vocabulary S) (t : Table) (x : EntryOf S t) → list_of (add_to v t x) t ≡ list_of v t ++ (x ∷ [])
+  unfolding same_names
+  list_own v (of_strings t) x = rw (strings-adding v t x t, eq-eqb (place t) (place t) refl)
+  list_own v (of_names ELEMENT_NAME) x = names-adding_name v ELEMENT_NAME x ELEMENT_NAME
+  list_own v (of_names ATTRIBUTE_NAME) x = names-adding_name v ATTRIBUTE_NAME x ATTRIBUTE_NAME
 
-  list-other : (v : Vocabulary S) (t u : Table) (x : EntryOf S t) → (code t ≡ code u → ⊥) → list_of (addTo v t x) u ≡ list_of v u
-  unfolding sameNames
-  list-other v (ofStrings t) (ofStrings u) x ne = rw (strings-adding v t x u, ne_eqb (place t) (place u) ne)
-  list-other v (ofStrings t) (ofNames u) x ne = names-adding v t x u
-  list-other v (ofNames t) (ofStrings u) x ne = strings-adding-name v t x u
-  list-other v (ofNames ELEMENT-NAME) (ofNames ELEMENT-NAME) x ne = absurd (ne refl)
-  list-other v (ofNames ELEMENT-NAME) (ofNames ATTRIBUTE-NAME) x ne = names-adding-name v ELEMENT-NAME x ATTRIBUTE-NAME
-  list-other v (ofNames ATTRIBUTE-NAME) (ofNames ELEMENT-NAME) x ne = names-adding-name v ATTRIBUTE-NAME x ELEMENT-NAME
-  list-other v (ofNames ATTRIBUTE-NAME) (ofNames ATTRIBUTE-NAME) x ne = absurd (ne refl)
+  list_other : (v : Vocabulary S) (t u : Table) (x : EntryOf S t) → (code t ≡ code u → ⊥) → list_of (add_to v t x) u ≡ list_of v u
+  unfolding same_names
+  list_other v (of_strings t) (of_strings u) x ne = rw (strings-adding v t x u, ne_eqb (place t) (place u) ne)
+  list_other v (of_strings t) (of_names u) x ne = names-adding v t x u
+  list_other v (of_names t) (of_strings u) x ne = strings-adding_name v t x u
+  list_other v (of_names ELEMENT_NAME) (of_names ELEMENT_NAME) x ne = absurd (ne refl)
+  list_other v (of_names ELEMENT_NAME) (of_names ATTRIBUTE_NAME) x ne = names-adding_name v ELEMENT_NAME x ATTRIBUTE_NAME
+  list_other v (of_names ATTRIBUTE_NAME) (of_names ELEMENT_NAME) x ne = names-adding_name v ATTRIBUTE_NAME x ELEMENT_NAME
+  list_other v (of_names ATTRIBUTE_NAME) (of_names ATTRIBUTE_NAME) x ne = absurd (ne refl)
 
-  all_own : (v : Vocabulary S) (t : Table) (xs : List (EntryOf S t)) → list_of (addAll v t xs) t ≡ list_of v t ++ xs
+  all_own : (v : Vocabulary S) (t : Table) (xs : List (EntryOf S t)) → list_of (add_all v t xs) t ≡ list_of v t ++ xs
   all_own v t [] = sym (append-nil (list_of v t))
-  all_own v t (x ∷ xs) = all_own (addTo v t x) t xs ∙ ap (λ (l : List (EntryOf S t)). l ++ xs) (list-own v t x) ∙ append_assoc (list_of v t) (x ∷ []) xs
+  all_own v t (x ∷ xs) = all_own (add_to v t x) t xs ∙ ap (λ (l : List (EntryOf S t)). l ++ xs) (list_own v t x) ∙ append_assoc (list_of v t) (x ∷ []) xs
 
-  all-other : (v : Vocabulary S) (t u : Table) (xs : List (EntryOf S t)) → (code t ≡ code u → ⊥) → list_of (addAll v t xs) u ≡ list_of v u
-  all-other v t u [] ne = refl
-  all-other v t u (x ∷ xs) ne = all-other (addTo v t x) t u xs ne ∙ list-other v t u x ne
+  all_other : (v : Vocabulary S) (t u : Table) (xs : List (EntryOf S t)) → (code t ≡ code u → ⊥) → list_of (add_all v t xs) u ≡ list_of v u
+  all_other v t u [] ne = refl
+  all_other v t u (x ∷ xs) ne = all_other (add_to v t x) t u xs ne ∙ list_other v t u x ne
 
 -- ---- several tables: a list of entries for each
 abbrev pub Lists : Type 0 → List Table → Type 0
@@ -82,13 +82,13 @@ abbrev pub Ascending : List Table → Type 0
 Ascending [] = Unit {0}
 Ascending (t ∷ ts) = Above (code t) ts
 
-above-less : (m n : ℕ) (ts : List Table) → m ≤ n → Above n ts → Above m ts
-above-less m n [] h a = tt
-above-less m n (t ∷ ts) h a = (omega arith, a.1)
+above_less : (m n : ℕ) (ts : List Table) → m ≤ n → Above n ts → Above m ts
+above_less m n [] h a = tt
+above_less m n (t ∷ ts) h a = (omega arith, a.1)
 
-pub above-ascending : (n : ℕ) (ts : List Table) → Above n ts → Ascending ts
-above-ascending n [] a = tt
-above-ascending n (t ∷ ts) a = a.1
+pub above_ascending : (n : ℕ) (ts : List Table) → Above n ts → Ascending ts
+above_ascending n [] a = tt
+above_ascending n (t ∷ ts) a = a.1
 
 pub data In (u : Table) : List Table → Type 0 where
   here : {ts : List Table} → In u (u ∷ ts)
@@ -98,17 +98,17 @@ above_in : {n : ℕ} {ts : List Table} {u : Table} → Above n ts → In u ts �
 above_in a here = a.0
 above_in a (there i) = let h = above_in a.1 i in omega arith
 
-pub ten-ascend : Ascending tenTables
-unfolding tenTables place
-ten-ascend = omega arith
+pub ten_ascend : Ascending ten_tables
+unfolding ten_tables place
+ten_ascend = omega arith
 
-pub every : (u : Table) → In u tenTables
-unfolding tenTables
-every (ofStrings t) =
-    by-table (λ (t : StringTable). In (ofStrings t) tenTables) here (there here) (there (there here)) (there (there (there here))) (there (there (there (there here))))
+pub every : (u : Table) → In u ten_tables
+unfolding ten_tables
+every (of_strings t) =
+    by_table_lem (λ (t : StringTable). In (of_strings t) ten_tables) here (there here) (there (there here)) (there (there (there here))) (there (there (there (there here))))
     (there (there (there (there (there here))))) (there (there (there (there (there (there here)))))) (there (there (there (there (there (there (there here))))))) t
-every (ofNames ELEMENT-NAME) = there (there (there (there (there (there (there (there here)))))))
-every (ofNames ATTRIBUTE-NAME) = there (there (there (there (there (there (there (there (there here))))))))
+every (of_names ELEMENT_NAME) = there (there (there (there (there (there (there (there here)))))))
+every (of_names ATTRIBUTE_NAME) = there (there (there (there (there (there (there (there (there here))))))))
 
 module _ {S : Type 0} where
   abbrev pub pieces : Vocabulary S → (ts : List Table) → Lists S ts
@@ -117,65 +117,65 @@ module _ {S : Type 0} where
 
   abbrev pub behind : Vocabulary S → (ts : List Table) → Lists S ts → Vocabulary S
   behind v [] l = v
-  behind v (t ∷ ts) l = behind (addAll v t l.0) ts l.1
+  behind v (t ∷ ts) l = behind (add_all v t l.0) ts l.1
 
   pub kept : (v : Vocabulary S) (u : Table) (ts : List Table) (l : Lists S ts) → Above (code u) ts → list_of (behind v ts l) u ≡ list_of v u
   kept v u [] l a = refl
-  kept v u (t ∷ ts) l a = kept (addAll v t l.0) u ts l.1 (above-less (code u) (code t) ts (let h = a.0 in omega arith) a.1) ∙ all-other v t u l.0 (λ e. let h = a.0 in omega arith)
+  kept v u (t ∷ ts) l a = kept (add_all v t l.0) u ts l.1 (above_less (code u) (code t) ts (let h = a.0 in omega arith) a.1) ∙ all_other v t u l.0 (λ e. let h = a.0 in omega arith)
 
   pub own : (v : Vocabulary S) (t : Table) (ts : List Table) (l : Lists S (t ∷ ts)) → Above (code t) ts → list_of (behind v (t ∷ ts) l) t ≡ list_of v t ++ l.0
-  own v t ts l a = kept (addAll v t l.0) t ts l.1 a ∙ all_own v t l.0
+  own v t ts l a = kept (add_all v t l.0) t ts l.1 a ∙ all_own v t l.0
 
-  behind-list : (v h : Vocabulary S) {ts : List Table} (u : Table) → In u ts → Ascending ts → list_of (behind v ts (pieces h ts)) u ≡ list_of v u ++ list_of h u
-  behind-list v h u (here {ts = ts}) a = own v u ts (pieces h (u ∷ ts)) a
-  behind-list v h u (there {t = t} {ts = ts} i) a =
-      behind-list (addAll v t (list_of h t)) h u i (above-ascending (code t) ts a)
-      ∙ ap (λ (l : List (EntryOf S u)). l ++ list_of h u) (all-other v t u (list_of h t) (λ e. let b = above_in a i in omega arith))
+  behind_list : (v h : Vocabulary S) {ts : List Table} (u : Table) → In u ts → Ascending ts → list_of (behind v ts (pieces h ts)) u ≡ list_of v u ++ list_of h u
+  behind_list v h u (here {ts = ts}) a = own v u ts (pieces h (u ∷ ts)) a
+  behind_list v h u (there {t = t} {ts = ts} i) a =
+      behind_list (add_all v t (list_of h t)) h u i (above_ascending (code t) ts a)
+      ∙ ap (λ (l : List (EntryOf S u)). l ++ list_of h u) (all_other v t u (list_of h t) (λ e. let b = above_in a i in omega arith))
 
   -- tables with the same entries are the same
   pub same_tables : (v w : Vocabulary S) → ((t : Table) → list_of v t ≡ list_of w t) → v ≡ w
   unfolding strings names
   same_tables v w e =
       λ i. record {
-        prefixes = e (ofStrings PREFIX) i;
-        namespaces = e (ofStrings NAMESPACE-NAME) i;
-        locals = e (ofStrings LOCAL-NAME) i;
-        ncnames = e (ofStrings OTHER-NCNAME) i;
-        uris = e (ofStrings OTHER-URI) i;
-        values = e (ofStrings ATTRIBUTE-VALUE) i;
-        chunks = e (ofStrings CONTENT-CHARACTER-CHUNK) i;
-        others = e (ofStrings OTHER-STRING) i;
-        elements = e (ofNames ELEMENT-NAME) i;
-        attributes = e (ofNames ATTRIBUTE-NAME) i;
+        prefixes = e (of_strings PREFIX) i;
+        namespaces = e (of_strings NAMESPACE_NAME) i;
+        locals = e (of_strings LOCAL_NAME) i;
+        ncnames = e (of_strings OTHER_NCNAME) i;
+        uris = e (of_strings OTHER_URI) i;
+        values = e (of_strings ATTRIBUTE_VALUE) i;
+        chunks = e (of_strings CONTENT_CHARACTER_CHUNK) i;
+        others = e (of_strings OTHER_STRING) i;
+        elements = e (of_names ELEMENT_NAME) i;
+        attributes = e (of_names ATTRIBUTE_NAME) i;
       }
 
-  strings-followed : (v h : Vocabulary S) (t : StringTable) → strings (followedBy v h) t ≡ strings v t ++ strings h t
-  unfolding strings followedBy
-  strings-followed v h = by-table _ refl refl refl refl refl refl refl refl
+  strings_followed : (v h : Vocabulary S) (t : StringTable) → strings (followed_by v h) t ≡ strings v t ++ strings h t
+  unfolding strings followed_by
+  strings_followed v h = by_table_lem _ refl refl refl refl refl refl refl refl
 
-  pub list-followed : (v h : Vocabulary S) (t : Table) → list_of (followedBy v h) t ≡ list_of v t ++ list_of h t
-  unfolding names followedBy
-  list-followed v h (ofStrings t) = strings-followed v h t
-  list-followed v h (ofNames ELEMENT-NAME) = refl
-  list-followed v h (ofNames ATTRIBUTE-NAME) = refl
+  pub list_followed : (v h : Vocabulary S) (t : Table) → list_of (followed_by v h) t ≡ list_of v t ++ list_of h t
+  unfolding names followed_by
+  list_followed v h (of_strings t) = strings_followed v h t
+  list_followed v h (of_names ELEMENT_NAME) = refl
+  list_followed v h (of_names ATTRIBUTE_NAME) = refl
 
-  pub followed-none : (v : Vocabulary S) → followedBy v noEntries ≡ v
-  unfolding followedBy noEntries
-  followed-none v = simp append-nil
+  pub followed_none : (v : Vocabulary S) → followed_by v no_entries ≡ v
+  unfolding followed_by no_entries
+  followed_none v = simp append-nil
 
   -- what stands behind the same entries is the same
-  pub followed-one : (v : Vocabulary S) {g h : Vocabulary S} → followedBy v g ≡ followedBy v h → g ≡ h
-  followed-one v {g} {h} e =
-      same_tables g h (λ t. same-behind (list_of v t) (list_of g t) (list_of h t) (sym (list-followed v g t) ∙ ap (λ (w : Vocabulary S). list_of w t) e ∙ list-followed v h t))
+  pub followed_one : (v : Vocabulary S) {g h : Vocabulary S} → followed_by v g ≡ followed_by v h → g ≡ h
+  followed_one v {g} {h} e =
+      same_tables g h (λ t. same-behind (list_of v t) (list_of g t) (list_of h t) (sym (list_followed v g t) ∙ ap (λ (w : Vocabulary S). list_of w t) e ∙ list_followed v h t))
 
   -- the ten with the entries of others behind their own
-  pub behind-ten : (v h : Vocabulary S) → behind v tenTables (pieces h tenTables) ≡ followedBy v h
-  behind-ten v h = same_tables _ _ (λ u. behind-list v h u (every u) ten-ascend ∙ sym (list-followed v h u))
+  pub behind_ten : (v h : Vocabulary S) → behind v ten_tables (pieces h ten_tables) ≡ followed_by v h
+  behind_ten v h = same_tables _ _ (λ u. behind_list v h u (every u) ten_ascend ∙ sym (list_followed v h u))
 
 -- lists for the ten are tables
 module _ (S : Type 0) where
-  unfoldable pub whole : Lists S tenTables → Vocabulary S
-  unfolding tenTables
+  unfoldable pub whole : Lists S ten_tables → Vocabulary S
+  unfolding ten_tables
   whole l =
       let l1 = l.1 in
       let l2 = l1.1 in
@@ -188,44 +188,44 @@ module _ (S : Type 0) where
       let l9 = l8.1 in
       record { prefixes = l.0; namespaces = l1.0; locals = l2.0; ncnames = l3.0; uris = l4.0; values = l5.0; chunks = l6.0; others = l7.0; elements = l8.0; attributes = l9.0 }
 
-  pub whole-pieces : (h : Vocabulary S) → whole (pieces h tenTables) ≡ h
-  unfolding tenTables strings names whole
-  whole-pieces h = refl
+  pub whole_pieces : (h : Vocabulary S) → whole (pieces h ten_tables) ≡ h
+  unfolding ten_tables strings names whole
+  whole_pieces h = refl
 
-  pieces_whole : (l : Lists S tenTables) → pieces (whole l) tenTables ≡ l
-  unfolding tenTables strings names whole
+  pieces_whole : (l : Lists S ten_tables) → pieces (whole l) ten_tables ≡ l
+  unfolding ten_tables strings names whole
   pieces_whole l = refl
 
-  pub behind-lists : (v : Vocabulary S) (l : Lists S tenTables) → behind v tenTables l ≡ followedBy v (whole l)
-  behind-lists v l = ap (behind v tenTables) (sym (pieces_whole l)) ∙ behind-ten v (whole l)
+  pub behind_lists : (v : Vocabulary S) (l : Lists S ten_tables) → behind v ten_tables l ≡ followed_by v (whole l)
+  behind_lists v l = ap (behind v ten_tables) (sym (pieces_whole l)) ∙ behind_ten v (whole l)
 
 -- ---- the same with other strings
 module _ {S T : Type 0} (f : S → T) where
-  abbrev pub mapEntry : (t : Table) → EntryOf S t → EntryOf T t
-  mapEntry (ofStrings t) x = f x
-  mapEntry (ofNames t) x = x
+  abbrev pub map_entry : (t : Table) → EntryOf S t → EntryOf T t
+  map_entry (of_strings t) x = f x
+  map_entry (of_names t) x = x
 
-  abbrev pub mapLists : (ts : List Table) → Lists S ts → Lists T ts
-  mapLists [] l = tt
-  mapLists (t ∷ ts) l = (map (mapEntry t) l.0, mapLists ts l.1)
+  abbrev pub map_lists : (ts : List Table) → Lists S ts → Lists T ts
+  map_lists [] l = tt
+  map_lists (t ∷ ts) l = (map (map_entry t) l.0, map_lists ts l.1)
 
-  pub add-map : (v : Vocabulary S) (t : Table) (x : EntryOf S t) → vocabularyMap f (addTo v t x) ≡ addTo (vocabularyMap f v) t (mapEntry t x)
-  add-map v (ofStrings t) x = adding-map f v t x
-  add-map v (ofNames t) x = adding-name-map f v t x
+  pub add_map : (v : Vocabulary S) (t : Table) (x : EntryOf S t) → vocabulary_map f (add_to v t x) ≡ add_to (vocabulary_map f v) t (map_entry t x)
+  add_map v (of_strings t) x = adding-map f v t x
+  add_map v (of_names t) x = adding-name-map f v t x
 
-  map-triples : (l : List Triple) → map (λ (x : Triple). x) l ≡ l
-  map-triples [] = refl
-  map-triples (x ∷ l) = ap (λ (m : List Triple). x ∷ m) (map-triples l)
+  map_triples : (l : List Triple) → map (λ (x : Triple). x) l ≡ l
+  map_triples [] = refl
+  map_triples (x ∷ l) = ap (λ (m : List Triple). x ∷ m) (map_triples l)
 
-  pub list-map : (v : Vocabulary S) (t : Table) → list_of (vocabularyMap f v) t ≡ map (mapEntry t) (list_of v t)
-  list-map v (ofStrings t) = strings-map f v t
-  list-map v (ofNames t) = names-map f v t ∙ sym (map-triples (names v t))
+  pub list_map : (v : Vocabulary S) (t : Table) → list_of (vocabulary_map f v) t ≡ map (map_entry t) (list_of v t)
+  list_map v (of_strings t) = strings-map f v t
+  list_map v (of_names t) = names-map f v t ∙ sym (map_triples (names v t))
 
-  pub size-map : (v : Vocabulary S) (t : Table) → length (list_of (vocabularyMap f v) t) ≡ size_of v t
+  pub size-map : (v : Vocabulary S) (t : Table) → length (list_of (vocabulary_map f v) t) ≡ size_of v t
   unfolding size_of
-  size-map v (ofStrings t) = length-strings f v t
-  size-map v (ofNames t) = ap length (names-map f v t)
+  size-map v (of_strings t) = length-strings f v t
+  size-map v (of_names t) = ap length (names-map f v t)
 
-  pub whole-map : (l : Lists S tenTables) → whole T (mapLists tenTables l) ≡ vocabularyMap f (whole S l)
-  unfolding tenTables vocabularyMap whole
-  whole-map l = simp map-triples
+  pub whole-map : (l : Lists S ten_tables) → whole T (map_lists ten_tables l) ≡ vocabulary_map f (whole S l)
+  unfolding ten_tables vocabulary_map whole
+  whole-map l = simp map_triples

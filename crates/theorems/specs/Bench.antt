@@ -2,16 +2,16 @@
 use Rattle.std.specs.Prelude.{ℕ, zero, suc, List, [], ◌∷◌, ◌++◌, map, replicate}
 use Rattle.std.proofs.Math.Option.{none, some}
 use Rattle.format.specs.Octets.{Octets}
-use Rattle.format.specs.Events.{Name, Event, Namespace, Start, Attribute, Text, Comment, Instruction, End, eventMap}
-use Rattle.format.specs.Tables.{Triple, Vocabulary, noEntries, xmlPrefix, xmlNamespace, link}
+use Rattle.format.specs.Events.{Name, Event, Namespace, Start, Attribute, Text, Comment, Instruction, End, event_map}
+use Rattle.format.specs.Tables.{Triple, Vocabulary, no_entries, xml_prefix, xml_namespace, link}
 use Rattle.format.specs.declared.StringForm.TheVariants.{Utf8, Numeric, Short}
-use Rattle.tables.specs.Located.{Located, octetsOf, plainTables}
+use Rattle.tables.specs.Located.{Located, octets_of, plain_tables}
 use Rattle.events.specs.declared.EventString.{EventString}
 use Rattle.events.specs.declared.EventString.TheVariants.{Stretch}
 use Rattle.events.specs.declared.Event.{Event as Record}
 use Rattle.reader.specs.Reading as RReading
 use Rattle.write_head.specs.Given.{Given}
-use Rattle.write_head.specs.Head.{headOctets}
+use Rattle.write_head.specs.Head.{head_octets}
 use Rattle.write_items.specs.Steps.{joined}
 use Rattle.writer.specs.Writing as WWriting
 
@@ -29,26 +29,26 @@ pub data Found : Type 0 where
   number : ℕ → ℕ → Found
   places : List ℕ → Found
 
-abbrev eventsIn : Octets → List RReading.EventRead → List (Event Octets)
-eventsIn s es = map (λ (e : RReading.EventRead). eventMap (octetsOf s) e.item.event) es
+abbrev events_in : Octets → List RReading.EventRead → List (Event Octets)
+events_in s es = map (λ (e : RReading.EventRead). event_map (octets_of s) e.item.event) es
 
 abbrev pub both : Octets → Given → List RReading.EventRead → Vocabulary Located → WWriting.Result → Found
-both s g es v (WWriting.written js hs z) = found (eventsIn s es) (plainTables s v) (headOctets link s g ++ joined hs) (plainTables s z.tables)
+both s g es v (WWriting.written js hs z) = found (events_in s es) (plain_tables s v) (head_octets link s g ++ joined hs) (plain_tables s z.tables)
 both s g es v (WWriting.refusal n p) = number n p
 
 abbrev pub read : Octets → Given → RReading.Result → Found
-read s g (RReading.accepted es m) = both s g es m.state.tables (WWriting.writing link g s 16384 (map RReading.recordRead es))
+read s g (RReading.accepted es m) = both s g es m.state.tables (WWriting.writing link g s 16384 (map RReading.record_read es))
 read s g (RReading.refusal n p) = number n p
 
-abbrev pub placesRead : RReading.Result → Found
-placesRead (RReading.accepted es m) = places (map (λ (e : Record). e.place) (map RReading.recordRead es))
-placesRead (RReading.refusal n p) = number n p
+abbrev pub places_read : RReading.Result → Found
+places_read (RReading.accepted es m) = places (map (λ (e : Record). e.place) (map RReading.record_read es))
+places_read (RReading.refusal n p) = number n p
 
 abbrev pub finds : Case → Found
 finds (document s g es v) = read s g (RReading.reading link s 32768)
 finds (rewritten s g es v w) = read s g (RReading.reading link s 32768)
-finds (refused s n p) = read s noEntries (RReading.reading link s 32768)
-finds (placed s ps) = placesRead (RReading.reading link s 32768)
+finds (refused s n p) = read s no_entries (RReading.reading link s 32768)
+finds (placed s ps) = places_read (RReading.reading link s 32768)
 
 abbrev pub wants : Case → Found
 wants (document s g es v) = found es v s v
@@ -98,22 +98,22 @@ triple p n l = record { prefix = p; namespace = n; local = l }
 -- The tables: namespaces behind the built-in one, local names, values, chunks, names of elements and of attributes.
 abbrev tables : (namespaces locals values chunks : List Octets) (elements attributes : List Triple) → Vocabulary Octets
 tables ns ls vs cs es ts =
-    record { prefixes = xmlPrefix ∷ []; namespaces = xmlNamespace ∷ ns; locals = ls; ncnames = []; uris = []; values = vs; chunks = cs; others = []; elements = es; attributes = ts }
+    record { prefixes = xml_prefix ∷ []; namespaces = xml_namespace ∷ ns; locals = ls; ncnames = []; uris = []; values = vs; chunks = cs; others = []; elements = es; attributes = ts }
 
-abbrev behindHeader : Octets → Octets
-behindHeader x = 0xE0 ∷ 0x00 ∷ 0x00 ∷ 0x01 ∷ 0x00 ∷ x
+abbrev behind_header : Octets → Octets
+behind_header x = 0xE0 ∷ 0x00 ∷ 0x00 ∷ 0x01 ∷ 0x00 ∷ x
 
 -- A document that has no head.
 abbrev plain : Octets → List (Event Octets) → Vocabulary Octets → Case
-plain s es v = document s noEntries es v
+plain s es v = document s no_entries es v
 
 -- Behind the identification and the octet that announces a head.
-abbrev inHead : Octets → Octets
-inHead x = 0xE0 ∷ 0x00 ∷ 0x00 ∷ 0x01 ∷ 0x20 ∷ x
+abbrev in_head : Octets → Octets
+in_head x = 0xE0 ∷ 0x00 ∷ 0x00 ∷ 0x01 ∷ 0x20 ∷ x
 
 -- Behind a head's table of local names, which lists a, where its table of names of elements begins.
-abbrev inNames : Octets → Octets
-inNames x = inHead (0x00 ∷ 0x82 ∷ 0x00 ∷ 0x00 ∷ 0x61 ∷ x)
+abbrev in_names : Octets → Octets
+in_names x = in_head (0x00 ∷ 0x82 ∷ 0x00 ∷ 0x00 ∷ 0x61 ∷ x)
 
 -- What the heads of the cases list: one octet at each of these places, as local names, values and chunks; and names of elements.
 abbrev at : ℕ → EventString
@@ -134,23 +134,23 @@ identified k = 0x00 ∷ 0x08 ∷ nine k
 abbrev another : ℕ → Octets
 another k = 0x00 ∷ 0x08 ∷ 0x00 ∷ nine k
 
-abbrev tenListed : Octets
-tenListed =
+abbrev ten_listed : Octets
+ten_listed =
     let names : Octets = 0x00 ∷ 0x03 ∷ 0x01 ∷ 0x00 ∷ 0x00 ∷ 0x00 ∷ 0x00 ∷ 0x00 ∷ [] in
-    inHead
+    in_head
     (0x03
     ∷ 0xFF
     ∷ (identified 0x61 ++ identified 0x62 ++ identified 0x63 ++ identified 0x64 ++ identified 0x65 ++ another 0x66 ++ another 0x67 ++ another 0x68 ++ names ++ (0x00 ∷ 0xFF ∷ [])))
 
 -- The characters of the alphabets, in order, and their octets there: places 0 to 14, and 15 that fills up. A in UTF-16 and in UTF-8, with a character above FFFF.
-abbrev allNumeric : Octets
-allNumeric = 0x30 ∷ 0x31 ∷ 0x32 ∷ 0x33 ∷ 0x34 ∷ 0x35 ∷ 0x36 ∷ 0x37 ∷ 0x38 ∷ 0x39 ∷ 0x2D ∷ 0x2B ∷ 0x2E ∷ 0x65 ∷ 0x20 ∷ []
+abbrev all_numeric : Octets
+all_numeric = 0x30 ∷ 0x31 ∷ 0x32 ∷ 0x33 ∷ 0x34 ∷ 0x35 ∷ 0x36 ∷ 0x37 ∷ 0x38 ∷ 0x39 ∷ 0x2D ∷ 0x2B ∷ 0x2E ∷ 0x65 ∷ 0x20 ∷ []
 
-abbrev allDates : Octets
-allDates = 0x30 ∷ 0x31 ∷ 0x32 ∷ 0x33 ∷ 0x34 ∷ 0x35 ∷ 0x36 ∷ 0x37 ∷ 0x38 ∷ 0x39 ∷ 0x2D ∷ 0x3A ∷ 0x54 ∷ 0x5A ∷ 0x20 ∷ []
+abbrev all_dates : Octets
+all_dates = 0x30 ∷ 0x31 ∷ 0x32 ∷ 0x33 ∷ 0x34 ∷ 0x35 ∷ 0x36 ∷ 0x37 ∷ 0x38 ∷ 0x39 ∷ 0x2D ∷ 0x3A ∷ 0x54 ∷ 0x5A ∷ 0x20 ∷ []
 
-abbrev allPlaces : Octets
-allPlaces = 0x01 ∷ 0x23 ∷ 0x45 ∷ 0x67 ∷ 0x89 ∷ 0xAB ∷ 0xCD ∷ 0xEF ∷ []
+abbrev all_places : Octets
+all_places = 0x01 ∷ 0x23 ∷ 0x45 ∷ 0x67 ∷ 0x89 ∷ 0xAB ∷ 0xCD ∷ 0xEF ∷ []
 
 abbrev pair16 : Octets
 pair16 = 0x00 ∷ 0x41 ∷ 0xD8 ∷ 0x3D ∷ 0xDE ∷ 0x00 ∷ []
@@ -167,65 +167,65 @@ five = 0x31 ∷ 0x32 ∷ 0x33 ∷ 0x34 ∷ 0x35 ∷ []
 
 -- <a> and a chunk.
 abbrev in_a : Octets → Octets
-in_a x = behindHeader (0x3C ∷ 0x00 ∷ 0x61 ∷ x)
+in_a x = behind_header (0x3C ∷ 0x00 ∷ 0x61 ∷ x)
 
 -- <a b="..
 abbrev in_b : Octets → Octets
-in_b x = behindHeader (0x7C ∷ 0x00 ∷ 0x61 ∷ 0x78 ∷ 0x00 ∷ 0x62 ∷ x)
+in_b x = behind_header (0x7C ∷ 0x00 ∷ 0x61 ∷ 0x78 ∷ 0x00 ∷ 0x62 ∷ x)
 
 abbrev pub cases : List Case
 cases =
     -- <a/>
-    plain (behindHeader (0x3C ∷ 0x00 ∷ 0x61 ∷ 0xFF ∷ [])) (Start (local a) ∷ End ∷ []) (tables [] (a ∷ []) [] [] (triple 0 0 1 ∷ []) [])
+    plain (behind_header (0x3C ∷ 0x00 ∷ 0x61 ∷ 0xFF ∷ [])) (Start (local a) ∷ End ∷ []) (tables [] (a ∷ []) [] [] (triple 0 0 1 ∷ []) [])
     -- <a><a/></a>
-    ∷ plain (behindHeader (0x3C ∷ 0x00 ∷ 0x61 ∷ 0x00 ∷ 0xFF ∷ 0xF0 ∷ [])) (Start (local a) ∷ Start (local a) ∷ End ∷ End ∷ []) (tables [] (a ∷ []) [] [] (triple 0 0 1 ∷ []) [])
+    ∷ plain (behind_header (0x3C ∷ 0x00 ∷ 0x61 ∷ 0x00 ∷ 0xFF ∷ 0xF0 ∷ [])) (Start (local a) ∷ Start (local a) ∷ End ∷ End ∷ []) (tables [] (a ∷ []) [] [] (triple 0 0 1 ∷ []) [])
     -- <a b="c">hi</a>
-    ∷ plain (behindHeader (0x7C ∷ 0x00 ∷ 0x61 ∷ 0x78 ∷ 0x00 ∷ 0x62 ∷ 0x40 ∷ 0x63 ∷ 0xF0 ∷ 0x91 ∷ 0x68 ∷ 0x69 ∷ 0xFF ∷ []))
+    ∷ plain (behind_header (0x7C ∷ 0x00 ∷ 0x61 ∷ 0x78 ∷ 0x00 ∷ 0x62 ∷ 0x40 ∷ 0x63 ∷ 0xF0 ∷ 0x91 ∷ 0x68 ∷ 0x69 ∷ 0xFF ∷ []))
     (Start (local a) ∷ Attribute (local b) c ∷ Text hi ∷ End ∷ []) (tables [] (a ∷ b ∷ []) (c ∷ []) (hi ∷ []) (triple 0 0 1 ∷ []) (triple 0 0 2 ∷ []))
     -- <a b=""/>
-    ∷ plain (behindHeader (0x7C ∷ 0x00 ∷ 0x61 ∷ 0x78 ∷ 0x00 ∷ 0x62 ∷ 0xFF ∷ 0xFF ∷ 0xF0 ∷ []))
+    ∷ plain (behind_header (0x7C ∷ 0x00 ∷ 0x61 ∷ 0x78 ∷ 0x00 ∷ 0x62 ∷ 0xFF ∷ 0xFF ∷ 0xF0 ∷ []))
     (Start (local a) ∷ Attribute (local b) [] ∷ End ∷ []) (tables [] (a ∷ b ∷ []) [] [] (triple 0 0 1 ∷ []) (triple 0 0 2 ∷ []))
     -- <a xmlns="u"/>
-    ∷ plain (behindHeader (0x38 ∷ 0xCD ∷ 0x00 ∷ 0x75 ∷ 0xF0 ∷ 0x3D ∷ 0x81 ∷ 0x00 ∷ 0x61 ∷ 0xFF ∷ []))
+    ∷ plain (behind_header (0x38 ∷ 0xCD ∷ 0x00 ∷ 0x75 ∷ 0xF0 ∷ 0x3D ∷ 0x81 ∷ 0x00 ∷ 0x61 ∷ 0xFF ∷ []))
     (Namespace none (some u) ∷ Start (record { prefix = none; namespace = some u; local = a }) ∷ End ∷ []) (tables (u ∷ []) (a ∷ []) [] [] (triple 0 2 1 ∷ []) [])
     -- <a>hihi</a>, written as two chunks: they are two events
-    ∷ plain (behindHeader (0x3C ∷ 0x00 ∷ 0x61 ∷ 0x91 ∷ 0x68 ∷ 0x69 ∷ 0xA0 ∷ 0xFF ∷ [])) (Start (local a) ∷ Text hi ∷ Text hi ∷ End ∷ [])
+    ∷ plain (behind_header (0x3C ∷ 0x00 ∷ 0x61 ∷ 0x91 ∷ 0x68 ∷ 0x69 ∷ 0xA0 ∷ 0xFF ∷ [])) (Start (local a) ∷ Text hi ∷ Text hi ∷ End ∷ [])
     (tables [] (a ∷ []) [] (hi ∷ []) (triple 0 0 1 ∷ []) [])
     -- <!--c--><a><?t u?></a>
-    ∷ plain (behindHeader (0xE2 ∷ 0x40 ∷ 0x63 ∷ 0x3C ∷ 0x00 ∷ 0x61 ∷ 0xE1 ∷ 0x00 ∷ 0x74 ∷ 0x40 ∷ 0x75 ∷ 0xFF ∷ [])) (Comment c ∷ Start (local a) ∷ Instruction t u ∷ End ∷ [])
-    (record { prefixes = xmlPrefix ∷ []; namespaces = xmlNamespace ∷ []; locals = a ∷ []; ncnames = t ∷ []; uris = []; values = []; chunks = []; others = c ∷ u ∷ []; elements = triple 0 0 1 ∷ []; attributes = [] })
+    ∷ plain (behind_header (0xE2 ∷ 0x40 ∷ 0x63 ∷ 0x3C ∷ 0x00 ∷ 0x61 ∷ 0xE1 ∷ 0x00 ∷ 0x74 ∷ 0x40 ∷ 0x75 ∷ 0xFF ∷ [])) (Comment c ∷ Start (local a) ∷ Instruction t u ∷ End ∷ [])
+    (record { prefixes = xml_prefix ∷ []; namespaces = xml_namespace ∷ []; locals = a ∷ []; ncnames = t ∷ []; uris = []; values = []; chunks = []; others = c ∷ u ∷ []; elements = triple 0 0 1 ∷ []; attributes = [] })
     -- <p:a xmlns:p="u"/>
-    ∷ plain (behindHeader (0x38 ∷ 0xCF ∷ 0x00 ∷ 0x70 ∷ 0x00 ∷ 0x75 ∷ 0xF0 ∷ 0x3F ∷ 0x81 ∷ 0x81 ∷ 0x00 ∷ 0x61 ∷ 0xFF ∷ []))
+    ∷ plain (behind_header (0x38 ∷ 0xCF ∷ 0x00 ∷ 0x70 ∷ 0x00 ∷ 0x75 ∷ 0xF0 ∷ 0x3F ∷ 0x81 ∷ 0x81 ∷ 0x00 ∷ 0x61 ∷ 0xFF ∷ []))
     (Namespace (some p) (some u) ∷ Start (record { prefix = some p; namespace = some u; local = a }) ∷ End ∷ [])
-    (record { prefixes = xmlPrefix ∷ p ∷ []; namespaces = xmlNamespace ∷ u ∷ []; locals = a ∷ []; ncnames = []; uris = []; values = []; chunks = []; others = []; elements = triple 2 2 1 ∷ []; attributes = [] })
+    (record { prefixes = xml_prefix ∷ p ∷ []; namespaces = xml_namespace ∷ u ∷ []; locals = a ∷ []; ncnames = []; uris = []; values = []; chunks = []; others = []; elements = triple 2 2 1 ∷ []; attributes = [] })
     -- a chunk of five octets, which is added, and one of six, which is not
-    ∷ plain (behindHeader (0x3C ∷ 0x00 ∷ 0x61 ∷ 0x92 ∷ 0x02 ∷ (fives ++ (0x82 ∷ 0x03 ∷ (sixsix ++ (0xFF ∷ [])))))) (Start (local a) ∷ Text fives ∷ Text sixsix ∷ End ∷ [])
+    ∷ plain (behind_header (0x3C ∷ 0x00 ∷ 0x61 ∷ 0x92 ∷ 0x02 ∷ (fives ++ (0x82 ∷ 0x03 ∷ (sixsix ++ (0xFF ∷ [])))))) (Start (local a) ∷ Text fives ∷ Text sixsix ∷ End ∷ [])
     (tables [] (a ∷ []) [] (fives ∷ []) (triple 0 0 1 ∷ []) [])
     -- 32 open elements, and one more
-    ∷ plain (behindHeader (0x3C ∷ 0x00 ∷ 0x61 ∷ (replicate 31 0x00 ++ (replicate 16 0xFF ++ (0xF0 ∷ []))))) (replicate 32 (Start (local a)) ++ replicate 32 End) (tables [] (a ∷ []) [] [] (triple 0 0 1 ∷ []) [])
-    ∷ refused (behindHeader (0x3C ∷ 0x00 ∷ 0x61 ∷ replicate 32 0x00)) 13 39
-    ∷ refused (behindHeader (0xF0 ∷ [])) 15 5
-    ∷ refused (behindHeader (0x00 ∷ [])) 10 5
+    ∷ plain (behind_header (0x3C ∷ 0x00 ∷ 0x61 ∷ (replicate 31 0x00 ++ (replicate 16 0xFF ++ (0xF0 ∷ []))))) (replicate 32 (Start (local a)) ++ replicate 32 End) (tables [] (a ∷ []) [] [] (triple 0 0 1 ∷ []) [])
+    ∷ refused (behind_header (0x3C ∷ 0x00 ∷ 0x61 ∷ replicate 32 0x00)) 13 39
+    ∷ refused (behind_header (0xF0 ∷ [])) 15 5
+    ∷ refused (behind_header (0x00 ∷ [])) 10 5
     ∷ refused (0xE0 ∷ 0x00 ∷ 0x00 ∷ []) 2 0
     ∷ refused (0xE0 ∷ 0x00 ∷ 0x00 ∷ 0x01 ∷ []) 2 4
-    ∷ refused (behindHeader (0x3C ∷ 0x00 ∷ 0x61 ∷ 0xF0 ∷ 0xF0 ∷ [])) 6 9
-    ∷ refused (behindHeader (0x3C ∷ 0x00 ∷ 0x61 ∷ 0xFF ∷ 0x00 ∷ [])) 15 9
+    ∷ refused (behind_header (0x3C ∷ 0x00 ∷ 0x61 ∷ 0xF0 ∷ 0xF0 ∷ [])) 6 9
+    ∷ refused (behind_header (0x3C ∷ 0x00 ∷ 0x61 ∷ 0xFF ∷ 0x00 ∷ [])) 15 9
     -- <a/>, whose local name and name the head lists
-    ∷ document (inNames (0x00 ∷ 0x00 ∷ 0x00 ∷ 0x00 ∷ 0xFF ∷ [])) (listing (at 9 ∷ []) [] [] (triple 0 0 1 ∷ [])) (Start (local a) ∷ End ∷ []) (tables [] (a ∷ []) [] [] (triple 0 0 1 ∷ []) [])
+    ∷ document (in_names (0x00 ∷ 0x00 ∷ 0x00 ∷ 0x00 ∷ 0xFF ∷ [])) (listing (at 9 ∷ []) [] [] (triple 0 0 1 ∷ [])) (Start (local a) ∷ End ∷ []) (tables [] (a ∷ []) [] [] (triple 0 0 1 ∷ []) [])
     -- <xml:a/>, whose listed name has both built-in entries
-    ∷ document (inNames (0x00 ∷ 0x03 ∷ 0x00 ∷ 0x00 ∷ 0x00 ∷ 0x00 ∷ 0xFF ∷ [])) (listing (at 9 ∷ []) [] [] (triple 1 1 1 ∷ []))
-    (Start (record { prefix = some xmlPrefix; namespace = some xmlNamespace; local = a }) ∷ End ∷ []) (tables [] (a ∷ []) [] [] (triple 1 1 1 ∷ []) [])
+    ∷ document (in_names (0x00 ∷ 0x03 ∷ 0x00 ∷ 0x00 ∷ 0x00 ∷ 0x00 ∷ 0xFF ∷ [])) (listing (at 9 ∷ []) [] [] (triple 1 1 1 ∷ []))
+    (Start (record { prefix = some xml_prefix; namespace = some xml_namespace; local = a }) ∷ End ∷ []) (tables [] (a ∷ []) [] [] (triple 1 1 1 ∷ []) [])
     -- <a>p</a>, whose chunk the head lists
-    ∷ document (inHead (0x00 ∷ 0x08 ∷ 0x00 ∷ 0x00 ∷ 0x70 ∷ 0x3C ∷ 0x00 ∷ 0x61 ∷ 0xA0 ∷ 0xFF ∷ [])) (listing [] [] (at 9 ∷ []) []) (Start (local a) ∷ Text p ∷ End ∷ []) (tables [] (a ∷ []) [] (p ∷ []) (triple 0 0 1 ∷ []) [])
+    ∷ document (in_head (0x00 ∷ 0x08 ∷ 0x00 ∷ 0x00 ∷ 0x70 ∷ 0x3C ∷ 0x00 ∷ 0x61 ∷ 0xA0 ∷ 0xFF ∷ [])) (listing [] [] (at 9 ∷ []) []) (Start (local a) ∷ Text p ∷ End ∷ []) (tables [] (a ∷ []) [] (p ∷ []) (triple 0 0 1 ∷ []) [])
     -- a value that is listed twice is two entries
-    ∷ document (inHead (0x00 ∷ 0x10 ∷ 0x01 ∷ 0x00 ∷ 0x61 ∷ 0x00 ∷ 0x61 ∷ 0x3C ∷ 0x00 ∷ 0x61 ∷ 0xFF ∷ [])) (listing [] (at 9 ∷ at 11 ∷ []) [] []) (Start (local a) ∷ End ∷ []) (tables [] (a ∷ []) (a ∷ a ∷ []) [] (triple 0 0 1 ∷ []) [])
+    ∷ document (in_head (0x00 ∷ 0x10 ∷ 0x01 ∷ 0x00 ∷ 0x61 ∷ 0x00 ∷ 0x61 ∷ 0x3C ∷ 0x00 ∷ 0x61 ∷ 0xFF ∷ [])) (listing [] (at 9 ∷ at 11 ∷ []) [] []) (Start (local a) ∷ End ∷ []) (tables [] (a ∷ []) (a ∷ a ∷ []) [] (triple 0 0 1 ∷ []) [])
     -- <a xmlns:p=""/>, whose prefix the head lists as entry 2
-    ∷ document (inHead (0x02 ∷ 0x00 ∷ 0x00 ∷ 0x00 ∷ 0x70 ∷ 0x38 ∷ 0xCE ∷ 0x81 ∷ 0xF0 ∷ 0x3C ∷ 0x00 ∷ 0x61 ∷ 0xFF ∷ []))
+    ∷ document (in_head (0x02 ∷ 0x00 ∷ 0x00 ∷ 0x00 ∷ 0x70 ∷ 0x38 ∷ 0xCE ∷ 0x81 ∷ 0xF0 ∷ 0x3C ∷ 0x00 ∷ 0x61 ∷ 0xFF ∷ []))
     (record { prefixes = at 9 ∷ []; namespaces = []; locals = []; ncnames = []; uris = []; values = []; chunks = []; others = []; elements = []; attributes = [] })
     (Namespace (some p) none ∷ Start (local a) ∷ End ∷ [])
-    (record { prefixes = xmlPrefix ∷ p ∷ []; namespaces = xmlNamespace ∷ []; locals = a ∷ []; ncnames = []; uris = []; values = []; chunks = []; others = []; elements = triple 0 0 1 ∷ []; attributes = [] })
+    (record { prefixes = xml_prefix ∷ p ∷ []; namespaces = xml_namespace ∷ []; locals = a ∷ []; ncnames = []; uris = []; values = []; chunks = []; others = []; elements = triple 0 0 1 ∷ []; attributes = [] })
     -- a head that lists an entry for each of the ten tables
-    ∷ document tenListed
+    ∷ document ten_listed
     (record {
       prefixes = Stretch Utf8 9 9 ∷ [];
       namespaces = Stretch Utf8 20 9 ∷ [];
@@ -238,10 +238,10 @@ cases =
       elements = triple 2 1 1 ∷ [];
       attributes = triple 0 0 1 ∷ [];
     })
-    (Start (record { prefix = some (nine 0x61); namespace = some xmlNamespace; local = nine 0x63 }) ∷ End ∷ [])
+    (Start (record { prefix = some (nine 0x61); namespace = some xml_namespace; local = nine 0x63 }) ∷ End ∷ [])
     (record {
-      prefixes = xmlPrefix ∷ nine 0x61 ∷ [];
-      namespaces = xmlNamespace ∷ nine 0x62 ∷ [];
+      prefixes = xml_prefix ∷ nine 0x61 ∷ [];
+      namespaces = xml_namespace ∷ nine 0x62 ∷ [];
       locals = nine 0x63 ∷ [];
       ncnames = nine 0x64 ∷ [];
       uris = nine 0x65 ∷ [];
@@ -255,57 +255,57 @@ cases =
     ∷ refused (0xE0 ∷ 0x00 ∷ 0x00 ∷ 0x01 ∷ 0xA0 ∷ []) 6 4
     ∷ refused (0xE0 ∷ 0x00 ∷ 0x00 ∷ 0x01 ∷ 0x60 ∷ 0x00 ∷ 0x82 ∷ []) 4 4
     -- the head's two octets: missing, nothing listed, an external vocabulary, padding
-    ∷ refused (inHead []) 2 5
-    ∷ refused (inHead (0x00 ∷ [])) 2 5
-    ∷ refused (inHead (0x00 ∷ 0x00 ∷ [])) 15 5
-    ∷ refused (inHead (0x10 ∷ [])) 4 5
-    ∷ refused (inHead (0x30 ∷ 0x00 ∷ [])) 6 5
+    ∷ refused (in_head []) 2 5
+    ∷ refused (in_head (0x00 ∷ [])) 2 5
+    ∷ refused (in_head (0x00 ∷ 0x00 ∷ [])) 15 5
+    ∷ refused (in_head (0x10 ∷ [])) 4 5
+    ∷ refused (in_head (0x30 ∷ 0x00 ∷ [])) 6 5
     -- the length of a table: padding, too high, the highest
-    ∷ refused (inHead (0x00 ∷ 0x80 ∷ 0x90 ∷ 0x00 ∷ 0x00 ∷ [])) 6 7
-    ∷ refused (inHead (0x00 ∷ 0x80 ∷ 0x8F ∷ 0xFF ∷ 0xFF ∷ [])) 7 7
-    ∷ refused (inHead (0x00 ∷ 0x80 ∷ 0x8F ∷ 0xFF ∷ 0x7F ∷ [])) 2 10
+    ∷ refused (in_head (0x00 ∷ 0x80 ∷ 0x90 ∷ 0x00 ∷ 0x00 ∷ [])) 6 7
+    ∷ refused (in_head (0x00 ∷ 0x80 ∷ 0x8F ∷ 0xFF ∷ 0xFF ∷ [])) 7 7
+    ∷ refused (in_head (0x00 ∷ 0x80 ∷ 0x8F ∷ 0xFF ∷ 0x7F ∷ [])) 2 10
     -- an entry: padding before an identifying string, twice, and before a chunk; listed twice; the built-in prefix and namespace
-    ∷ refused (inHead (0x00 ∷ 0x80 ∷ 0x00 ∷ 0x80 ∷ 0x61 ∷ [])) 6 8
-    ∷ refused (inHead (0x00 ∷ 0x80 ∷ 0x00 ∷ 0xFF ∷ [])) 6 8
-    ∷ refused (inHead (0x00 ∷ 0x08 ∷ 0x00 ∷ 0x40 ∷ 0x68 ∷ [])) 6 8
-    ∷ refused (inHead (0x00 ∷ 0x80 ∷ 0x01 ∷ 0x00 ∷ 0x61 ∷ 0x00 ∷ 0x61 ∷ [])) 11 10
-    ∷ refused (inHead (0x02 ∷ 0x00 ∷ 0x00 ∷ 0x02 ∷ xmlPrefix)) 11 8
-    ∷ refused (inHead (0x01 ∷ 0x00 ∷ 0x00 ∷ 0x23 ∷ xmlNamespace)) 11 8
+    ∷ refused (in_head (0x00 ∷ 0x80 ∷ 0x00 ∷ 0x80 ∷ 0x61 ∷ [])) 6 8
+    ∷ refused (in_head (0x00 ∷ 0x80 ∷ 0x00 ∷ 0xFF ∷ [])) 6 8
+    ∷ refused (in_head (0x00 ∷ 0x08 ∷ 0x00 ∷ 0x40 ∷ 0x68 ∷ [])) 6 8
+    ∷ refused (in_head (0x00 ∷ 0x80 ∷ 0x01 ∷ 0x00 ∷ 0x61 ∷ 0x00 ∷ 0x61 ∷ [])) 11 10
+    ∷ refused (in_head (0x02 ∷ 0x00 ∷ 0x00 ∷ 0x02 ∷ xml_prefix)) 11 8
+    ∷ refused (in_head (0x01 ∷ 0x00 ∷ 0x00 ∷ 0x23 ∷ xml_namespace)) 11 8
     -- an entry too many: the 257th value
-    ∷ refused (inHead (0x00 ∷ 0x10 ∷ 0x80 ∷ 0x00 ∷ 0x80 ∷ times 257 (0x00 ∷ 0x61 ∷ []))) 12 522
+    ∷ refused (in_head (0x00 ∷ 0x10 ∷ 0x80 ∷ 0x00 ∷ 0x80 ∷ times 257 (0x00 ∷ 0x61 ∷ []))) 12 522
     -- a name: a prefix without a namespace; padding; its local name not there, the code 111, padding; listed twice
-    ∷ refused (inNames (0x00 ∷ 0x02 ∷ 0x00 ∷ [])) 15 11
-    ∷ refused (inNames (0x00 ∷ 0x04 ∷ 0x00 ∷ [])) 6 11
-    ∷ refused (inNames (0x00 ∷ 0x00 ∷ 0x01 ∷ [])) 10 12
-    ∷ refused (inNames (0x00 ∷ 0x00 ∷ 0xF0 ∷ [])) 5 12
-    ∷ refused (inNames (0x00 ∷ 0x00 ∷ 0xE0 ∷ [])) 6 12
-    ∷ refused (inNames (0x01 ∷ 0x00 ∷ 0x00 ∷ 0x00 ∷ 0x00 ∷ [])) 11 13
+    ∷ refused (in_names (0x00 ∷ 0x02 ∷ 0x00 ∷ [])) 15 11
+    ∷ refused (in_names (0x00 ∷ 0x04 ∷ 0x00 ∷ [])) 6 11
+    ∷ refused (in_names (0x00 ∷ 0x00 ∷ 0x01 ∷ [])) 10 12
+    ∷ refused (in_names (0x00 ∷ 0x00 ∷ 0xF0 ∷ [])) 5 12
+    ∷ refused (in_names (0x00 ∷ 0x00 ∷ 0xE0 ∷ [])) 6 12
+    ∷ refused (in_names (0x01 ∷ 0x00 ∷ 0x00 ∷ 0x00 ∷ 0x00 ∷ [])) 11 13
     -- characters: a tab in a chunk; and some that XML does not have: 1 in a chunk, a null in a name, FFFE in a name
-    ∷ document (behindHeader (0x3C ∷ 0x00 ∷ 0x61 ∷ 0x90 ∷ 0x09 ∷ 0xFF ∷ [])) noEntries (Start (local a) ∷ Text (0x09 ∷ []) ∷ End ∷ []) (tables [] (a ∷ []) [] ((0x09 ∷ []) ∷ []) (triple 0 0 1 ∷ []) [])
-    ∷ refused (behindHeader (0x3C ∷ 0x00 ∷ 0x61 ∷ 0x90 ∷ 0x01 ∷ [])) 9 8
-    ∷ refused (behindHeader (0x3C ∷ 0x00 ∷ 0x00 ∷ [])) 9 6
-    ∷ refused (behindHeader (0x3C ∷ 0x02 ∷ 0xEF ∷ 0xBF ∷ 0xBE ∷ [])) 9 6
+    ∷ document (behind_header (0x3C ∷ 0x00 ∷ 0x61 ∷ 0x90 ∷ 0x09 ∷ 0xFF ∷ [])) no_entries (Start (local a) ∷ Text (0x09 ∷ []) ∷ End ∷ []) (tables [] (a ∷ []) [] ((0x09 ∷ []) ∷ []) (triple 0 0 1 ∷ []) [])
+    ∷ refused (behind_header (0x3C ∷ 0x00 ∷ 0x61 ∷ 0x90 ∷ 0x01 ∷ [])) 9 8
+    ∷ refused (behind_header (0x3C ∷ 0x00 ∷ 0x00 ∷ [])) 9 6
+    ∷ refused (behind_header (0x3C ∷ 0x02 ∷ 0xEF ∷ 0xBF ∷ 0xBE ∷ [])) 9 6
     -- every character of an alphabet, in a chunk and in a value
-    ∷ plain (in_a (0x88 ∷ 0x02 ∷ 0x05 ∷ (allPlaces ++ (0xFF ∷ [])))) (Start (local a) ∷ Text allNumeric ∷ End ∷ []) (tables [] (a ∷ []) [] [] (triple 0 0 1 ∷ []) [])
-    ∷ plain (in_b (0x20 ∷ 0x17 ∷ (allPlaces ++ (0xFF ∷ 0xF0 ∷ [])))) (Start (local a) ∷ Attribute (local b) allDates ∷ End ∷ []) (tables [] (a ∷ b ∷ []) [] [] (triple 0 0 1 ∷ []) (triple 0 0 2 ∷ []))
+    ∷ plain (in_a (0x88 ∷ 0x02 ∷ 0x05 ∷ (all_places ++ (0xFF ∷ [])))) (Start (local a) ∷ Text all_numeric ∷ End ∷ []) (tables [] (a ∷ []) [] [] (triple 0 0 1 ∷ []) [])
+    ∷ plain (in_b (0x20 ∷ 0x17 ∷ (all_places ++ (0xFF ∷ 0xF0 ∷ [])))) (Start (local a) ∷ Attribute (local b) all_dates ∷ End ∷ []) (tables [] (a ∷ b ∷ []) [] [] (triple 0 0 1 ∷ []) (triple 0 0 2 ∷ []))
     -- 1234, added, in alphabet 1 as a chunk and as a value; listed, and used by number
     ∷ plain (in_a (0x98 ∷ 0x01 ∷ 0x12 ∷ 0x34 ∷ 0xFF ∷ [])) (Start (local a) ∷ Text digits ∷ End ∷ []) (tables [] (a ∷ []) [] (digits ∷ []) (triple 0 0 1 ∷ []) [])
     ∷ plain (in_b (0x60 ∷ 0x01 ∷ 0x12 ∷ 0x34 ∷ 0xFF ∷ 0xF0 ∷ [])) (Start (local a) ∷ Attribute (local b) digits ∷ End ∷ [])
     (tables [] (a ∷ b ∷ []) (digits ∷ []) [] (triple 0 0 1 ∷ []) (triple 0 0 2 ∷ []))
-    ∷ document (inHead (0x00 ∷ 0x08 ∷ 0x00 ∷ 0x20 ∷ 0x01 ∷ 0x12 ∷ 0x34 ∷ 0x3C ∷ 0x00 ∷ 0x61 ∷ 0xA0 ∷ 0xFF ∷ [])) (listing [] [] (Stretch Numeric 10 2 ∷ []) []) (Start (local a) ∷ Text digits ∷ End ∷ [])
+    ∷ document (in_head (0x00 ∷ 0x08 ∷ 0x00 ∷ 0x20 ∷ 0x01 ∷ 0x12 ∷ 0x34 ∷ 0x3C ∷ 0x00 ∷ 0x61 ∷ 0xA0 ∷ 0xFF ∷ [])) (listing [] [] (Stretch Numeric 10 2 ∷ []) []) (Start (local a) ∷ Text digits ∷ End ∷ [])
     (tables [] (a ∷ []) [] (digits ∷ []) (triple 0 0 1 ∷ []) [])
     -- 100: alphabet 1 saves an octet in a chunk, and none in a value or in the head
     ∷ plain (in_a (0x98 ∷ 0x01 ∷ 0x10 ∷ 0x0F ∷ 0xFF ∷ [])) (Start (local a) ∷ Text (0x31 ∷ 0x30 ∷ 0x30 ∷ []) ∷ End ∷ []) (tables [] (a ∷ []) [] ((0x31 ∷ 0x30 ∷ 0x30 ∷ []) ∷ []) (triple 0 0 1 ∷ []) [])
     ∷ plain (in_b (0x42 ∷ 0x31 ∷ 0x30 ∷ 0x30 ∷ 0xFF ∷ 0xF0 ∷ [])) (Start (local a) ∷ Attribute (local b) (0x31 ∷ 0x30 ∷ 0x30 ∷ []) ∷ End ∷ [])
     (tables [] (a ∷ b ∷ []) ((0x31 ∷ 0x30 ∷ 0x30 ∷ []) ∷ []) [] (triple 0 0 1 ∷ []) (triple 0 0 2 ∷ []))
-    ∷ rewritten (in_a (0x98 ∷ 0x00 ∷ 0x1F ∷ 0xFF ∷ [])) noEntries (Start (local a) ∷ Text (0x31 ∷ []) ∷ End ∷ []) (tables [] (a ∷ []) [] ((0x31 ∷ []) ∷ []) (triple 0 0 1 ∷ []) []) (in_a (0x90 ∷ 0x31 ∷ 0xFF ∷ []))
+    ∷ rewritten (in_a (0x98 ∷ 0x00 ∷ 0x1F ∷ 0xFF ∷ [])) no_entries (Start (local a) ∷ Text (0x31 ∷ []) ∷ End ∷ []) (tables [] (a ∷ []) [] ((0x31 ∷ []) ∷ []) (triple 0 0 1 ∷ []) []) (in_a (0x90 ∷ 0x31 ∷ 0xFF ∷ []))
     -- utf-16, which the writer never uses, with a pair of surrogates; and digits that are given in utf-16
-    ∷ rewritten (in_a (0x96 ∷ 0x03 ∷ (pair16 ++ (0xFF ∷ [])))) noEntries (Start (local a) ∷ Text pair ∷ End ∷ []) (tables [] (a ∷ []) [] (pair ∷ []) (triple 0 0 1 ∷ []) [])
+    ∷ rewritten (in_a (0x96 ∷ 0x03 ∷ (pair16 ++ (0xFF ∷ [])))) no_entries (Start (local a) ∷ Text pair ∷ End ∷ []) (tables [] (a ∷ []) [] (pair ∷ []) (triple 0 0 1 ∷ []) [])
     (in_a (0x92 ∷ 0x02 ∷ (pair ++ (0xFF ∷ []))))
-    ∷ rewritten (in_a (0x96 ∷ 0x05 ∷ 0x00 ∷ 0x31 ∷ 0x00 ∷ 0x32 ∷ 0x00 ∷ 0x33 ∷ 0x00 ∷ 0x34 ∷ 0xFF ∷ [])) noEntries (Start (local a) ∷ Text digits ∷ End ∷ [])
+    ∷ rewritten (in_a (0x96 ∷ 0x05 ∷ 0x00 ∷ 0x31 ∷ 0x00 ∷ 0x32 ∷ 0x00 ∷ 0x33 ∷ 0x00 ∷ 0x34 ∷ 0xFF ∷ [])) no_entries (Start (local a) ∷ Text digits ∷ End ∷ [])
     (tables [] (a ∷ []) [] (digits ∷ []) (triple 0 0 1 ∷ []) []) (in_a (0x98 ∷ 0x01 ∷ 0x12 ∷ 0x34 ∷ 0xFF ∷ []))
     -- the same characters in two forms are the same string: the second chunk has the first one's number
-    ∷ rewritten (in_a (0x92 ∷ 0x01 ∷ (digits ++ (0x88 ∷ 0x01 ∷ 0x12 ∷ 0x34 ∷ 0xFF ∷ [])))) noEntries (Start (local a) ∷ Text digits ∷ Text digits ∷ End ∷ [])
+    ∷ rewritten (in_a (0x92 ∷ 0x01 ∷ (digits ++ (0x88 ∷ 0x01 ∷ 0x12 ∷ 0x34 ∷ 0xFF ∷ [])))) no_entries (Start (local a) ∷ Text digits ∷ Text digits ∷ End ∷ [])
     (tables [] (a ∷ []) [] (digits ∷ []) (triple 0 0 1 ∷ []) []) (in_a (0x98 ∷ 0x01 ∷ 0x12 ∷ 0x34 ∷ 0xA0 ∷ 0xFF ∷ []))
     -- an alphabet: 15 before the end, twice; another alphabet, cut and whole; its number cut; wrong padding, cut, with another alphabet, alone, and of four octets that are cut
     ∷ refused (in_a (0x88 ∷ 0x00 ∷ 0xFF ∷ 0xFF ∷ [])) 9 8
@@ -323,15 +323,15 @@ cases =
     ∷ refused (in_a (0x85 ∷ 0xFF ∷ 0xFE ∷ 0xFF ∷ [])) 9 8
     -- integers: 12345 is a short, as a chunk that is added, and listed; so is the lowest; two ints, and the lowest long
     ∷ plain (in_a (0x9C ∷ 0x09 ∷ 0x30 ∷ 0x39 ∷ 0xFF ∷ [])) (Start (local a) ∷ Text five ∷ End ∷ []) (tables [] (a ∷ []) [] (five ∷ []) (triple 0 0 1 ∷ []) [])
-    ∷ document (inHead (0x00 ∷ 0x08 ∷ 0x00 ∷ 0x30 ∷ 0x21 ∷ 0x30 ∷ 0x39 ∷ 0x3C ∷ 0x00 ∷ 0x61 ∷ 0xA0 ∷ 0xFF ∷ [])) (listing [] [] (Stretch Short 10 2 ∷ []) []) (Start (local a) ∷ Text five ∷ End ∷ []) (tables [] (a ∷ []) [] (five ∷ []) (triple 0 0 1 ∷ []) [])
+    ∷ document (in_head (0x00 ∷ 0x08 ∷ 0x00 ∷ 0x30 ∷ 0x21 ∷ 0x30 ∷ 0x39 ∷ 0x3C ∷ 0x00 ∷ 0x61 ∷ 0xA0 ∷ 0xFF ∷ [])) (listing [] [] (Stretch Short 10 2 ∷ []) []) (Start (local a) ∷ Text five ∷ End ∷ []) (tables [] (a ∷ []) [] (five ∷ []) (triple 0 0 1 ∷ []) [])
     ∷ plain (in_b (0x30 ∷ 0x21 ∷ 0x80 ∷ 0x00 ∷ 0xFF ∷ 0xF0 ∷ [])) (Start (local a) ∷ Attribute (local b) (0x2D ∷ 0x33 ∷ 0x32 ∷ 0x37 ∷ 0x36 ∷ 0x38 ∷ []) ∷ End ∷ []) (tables [] (a ∷ b ∷ []) [] [] (triple 0 0 1 ∷ []) (triple 0 0 2 ∷ []))
     ∷ plain (in_a (0x8C ∷ 0x0E ∷ 0x05 ∷ 0x80 ∷ 0x00 ∷ 0x00 ∷ 0x00 ∷ 0x7F ∷ 0xFF ∷ 0xFF ∷ 0xFF ∷ 0xFF ∷ [])) (Start (local a) ∷ Text (0x2D ∷ 0x32 ∷ 0x31 ∷ 0x34 ∷ 0x37 ∷ 0x34 ∷ 0x38 ∷ 0x33 ∷ 0x36 ∷ 0x34 ∷ 0x38 ∷ 0x20 ∷ 0x32 ∷ 0x31 ∷ 0x34 ∷ 0x37 ∷ 0x34 ∷ 0x38 ∷ 0x33 ∷ 0x36 ∷ 0x34 ∷ 0x37 ∷ []) ∷ End ∷ []) (tables [] (a ∷ []) [] [] (triple 0 0 1 ∷ []) [])
     ∷ plain (in_b (0x30 ∷ 0x47 ∷ 0x80 ∷ 0x00 ∷ 0x00 ∷ 0x00 ∷ 0x00 ∷ 0x00 ∷ 0x00 ∷ 0x00 ∷ 0xFF ∷ 0xF0 ∷ [])) (Start (local a) ∷ Attribute (local b) (0x2D ∷ 0x39 ∷ 0x32 ∷ 0x32 ∷ 0x33 ∷ 0x33 ∷ 0x37 ∷ 0x32 ∷ 0x30 ∷ 0x33 ∷ 0x36 ∷ 0x38 ∷ 0x35 ∷ 0x34 ∷ 0x37 ∷ 0x37 ∷ 0x35 ∷ 0x38 ∷ 0x30 ∷ 0x38 ∷ []) ∷ End ∷ []) (tables [] (a ∷ b ∷ []) [] [] (triple 0 0 1 ∷ []) (triple 0 0 2 ∷ []))
     -- 0 and -2 are shorter in utf-8; a text with leading zeros is no integer; and the second chunk, a short, has the first one's number
-    ∷ rewritten (in_a (0x9C ∷ 0x09 ∷ 0x00 ∷ 0x00 ∷ 0xFF ∷ [])) noEntries (Start (local a) ∷ Text (0x30 ∷ []) ∷ End ∷ []) (tables [] (a ∷ []) [] ((0x30 ∷ []) ∷ []) (triple 0 0 1 ∷ []) []) (in_a (0x90 ∷ 0x30 ∷ 0xFF ∷ []))
-    ∷ rewritten (in_a (0x9C ∷ 0x09 ∷ 0xFF ∷ 0xFE ∷ 0xFF ∷ [])) noEntries (Start (local a) ∷ Text (0x2D ∷ 0x32 ∷ []) ∷ End ∷ []) (tables [] (a ∷ []) [] ((0x2D ∷ 0x32 ∷ []) ∷ []) (triple 0 0 1 ∷ []) []) (in_a (0x91 ∷ 0x2D ∷ 0x32 ∷ 0xFF ∷ []))
+    ∷ rewritten (in_a (0x9C ∷ 0x09 ∷ 0x00 ∷ 0x00 ∷ 0xFF ∷ [])) no_entries (Start (local a) ∷ Text (0x30 ∷ []) ∷ End ∷ []) (tables [] (a ∷ []) [] ((0x30 ∷ []) ∷ []) (triple 0 0 1 ∷ []) []) (in_a (0x90 ∷ 0x30 ∷ 0xFF ∷ []))
+    ∷ rewritten (in_a (0x9C ∷ 0x09 ∷ 0xFF ∷ 0xFE ∷ 0xFF ∷ [])) no_entries (Start (local a) ∷ Text (0x2D ∷ 0x32 ∷ []) ∷ End ∷ []) (tables [] (a ∷ []) [] ((0x2D ∷ 0x32 ∷ []) ∷ []) (triple 0 0 1 ∷ []) []) (in_a (0x91 ∷ 0x2D ∷ 0x32 ∷ 0xFF ∷ []))
     ∷ plain (in_a (0x88 ∷ 0x02 ∷ 0x01 ∷ 0x00 ∷ 0x01 ∷ 0x23 ∷ 0x45 ∷ 0xFF ∷ [])) (Start (local a) ∷ Text (0x30 ∷ 0x30 ∷ 0x30 ∷ 0x31 ∷ 0x32 ∷ 0x33 ∷ 0x34 ∷ 0x35 ∷ []) ∷ End ∷ []) (tables [] (a ∷ []) [] [] (triple 0 0 1 ∷ []) [])
-    ∷ rewritten (in_a (0x92 ∷ 0x02 ∷ (five ++ (0x8C ∷ 0x09 ∷ 0x30 ∷ 0x39 ∷ 0xFF ∷ [])))) noEntries (Start (local a) ∷ Text five ∷ Text five ∷ End ∷ []) (tables [] (a ∷ []) [] (five ∷ []) (triple 0 0 1 ∷ []) [])
+    ∷ rewritten (in_a (0x92 ∷ 0x02 ∷ (five ++ (0x8C ∷ 0x09 ∷ 0x30 ∷ 0x39 ∷ 0xFF ∷ [])))) no_entries (Start (local a) ∷ Text five ∷ Text five ∷ End ∷ []) (tables [] (a ∷ []) [] (five ∷ []) (triple 0 0 1 ∷ []) [])
     (in_a (0x9C ∷ 0x09 ∷ 0x30 ∷ 0x39 ∷ 0xA0 ∷ 0xFF ∷ []))
     -- an octet under short, six under int; algorithms 1 and 6, and the first of them cut; the number cut; wrong padding, with another algorithm, alone, and of four octets that are cut
     ∷ refused (in_a (0x8C ∷ 0x08 ∷ 0x80 ∷ 0xFF ∷ [])) 9 8
@@ -350,11 +350,11 @@ cases =
     -- <a><b/></a>: both Ends stand in one octet
     ∷ placed (in_a (0x3C ∷ 0x00 ∷ 0x62 ∷ 0xFF ∷ 0xF0 ∷ [])) (5 ∷ 8 ∷ 11 ∷ 11 ∷ [])
     -- two declarations behind the octet that announces them, and the Start behind F0
-    ∷ placed (behindHeader (0x38 ∷ 0xCD ∷ 0x00 ∷ 0x75 ∷ 0xCE ∷ 0x00 ∷ 0x70 ∷ 0xF0 ∷ 0x3C ∷ 0x00 ∷ 0x61 ∷ 0xFF ∷ [])) (6 ∷ 9 ∷ 13 ∷ 16 ∷ [])
+    ∷ placed (behind_header (0x38 ∷ 0xCD ∷ 0x00 ∷ 0x75 ∷ 0xCE ∷ 0x00 ∷ 0x70 ∷ 0xF0 ∷ 0x3C ∷ 0x00 ∷ 0x61 ∷ 0xFF ∷ [])) (6 ∷ 9 ∷ 13 ∷ 16 ∷ [])
     -- a declaration inside another element, whose name has a number; then an empty element
     ∷ placed (in_a (0x38 ∷ 0xCC ∷ 0xF0 ∷ 0x00 ∷ 0xF0 ∷ 0x00 ∷ 0xFF ∷ 0xF0 ∷ [])) (5 ∷ 9 ∷ 11 ∷ 12 ∷ 13 ∷ 14 ∷ 14 ∷ [])
     -- <!--c--><a><?t u?></a>
-    ∷ placed (behindHeader (0xE2 ∷ 0x40 ∷ 0x63 ∷ 0x3C ∷ 0x00 ∷ 0x61 ∷ 0xE1 ∷ 0x00 ∷ 0x74 ∷ 0x40 ∷ 0x75 ∷ 0xFF ∷ [])) (5 ∷ 8 ∷ 11 ∷ 16 ∷ [])
+    ∷ placed (behind_header (0xE2 ∷ 0x40 ∷ 0x63 ∷ 0x3C ∷ 0x00 ∷ 0x61 ∷ 0xE1 ∷ 0x00 ∷ 0x74 ∷ 0x40 ∷ 0x75 ∷ 0xFF ∷ [])) (5 ∷ 8 ∷ 11 ∷ 16 ∷ [])
     -- behind a head that lists a chunk
-    ∷ placed (inHead (0x00 ∷ 0x08 ∷ 0x00 ∷ 0x00 ∷ 0x68 ∷ 0x3C ∷ 0x00 ∷ 0x61 ∷ 0xA0 ∷ 0xFF ∷ [])) (10 ∷ 13 ∷ 14 ∷ [])
+    ∷ placed (in_head (0x00 ∷ 0x08 ∷ 0x00 ∷ 0x00 ∷ 0x68 ∷ 0x3C ∷ 0x00 ∷ 0x61 ∷ 0xA0 ∷ 0xFF ∷ [])) (10 ∷ 13 ∷ 14 ∷ [])
     ∷ []

@@ -6,7 +6,7 @@ use Rattle.format.specs.Tables.{Version}
 
 pub record Bounded (ver : Version) : Type 0 where
   -- a table can hold its built-in entry, and no entry is beyond the highest number
-  pub some-entries : 1 ≤ ver.entries
-  pub few-entries : ver.entries ≤ top
+  pub some_entries : 1 ≤ ver.entries
+  pub few_entries : ver.entries ≤ top
   -- no string of a document or of a text area is too long to be spelled; in UTF-8 it has at most four times the octets that it has in another form
-  pub few-octets : 4 * ver.octets ≤ longest
+  pub few_octets : 4 * ver.octets ≤ longest

@@ -1,22 +1,22 @@
 -- Which heads the requirements allow, said of the whole head at once. That the rules list every such head, and no other, is proofs/Heads.
 use Rattle.std.specs.Prelude.{◌≤◌, ◌≡◌, true, List, ◌∷◌, ◌++◌, length}
 use Rattle.format.specs.Octets.{Octets}
-use Rattle.format.specs.Tables.{StringTable, PREFIX, NAMESPACE-NAME, LOCAL-NAME, OTHER-NCNAME, OTHER-URI, ATTRIBUTE-VALUE, CONTENT-CHARACTER-CHUNK, OTHER-STRING}
-use Rattle.format.specs.Tables.{NameTable, Triple, Vocabulary, strings, names, New, noEntries, followedBy, Version, InLimits}
+use Rattle.format.specs.Tables.{StringTable, PREFIX, NAMESPACE_NAME, LOCAL_NAME, OTHER_NCNAME, OTHER_URI, ATTRIBUTE_VALUE, CONTENT_CHARACTER_CHUNK, OTHER_STRING}
+use Rattle.format.specs.Tables.{NameTable, Triple, Vocabulary, strings, names, New, no_entries, followed_by, Version, InLimits}
 use Rattle.format.specs.Strings.{Spelling}
-use Rattle.format.specs.Head.{isIdentifying, Listed, Head, plainHead, started, some?}
+use Rattle.format.specs.Head.{is_identifying, Listed, Head, plain_head, started, some?}
 use Rattle.format.specs.declared.StringForm.TheVariants.{Utf8}
 use Rattle.format.specs.Allowed.{All}
 
 -- The tables of a document behind its head: the built-in entries, then those that the head lists.
 abbrev pub headed : Version → Head → Vocabulary Octets
-headed ver h = followedBy (started ver) (plainHead h)
+headed ver h = followed_by (started ver) (plain_head h)
 
 -- A string can be listed in its form; in a table of identifying strings that is utf-8.
 pub record CanBeListed (t : StringTable) (x : Listed) : Type 0 where
   pub octets : Octets
   pub spelled : Spelling x.form x.says octets
-  pub plain : isIdentifying t ≡ true → x.form ≡ Utf8
+  pub plain : is_identifying t ≡ true → x.form ≡ Utf8
 
 -- No entry is one of those before it.
 abbrev pub Distinct : {A : Type 0} → List A → Type 0
@@ -38,7 +38,7 @@ pub record NamesParts {S : Type 0} (v : Vocabulary S) (x : Triple) : Type 0 wher
   pub namespace : x.namespace ≤ length v.namespaces
   pub local : x.local ≤ length v.locals
   pub has-local : 1 ≤ x.local
-  pub not-alone : some? x.prefix ≤ some? x.namespace
+  pub not_alone : some? x.prefix ≤ some? x.namespace
 
 pub record HeadAllowed (ver : Version) (h : Head) : Type 0 where
   -- every string can be listed in its form; every name's parts are there
@@ -47,12 +47,12 @@ pub record HeadAllowed (ver : Version) (h : Head) : Type 0 where
   -- nothing is listed twice, nor what is built in
   pub distinct : AllDistinct (headed ver h)
   -- no table has too many entries
-  pub in-limits : InLimits ver (headed ver h)
+  pub in_limits : InLimits ver (headed ver h)
   -- the version has heads, or this is none
-  pub version : (ver.heads ≡ true → ⊥) → h ≡ noEntries
+  pub version : (ver.heads ≡ true → ⊥) → h ≡ no_entries
 
 -- The strings of a head, table by table.
-abbrev pub allListed : {S : Type 0} → Vocabulary S → List S
-allListed h =
-    strings h PREFIX ++ (strings h NAMESPACE-NAME ++ (strings h LOCAL-NAME ++ (strings h OTHER-NCNAME
-    ++ (strings h OTHER-URI ++ (strings h ATTRIBUTE-VALUE ++ (strings h CONTENT-CHARACTER-CHUNK ++ strings h OTHER-STRING))))))
+abbrev pub all_listed : {S : Type 0} → Vocabulary S → List S
+all_listed h =
+    strings h PREFIX ++ (strings h NAMESPACE_NAME ++ (strings h LOCAL_NAME ++ (strings h OTHER_NCNAME
+    ++ (strings h OTHER_URI ++ (strings h ATTRIBUTE_VALUE ++ (strings h CONTENT_CHARACTER_CHUNK ++ strings h OTHER_STRING))))))

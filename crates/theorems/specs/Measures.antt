@@ -8,45 +8,45 @@ use Rattle.format.specs.Document.{aligned, beginning}
 use Rattle.format.specs.Refusals.{ROOM}
 use Rattle.tables.specs.Located.{Located}
 use Rattle.events.specs.declared.Event.{Event}
-use Rattle.events.specs.FromWords.{recordsOf}
+use Rattle.events.specs.FromWords.{records_of}
 use Rattle.write_head.specs.Given.{Given, given_of}
-use Rattle.write_head.specs.Head.{is_none, tables_of, headOctets}
-use Rattle.write_items.specs.Events.{eventOf}
-use Rattle.write_items.specs.Items.{WroteItem, writeItem}
-use Rattle.write_items.specs.Steps.{announced, settled, halvesOf}
-use Rattle.writer.specs.Words.{WordsLeft, leaving, nothing, writeWords, WordsMeasured, measured, measureWords}
+use Rattle.write_head.specs.Head.{is_none, tables_of, head_octets}
+use Rattle.write_items.specs.Events.{event_of}
+use Rattle.write_items.specs.Items.{WroteItem, write_item}
+use Rattle.write_items.specs.Steps.{announced, settled, halves_of}
+use Rattle.writer.specs.Words.{WordsLeft, leaving, nothing, write_words, WordsMeasured, measured, measure_words}
 
 module _ (ver : Version) (text : Octets) where
   -- How many octets are taken behind each of the events, from the half `at`; and at last behind the document's end. (An event's halves are the same in
-  -- every room: halvesOf makes no use of it.)
+  -- every room: halves_of makes no use of it.)
   unfoldable pub taken : ℕ → State Located → List Event → List ℕ
   taken at v [] = (aligned (suc at) / 2) ∷ []
   taken at v (e ∷ es) =
-      let w : WroteItem = writeItem ver text (announced (e ∷ es)) (settled v (eventOf e.kind e)) (eventOf e.kind e) in
-      let hs : Halves = halvesOf ver text ver.octets at v (eventOf e.kind e) w in
+      let w : WroteItem = write_item ver text (announced (e ∷ es)) (settled v (event_of e.kind e)) (event_of e.kind e) in
+      let hs : Halves = halves_of ver text ver.octets at v (event_of e.kind e) w in
       (aligned (at + length hs) / 2) ∷ taken (at + length hs) w.state es
 
   -- The same of a document, behind its head.
-  unfoldable pub takenBy : Given → List Event → List ℕ
-  takenBy g es = taken (2 * length (headOctets ver text g)) (beginning (tables_of ver g)) es
+  unfoldable pub taken_by : Given → List Event → List ℕ
+  taken_by g es = taken (2 * length (head_octets ver text g)) (beginning (tables_of ver g)) es
 
 -- The number of the first that is above r; if none is, how many there are.
-unfoldable pub firstAbove : ℕ → List ℕ → ℕ
-firstAbove r [] = 0
-firstAbove r (n ∷ ns) = pick (ltb r n) 0 (suc (firstAbove r ns))
+unfoldable pub first_above : ℕ → List ℕ → ℕ
+first_above r [] = 0
+first_above r (n ∷ ns) = pick (ltb r n) 0 (suc (first_above r ns))
 
 -- For these words, this text area, and t and c words for tables and counts:
 module _ (ver : Version) (given records : Words) (text : Octets) (t c : ℕ) where
   -- what writing leaves, with r octets lent; and what measuring does
   abbrev pub wrote : (r : ℕ) → WordsLeft
-  wrote r = writeWords ver given records text r t c
+  wrote r = write_words ver given records text r t c
 
   abbrev pub found : WordsMeasured
-  found = measureWords ver given records text t c
+  found = measure_words ver given records text t c
 
   -- the number of the first event behind which more than r octets are taken; the document's end is one more
   abbrev pub beyond : (r : ℕ) → ℕ
-  beyond r = firstAbove r (takenBy ver text (given_of given) (recordsOf records))
+  beyond r = first_above r (taken_by ver text (given_of given) (records_of records))
 
   -- What measuring refuses with the answer k, at place k / 32, writing with r octets lent refuses:
   pub data RefusesToo (k r : ℕ) : Type 0 where
@@ -55,7 +55,7 @@ module _ (ver : Version) (given records : Words) (text : Octets) (t c : ℕ) whe
     -- if it is behind one, at the first such event, for want of room
     sooner : beyond r < k / 32 → wrote r ≡ nothing (beyond r * 32 + ROOM) r t c → RefusesToo k r
     -- and if a head that lists entries is longer than what is lent, before it looks at event 0
-    head : k / 32 ≡ 0 → is_none (given_of given) ≡ false → r < length (headOctets ver text (given_of given)) → wrote r ≡ nothing ROOM r t c → RefusesToo k r
+    head : k / 32 ≡ 0 → is_none (given_of given) ≡ false → r < length (head_octets ver text (given_of given)) → wrote r ≡ nothing ROOM r t c → RefusesToo k r
 
   pub record Measures : Type 0 where
     -- with room for the longest document, or more, writing answers and leaves what measuring does, beside the octets: the same refusal at the same place,

@@ -1,7 +1,7 @@
 -- A local that holds plain data, lent as `&mut` for a call, and back; a local array, lent as a slice, and back.
 --     lends_local   the local's cell at h  ⊢ ⇛ ∃ γ. own (the `&κ mut T` at the local, under γ, at h) ∗ the lender's part
 --     local_back    [†κ] ∗ the lender's part ∗ res γ h  ⊢ ⇛ the local's cell at h, with h's relation
---     lends-array   the local's cell at the list xs  ⊢ ⇛ ∃ γ. own (the `&κ mut [T]` at the local, under γ, at xs) ∗ the lender's part
+--     lends_array   the local's cell at the list xs  ⊢ ⇛ ∃ γ. own (the `&κ mut [T]` at the local, under γ, at xs) ∗ the lender's part
 --     array_back    [†κ] ∗ the lender's part ∗ what says the last list  ⊢ ⇛ the local's cell at that list, with its relation
 -- `cell` is `λ v b o. refl` at any declared type.
 -- Assumes `Logic`.
@@ -58,8 +58,8 @@ module _ {M : Type 1} {𝓤 : Ura M} (𝓛 : Logic 𝓤) (R : RattleType) (one :
     (cell : (v : Val) (b o : ℕ) → cell_at full_share (Array R n).mir (v ∷ []) b o ≡ fat full_share (raw_ty (ty_array (lone R.mir) n)) b o v) (tells : Tells (Array R n) (Is (Array R n)) (λ h. val h ∷ [])) (makes : Makes 𝓛 (Array R n) (Is (Array R n))) where
   open 𝓛 use {H, A}
 
-  pub lends-array : (ℓ : Lifetime) (κ : Lft) (xs : List R.Denot) (b o : ℕ) → Room R (length xs) → Is (Array R n) xs (val xs ∷ []) → ent 𝓤 (H.at full_share (ty_array (lone R.mir) n) b o (val xs)) (H.⇛ (ex 𝓤 (Lent 𝓛 R ℓ κ xs b o)))
-  lends-array ℓ κ xs b o room is =
+  pub lends_array : (ℓ : Lifetime) (κ : Lft) (xs : List R.Denot) (b o : ℕ) → Room R (length xs) → Is (Array R n) xs (val xs ∷ []) → ent 𝓤 (H.at full_share (ty_array (lone R.mir) n) b o (val xs)) (H.⇛ (ex 𝓤 (Lent 𝓛 R ℓ κ xs b o)))
+  lends_array ℓ κ xs b o room is =
       via 𝓤 (sem 𝓛 (part_at (Array R n) full_share xs b o)) (part_in 𝓛 (Array R n) (ty_array (lone R.mir) n) cell val tells makes xs b o is)
       (via 𝓤 (sem 𝓛 ((arr_parts (shares R) n).part full_share xs b o)) (Array-apart 𝓛 R full_share one n xs b o)
       (via 𝓤 (sem 𝓛 (cells (mem R) xs b o)) (qed 𝓛 (‵ ((arr_parts (shares R) n).part full_share xs b o) ∷ []) ∵ fsplit ! $ drop ! $ by ! (whole_in 𝓛 R xs b o))

@@ -1,7 +1,7 @@
 -- Steps and words that a walk by hand wants beside `Types/Run.antt`'s.
 --     whiles    the test of a `while`: what follows where it holds, and where the loop is left
---     big-lit   a constant above 1023, which is written with a bound that a proof shows
---     heading, skipping, arms_of, armOf   pieces of a body that the generated MIR has under no name
+--     big_lit   a constant above 1023, which is written with a bound that a proof shows
+--     heading, skipping, arms_of, arm_of   pieces of a body that the generated MIR has under no name
 --     full, free   a local as it stands in a context
 -- Assumes `Logic`.
 use Prim.Native.Nat.{ℕ, zero, suc}
@@ -27,8 +27,8 @@ module _ {M : Type 1} {𝓤 : Ura M} {𝓛 : Logic 𝓤} {K : Type 0} {Γ : List
   whiles t o go out = first t $ branches t o (λ h. skips t $ record { prf = (go h).prf }) (λ h. jumps t $ record { prf = (out h).prf })
 
 module _ {M : Type 1} {𝓤 : Ura M} {𝓛 : Logic 𝓤} {K : Type 0} {Γ : List (Item 𝓤)} {E : Env 𝓤 𝓛.H} where
-  pub big-lit : K → {w : Width} {n : ℕ} → Fits w n → Opd K 𝓛 Γ E (int_big w n) (vint w n)
-  big-lit t {w} {n} z = record { go = λ Kt h. via 𝓤 (Kt (vint w n)) h (guard_i 𝓤 (Fits w n) (Kt (vint w n)) z) }
+  pub big_lit : K → {w : Width} {n : ℕ} → Fits w n → Opd K 𝓛 Γ E (int_big w n) (vint w n)
+  big_lit t {w} {n} z = record { go = λ Kt h. via 𝓤 (Kt (vint w n)) h (guard_i 𝓤 (Fits w n) (Kt (vint w n)) z) }
 
 -- ---- pieces of a body that the generated MIR has under no name
 -- the two parts of a sequence; of any other body, itself
@@ -53,13 +53,13 @@ skipping zero b = b
 skipping (suc n) b = skipping n (apart b).1
 
 -- the body of arm k of a switch
-abbrev pub armOf : ℕ → Arms → Body
-armOf zero (arm ks b rest) = b
-armOf zero (default b) = b
-armOf zero no_default = skip
-armOf (suc k) (arm ks b rest) = armOf k rest
-armOf (suc k) (default b) = b
-armOf (suc k) no_default = skip
+abbrev pub arm_of : ℕ → Arms → Body
+arm_of zero (arm ks b rest) = b
+arm_of zero (default b) = b
+arm_of zero no_default = skip
+arm_of (suc k) (arm ks b rest) = arm_of k rest
+arm_of (suc k) (default b) = b
+arm_of (suc k) no_default = skip
 
 abbrev pub arms_of : Body → Arms
 arms_of (switch c arms) = arms

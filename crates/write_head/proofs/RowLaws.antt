@@ -11,39 +11,39 @@ use native.Mathlib.Decide.{ℕ_discrete}
 use borrow.Author.Tests.{lt-ltb, le-ltb, le-leb, lt-leb, eq-eqb, ne_eqb, ltb-true, leb-true}
 use lib.Dec.{eqb, leb, ltb, eqb-suc-zero}
 use lib.ListN.{length, get_or}
-use Rattle.format.specs.Tables.{same, sameTriple}
+use Rattle.format.specs.Tables.{same, same_triple}
 use Rattle.format.specs.Head.{some?}
 use Rattle.format.specs.Forms.{form_of}
 use Rattle.format.specs.declared.StringForm.{StringForm}
 use Rattle.format.specs.declared.StringForm.TheVariants.{Utf8}
-use Rattle.fields.specs.Utf8.{isText}
+use Rattle.fields.specs.Utf8.{is_text}
 use Rattle.fields.proofs.Laws.{case}
 use Rattle.forms.specs.Reading.{said}
 use Rattle.forms.specs.Streams.{part}
-use Rattle.forms.proofs.Forms.{text-sound}
-use Rattle.tables.specs.Located.{stretch, octetsOf}
-use Rattle.tables.specs.Rows.{table_of, builtIn, tripleAt}
-use Rattle.tables.proofs.ByNumber.{by_number}
-use Rattle.tables.proofs.Search.{octets-stretch}
+use Rattle.forms.proofs.Forms.{text_sound}
+use Rattle.tables.specs.Located.{stretch, octets_of}
+use Rattle.tables.specs.Rows.{table_of, built_in, triple_at}
+use Rattle.tables.proofs.ByNumber.{by_number_lem}
+use Rattle.tables.proofs.Search.{octets_stretch}
 use Rattle.tables.proofs.SaidLaws.{octets-part}
 use Rattle.tables.proofs.Found.{both_true, clash}
 use Rattle.tables.specs.Kept.{IsSound}
 use Rattle.events.specs.declared.EventString.{EventString}
 use Rattle.events.specs.declared.EventString.TheVariants.{Absent, Empty, Stretch, XmlPrefix, XmlNamespace}
-use Rattle.events.specs.FromWords.{stringFrom, toldBy, toldByTag}
-use Rattle.events.specs.WellMade.{isStretch, isString}
-use Rattle.write_names.specs.Contracts.{Spells}
-use Rattle.write_head.specs.Given.{entriesBefore, isGiven, rows_of}
-use Rattle.write_head.specs.RowContracts.{below, someBelow, Laid, formGiven, located, startCount, isRightName, rightRow, textRow, startsRow, sameRow, heldRow, new_row, keepsRow, keepsTable, keeps, fewTable, Few, Right, Texts, IsRow, Fits}
+use Rattle.events.specs.FromWords.{string_from, told_by, told_by_tag}
+use Rattle.events.specs.WellMade.{is_stretch, is_string}
+use Rattle.write_names.specs.Promises.{Spells}
+use Rattle.write_head.specs.Given.{entries_before, is_given, rows_of}
+use Rattle.write_head.specs.RowContracts.{below, some_below, Laid, form_given, located, start_count, is_right_name, right_row, text_row, starts_row, same_row, held_row, new_row, keeps_row, keeps_table, keeps, few_table, Few, Right, Texts, IsRow, Fits}
 
 -- ---- loops
-and-false : (b : Bool) → (b && false) ≡ false
-and-false true = refl
-and-false false = refl
+and_false : (b : Bool) → (b && false) ≡ false
+and_false true = refl
+and_false false = refl
 
-pub or-true : (b : Bool) → (b || true) ≡ true
-or-true true = refl
-or-true false = refl
+pub or_true : (b : Bool) → (b || true) ≡ true
+or_true true = refl
+or_true false = refl
 
 module _ (f : ℕ → Bool) where
   pub below_at : (n i : ℕ) → below f n ≡ true → i < n → f i ≡ true
@@ -61,74 +61,74 @@ module _ (f : ℕ → Bool) where
   unfolding below
   below_more n e h = rw (add-one n, e, h)
 
-  pub below-not : (n i : ℕ) → i < n → f i ≡ false → below f n ≡ false
+  pub below_not : (n i : ℕ) → i < n → f i ≡ false → below f n ≡ false
   unfolding below
-  below-not zero i h e = absurd (omega arith)
-  below-not (suc n) i h e = case i n (λ l. rw (below-not n i l e)) (λ l. let q : i ≡ n = omega arith in rw (← q, e) (and-false (below f i)))
+  below_not zero i h e = absurd (omega arith)
+  below_not (suc n) i h e = case i n (λ l. rw (below_not n i l e)) (λ l. let q : i ≡ n = omega arith in rw (← q, e) (and_false (below f i)))
 
   pub below_end : (n i : ℕ) → below f i ≡ true → i ≤ n → n ≤ i → below f n ≡ true
   below_end n i e h k = let q : n ≡ i = omega arith in rw q e
 
-  pub some-none : someBelow f 0 ≡ false
-  unfolding someBelow
-  some-none = refl
+  pub some_none : some_below f 0 ≡ false
+  unfolding some_below
+  some_none = refl
 
-  pub some_more : (n : ℕ) → someBelow f n ≡ false → f n ≡ false → someBelow f (n + 1) ≡ false
-  unfolding someBelow
+  pub some_more : (n : ℕ) → some_below f n ≡ false → f n ≡ false → some_below f (n + 1) ≡ false
+  unfolding some_below
   some_more n e h = rw (add-one n, e, h)
 
-  pub some-here : (n i : ℕ) → i < n → f i ≡ true → someBelow f n ≡ true
-  unfolding someBelow
-  some-here zero i h e = absurd (omega arith)
-  some-here (suc n) i h e = case i n (λ l. rw (some-here n i l e)) (λ l. let q : i ≡ n = omega arith in rw (← q, e) (or-true (someBelow f i)))
+  pub some_here : (n i : ℕ) → i < n → f i ≡ true → some_below f n ≡ true
+  unfolding some_below
+  some_here zero i h e = absurd (omega arith)
+  some_here (suc n) i h e = case i n (λ l. rw (some_here n i l e)) (λ l. let q : i ≡ n = omega arith in rw (← q, e) (or_true (some_below f i)))
 
 -- ---- where the rows are
 module _ (g : List ℕ) where
-  pub before-none : 0 ≡ entriesBefore g 0
-  unfolding entriesBefore
-  before-none = refl
+  pub before_none : 0 ≡ entries_before g 0
+  unfolding entries_before
+  before_none = refl
 
-  pub before_more : (t n k : ℕ) → n ≡ entriesBefore g t → k ≡ get_or g t 0 → n + k ≡ entriesBefore g (t + 1)
-  unfolding entriesBefore
+  pub before_more : (t n k : ℕ) → n ≡ entries_before g t → k ≡ get_or g t 0 → n + k ≡ entries_before g (t + 1)
+  unfolding entries_before
   before_more t n k e h = rw (add-one t, e, h)
 
-  before-less : (t k : ℕ) → entriesBefore g t ≤ entriesBefore g (k + t)
-  unfolding entriesBefore
-  before-less t zero = let z : 0 + t ≡ t = omega arith in rw z (omega arith)
-  before-less t (suc k) =
+  before_less : (t k : ℕ) → entries_before g t ≤ entries_before g (k + t)
+  unfolding entries_before
+  before_less t zero = let z : 0 + t ≡ t = omega arith in rw z (omega arith)
+  before_less t (suc k) =
       let e : suc k + t ≡ suc (k + t) = omega arith in
-      let h = before-less t k in
+      let h = before_less t k in
       rw e (omega arith)
 
-  before-next : (t : ℕ) → entriesBefore g (suc t) ≡ entriesBefore g t + get_or g t 0
-  unfolding entriesBefore
-  before-next t = refl
+  before_next : (t : ℕ) → entries_before g (suc t) ≡ entries_before g t + get_or g t 0
+  unfolding entries_before
+  before_next t = refl
 
   pub rows_inside : Laid g → (t : ℕ) → t < 10 → rows_of g t + 3 * get_or g t 0 ≤ length g
   unfolding rows_of
   rows_inside laid t h =
       let e : 9 - t + suc t ≡ 10 = omega arith in
-      let m = rw e at (before-less (suc t) (9 - t)) in
-      let s : entriesBefore g (suc t) ≡ entriesBefore g t + get_or g t 0 = before-next t in
+      let m = rw e at (before_less (suc t) (9 - t)) in
+      let s : entries_before g (suc t) ≡ entries_before g t + get_or g t 0 = before_next t in
       let l = laid.1 in
       omega arith
 
-  pub given-none : length g ≡ 0 → true ≡ isGiven g
-  unfolding isGiven
-  given-none e = rw e
+  pub given_none : length g ≡ 0 → true ≡ is_given g
+  unfolding is_given
+  given_none e = rw e
 
-  pub given-short : length g < 10 → (length g ≡ 0 → ⊥) → false ≡ isGiven g
-  unfolding isGiven
-  given-short h z = rw (ne_eqb (length g) 0 z, lt-leb 10 (length g) h)
+  pub given_short : length g < 10 → (length g ≡ 0 → ⊥) → false ≡ is_given g
+  unfolding is_given
+  given_short h z = rw (ne_eqb (length g) 0 z, lt-leb 10 (length g) h)
 
-  pub given-laid : 10 ≤ length g → (n : ℕ) → n ≡ entriesBefore g 10 → eqb (length g) (10 + 3 * n) ≡ isGiven g
-  unfolding isGiven
-  given-laid h n e = let z : length g ≡ 0 → ⊥ = λ q. omega arith in rw (ne_eqb (length g) 0 z, le-leb 10 (length g) h, e)
+  pub given_laid : 10 ≤ length g → (n : ℕ) → n ≡ entries_before g 10 → eqb (length g) (10 + 3 * n) ≡ is_given g
+  unfolding is_given
+  given_laid h n e = let z : length g ≡ 0 → ⊥ = λ q. omega arith in rw (ne_eqb (length g) 0 z, le-leb 10 (length g) h, e)
 
 -- ---- few
-pub few-at : (g : List ℕ) (t : ℕ) → Few g → t < 10 → startCount t + get_or g t 0 ≤ 256
-unfolding fewTable
-few-at g t few h = leb-true _ _ (below_at (fewTable g) 10 t few h)
+pub few_at : (g : List ℕ) (t : ℕ) → Few g → t < 10 → start_count t + get_or g t 0 ≤ 256
+unfolding few_table
+few_at g t few h = leb-true _ _ (below_at (few_table g) 10 t few h)
 
 -- ---- rules
 -- a name, by its three numbers
@@ -142,33 +142,33 @@ module _ (g : List ℕ) (at : ℕ) where
   abbrev lo : ℕ
   lo = get_or g (at + 2) 0
 
-  pub name-prefix : 1 + get_or g 0 0 < pr → false ≡ isRightName g (tripleAt g at)
-  unfolding isRightName tripleAt
-  name-prefix h = rw (lt-leb pr (1 + get_or g 0 0) h)
+  pub name_prefix : 1 + get_or g 0 0 < pr → false ≡ is_right_name g (triple_at g at)
+  unfolding is_right_name triple_at
+  name_prefix h = rw (lt-leb pr (1 + get_or g 0 0) h)
 
-  pub name-namespace : 1 + get_or g 1 0 < ns → false ≡ isRightName g (tripleAt g at)
-  unfolding isRightName tripleAt
-  name-namespace h = rw (lt-leb ns (1 + get_or g 1 0) h) (sym (and-false (leb pr (1 + get_or g 0 0))))
+  pub name_namespace : 1 + get_or g 1 0 < ns → false ≡ is_right_name g (triple_at g at)
+  unfolding is_right_name triple_at
+  name_namespace h = rw (lt-leb ns (1 + get_or g 1 0) h) (sym (and_false (leb pr (1 + get_or g 0 0))))
 
   module _ (p : pr ≤ 1 + get_or g 0 0) (n : ns ≤ 1 + get_or g 1 0) where
-    pub name-local : (lo ≡ 0) → false ≡ isRightName g (tripleAt g at)
-    unfolding isRightName tripleAt
-    name-local z = rw (le-leb pr (1 + get_or g 0 0) p, le-leb ns (1 + get_or g 1 0) n, z)
+    pub name_local : (lo ≡ 0) → false ≡ is_right_name g (triple_at g at)
+    unfolding is_right_name triple_at
+    name_local z = rw (le-leb pr (1 + get_or g 0 0) p, le-leb ns (1 + get_or g 1 0) n, z)
 
-    pub name-over : get_or g 2 0 < lo → false ≡ isRightName g (tripleAt g at)
-    unfolding isRightName tripleAt
-    name-over h = rw (le-leb pr (1 + get_or g 0 0) p, le-leb ns (1 + get_or g 1 0) n, lt-leb lo (get_or g 2 0) h) (sym (and-false (leb 1 lo)))
+    pub name_over : get_or g 2 0 < lo → false ≡ is_right_name g (triple_at g at)
+    unfolding is_right_name triple_at
+    name_over h = rw (le-leb pr (1 + get_or g 0 0) p, le-leb ns (1 + get_or g 1 0) n, lt-leb lo (get_or g 2 0) h) (sym (and_false (leb 1 lo)))
 
     module _ (z : lo ≡ 0 → ⊥) (l : lo ≤ get_or g 2 0) where
-      left : isRightName g (tripleAt g at) ≡ leb (some? pr) (some? ns)
-      unfolding isRightName tripleAt
+      left : is_right_name g (triple_at g at) ≡ leb (some? pr) (some? ns)
+      unfolding is_right_name triple_at
       left = let k : 1 ≤ lo = omega arith in rw (le-leb pr (1 + get_or g 0 0) p, le-leb ns (1 + get_or g 1 0) n, le-leb 1 lo k, le-leb lo (get_or g 2 0) l)
 
-      pub name-alone : pr ≡ 0 → eqb pr 0 ≡ isRightName g (tripleAt g at)
-      name-alone e = rw (left, e) (sym (le-leb 0 (some? ns) (omega arith)))
+      pub name_alone : pr ≡ 0 → eqb pr 0 ≡ is_right_name g (triple_at g at)
+      name_alone e = rw (left, e) (sym (le-leb 0 (some? ns) (omega arith)))
 
-      pub name-both : (pr ≡ 0 → ⊥) → not (eqb ns 0) ≡ isRightName g (tripleAt g at)
-      name-both ne = rw left (by pr ns ne)
+      pub name_both : (pr ≡ 0 → ⊥) → not (eqb ns 0) ≡ is_right_name g (triple_at g at)
+      name_both ne = rw left (by pr ns ne)
         where
           by : (a b : ℕ) → (a ≡ 0 → ⊥) → not (eqb b 0) ≡ leb (some? a) (some? b)
           by zero b h = absurd (h refl)
@@ -180,126 +180,126 @@ module _ (g : List ℕ) (at : ℕ) where
 abbrev pub IsTag : ℕ → Type 0
 IsTag k = (k ≡ 2) ⊎ ((5 ≤ k) × (k ≤ 10))
 
-pub form-two : (k : ℕ) → k ≡ 2 → formGiven k ≡ Utf8
-unfolding formGiven form_of
-form-two k e = rw e
+pub form_two : (k : ℕ) → k ≡ 2 → form_given k ≡ Utf8
+unfolding form_given form_of
+form_two k e = rw e
 
 module _ (g : List ℕ) (at : ℕ) where
-  pub string-is : IsTag (get_or g at 0) → stringFrom g at ≡ Stretch (formGiven (get_or g at 0)) (get_or g (at + 1) 0) (get_or g (at + 2) 0)
-  unfolding stringFrom toldBy formGiven form_of
-  string-is = ⊎_elim (λ e. rw e) (λ r. rw (ne_eqb (get_or g at 0) 2 (λ e. let l = r.0 in omega arith), le-leb 5 (get_or g at 0) r.0, le-leb (get_or g at 0) 10 r.1))
+  pub string_is : IsTag (get_or g at 0) → string_from g at ≡ Stretch (form_given (get_or g at 0)) (get_or g (at + 1) 0) (get_or g (at + 2) 0)
+  unfolding string_from told_by form_given form_of
+  string_is = ⊎_elim (λ e. rw e) (λ r. rw (ne_eqb (get_or g at 0) 2 (λ e. let l = r.0 in omega arith), le-leb 5 (get_or g at 0) r.0, le-leb (get_or g at 0) 10 r.1))
 
   pub located-utf8 : get_or g at 0 ≡ 2 → located g at ≡ stretch Utf8 (get_or g (at + 1) 0) (get_or g (at + 2) 0)
-  located-utf8 e = rw (form-two (get_or g at 0) e)
+  located-utf8 e = rw (form_two (get_or g at 0) e)
 
   -- a test that no other string passes
   module _ (f : EventString → Bool) (a : f Absent ≡ false) (b : f Empty ≡ false) (c : f XmlPrefix ≡ false) (d : f XmlNamespace ≡ false) where
-    by-tag : (b : Bool) → (eqb (get_or g (at + 1) 0) 0 && eqb (get_or g (at + 2) 0) 0) ≡ b → (k : ℕ) → get_or g at 0 ≡ k → (IsTag k → ⊥) → (leb 5 k && leb k 10) ≡ false → f (stringFrom g at) ≡ false
-    unfolding stringFrom toldBy toldByTag
-    by-tag false e k q n h = rw (q, ne_eqb k 2 (λ z. n (inl z)), h, e) a
-    by-tag true e zero q n h = rw (q, e) a
-    by-tag true e (suc zero) q n h = rw (q, e) b
-    by-tag true e (suc (suc zero)) q n h = absurd (n (inl refl))
-    by-tag true e (suc (suc (suc zero))) q n h = rw (q, e) c
-    by-tag true e (suc (suc (suc (suc zero)))) q n h = rw (q, e) d
-    by-tag true e (suc (suc (suc (suc (suc k))))) q n h = rw (q, ne_eqb (suc (suc (suc (suc (suc k))))) 2 (λ z. n (inl z)), h, e) a
+    by_tag : (b : Bool) → (eqb (get_or g (at + 1) 0) 0 && eqb (get_or g (at + 2) 0) 0) ≡ b → (k : ℕ) → get_or g at 0 ≡ k → (IsTag k → ⊥) → (leb 5 k && leb k 10) ≡ false → f (string_from g at) ≡ false
+    unfolding string_from told_by told_by_tag
+    by_tag false e k q n h = rw (q, ne_eqb k 2 (λ z. n (inl z)), h, e) a
+    by_tag true e zero q n h = rw (q, e) a
+    by_tag true e (suc zero) q n h = rw (q, e) b
+    by_tag true e (suc (suc zero)) q n h = absurd (n (inl refl))
+    by_tag true e (suc (suc (suc zero))) q n h = rw (q, e) c
+    by_tag true e (suc (suc (suc (suc zero)))) q n h = rw (q, e) d
+    by_tag true e (suc (suc (suc (suc (suc k))))) q n h = rw (q, ne_eqb (suc (suc (suc (suc (suc k))))) 2 (λ z. n (inl z)), h, e) a
 
-    no-form : (k : ℕ) → (IsTag k → ⊥) → (leb 5 k && leb k 10) ≡ false
-    no-form k n = case k 5 (λ l. rw (lt-leb 5 k l)) (λ l. case 10 k (λ h. rw (lt-leb k 10 h) (and-false (leb 5 k))) (λ h. absurd (n (inr (l, h)))))
+    no_form : (k : ℕ) → (IsTag k → ⊥) → (leb 5 k && leb k 10) ≡ false
+    no_form k n = case k 5 (λ l. rw (lt-leb 5 k l)) (λ l. case 10 k (λ h. rw (lt-leb k 10 h) (and_false (leb 5 k))) (λ h. absurd (n (inr (l, h)))))
 
-    pub no-stretch : (IsTag (get_or g at 0) → ⊥) → f (stringFrom g at) ≡ false
-    no-stretch n = by-tag (eqb (get_or g (at + 1) 0) 0 && eqb (get_or g (at + 2) 0) 0) refl (get_or g at 0) refl n (no-form (get_or g at 0) n)
+    pub no_stretch : (IsTag (get_or g at 0) → ⊥) → f (string_from g at) ≡ false
+    no_stretch n = by_tag (eqb (get_or g (at + 1) 0) 0 && eqb (get_or g (at + 2) 0) 0) refl (get_or g at 0) refl n (no_form (get_or g at 0) n)
 
 -- the string in a row, in the form f
-module _ (text g : List ℕ) (t at : ℕ) (row : IsRow text g t at) (f : StringForm) (e : f ≡ formGiven (get_or g at 0)) where
-  pub row-utf8 : t < 5 → f ≡ Utf8
-  row-utf8 l = e ∙ form-two (get_or g at 0) (row.3 l)
+module _ (text g : List ℕ) (t at : ℕ) (row : IsRow text g t at) (f : StringForm) (e : f ≡ form_given (get_or g at 0)) where
+  pub row_utf8 : t < 5 → f ≡ Utf8
+  row_utf8 l = e ∙ form_two (get_or g at 0) (row.3 l)
 
-  pub row-sound : IsSound text (stretch f (get_or g (at + 1) 0) (get_or g (at + 2) 0))
-  row-sound = rw e row.2
+  pub row_sound : IsSound text (stretch f (get_or g (at + 1) 0) (get_or g (at + 2) 0))
+  row_sound = rw e row.2
 
-  pub row-spells : Spells text (Stretch f (get_or g (at + 1) 0) (get_or g (at + 2) 0))
-  row-spells = (row.0, row.1, row-sound)
+  pub row_spells : Spells text (Stretch f (get_or g (at + 1) 0) (get_or g (at + 2) 0))
+  row_spells = (row.0, row.1, row_sound)
 
-pub form-low : (k : ℕ) → k < 5 → Utf8 ≡ formGiven k
-unfolding formGiven form_of
-form-low k h = let z : k - 4 ≡ 0 = omega arith in rw z
+pub form_low : (k : ℕ) → k < 5 → Utf8 ≡ form_given k
+unfolding form_given form_of
+form_low k h = let z : k - 4 ≡ 0 = omega arith in rw z
 
 module _ (text g : List ℕ) where
-  other-form : (k p n : ℕ) → 5 ≤ k → k ≤ 10 → isStretch text (Stretch (formGiven k) p n) ≡ false
-  unfolding formGiven form_of
-  other-form k p n l h = by_number (λ (k : ℕ). isStretch text (Stretch (formGiven k) p n) ≡ false) 5 6 (refl, (refl, (refl, (refl, (refl, (refl, tt)))))) k l (omega arith)
+  other_form : (k p n : ℕ) → 5 ≤ k → k ≤ 10 → is_stretch text (Stretch (form_given k) p n) ≡ false
+  unfolding form_given form_of
+  other_form k p n l h = by_number_lem (λ (k : ℕ). is_stretch text (Stretch (form_given k) p n) ≡ false) 5 6 (refl, (refl, (refl, (refl, (refl, (refl, tt)))))) k l (omega arith)
 
-  pub other_tag : (at : ℕ) → (get_or g at 0 ≡ 2 → ⊥) → false ≡ isStretch text (stringFrom g at)
+  pub other_tag : (at : ℕ) → (get_or g at 0 ≡ 2 → ⊥) → false ≡ is_stretch text (string_from g at)
   other_tag at ne =
       sym
       (case 4 (get_or g at 0)
       (λ l.
-      case (get_or g at 0) 11 (λ h. rw (string-is g at (inr (omega arith, omega arith))) (other-form (get_or g at 0) (get_or g (at + 1) 0) (get_or g (at + 2) 0) (omega arith) (omega arith)))
-      (λ h. no-stretch g at (isStretch text) refl refl refl refl (⊎_elim ne (λ r. let m = r.1 in omega arith))))
-      (λ l. no-stretch g at (isStretch text) refl refl refl refl (⊎_elim ne (λ r. let m = r.0 in omega arith))))
+      case (get_or g at 0) 11 (λ h. rw (string_is g at (inr (omega arith, omega arith))) (other_form (get_or g at 0) (get_or g (at + 1) 0) (get_or g (at + 2) 0) (omega arith) (omega arith)))
+      (λ h. no_stretch g at (is_stretch text) refl refl refl refl (⊎_elim ne (λ r. let m = r.1 in omega arith))))
+      (λ l. no_stretch g at (is_stretch text) refl refl refl refl (⊎_elim ne (λ r. let m = r.0 in omega arith))))
 
   abbrev lies : ℕ → Bool
   lies at = ltb 0 (get_or g (at + 2) 0) && leb (get_or g (at + 1) 0 + get_or g (at + 2) 0) (length text)
 
-  pub stretch-tag : (at : ℕ) → get_or g at 0 ≡ 2 → lies at ≡ isStretch text (stringFrom g at)
-  unfolding stringFrom toldBy
-  stretch-tag at e = rw e
+  pub stretch_tag : (at : ℕ) → get_or g at 0 ≡ 2 → lies at ≡ is_stretch text (string_from g at)
+  unfolding string_from told_by
+  stretch_tag at e = rw e
 
   -- a string in any form
-  pub string-tag : (at : ℕ) → IsTag (get_or g at 0) → lies at ≡ isString text (stringFrom g at)
-  string-tag at e = rw (string-is g at e)
+  pub string_tag : (at : ℕ) → IsTag (get_or g at 0) → lies at ≡ is_string text (string_from g at)
+  string_tag at e = rw (string_is g at e)
 
-  pub no-string : (at : ℕ) → (IsTag (get_or g at 0) → ⊥) → false ≡ isString text (stringFrom g at)
-  no-string at n = sym (no-stretch g at (isString text) refl refl refl refl n)
+  pub no_string : (at : ℕ) → (IsTag (get_or g at 0) → ⊥) → false ≡ is_string text (string_from g at)
+  no_string at n = sym (no_stretch g at (is_string text) refl refl refl refl n)
 
-  pub right-identifying : (t at : ℕ) → t < 5 → (r : Bool) → r ≡ isStretch text (stringFrom g at) → r ≡ rightRow text g t at
-  unfolding rightRow
-  right-identifying t at h r e = rw (lt-ltb t 5 h) e
+  pub right_identifying : (t at : ℕ) → t < 5 → (r : Bool) → r ≡ is_stretch text (string_from g at) → r ≡ right_row text g t at
+  unfolding right_row
+  right_identifying t at h r e = rw (lt-ltb t 5 h) e
 
-  pub right-string : (t at : ℕ) → 5 ≤ t → t < 8 → (r : Bool) → r ≡ isString text (stringFrom g at) → r ≡ rightRow text g t at
-  unfolding rightRow
-  right-string t at l h r e = rw (le-ltb t 5 l, lt-ltb t 8 h) e
+  pub right_string : (t at : ℕ) → 5 ≤ t → t < 8 → (r : Bool) → r ≡ is_string text (string_from g at) → r ≡ right_row text g t at
+  unfolding right_row
+  right_string t at l h r e = rw (le-ltb t 5 l, lt-ltb t 8 h) e
 
-  pub right-name : (t at : ℕ) → 8 ≤ t → (r : Bool) → r ≡ isRightName g (tripleAt g at) → r ≡ rightRow text g t at
-  unfolding rightRow
-  right-name t at h r e = let l : 5 ≤ t = omega arith in rw (le-ltb t 5 l, le-ltb t 8 h) e
+  pub right_name : (t at : ℕ) → 8 ≤ t → (r : Bool) → r ≡ is_right_name g (triple_at g at) → r ≡ right_row text g t at
+  unfolding right_row
+  right_name t at h r e = let l : 5 ≤ t = omega arith in rw (le-ltb t 5 l, le-ltb t 8 h) e
 
-  pub text-name : (t at : ℕ) → 8 ≤ t → true ≡ textRow text g t at
-  unfolding textRow
-  text-name t at h = rw (le-ltb t 8 h)
+  pub text_name : (t at : ℕ) → 8 ≤ t → true ≡ text_row text g t at
+  unfolding text_row
+  text_name t at h = rw (le-ltb t 8 h)
 
-  pub text-string : (t at : ℕ) (f : StringForm) (p n : ℕ) → t < 8 → f ≡ formGiven (get_or g at 0) → p ≡ get_or g (at + 1) 0 → n ≡ get_or g (at + 2) 0 → (r : Bool)
-      → r ≡ isText (said f (part text p (p + n))) → r ≡ textRow text g t at
-  unfolding textRow
-  text-string t at f p n h d e k r q = rw (lt-ltb t 8 h, ← d, ← e, ← k, octets-part text f p n) q
+  pub text_string : (t at : ℕ) (f : StringForm) (p n : ℕ) → t < 8 → f ≡ form_given (get_or g at 0) → p ≡ get_or g (at + 1) 0 → n ≡ get_or g (at + 2) 0 → (r : Bool)
+      → r ≡ is_text (said f (part text p (p + n))) → r ≡ text_row text g t at
+  unfolding text_row
+  text_string t at f p n h d e k r q = rw (lt-ltb t 8 h, ← d, ← e, ← k, octets-part text f p n) q
 
-  pub starts-name : (t at : ℕ) → 8 ≤ t → false ≡ startsRow text g t at
-  unfolding startsRow
-  starts-name t at h = rw (le-ltb t 8 h)
+  pub starts_name : (t at : ℕ) → 8 ≤ t → false ≡ starts_row text g t at
+  unfolding starts_row
+  starts_name t at h = rw (le-ltb t 8 h)
 
-  pub starts-string : (t at p n : ℕ) → t < 8 → get_or g at 0 ≡ 2 → p ≡ get_or g (at + 1) 0 → n ≡ get_or g (at + 2) 0 → (r : Bool)
-      → r ≡ same (octetsOf text (builtIn (table_of t))) (octetsOf text (stretch Utf8 p n)) → r ≡ startsRow text g t at
-  unfolding startsRow
-  starts-string t at p n h u e f r q = rw (lt-ltb t 8 h, located-utf8 g at u, ← e, ← f) q
+  pub starts_string : (t at p n : ℕ) → t < 8 → get_or g at 0 ≡ 2 → p ≡ get_or g (at + 1) 0 → n ≡ get_or g (at + 2) 0 → (r : Bool)
+      → r ≡ same (octets_of text (built_in (table_of t))) (octets_of text (stretch Utf8 p n)) → r ≡ starts_row text g t at
+  unfolding starts_row
+  starts_string t at p n h u e f r q = rw (lt-ltb t 8 h, located-utf8 g at u, ← e, ← f) q
 
   module _ (t a b : ℕ) where
-    pub same-string : t < 8 → get_or g a 0 ≡ 2 → get_or g b 0 ≡ 2 → (p n q m : ℕ) → p ≡ get_or g (a + 1) 0 → n ≡ get_or g (a + 2) 0 → q ≡ get_or g (b + 1) 0 → m ≡ get_or g (b + 2) 0 → (r : Bool)
-        → r ≡ same (octetsOf text (stretch Utf8 p n)) (octetsOf text (stretch Utf8 q m)) → r ≡ sameRow text g t a b
-    unfolding sameRow
-    same-string h u v p n q m e f e' f' r is = rw (lt-ltb t 8 h, located-utf8 g a u, located-utf8 g b v, ← e, ← f, ← e', ← f') is
+    pub same_string : t < 8 → get_or g a 0 ≡ 2 → get_or g b 0 ≡ 2 → (p n q m : ℕ) → p ≡ get_or g (a + 1) 0 → n ≡ get_or g (a + 2) 0 → q ≡ get_or g (b + 1) 0 → m ≡ get_or g (b + 2) 0 → (r : Bool)
+        → r ≡ same (octets_of text (stretch Utf8 p n)) (octets_of text (stretch Utf8 q m)) → r ≡ same_row text g t a b
+    unfolding same_row
+    same_string h u v p n q m e f e' f' r is = rw (lt-ltb t 8 h, located-utf8 g a u, located-utf8 g b v, ← e, ← f, ← e', ← f') is
 
     module _ (h : 8 ≤ t) where
-      pub same-prefix : (get_or g a 0 ≡ get_or g b 0 → ⊥) → eqb (get_or g a 0) (get_or g b 0) ≡ sameRow text g t a b
-      unfolding sameRow sameTriple tripleAt
-      same-prefix ne = rw (le-ltb t 8 h, ne_eqb _ _ ne)
+      pub same_prefix : (get_or g a 0 ≡ get_or g b 0 → ⊥) → eqb (get_or g a 0) (get_or g b 0) ≡ same_row text g t a b
+      unfolding same_row same_triple triple_at
+      same_prefix ne = rw (le-ltb t 8 h, ne_eqb _ _ ne)
 
-      pub same-namespace : get_or g a 0 ≡ get_or g b 0 → (get_or g (a + 1) 0 ≡ get_or g (b + 1) 0 → ⊥) → eqb (get_or g (a + 1) 0) (get_or g (b + 1) 0) ≡ sameRow text g t a b
-      unfolding sameRow sameTriple tripleAt
-      same-namespace e ne = rw (le-ltb t 8 h, eq-eqb _ _ e, ne_eqb _ _ ne)
+      pub same_namespace : get_or g a 0 ≡ get_or g b 0 → (get_or g (a + 1) 0 ≡ get_or g (b + 1) 0 → ⊥) → eqb (get_or g (a + 1) 0) (get_or g (b + 1) 0) ≡ same_row text g t a b
+      unfolding same_row same_triple triple_at
+      same_namespace e ne = rw (le-ltb t 8 h, eq-eqb _ _ e, ne_eqb _ _ ne)
 
-      pub same-local : get_or g a 0 ≡ get_or g b 0 → get_or g (a + 1) 0 ≡ get_or g (b + 1) 0 → eqb (get_or g (a + 2) 0) (get_or g (b + 2) 0) ≡ sameRow text g t a b
-      unfolding sameRow sameTriple tripleAt
+      pub same-local : get_or g a 0 ≡ get_or g b 0 → get_or g (a + 1) 0 ≡ get_or g (b + 1) 0 → eqb (get_or g (a + 2) 0) (get_or g (b + 2) 0) ≡ same_row text g t a b
+      unfolding same_row same_triple triple_at
       same-local e f = rw (le-ltb t 8 h, eq-eqb _ _ e, eq-eqb _ _ f)
 
   -- row i of table t is held
@@ -307,149 +307,149 @@ module _ (text g : List ℕ) where
     abbrev row : ℕ → ℕ
     row j = rows_of g t + 3 * j
 
-    pub held_start : true ≡ startsRow text g t (row i) → true ≡ heldRow text g t i
-    unfolding heldRow
+    pub held_start : true ≡ starts_row text g t (row i) → true ≡ held_row text g t i
+    unfolding held_row
     held_start e = rw (← e)
 
-    pub held-before : (j : ℕ) → j < i → true ≡ sameRow text g t (row j) (row i) → true ≡ heldRow text g t i
-    unfolding heldRow
-    held-before j h e =
-        rw (some-here (λ (j : ℕ). sameRow text g t (row j) (row i)) i j h (sym e)) (sym (or-true (startsRow text g t (row i))))
+    pub held_before : (j : ℕ) → j < i → true ≡ same_row text g t (row j) (row i) → true ≡ held_row text g t i
+    unfolding held_row
+    held_before j h e =
+        rw (some_here (λ (j : ℕ). same_row text g t (row j) (row i)) i j h (sym e)) (sym (or_true (starts_row text g t (row i))))
 
-    pub held-not : false ≡ startsRow text g t (row i) → (j : ℕ) → j ≤ i → i ≤ j → someBelow (λ (j : ℕ). sameRow text g t (row j) (row i)) j ≡ false → false ≡ heldRow text g t i
-    unfolding heldRow
-    held-not e j h k s = let q : j ≡ i = omega arith in rw (← e) (sym (rw q at s))
+    pub held_not : false ≡ starts_row text g t (row i) → (j : ℕ) → j ≤ i → i ≤ j → some_below (λ (j : ℕ). same_row text g t (row j) (row i)) j ≡ false → false ≡ held_row text g t i
+    unfolding held_row
+    held_not e j h k s = let q : j ≡ i = omega arith in rw (← e) (sym (rw q at s))
 
-    pub new-other : 5 ≤ t → t < 8 → true ≡ new_row text g t i
+    pub new_other : 5 ≤ t → t < 8 → true ≡ new_row text g t i
     unfolding new_row
-    new-other l h = rw (le-leb 5 t l, lt-ltb t 8 h)
+    new_other l h = rw (le-leb 5 t l, lt-ltb t 8 h)
 
-    pub new-low : t < 5 → (r : Bool) → r ≡ heldRow text g t i → not r ≡ new_row text g t i
+    pub new_low : t < 5 → (r : Bool) → r ≡ held_row text g t i → not r ≡ new_row text g t i
     unfolding new_row
-    new-low h r e = rw (lt-leb 5 t h, ← e)
+    new_low h r e = rw (lt-leb 5 t h, ← e)
 
-    pub new-name : 8 ≤ t → (r : Bool) → r ≡ heldRow text g t i → not r ≡ new_row text g t i
+    pub new_name_lem : 8 ≤ t → (r : Bool) → r ≡ held_row text g t i → not r ≡ new_row text g t i
     unfolding new_row
-    new-name h r e = let l : 5 ≤ t = omega arith in rw (le-leb 5 t l, le-ltb t 8 h, ← e)
+    new_name_lem h r e = let l : 5 ≤ t = omega arith in rw (le-leb 5 t l, le-ltb t 8 h, ← e)
 
     -- by rule
-    pub keeps-right : (rule : ℕ) → rule ≡ 16 → (r : Bool) → r ≡ rightRow text g t (row i) → r ≡ keepsRow rule text g t i
-    unfolding keepsRow
-    keeps-right rule e r q = rw e q
+    pub keeps_right : (rule : ℕ) → rule ≡ 16 → (r : Bool) → r ≡ right_row text g t (row i) → r ≡ keeps_row rule text g t i
+    unfolding keeps_row
+    keeps_right rule e r q = rw e q
 
-    pub keeps-text : (rule : ℕ) → rule ≡ 9 → (r : Bool) → r ≡ textRow text g t (row i) → r ≡ keepsRow rule text g t i
-    unfolding keepsRow
-    keeps-text rule e r q = rw e q
+    pub keeps_text : (rule : ℕ) → rule ≡ 9 → (r : Bool) → r ≡ text_row text g t (row i) → r ≡ keeps_row rule text g t i
+    unfolding keeps_row
+    keeps_text rule e r q = rw e q
 
-    pub keeps-new : (rule : ℕ) → (rule ≡ 16 → ⊥) → (rule ≡ 9 → ⊥) → (r : Bool) → r ≡ new_row text g t i → r ≡ keepsRow rule text g t i
-    unfolding keepsRow
-    keeps-new rule a b r q = rw (ne_eqb rule 16 a, ne_eqb rule 9 b) q
+    pub keeps_new : (rule : ℕ) → (rule ≡ 16 → ⊥) → (rule ≡ 9 → ⊥) → (r : Bool) → r ≡ new_row text g t i → r ≡ keeps_row rule text g t i
+    unfolding keeps_row
+    keeps_new rule a b r q = rw (ne_eqb rule 16 a, ne_eqb rule 9 b) q
 
-  pub table-keeps : (rule t : ℕ) → (n i : ℕ) → n ≡ get_or g t 0 → below (keepsRow rule text g t) i ≡ true → i ≤ n → n ≤ i → true ≡ keepsTable rule text g t
-  unfolding keepsTable
-  table-keeps rule t n i e b h k = sym (rw (← e) (below_end (keepsRow rule text g t) n i b h k))
+  pub table_keeps : (rule t : ℕ) → (n i : ℕ) → n ≡ get_or g t 0 → below (keeps_row rule text g t) i ≡ true → i ≤ n → n ≤ i → true ≡ keeps_table rule text g t
+  unfolding keeps_table
+  table_keeps rule t n i e b h k = sym (rw (← e) (below_end (keeps_row rule text g t) n i b h k))
 
-  pub table-breaks : (rule t : ℕ) → (n i : ℕ) → n ≡ get_or g t 0 → i < n → false ≡ keepsRow rule text g t i → false ≡ keepsTable rule text g t
-  unfolding keepsTable
-  table-breaks rule t n i e h b = sym (rw (← e) (below-not (keepsRow rule text g t) n i h (sym b)))
+  pub table_breaks : (rule t : ℕ) → (n i : ℕ) → n ≡ get_or g t 0 → i < n → false ≡ keeps_row rule text g t i → false ≡ keeps_table rule text g t
+  unfolding keeps_table
+  table_breaks rule t n i e h b = sym (rw (← e) (below_not (keeps_row rule text g t) n i h (sym b)))
 
-  pub all_keep : (rule i : ℕ) → below (keepsTable rule text g) i ≡ true → i ≤ 10 → 10 ≤ i → true ≡ keeps rule text g
+  pub all_keep : (rule i : ℕ) → below (keeps_table rule text g) i ≡ true → i ≤ 10 → 10 ≤ i → true ≡ keeps rule text g
   unfolding keeps
-  all_keep rule i b h k = sym (below_end (keepsTable rule text g) 10 i b h k)
+  all_keep rule i b h k = sym (below_end (keeps_table rule text g) 10 i b h k)
 
-  pub one-breaks : (rule i : ℕ) → i < 10 → false ≡ keepsTable rule text g i → false ≡ keeps rule text g
+  pub one_breaks : (rule i : ℕ) → i < 10 → false ≡ keeps_table rule text g i → false ≡ keeps rule text g
   unfolding keeps
-  one-breaks rule i h b = sym (below-not (keepsTable rule text g) 10 i h (sym b))
+  one_breaks rule i h b = sym (below_not (keeps_table rule text g) 10 i h (sym b))
 
   -- ---- what right rows say
   module _ (right : Right text g) (t i : ℕ) (ten : t < 10) (h : i < get_or g t 0) where
-    row-right : rightRow text g t (rows_of g t + 3 * i) ≡ true
-    unfolding keeps keepsTable keepsRow
-    row-right = below_at (keepsRow 16 text g t) (get_or g t 0) i (below_at (keepsTable 16 text g) 10 t right ten) h
+    row_right : right_row text g t (rows_of g t + 3 * i) ≡ true
+    unfolding keeps keeps_table keeps_row
+    row_right = below_at (keeps_row 16 text g t) (get_or g t 0) i (below_at (keeps_table 16 text g) 10 t right ten) h
 
     abbrev here : ℕ
     here = rows_of g t + 3 * i
 
-    is-stretch : t < 5 → isStretch text (stringFrom g here) ≡ true
-    unfolding rightRow
-    is-stretch k = rw (lt-ltb t 5 k) at row-right
+    is_stretch_lem : t < 5 → is_stretch text (string_from g here) ≡ true
+    unfolding right_row
+    is_stretch_lem k = rw (lt-ltb t 5 k) at row_right
 
-    is-string : 5 ≤ t → t < 8 → isString text (stringFrom g here) ≡ true
-    unfolding rightRow
-    is-string l k = rw (le-ltb t 5 l, lt-ltb t 8 k) at row-right
+    is_string_lem : 5 ≤ t → t < 8 → is_string text (string_from g here) ≡ true
+    unfolding right_row
+    is_string_lem l k = rw (le-ltb t 5 l, lt-ltb t 8 k) at row_right
 
-    pub right-tag : t < 5 → get_or g here 0 ≡ 2
-    right-tag k = elim (ℕ_discrete (get_or g here 0) 2) [ yes e ↦ e | no e ↦ clash (other_tag here e ∙ is-stretch k) ]
+    pub right_tag : t < 5 → get_or g here 0 ≡ 2
+    right_tag k = elim (ℕ_discrete (get_or g here 0) 2) [ yes e ↦ e | no e ↦ clash (other_tag here e ∙ is_stretch_lem k) ]
 
-    any-tag : 5 ≤ t → t < 8 → IsTag (get_or g here 0)
-    any-tag l k =
+    any_tag : 5 ≤ t → t < 8 → IsTag (get_or g here 0)
+    any_tag l k =
         elim (ℕ_discrete (get_or g here 0) 2) [
           | yes e ↦ inl e
-          | no e ↦ inr (case 4 (get_or g here 0) (λ a. case (get_or g here 0) 11 (λ b. (omega arith, omega arith)) (λ b. not-tag (⊎_elim e (λ r. let m = r.1 in omega arith)))) (λ a. not-tag (⊎_elim e (λ r. let m = r.0 in omega arith))))
+          | no e ↦ inr (case 4 (get_or g here 0) (λ a. case (get_or g here 0) 11 (λ b. (omega arith, omega arith)) (λ b. not_tag (⊎_elim e (λ r. let m = r.1 in omega arith)))) (λ a. not_tag (⊎_elim e (λ r. let m = r.0 in omega arith))))
         ]
       where
-        not-tag : {X : Type 0} → (IsTag (get_or g here 0) → ⊥) → X
-        not-tag n = clash (no-string here n ∙ is-string l k)
+        not_tag : {X : Type 0} → (IsTag (get_or g here 0) → ⊥) → X
+        not_tag n = clash (no_string here n ∙ is_string_lem l k)
 
-    pub right-any : t < 8 → IsTag (get_or g here 0)
-    right-any k = case t 5 (λ l. inl (right-tag l)) (λ l. any-tag l k)
+    pub right_any : t < 8 → IsTag (get_or g here 0)
+    right_any k = case t 5 (λ l. inl (right_tag l)) (λ l. any_tag l k)
 
-    lies-true : t < 8 → lies here ≡ true
-    lies-true k = case t 5 (λ l. stretch-tag here (right-tag l) ∙ is-stretch l) (λ l. string-tag here (any-tag l k) ∙ is-string l k)
+    lies_true : t < 8 → lies here ≡ true
+    lies_true k = case t 5 (λ l. stretch_tag here (right_tag l) ∙ is_stretch_lem l) (λ l. string_tag here (any_tag l k) ∙ is_string_lem l k)
 
-    pub right-lies : t < 8 → (0 < get_or g (here + 2) 0) × (get_or g (here + 1) 0 + get_or g (here + 2) 0 ≤ length text)
-    right-lies k = let b = both_true _ _ (lies-true k) in (ltb-true _ _ b.0, leb-true _ _ b.1)
+    pub right_lies : t < 8 → (0 < get_or g (here + 2) 0) × (get_or g (here + 1) 0 + get_or g (here + 2) 0 ≤ length text)
+    right_lies k = let b = both_true _ _ (lies_true k) in (ltb-true _ _ b.0, leb-true _ _ b.1)
 
     -- and text, so that it is a string in its form
     module _ (texts : Texts text g) where
-      text-here : t < 8 → isText (octetsOf text (located g here)) ≡ true
-      unfolding keeps keepsTable keepsRow textRow
-      text-here k = rw (lt-ltb t 8 k) at (below_at (keepsRow 9 text g t) (get_or g t 0) i (below_at (keepsTable 9 text g) 10 t texts ten) h)
+      text_here : t < 8 → is_text (octets_of text (located g here)) ≡ true
+      unfolding keeps keeps_table keeps_row text_row
+      text_here k = rw (lt-ltb t 8 k) at (below_at (keeps_row 9 text g t) (get_or g t 0) i (below_at (keeps_table 9 text g) 10 t texts ten) h)
 
-      pub right-row : t < 8 → IsRow text g t here
-      right-row k =
-          let l = right-lies k in
-          let e = octets-stretch text (formGiven (get_or g here 0)) (get_or g (here + 1) 0) (get_or g (here + 2) 0) in
-          (l.0, l.1, text-sound (formGiven (get_or g here 0)) _ (rw e at (text-here k)), right-tag)
+      pub right_row : t < 8 → IsRow text g t here
+      right_row k =
+          let l = right_lies k in
+          let e = octets_stretch text (form_given (get_or g here 0)) (get_or g (here + 1) 0) (get_or g (here + 2) 0) in
+          (l.0, l.1, text_sound (form_given (get_or g here 0)) _ (rw e at (text_here k)), right_tag)
 
-    is_name : 8 ≤ t → isRightName g (tripleAt g (rows_of g t + 3 * i)) ≡ true
-    unfolding rightRow
-    is_name k = let l : 5 ≤ t = omega arith in rw (le-ltb t 5 l, le-ltb t 8 k) at row-right
+    is_name_lem : 8 ≤ t → is_right_name g (triple_at g (rows_of g t + 3 * i)) ≡ true
+    unfolding right_row
+    is_name_lem k = let l : 5 ≤ t = omega arith in rw (le-ltb t 5 l, le-ltb t 8 k) at row_right
 
-    right-numbers : 8 ≤ t → (get_or g (rows_of g t + 3 * i) 0 ≤ 1 + get_or g 0 0) × (get_or g (rows_of g t + 3 * i + 1) 0 ≤ 1 + get_or g 1 0) × (get_or g (rows_of g t + 3 * i + 2) 0 ≤ get_or g 2 0)
-    unfolding isRightName tripleAt
-    right-numbers k =
+    right_numbers : 8 ≤ t → (get_or g (rows_of g t + 3 * i) 0 ≤ 1 + get_or g 0 0) × (get_or g (rows_of g t + 3 * i + 1) 0 ≤ 1 + get_or g 1 0) × (get_or g (rows_of g t + 3 * i + 2) 0 ≤ get_or g 2 0)
+    unfolding is_right_name triple_at
+    right_numbers k =
         let at : ℕ = rows_of g t + 3 * i in
         let p : ℕ = get_or g at 0 in
         let n : ℕ = get_or g (at + 1) 0 in
         let l : ℕ = get_or g (at + 2) 0 in
         let last : Bool = leb l (get_or g 2 0) && leb (some? p) (some? n) in
-        let a = both_true (leb p (1 + get_or g 0 0)) (leb n (1 + get_or g 1 0) && (leb 1 l && last)) (is_name k) in
+        let a = both_true (leb p (1 + get_or g 0 0)) (leb n (1 + get_or g 1 0) && (leb 1 l && last)) (is_name_lem k) in
         let b = both_true (leb n (1 + get_or g 1 0)) (leb 1 l && last) a.1 in
         let d = both_true (leb 1 l) last b.1 in
         let e = both_true (leb l (get_or g 2 0)) (leb (some? p) (some? n)) d.1 in
         (leb-true _ _ a.0, leb-true _ _ b.0, leb-true _ _ e.0)
 
-    pub right-fits : Texts text g → Few g → Fits text g t here
-    unfolding startCount
-    right-fits texts few =
-        let a : 1 + get_or g 0 0 ≤ 256 = few-at g 0 few (omega arith) in
-        let b : 1 + get_or g 1 0 ≤ 256 = few-at g 1 few (omega arith) in
-        let d : 0 + get_or g 2 0 ≤ 256 = few-at g 2 few (omega arith) in
-        (right-row texts, λ k. let n = right-numbers k in (omega arith, omega arith, omega arith))
+    pub right_fits : Texts text g → Few g → Fits text g t here
+    unfolding start_count
+    right_fits texts few =
+        let a : 1 + get_or g 0 0 ≤ 256 = few_at g 0 few (omega arith) in
+        let b : 1 + get_or g 1 0 ≤ 256 = few_at g 1 few (omega arith) in
+        let d : 0 + get_or g 2 0 ≤ 256 = few_at g 2 few (omega arith) in
+        (right_row texts, λ k. let n = right_numbers k in (omega arith, omega arith, omega arith))
 
-pub few-more : (g : List ℕ) (t b n : ℕ) → below (fewTable g) t ≡ true → b ≡ startCount t → n ≡ get_or g t 0 → b + n ≤ 256 → below (fewTable g) (t + 1) ≡ true
-unfolding fewTable
-few-more g t b n all e f h = let k : startCount t + get_or g t 0 ≤ 256 = omega arith in below_more (fewTable g) t all (le-leb _ _ k)
+pub few_more : (g : List ℕ) (t b n : ℕ) → below (few_table g) t ≡ true → b ≡ start_count t → n ≡ get_or g t 0 → b + n ≤ 256 → below (few_table g) (t + 1) ≡ true
+unfolding few_table
+few_more g t b n all e f h = let k : start_count t + get_or g t 0 ≤ 256 = omega arith in below_more (few_table g) t all (le-leb _ _ k)
 
-pub few-not : (g : List ℕ) (t b n : ℕ) → t < 10 → b ≡ startCount t → n ≡ get_or g t 0 → 256 < b + n → false ≡ below (fewTable g) 10
-unfolding fewTable
-few-not g t b n h e f l = let k : 256 < startCount t + get_or g t 0 = omega arith in sym (below-not (fewTable g) 10 t h (lt-leb _ _ k))
+pub few_not : (g : List ℕ) (t b n : ℕ) → t < 10 → b ≡ start_count t → n ≡ get_or g t 0 → 256 < b + n → false ≡ below (few_table g) 10
+unfolding few_table
+few_not g t b n h e f l = let k : 256 < start_count t + get_or g t 0 = omega arith in sym (below_not (few_table g) 10 t h (lt-leb _ _ k))
 
-pub starts-one : (t : ℕ) → t < 2 → (1 ≡ startCount t) × (1 ≤ 1)
-unfolding startCount
-starts-one t h = (rw (lt-ltb t 2 h), omega arith)
+pub starts_one : (t : ℕ) → t < 2 → (1 ≡ start_count t) × (1 ≤ 1)
+unfolding start_count
+starts_one t h = (rw (lt-ltb t 2 h), omega arith)
 
-pub starts_none : (t : ℕ) → 2 ≤ t → (0 ≡ startCount t) × (0 ≤ 1)
-unfolding startCount
+pub starts_none : (t : ℕ) → 2 ≤ t → (0 ≡ start_count t) × (0 ≤ 1)
+unfolding start_count
 starts_none t h = (rw (le-ltb t 2 h), omega arith)

@@ -1,5 +1,5 @@
 -- The writer's definition of a document's head: read Given, then Head. The others are contracts of the code.
 pub mod Given
 pub mod Head
-pub mod Contracts
+pub mod Promises
 pub mod RowContracts

@@ -1,12 +1,12 @@
 // The given entries as the first entries of the tables, behind the built-in ones. The index that takes an entry tells whether it was there: no search of its own looks for repeats.
 ghost use Rattle.std.specs.Prelude.{◌≡◌, true, ℕ, ◌+◌, ◌≤◌, ◌<◌, length, get_or};
-ghost use Rattle.format.specs.Tables.{adding, addingName};
-ghost use Rattle.tables.specs.Rows.{table_of, tripleAt};
+ghost use Rattle.format.specs.Tables.{adding, adding_name};
+ghost use Rattle.tables.specs.Rows.{table_of, triple_at};
 ghost use Rattle.format.specs.declared.StringForm.TheVariants.{Utf8};
-ghost use Rattle.events.specs.Words.{stringForm};
-ghost use Rattle.tables.specs.Kept.{nameTableOf};
-ghost use Rattle.write_names.specs.Contracts.{tablesIn, InOrder, Spells, heldAs};
-ghost use Rattle.write_head.specs.RowContracts.{Laid, located, Right, Texts, IsRow, Few, startCount, newIn, keepsTable, keeps, addRow, addRows, addTables, Grown};
+ghost use Rattle.events.specs.Words.{string_form};
+ghost use Rattle.tables.specs.Kept.{name_table_of};
+ghost use Rattle.write_names.specs.Promises.{tables_in, InOrder, Spells, held_as};
+ghost use Rattle.write_head.specs.RowContracts.{Laid, located, Right, Texts, IsRow, Few, start_count, new_in, keeps_table, keeps, add_row, add_rows, add_tables, Grown};
 
 use crate::given::{ROW, form_given, rows_of, wide};
 use events::EventString;
@@ -22,8 +22,8 @@ fn number_of(
     table: usize,
     x: EventString,
 ) -> u32
-    requires { InOrder text.now counts.now t.now index.now × (table < 8) × Spells text.now x × (table < 5 → stringForm x ≡ Utf8) }
-    ensures { (result ≡ heldAs text.now (table_of table) (tablesIn counts.now t.now) x) × (result ≤ 256) }
+    requires { InOrder text.now counts.now t.now index.now × (table < 8) × Spells text.now x × (table < 5 → string_form x ≡ Utf8) }
+    ensures { (result ≡ held_as text.now (table_of table) (tables_in counts.now t.now) x) × (result ≤ 256) }
 {
     if table < ATTRIBUTE_VALUE {
         return write_names::number_of(text, t, counts, index, table, x);
@@ -43,7 +43,7 @@ fn add_string(
     at: usize,
 ) -> bool
     requires { InOrder text.now counts.old t.old index.old × (table < 8) × (get_or counts.old table 0 < 256) × (at + 3 ≤ length given.now) × IsRow text.now given.now table at }
-    ensures { Grown text.now table 1 (adding (tablesIn counts.old t.old) (table_of table) (located given.now at)) counts.old counts.new t.new index.new × (result ≡ newIn text.now given.now (tablesIn counts.old t.old) table at) }
+    ensures { Grown text.now table 1 (adding (tables_in counts.old t.old) (table_of table) (located given.now at)) counts.old counts.new t.new index.new × (result ≡ new_in text.now given.now (tables_in counts.old t.old) table at) }
 {
     let form = form_given(given[at]);
     let place = given[at + 1];
@@ -79,7 +79,7 @@ fn add_name(
     at: usize,
 ) -> bool
     requires { InOrder text.now counts.old t.old index.old × (8 ≤ table) × (table < 10) × (get_or counts.old table 0 < 256) × (at + 3 ≤ length given.now) }
-    ensures { Grown text.now table 1 (addingName (tablesIn counts.old t.old) (nameTableOf table) (tripleAt given.now at)) counts.old counts.new t.new index.new × (result ≡ newIn text.now given.now (tablesIn counts.old t.old) table at) }
+    ensures { Grown text.now table 1 (adding_name (tables_in counts.old t.old) (name_table_of table) (triple_at given.now at)) counts.old counts.new t.new index.new × (result ≡ new_in text.now given.now (tables_in counts.old t.old) table at) }
 {
     let a = given[at];
     let b = given[at + 1];
@@ -101,7 +101,7 @@ fn add_row(
     at: usize,
 ) -> bool
     requires { InOrder text.now counts.old t.old index.old × (table < 10) × (get_or counts.old table 0 < 256) × (at + 3 ≤ length given.now) × (table < 8 → IsRow text.now given.now table at) }
-    ensures { Grown text.now table 1 (addRow given.now (tablesIn counts.old t.old) table at) counts.old counts.new t.new index.new × (result ≡ newIn text.now given.now (tablesIn counts.old t.old) table at) }
+    ensures { Grown text.now table 1 (add_row given.now (tables_in counts.old t.old) table at) counts.old counts.new t.new index.new × (result ≡ new_in text.now given.now (tables_in counts.old t.old) table at) }
 {
     if table < ELEMENT_NAME {
         return add_string(text, given, t, counts, index, table, at);
@@ -118,8 +118,8 @@ fn add_rows(
     index: &mut [u8],
     table: usize,
 ) -> bool
-    requires { InOrder text.now counts.old t.old index.old × (table < 10) × Laid given.now × Right text.now given.now × (get_or counts.old table 0 + get_or given.now table 0 ≤ 256) × (tablesIn counts.old t.old ≡ addTables given.now table) × Texts text.now given.now }
-    ensures { (result ≡ keepsTable 11 text.now given.now table) × (result ≡ true → Grown text.now table (get_or given.now table 0) (addRows given.now (tablesIn counts.old t.old) table (get_or given.now table 0)) counts.old counts.new t.new index.new) }
+    requires { InOrder text.now counts.old t.old index.old × (table < 10) × Laid given.now × Right text.now given.now × (get_or counts.old table 0 + get_or given.now table 0 ≤ 256) × (tables_in counts.old t.old ≡ add_tables given.now table) × Texts text.now given.now }
+    ensures { (result ≡ keeps_table 11 text.now given.now table) × (result ≡ true → Grown text.now table (get_or given.now table 0) (add_rows given.now (tables_in counts.old t.old) table (get_or given.now table 0)) counts.old counts.new t.new index.new) }
 {
     let rows = rows_of(given, table);
     let n = wide(given[table]);
@@ -141,8 +141,8 @@ pub fn add_tables(
     counts: &mut [u32],
     index: &mut [u8],
 ) -> bool
-    requires { InOrder text.now counts.old t.old index.old × Laid given.now × Right text.now given.now × Few given.now × (tablesIn counts.old t.old ≡ addTables given.now 0) × ((j : ℕ) → get_or counts.old j 0 ≡ startCount j) × Texts text.now given.now }
-    ensures { (result ≡ keeps 11 text.now given.now) × (result ≡ true → (tablesIn counts.new t.new ≡ addTables given.now 10) × InOrder text.now counts.new t.new index.new) }
+    requires { InOrder text.now counts.old t.old index.old × Laid given.now × Right text.now given.now × Few given.now × (tables_in counts.old t.old ≡ add_tables given.now 0) × ((j : ℕ) → get_or counts.old j 0 ≡ start_count j) × Texts text.now given.now }
+    ensures { (result ≡ keeps 11 text.now given.now) × (result ≡ true → (tables_in counts.new t.new ≡ add_tables given.now 10) × InOrder text.now counts.new t.new index.new) }
 {
     let mut table = 0;
     while table < Counts::TABLES {

@@ -1,8 +1,8 @@
 // Where the given words have what: ten counts, then three words for each entry, table by table.
 ghost use Rattle.std.specs.Prelude.{◌≡◌, ◌+◌, ◌*◌, ◌≤◌, ◌<◌, length, get_or};
 ghost use Rattle.format.specs.Head.{some?};
-ghost use Rattle.write_head.specs.Given.{entriesBefore, isGiven, rows_of};
-ghost use Rattle.write_head.specs.RowContracts.{formGiven, Laid, presenceOf};
+ghost use Rattle.write_head.specs.Given.{entries_before, is_given, rows_of};
+ghost use Rattle.write_head.specs.RowContracts.{form_given, Laid, presence_of};
 
 use events::tags;
 use format::StringForm;
@@ -20,7 +20,7 @@ pub fn wide(x: u32) -> usize
 
 // The form of a string by its tag, if it is one that a stretch has.
 pub fn form_given(tag: u32) -> StringForm
-    ensures { result ≡ formGiven tag }
+    ensures { result ≡ form_given tag }
 {
     if tag < tags::UTF16 {
         return StringForm::Utf8;
@@ -31,7 +31,7 @@ pub fn form_given(tag: u32) -> StringForm
 // How many entries are given before those of a table. Counts may be any numbers; ten of them are summed without overflow.
 fn entries_before(given: &[u32], table: usize) -> usize
     requires { (10 ≤ length given.now) × (table ≤ 10) }
-    ensures { (result ≡ entriesBefore given.now table) × (result ≤ table * 0x1_0000_0000) }
+    ensures { (result ≡ entries_before given.now table) × (result ≤ table * 0x1_0000_0000) }
 {
     let mut n = 0;
     let mut i = 0;
@@ -44,7 +44,7 @@ fn entries_before(given: &[u32], table: usize) -> usize
 
 // Whether the words have the length that their counts say, or there are none.
 pub fn is_given(given: &[u32]) -> bool
-    ensures { result ≡ isGiven given.now }
+    ensures { result ≡ is_given given.now }
 {
     let n = given.len();
     if n == 0 {
@@ -76,7 +76,7 @@ fn some(x: u32) -> u32
 // A presence bit for each table, that of the first the highest: 1 if it lists an entry.
 pub fn presence(given: &[u32]) -> u32
     requires { 10 ≤ length given.now }
-    ensures { (result ≡ presenceOf given.now) × (result < 1024) }
+    ensures { (result ≡ presence_of given.now) × (result < 1024) }
 {
     let first = 512 * some(given[0]) + 256 * some(given[1]) + 128 * some(given[2]);
     let middle = 64 * some(given[3]) + 32 * some(given[4]) + 16 * some(given[5]);

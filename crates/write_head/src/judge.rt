@@ -1,10 +1,10 @@
 // Which given entries are right: a rule is named by the refusal of what breaks it, and every row is held against it.
 ghost use Rattle.std.specs.Prelude.{◌≡◌, ◌+◌, ◌*◌, ◌≤◌, ◌<◌, length, get_or};
-ghost use Rattle.tables.specs.Rows.{tripleAt};
-ghost use Rattle.events.specs.FromWords.{stringFrom};
-ghost use Rattle.events.specs.WellMade.{isStretch, isString};
+ghost use Rattle.tables.specs.Rows.{triple_at};
+ghost use Rattle.events.specs.FromWords.{string_from};
+ghost use Rattle.events.specs.WellMade.{is_stretch, is_string};
 ghost use Rattle.write_head.specs.Given.{rows_of};
-ghost use Rattle.write_head.specs.RowContracts.{below, Laid, isRightName, rightRow, textRow, keepsRow, keepsTable, keeps, startCount, fewTable, Right, Judged};
+ghost use Rattle.write_head.specs.RowContracts.{below, Laid, is_right_name, right_row, text_row, keeps_row, keeps_table, keeps, start_count, few_table, Right, Judged};
 
 use crate::given::{ROW, form_given, rows_of, wide};
 use crate::repeats::is_new;
@@ -16,7 +16,7 @@ use tables::Counts;
 // An identifying string is a stretch of the text in utf-8: no mark, neither absent nor empty.
 fn is_stretch(given: &[u32], text: &[u8], at: usize) -> bool
     requires { at + 3 ≤ length given.now }
-    ensures { result ≡ isStretch text.now (stringFrom given.now at) }
+    ensures { result ≡ is_stretch text.now (string_from given.now at) }
 {
     if given[at] != tags::STRETCH {
         return false;
@@ -27,7 +27,7 @@ fn is_stretch(given: &[u32], text: &[u8], at: usize) -> bool
 // Another string is one in any form; the tags of the other forms are the last.
 fn is_string(given: &[u32], text: &[u8], at: usize) -> bool
     requires { at + 3 ≤ length given.now }
-    ensures { result ≡ isString text.now (stringFrom given.now at) }
+    ensures { result ≡ is_string text.now (string_from given.now at) }
 {
     let tag = given[at];
     if tag != tags::STRETCH {
@@ -44,7 +44,7 @@ fn is_string(given: &[u32], text: &[u8], at: usize) -> bool
 // A name's numbers are those of entries, built-in or given, whatever the tables take; it has a local name, and a prefix only with a namespace.
 fn is_name(given: &[u32], at: usize) -> bool
     requires { (at + 3 ≤ length given.now) × (10 ≤ length given.now) }
-    ensures { result ≡ isRightName given.now (tripleAt given.now at) }
+    ensures { result ≡ is_right_name given.now (triple_at given.now at) }
 {
     let prefix = given[at];
     let namespace = given[at + 1];
@@ -66,7 +66,7 @@ fn is_name(given: &[u32], at: usize) -> bool
 
 fn is_right(given: &[u32], text: &[u8], table: usize, at: usize) -> bool
     requires { (at + 3 ≤ length given.now) × (10 ≤ length given.now) }
-    ensures { result ≡ rightRow text.now given.now table at }
+    ensures { result ≡ right_row text.now given.now table at }
 {
     if table < ATTRIBUTE_VALUE {
         return is_stretch(given, text, at);
@@ -79,7 +79,7 @@ fn is_right(given: &[u32], text: &[u8], table: usize, at: usize) -> bool
 
 fn is_text(given: &[u32], text: &[u8], table: usize, at: usize) -> bool
     requires { (at + 3 ≤ length given.now) × (table < 8 → get_or given.now (at + 1) 0 + get_or given.now (at + 2) 0 ≤ length text.now) }
-    ensures { result ≡ textRow text.now given.now table at }
+    ensures { result ≡ text_row text.now given.now table at }
 {
     if ELEMENT_NAME <= table {
         return true;
@@ -96,7 +96,7 @@ fn is_text(given: &[u32], text: &[u8], table: usize, at: usize) -> bool
 // Row i of a table keeps to the rule.
 fn row_keeps(rule: u32, given: &[u32], text: &[u8], table: usize, i: usize) -> bool
     requires { Laid given.now × (table < 10) × (i < get_or given.now table 0) × ((rule ≡ 16 → ⊥) → Right text.now given.now) }
-    ensures { result ≡ keepsRow rule text.now given.now table i }
+    ensures { result ≡ keeps_row rule text.now given.now table i }
 {
     let at = rows_of(given, table) + ROW * i;
     if rule == EVENT {
@@ -110,7 +110,7 @@ fn row_keeps(rule: u32, given: &[u32], text: &[u8], table: usize, i: usize) -> b
 
 fn table_keeps(rule: u32, given: &[u32], text: &[u8], table: usize) -> bool
     requires { Laid given.now × (table < 10) × ((rule ≡ 16 → ⊥) → Right text.now given.now) }
-    ensures { result ≡ keepsTable rule text.now given.now table }
+    ensures { result ≡ keeps_table rule text.now given.now table }
 {
     let n = wide(given[table]);
     let mut i = 0;
@@ -139,7 +139,7 @@ fn all_keep(rule: u32, given: &[u32], text: &[u8]) -> bool
 
 // How many entries are built into a table.
 fn built_in(table: usize) -> usize
-    ensures { (result ≡ startCount table) × (result ≤ 1) }
+    ensures { (result ≡ start_count table) × (result ≤ 1) }
 {
     if table < LOCAL_NAME {
         return 1;
@@ -150,7 +150,7 @@ fn built_in(table: usize) -> usize
 // No table would have more entries than it takes.
 fn are_few(given: &[u32]) -> bool
     requires { 10 ≤ length given.now }
-    ensures { result ≡ below (fewTable given.now) 10 }
+    ensures { result ≡ below (few_table given.now) 10 }
 {
     let mut table = 0;
     while table < Counts::TABLES {

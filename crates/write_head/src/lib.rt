@@ -10,11 +10,11 @@ ghost use Rattle.std.specs.Prelude.{◌≡◌, ◌∷◌, [], ◌≤◌, length,
 ghost use Rattle.std.proofs.lemmas.List.Edits.{sets};
 ghost use Rattle.format.specs.Tables.{link};
 ghost use Rattle.tables.specs.Located.{start};
-ghost use Rattle.tables.specs.Counts.{countsOf, tableWords};
+ghost use Rattle.tables.specs.Counts.{counts_of, table_words};
 ghost use Rattle.tables.specs.Kept.{listed};
 ghost use Rattle.index.specs.Indexed.{slots};
-ghost use Rattle.write_head.specs.Contracts.{Opens};
-ghost use Rattle.write_head.specs.RowContracts.{Laid, presenceOf};
+ghost use Rattle.write_head.specs.Promises.{Opens};
+ghost use Rattle.write_head.specs.RowContracts.{Laid, presence_of};
 
 use adding::add_tables;
 use fields::put::put_part;
@@ -34,7 +34,7 @@ pub enum Begun {
 // No tables: the header, as far as the output reaches, and the counts with which every document starts.
 fn put_header(out: &mut [u8], counts: &mut [u32])
     requires { length counts.old ≡ 10 }
-    ensures { (out.new ≡ sets out.old 0 (0xE0 ∷ 0x00 ∷ 0x00 ∷ 0x01 ∷ 0x00 ∷ [])) × (counts.new ≡ listed (countsOf (start link))) }
+    ensures { (out.new ≡ sets out.old 0 (0xE0 ∷ 0x00 ∷ 0x00 ∷ 0x01 ∷ 0x00 ∷ [])) × (counts.new ≡ listed (counts_of (start link))) }
 {
     let header = fields::HEADER;
     put_part(out, 0, &header, 0, fields::BODY);
@@ -51,7 +51,7 @@ fn begin_head(
     counts: &mut [u32],
     index: &mut [u8],
 ) -> Begun
-    requires { (length text.now ≤ 16384) × (out.old ≡ replicate (length out.old) 0) × (t.old ≡ replicate tableWords 0) × (length counts.old ≡ 10) × (index.old ≡ replicate slots 0) × Laid given.now × (presenceOf given.now ≡ 0 → ⊥) }
+    requires { (length text.now ≤ 16384) × (out.old ≡ replicate (length out.old) 0) × (t.old ≡ replicate table_words 0) × (length counts.old ≡ 10) × (index.old ≡ replicate slots 0) × Laid given.now × (presence_of given.now ≡ 0 → ⊥) }
     ensures { Opens given.now text.now room result out.new counts.new t.new index.new }
 {
     let n = fault(given, text);
@@ -84,7 +84,7 @@ pub fn begin(
     counts: &mut [u32],
     index: &mut [u8],
 ) -> Begun
-    requires { (length text.now ≤ 16384) × (out.old ≡ replicate (length out.old) 0) × (t.old ≡ replicate tableWords 0) × (length counts.old ≡ 10) × (index.old ≡ replicate slots 0) }
+    requires { (length text.now ≤ 16384) × (out.old ≡ replicate (length out.old) 0) × (t.old ≡ replicate table_words 0) × (length counts.old ≡ 10) × (index.old ≡ replicate slots 0) }
     ensures { Opens given.now text.now room result out.new counts.new t.new index.new }
 {
     if !is_given(given) {

@@ -3,14 +3,14 @@ ghost use Rattle.std.specs.Prelude.{◌≡◌, ◌+◌, ◌-◌, ◌*◌, ◌^�
 ghost use Rattle.format.specs.Numbers.{top};
 ghost use Rattle.format.specs.Head.{some?};
 ghost use Rattle.format.specs.declared.StringForm.TheVariants.{Utf8};
-ghost use Rattle.tables.specs.Located.{octetsOf};
+ghost use Rattle.tables.specs.Located.{octets_of};
 ghost use Rattle.tables.specs.Rows.{table_of};
-ghost use Rattle.events.specs.Records.{locatedOf};
-ghost use Rattle.events.specs.Words.{stringForm};
-ghost use Rattle.write_names.specs.Contracts.{Spells};
+ghost use Rattle.events.specs.Records.{located_of};
+ghost use Rattle.events.specs.Words.{string_form};
+ghost use Rattle.write_names.specs.Promises.{Spells};
 ghost use Rattle.fields.specs.PutContracts.{Puts};
-ghost use Rattle.write_head.specs.Head.{entryOctets, listing, partOctets, nameOctets};
-ghost use Rattle.write_head.specs.RowContracts.{Laid, Right, Texts, Few, Fits, joinBelow, rowMost, tableMost, rowOctets, rowsOctets, tableOctetsOf, head_of};
+ghost use Rattle.write_head.specs.Head.{entry_octets, listing, part_octets, name_octets};
+ghost use Rattle.write_head.specs.RowContracts.{Laid, Right, Texts, Few, Fits, join_below, row_most, table_most, row_octets, rows_octets, table_octets_of, head_of};
 
 use crate::given::{ROW, form_given, presence, rows_of, wide};
 use events::EventString;
@@ -20,8 +20,8 @@ use tables::Counts;
 
 // A string: an identifying one as C.22 has it, its length and its octets; another as C.19 does, in the form that is chosen for it.
 fn put_string(out: &mut [u8], at: usize, table: usize, text: &[u8], x: EventString) -> usize
-    requires { (at < 2 ^ 31) × (table < 8) × Spells text.now x × (table < 5 → stringForm x ≡ Utf8) × (length text.now ≤ 16384) }
-    ensures { Puts out.old at result out.new (entryOctets (table_of table) (listing (table_of table) (octetsOf text.now (locatedOf x)))) × (result ≤ at + rowMost) }
+    requires { (at < 2 ^ 31) × (table < 8) × Spells text.now x × (table < 5 → string_form x ≡ Utf8) × (length text.now ≤ 16384) }
+    ensures { Puts out.old at result out.new (entry_octets (table_of table) (listing (table_of table) (octets_of text.now (located_of x)))) × (result ≤ at + row_most) }
 {
     let n = write_names::octets_of(text, x);
     if ATTRIBUTE_VALUE <= table {
@@ -34,7 +34,7 @@ fn put_string(out: &mut [u8], at: usize, table: usize, text: &[u8], x: EventStri
 // A part of a name: its number, unless there is none.
 fn put_number(out: &mut [u8], at: usize, n: u32) -> usize
     requires { (at < 2 ^ 32) × (n ≤ top) }
-    ensures { Puts out.old at result out.new (partOctets n) × (result ≤ at + 3) }
+    ensures { Puts out.old at result out.new (part_octets n) × (result ≤ at + 3) }
 {
     if n == 0 {
         return at;
@@ -61,7 +61,7 @@ fn parts(prefix: u32, namespace: u32) -> u8
 // A name: that octet, and the numbers of its parts.
 fn put_name(out: &mut [u8], at: usize, prefix: u32, namespace: u32, local: u32) -> usize
     requires { (at < 2 ^ 31) × (prefix ≤ top) × (namespace ≤ top) × (local ≤ top) }
-    ensures { Puts out.old at result out.new (nameOctets (record { prefix = prefix; namespace = namespace; local = local })) × (result ≤ at + rowMost) }
+    ensures { Puts out.old at result out.new (name_octets (record { prefix = prefix; namespace = namespace; local = local })) × (result ≤ at + row_most) }
 {
     put(out, at, parts(prefix, namespace));
     let behind = put_number(out, at + 1, prefix);
@@ -71,7 +71,7 @@ fn put_name(out: &mut [u8], at: usize, prefix: u32, namespace: u32, local: u32) 
 
 fn put_row(out: &mut [u8], at: usize, given: &[u32], text: &[u8], table: usize, row: usize) -> usize
     requires { (at < 2 ^ 31) × (table < 10) × (row + 3 ≤ length given.now) × (length text.now ≤ 16384) × Fits text.now given.now table row }
-    ensures { Puts out.old at result out.new (rowOctets text.now given.now table row) × (result ≤ at + rowMost) }
+    ensures { Puts out.old at result out.new (row_octets text.now given.now table row) × (result ≤ at + row_most) }
 {
     if table < ELEMENT_NAME {
         let form = form_given(given[row]);
@@ -83,7 +83,7 @@ fn put_row(out: &mut [u8], at: usize, given: &[u32], text: &[u8], table: usize, 
 
 fn put_rows(out: &mut [u8], from: usize, given: &[u32], text: &[u8], table: usize) -> usize
     requires { (from < 2 ^ 30) × (table < 10) × Laid given.now × Right text.now given.now × Few given.now × (length text.now ≤ 16384) × Texts text.now given.now }
-    ensures { Puts out.old from result out.new (rowsOctets text.now given.now table (get_or given.now table 0)) × (result ≤ from + 256 * rowMost) }
+    ensures { Puts out.old from result out.new (rows_octets text.now given.now table (get_or given.now table 0)) × (result ≤ from + 256 * row_most) }
 {
     let rows = rows_of(given, table);
     let n = wide(given[table]);
@@ -99,7 +99,7 @@ fn put_rows(out: &mut [u8], from: usize, given: &[u32], text: &[u8], table: usiz
 // A table: how many entries it lists, and these; nothing of one that lists none.
 fn put_table(out: &mut [u8], at: usize, given: &[u32], text: &[u8], table: usize) -> usize
     requires { (at < 2 ^ 29) × (table < 10) × Laid given.now × Right text.now given.now × Few given.now × (length text.now ≤ 16384) × Texts text.now given.now }
-    ensures { Puts out.old at result out.new (tableOctetsOf text.now given.now table) × (result ≤ at + tableMost) }
+    ensures { Puts out.old at result out.new (table_octets_of text.now given.now table) × (result ≤ at + table_most) }
 {
     let n = given[table];
     if n == 0 {
@@ -111,7 +111,7 @@ fn put_table(out: &mut [u8], at: usize, given: &[u32], text: &[u8], table: usize
 
 fn put_tables(out: &mut [u8], from: usize, given: &[u32], text: &[u8]) -> usize
     requires { (from ≤ 7) × Laid given.now × Right text.now given.now × Few given.now × (length text.now ≤ 16384) × Texts text.now given.now }
-    ensures { Puts out.old from result out.new (joinBelow (tableOctetsOf text.now given.now) 10) }
+    ensures { Puts out.old from result out.new (join_below (table_octets_of text.now given.now) 10) }
 {
     let mut at = from;
     let mut table = 0;

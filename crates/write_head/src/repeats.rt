@@ -1,14 +1,14 @@
 // Whether a given entry is built in or is given before: each is looked for among those before it. Only where a table would be too full: elsewhere `adding` finds it with the index.
 ghost use Rattle.std.specs.Prelude.{◌≡◌, ◌+◌, ◌*◌, ◌≤◌, ◌<◌, length, get_or};
 ghost use Rattle.write_head.specs.Given.{rows_of};
-ghost use Rattle.write_head.specs.RowContracts.{Laid, startsRow, sameRow, heldRow, new_row, Right};
+ghost use Rattle.write_head.specs.RowContracts.{Laid, starts_row, same_row, held_row, new_row, Right};
 
 use crate::given::{ROW, rows_of, wide};
 use format::table::{ATTRIBUTE_VALUE, ELEMENT_NAME};
 
 fn is_built_in(given: &[u32], text: &[u8], table: usize, at: usize) -> bool
     requires { (at + 3 ≤ length given.now) × (table < 8 → (get_or given.now at 0 ≡ 2) × (get_or given.now (at + 1) 0 + get_or given.now (at + 2) 0 ≤ length text.now)) }
-    ensures { result ≡ startsRow text.now given.now table at }
+    ensures { result ≡ starts_row text.now given.now table at }
 {
     if ELEMENT_NAME <= table {
         return false;
@@ -18,7 +18,7 @@ fn is_built_in(given: &[u32], text: &[u8], table: usize, at: usize) -> bool
 
 fn is_same(given: &[u32], text: &[u8], table: usize, a: usize, b: usize) -> bool
     requires { (a + 3 ≤ length given.now) × (b + 3 ≤ length given.now) × (table < 8 → (get_or given.now a 0 ≡ 2) × (get_or given.now (a + 1) 0 + get_or given.now (a + 2) 0 ≤ length text.now) × (get_or given.now b 0 ≡ 2) × (get_or given.now (b + 1) 0 + get_or given.now (b + 2) 0 ≤ length text.now)) }
-    ensures { result ≡ sameRow text.now given.now table a b }
+    ensures { result ≡ same_row text.now given.now table a b }
 {
     if table < ELEMENT_NAME {
         return tables::same_octets(
@@ -36,7 +36,7 @@ fn is_same(given: &[u32], text: &[u8], table: usize, a: usize, b: usize) -> bool
 // Identifying strings and names alone: these are in utf-8.
 fn is_held(given: &[u32], text: &[u8], table: usize, i: usize) -> bool
     requires { Laid given.now × (table < 10) × (i < get_or given.now table 0) × Right text.now given.now × (table < 8 → table < 5) }
-    ensures { result ≡ heldRow text.now given.now table i }
+    ensures { result ≡ held_row text.now given.now table i }
 {
     let rows = rows_of(given, table);
     if is_built_in(given, text, table, rows + ROW * i) {

@@ -7,19 +7,19 @@ use lib.Dec.{eqb}
 use Rattle.events.specs.declared.Kind.{Kind}
 use Rattle.events.specs.declared.Kind.TheVariants.{Blank, Namespace, Start, Attribute, Chunk, Comment, Instruction, End}
 use Rattle.events.specs.declared.Event.{Event}
-use Rattle.events.specs.Words.{kindNumber}
-use Rattle.write_items.specs.Events.{eventOf}
-use Rattle.write_items.specs.Steps.{isAttribute, attributeNext}
+use Rattle.events.specs.Words.{kind_number}
+use Rattle.write_items.specs.Events.{event_of}
+use Rattle.write_items.specs.Steps.{is_attribute, attribute_next}
 
 -- A fact of each kind is one of every kind.
 by_kind : (P : Kind → Type 0) → P Blank → P Namespace → P Start → P Attribute → P Chunk → P Comment → P Instruction → P End → (k : Kind) → P k
 by_kind P b n s a t c i e k = elim k [ Blank ↦ b | Namespace ↦ n | Start ↦ s | Attribute ↦ a | Chunk ↦ t | Comment ↦ c | Instruction ↦ i | End ↦ e ]
 
-pub attribute-number : (e : Event) (k : Kind) → eqb (kindNumber k) 3 ≡ isAttribute (eventOf k e)
-unfolding eventOf
-attribute-number e = by_kind (λ k. eqb (kindNumber k) 3 ≡ isAttribute (eventOf k e)) refl refl refl refl refl refl refl refl
+pub attribute_number : (e : Event) (k : Kind) → eqb (kind_number k) 3 ≡ is_attribute (event_of k e)
+unfolding event_of
+attribute_number e = by_kind (λ k. eqb (kind_number k) 3 ≡ is_attribute (event_of k e)) refl refl refl refl refl refl refl refl
 
-pub next-number : (e : Event) (es : List Event) → eqb (kindNumber e.kind) 3 ≡ attributeNext (e ∷ es)
-next-number e es =
-    by_kind (λ k. eqb (kindNumber k) 3 ≡ elim k [ Blank ↦ false | Namespace ↦ false | Start ↦ false | Attribute ↦ true | Chunk ↦ false | Comment ↦ false | Instruction ↦ false | End ↦ false ])
+pub next_number : (e : Event) (es : List Event) → eqb (kind_number e.kind) 3 ≡ attribute_next (e ∷ es)
+next_number e es =
+    by_kind (λ k. eqb (kind_number k) 3 ≡ elim k [ Blank ↦ false | Namespace ↦ false | Start ↦ false | Attribute ↦ true | Chunk ↦ false | Comment ↦ false | Instruction ↦ false | End ↦ false ])
     refl refl refl refl refl refl refl refl e.kind

@@ -16,40 +16,40 @@ use Rattle.write_names.specs.declared.Wrote.{Wrote}
 use Rattle.write_names.specs.declared.Wrote.TheVariants.{Put, Full}
 use Rattle.write_names.specs.declared.QualifiedName.{QualifiedName}
 use Rattle.write_names.specs.Choices.{within}
-use Rattle.write_names.specs.Contracts.{InOrder}
+use Rattle.write_names.specs.Promises.{InOrder}
 use Rattle.write_items.specs.declared.Step.{Step}
 use Rattle.write_items.specs.declared.Step.TheVariants.{On, Stop}
-use Rattle.write_items.specs.Events.{wellMade, eventOf, allText, isListing}
-use Rattle.write_items.specs.Items.{writeItem}
-use Rattle.write_items.specs.Steps.{isAttribute, isEnd, opens, fits}
-use Rattle.write_items.specs.OutputContracts.{endOctet}
+use Rattle.write_items.specs.Events.{well_made, event_of, all_text, is_listing}
+use Rattle.write_items.specs.Items.{write_item}
+use Rattle.write_items.specs.Steps.{is_attribute, is_end, opens, fits}
+use Rattle.write_items.specs.OutputContracts.{end_octet}
 use Rattle.write_items.specs.StepContracts.{known}
 
 -- The end of an attribute list is owed; the state and the output behind it, where it is.
 unfoldable pub owes : State → Event → Bool
-owes st e = isListing (mode_of st.mode) && not (isAttribute (eventOf e.kind e))
+owes st e = is_listing (mode_of st.mode) && not (is_attribute (event_of e.kind e))
 
-abbrev pub listEnded : Bool → State → State
-listEnded true st = after_end st st.level
-listEnded false st = st
+abbrev pub list_ended : Bool → State → State
+list_ended true st = after_end st st.level
+list_ended false st = st
 
-abbrev pub endPut : Bool → (out : Octets) (at : ℕ) → Octets
-endPut true out at = set out (at / 2) (endOctet at)
-endPut false out at = out
+abbrev pub end_put : Bool → (out : Octets) (at : ℕ) → Octets
+end_put true out at = set out (at / 2) (end_octet at)
+end_put false out at = out
 
 -- What an event of this kind is written from: it is well made and text, and the state is one that its item may follow.
 pub record Fit (text : Octets) (st : State) (c w : Words) (index : Octets) (k : Kind) (e : Event) : Type 0 where
   pub order : InOrder text c w index
   pub at : st.at ≤ 32769
   pub shallow : st.level + coming st.mode ≤ 32
-  pub made : wellMade text k e ≡ true
-  pub texts : allText text (eventOf k e) ≡ true
-  pub roomy : (opens (mode_of st.mode) (eventOf k e) && leb link.depth st.level) ≡ false
-  pub inside : isEnd (eventOf k e) ≡ true → 0 < st.level
+  pub made : well_made text k e ≡ true
+  pub texts : all_text text (event_of k e) ≡ true
+  pub roomy : (opens (mode_of st.mode) (event_of k e) && leb link.depth st.level) ≡ false
+  pub inside : is_end (event_of k e) ≡ true → 0 < st.level
 
 -- The name of an event in a table, behind the bits `lead`.
-abbrev pub qualifiedOf : (table lead : ℕ) → Event → QualifiedName
-qualifiedOf table lead e = record { table = table; lead = lead; prefix = e.prefix; namespace = e.namespace; local = e.name }
+abbrev pub qualified_of : (table lead : ℕ) → Event → QualifiedName
+qualified_of table lead e = record { table = table; lead = lead; prefix = e.prefix; namespace = e.namespace; local = e.name }
 
 -- The state that is had at the octet behind those that were put; a table that is full is the refusal 12.
 abbrev pub landing : (ℕ → State) → Wrote → Step
@@ -63,21 +63,21 @@ Near Full = Unit {0}
 
 -- From the half `at` to the half `next`: an end, or an item's octets from the next whole octet.
 abbrev pub Laid : (end : Bool) → (out : Octets) (at next : ℕ) (out' os : Octets) → Type 0
-Laid true out at next out' os = (next ≡ at + 1) × (out' ≡ set out (at / 2) (endOctet at))
+Laid true out at next out' os = (next ≡ at + 1) × (out' ≡ set out (at / 2) (end_octet at))
 Laid false out at next out' os = Puts out (aligned at / 2) (next / 2) out' os × (next ≡ 2 * (next / 2)) × (1 ≤ length os)
 
 -- The item of the event is in the output, behind the end owed, and the writer stands behind it.
 pub record Landed (text : Octets) (a : Bool) (st : State) (c : Words) (out : Octets) (w : Words) (e : E.Event Located) (next : State) (out' : Octets) (c' w' : Words) (index' : Octets) : Type 0 where
-  pub laid : Laid (isEnd e) out st.at next.at out' (writeItem link text a (known st c w) e).octets
+  pub laid : Laid (is_end e) out st.at next.at out' (write_item link text a (known st c w) e).octets
   pub near : next.at ≤ 2 * farthest
-  pub state : known next c' w' ≡ (writeItem link text a (known st c w) e).state
+  pub state : known next c' w' ≡ (write_item link text a (known st c w) e).state
   pub order : InOrder text c' w' index'
   pub shallow : next.level + coming next.mode ≤ 32
 
 -- Or a table is full, and the definition's has an entry too many.
 abbrev pub Lands : Octets → Bool → State → (c : Words) → Octets → (w : Words) → E.Event Located → Step → Octets → (c' w' : Words) (index' : Octets) → Type 0
 Lands text a st c out w e (On next) out' c' w' index' = Landed text a st c out w e next out' c' w' index'
-Lands text a st c out w e (Stop n) out' c' w' index' = (n ≡ FULL) × (within link (writeItem link text a (known st c w) e).state.tables ≡ false)
+Lands text a st c out w e (Stop n) out' c' w' index' = (n ≡ FULL) × (within link (write_item link text a (known st c w) e).state.tables ≡ false)
 
 -- The state, if what is written up to it fits; else the refusal 14.
 unfoldable pub holding : Octets → (room : ℕ) → State → Step

@@ -4,7 +4,7 @@ pub mod Events
 pub mod Items
 pub mod Steps
 pub mod OutputContracts
-pub mod Contracts
+pub mod Promises
 pub mod RecordContracts
 pub mod StepContracts
 pub mod ItemContracts

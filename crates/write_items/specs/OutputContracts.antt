@@ -18,8 +18,8 @@ pub record Holds (size : ℕ) (hs : Halves) (at : ℕ) (out : Octets) : Type 0 w
   pub ends : at % 2 ≡ 1 → Ended hs
 
 -- The octet of an end at the half `at`, when what stands before it in the octet is an end too.
-unfoldable pub endOctet : ℕ → ℕ
-endOctet at = pick (eqb (at % 2) 0) 0xF0 0xFF
+unfoldable pub end_octet : ℕ → ℕ
+end_octet at = pick (eqb (at % 2) 0) 0xF0 0xFF
 
 -- The halves ks are written behind hs, which ended at the half `at`; `next` is the half behind them.
 pub record Grown (size : ℕ) (hs ks : Halves) (at next : ℕ) (out : Octets) : Type 0 where

@@ -5,15 +5,15 @@ ghost use Rattle.format.specs.Events as E;
 ghost use Rattle.format.specs.Strings.{bit};
 ghost use Rattle.format.specs.Document.{aligned};
 ghost use Rattle.fields.specs.PutContracts.{Puts};
-ghost use Rattle.states.specs.States.{farthest, mode_of, moved_to, openedAt};
+ghost use Rattle.states.specs.States.{farthest, mode_of, moved_to, opened_at};
 ghost use Rattle.events.specs.declared.Event.{Event};
 ghost use Rattle.events.specs.declared.Kind.TheVariants.{Namespace, Start, Attribute, Chunk, Comment, Instruction, End};
-ghost use Rattle.write_names.specs.Contracts.{InOrder};
-ghost use Rattle.write_items.specs.Events.{eventOf};
-ghost use Rattle.write_items.specs.Items.{beforeDeclaration, beforeName, nameLead};
-ghost use Rattle.write_items.specs.Steps.{isAttribute};
+ghost use Rattle.write_names.specs.Promises.{InOrder};
+ghost use Rattle.write_items.specs.Events.{event_of};
+ghost use Rattle.write_items.specs.Items.{before_declaration, before_name, name_lead};
+ghost use Rattle.write_items.specs.Steps.{is_attribute};
 ghost use Rattle.write_items.specs.StepContracts.{Ready, Steps};
-ghost use Rattle.write_items.specs.ItemContracts.{owes, listEnded, endPut, qualifiedOf, Fit, landing, Near, Lands, holding};
+ghost use Rattle.write_items.specs.ItemContracts.{owes, list_ended, end_put, qualified_of, Fit, landing, Near, Lands, holding};
 
 use crate::Step;
 use crate::output::put_end;
@@ -29,7 +29,7 @@ use write_names::{QualifiedName, Wrote};
 const LONGEST: usize = fields::OCTETS;
 
 fn is_attribute(kind: Kind) -> bool
-    ensures { (e : Event) → result ≡ isAttribute (eventOf kind e) }
+    ensures { (e : Event) → result ≡ is_attribute (event_of kind e) }
 {
     kind.number() == kinds::ATTRIBUTE
 }
@@ -47,7 +47,7 @@ pub fn attribute_bit(a: bool) -> u8
 // The octet in front of an element's first declaration.
 fn before_declaration(out: &mut [u8], at: usize, mode: usize, a: bool) -> usize
     requires { at ≤ farthest }
-    ensures { Puts out.old at result out.new (beforeDeclaration (mode_of mode) a) × (result ≤ at + 1) }
+    ensures { Puts out.old at result out.new (before_declaration (mode_of mode) a) × (result ≤ at + 1) }
 {
     if mode != State::CONTENT {
         return at;
@@ -59,7 +59,7 @@ fn before_declaration(out: &mut [u8], at: usize, mode: usize, a: bool) -> usize
 // The octet behind an element's last declaration.
 fn before_name(out: &mut [u8], at: usize, mode: usize) -> usize
     requires { at ≤ farthest }
-    ensures { Puts out.old at result out.new (beforeName (mode_of mode)) × (result ≤ at + 1) }
+    ensures { Puts out.old at result out.new (before_name (mode_of mode)) × (result ≤ at + 1) }
 {
     if mode < State::DECLARING {
         return at;
@@ -70,7 +70,7 @@ fn before_name(out: &mut [u8], at: usize, mode: usize) -> usize
 
 // The bits before an element's name.
 fn name_lead(mode: usize, a: bool) -> u8
-    ensures { (result ≡ nameLead (mode_of mode) a) × (result ≤ 64) }
+    ensures { (result ≡ name_lead (mode_of mode) a) × (result ≤ 64) }
 {
     if mode != State::CONTENT {
         return 0;
@@ -80,7 +80,7 @@ fn name_lead(mode: usize, a: bool) -> u8
 
 // The name of an event, in a table and behind the bits `lead`.
 fn name_of(e: Event, table: usize, lead: u8) -> QualifiedName
-    ensures { result ≡ qualifiedOf table lead e }
+    ensures { result ≡ qualified_of table lead e }
 {
     let prefix = e.prefix;
     let namespace = e.namespace;
@@ -116,7 +116,7 @@ fn landed(st: State, mode: usize, w: Wrote) -> Step
 // Behind an element's name: an element more, whose attribute bit is a.
 fn opened(st: State, a: bool, w: Wrote) -> Step
     requires { Near w × (st.level < 32) }
-    ensures { result ≡ landing (λ k. openedAt st k a) w }
+    ensures { result ≡ landing (λ k. opened_at st k a) w }
 {
     let Wrote::Put(next) = w else {
         return Step::Stop(FULL);
@@ -127,7 +127,7 @@ fn opened(st: State, a: bool, w: Wrote) -> Step
 // The end of an attribute list, before a record that is no member of it.
 fn settle(st: State, out: &mut [u8], e: Event) -> State
     requires { st.at ≤ 32768 }
-    ensures { (result ≡ listEnded (owes st e) st) × (out.new ≡ endPut (owes st e) out.old st.at) }
+    ensures { (result ≡ list_ended (owes st e) st) × (out.new ≡ end_put (owes st e) out.old st.at) }
 {
     let kind = e.kind;
     if !is_listing(st.mode) {
@@ -175,7 +175,7 @@ fn chunk(
     a: bool,
 ) -> Step
     requires { Fit text.now st counts.old t.old index.old Chunk e }
-    ensures { Lands text.now a st counts.old out.old t.old (eventOf Chunk e) result out.new counts.new t.new index.new }
+    ensures { Lands text.now a st counts.old out.old t.old (event_of Chunk e) result out.new counts.new t.new index.new }
 {
     let value = e.value;
     let next = write_names::chunk(text, t, counts, index, out, octet(st.at), value);
@@ -193,7 +193,7 @@ fn comment(
     a: bool,
 ) -> Step
     requires { Fit text.now st counts.old t.old index.old Comment e }
-    ensures { Lands text.now a st counts.old out.old t.old (eventOf Comment e) result out.new counts.new t.new index.new }
+    ensures { Lands text.now a st counts.old out.old t.old (event_of Comment e) result out.new counts.new t.new index.new }
 {
     let value = e.value;
     let at = octet(st.at);
@@ -213,7 +213,7 @@ fn instruction(
     a: bool,
 ) -> Step
     requires { Fit text.now st counts.old t.old index.old Instruction e }
-    ensures { Lands text.now a st counts.old out.old t.old (eventOf Instruction e) result out.new counts.new t.new index.new }
+    ensures { Lands text.now a st counts.old out.old t.old (event_of Instruction e) result out.new counts.new t.new index.new }
 {
     let target = e.name;
     let content = e.value;
@@ -247,7 +247,7 @@ fn declare(
     a: bool,
 ) -> Step
     requires { Fit text.now st counts.old t.old index.old Namespace e }
-    ensures { Lands text.now a st counts.old out.old t.old (eventOf Namespace e) result out.new counts.new t.new index.new }
+    ensures { Lands text.now a st counts.old out.old t.old (event_of Namespace e) result out.new counts.new t.new index.new }
 {
     let prefix = e.prefix;
     let namespace = e.namespace;
@@ -267,7 +267,7 @@ fn start(
     a: bool,
 ) -> Step
     requires { Fit text.now st counts.old t.old index.old Start e }
-    ensures { Lands text.now a st counts.old out.old t.old (eventOf Start e) result out.new counts.new t.new index.new }
+    ensures { Lands text.now a st counts.old out.old t.old (event_of Start e) result out.new counts.new t.new index.new }
 {
     let lead = name_lead(st.mode, a);
     let at = before_name(out, octet(st.at), st.mode);
@@ -294,7 +294,7 @@ fn attribute(
     a: bool,
 ) -> Step
     requires { Fit text.now st counts.old t.old index.old Attribute e }
-    ensures { Lands text.now a st counts.old out.old t.old (eventOf Attribute e) result out.new counts.new t.new index.new }
+    ensures { Lands text.now a st counts.old out.old t.old (event_of Attribute e) result out.new counts.new t.new index.new }
 {
     let value = e.value;
     let at = octet(st.at);
@@ -318,7 +318,7 @@ fn item(
     a: bool,
 ) -> Step
     requires { Fit text.now st counts.old t.old index.old e.kind e }
-    ensures { Lands text.now a st counts.old out.old t.old (eventOf e.kind e) result out.new counts.new t.new index.new }
+    ensures { Lands text.now a st counts.old out.old t.old (event_of e.kind e) result out.new counts.new t.new index.new }
 {
     let kind = e.kind;
     match kind {

@@ -1,15 +1,15 @@
 // Which event records the writer takes: what is wrong with one is found before anything is written.
 ghost use Rattle.std.specs.Prelude.{◌≡◌, ◌+◌, ◌&&◌, ◌||◌, length, ltb, leb};
-ghost use Rattle.fields.specs.Utf8.{isText};
+ghost use Rattle.fields.specs.Utf8.{is_text};
 ghost use Rattle.format.specs.Tables.{Vocabulary, link};
-ghost use Rattle.format.specs.Items.{mayStart};
-ghost use Rattle.tables.specs.Located.{Located, octetsOf};
+ghost use Rattle.format.specs.Items.{may_start};
+ghost use Rattle.tables.specs.Located.{Located, octets_of};
 ghost use Rattle.events.specs.declared.Event.{Event};
-ghost use Rattle.write_items.specs.Events.{isAbsent, isStretch, isString, isPrefix, isNamespace, is_value, isName, noName, wellMade, locatedOf, name_of, eventOf, amongChildren, isDeclaring, isListing, goesOn, nameText, allText};
-ghost use Rattle.write_items.specs.RecordContracts.{isOne};
+ghost use Rattle.write_items.specs.Events.{is_absent, is_stretch, is_string, is_prefix, is_namespace, is_value, is_name, no_name, well_made, located_of, name_of, event_of, among_children, is_declaring, is_listing, goes_on, name_text, all_text};
+ghost use Rattle.write_items.specs.RecordContracts.{is_one};
 ghost use Rattle.write_items.specs.Steps.{opens};
 ghost use Rattle.states.specs.States.{mode_of, state_of};
-ghost use Rattle.write_items.specs.Contracts.{Lies, LiesPlain, Placed, faultOf};
+ghost use Rattle.write_items.specs.Promises.{Lies, LiesPlain, Placed, fault_of};
 
 use events::{Event, EventString, Kind, lies_in, tags};
 use fields::is_text;
@@ -17,14 +17,14 @@ use format::refusals::{DEPTH, EVENT, TEXT};
 use states::State;
 
 fn is_absent(x: EventString) -> bool
-    ensures { result ≡ isAbsent x }
+    ensures { result ≡ is_absent x }
 {
     x.is_absent()
 }
 
 // A string in the text area, or one with either of two tags.
 fn is_one(text: &[u8], x: EventString, a: u32, b: u32) -> bool
-    ensures { result ≡ isOne text.now x a b }
+    ensures { result ≡ is_one text.now x a b }
 {
     let tag = x.tag();
     if tag == tags::STRETCH {
@@ -34,26 +34,26 @@ fn is_one(text: &[u8], x: EventString, a: u32, b: u32) -> bool
 }
 
 fn is_stretch(text: &[u8], x: EventString) -> bool
-    ensures { result ≡ isStretch text.now x }
+    ensures { result ≡ is_stretch text.now x }
 {
     is_one(text, x, tags::STRETCH, tags::STRETCH)
 }
 
 fn is_prefix(text: &[u8], x: EventString) -> bool
-    ensures { result ≡ isPrefix text.now x }
+    ensures { result ≡ is_prefix text.now x }
 {
     is_one(text, x, tags::ABSENT, tags::XML_PREFIX)
 }
 
 fn is_namespace(text: &[u8], x: EventString) -> bool
-    ensures { result ≡ isNamespace text.now x }
+    ensures { result ≡ is_namespace text.now x }
 {
     is_one(text, x, tags::ABSENT, tags::XML_NAMESPACE)
 }
 
 // The same in any form, told by the variant alone.
 fn is_string(text: &[u8], x: EventString) -> bool
-    ensures { result ≡ isString text.now x }
+    ensures { result ≡ is_string text.now x }
 {
     match x {
         EventString::Absent => false,
@@ -78,7 +78,7 @@ fn is_value(text: &[u8], x: EventString) -> bool
 
 // A name's strings: a prefix only with a namespace.
 fn is_name(text: &[u8], e: Event) -> bool
-    ensures { result ≡ isName text.now e }
+    ensures { result ≡ is_name text.now e }
 {
     let prefix = e.prefix;
     let namespace = e.namespace;
@@ -89,7 +89,7 @@ fn is_name(text: &[u8], e: Event) -> bool
 }
 
 fn no_name(e: Event) -> bool
-    ensures { result ≡ noName e }
+    ensures { result ≡ no_name e }
 {
     let prefix = e.prefix;
     let namespace = e.namespace;
@@ -98,7 +98,7 @@ fn no_name(e: Event) -> bool
 
 // The strings of a record are as its kind has them.
 fn well_made(text: &[u8], e: Event) -> bool
-    ensures { result ≡ wellMade text.now e.kind e }
+    ensures { result ≡ well_made text.now e.kind e }
 {
     let kind = e.kind;
     let prefix = e.prefix;
@@ -123,7 +123,7 @@ fn well_made(text: &[u8], e: Event) -> bool
 // The identifying string is text; only a stretch has to be looked at, and it is in utf-8.
 fn is_text_string(text: &[u8], x: EventString) -> bool
     requires { LiesPlain text.now x }
-    ensures { result ≡ isText (octetsOf text.now (locatedOf x)) }
+    ensures { result ≡ is_text (octets_of text.now (located_of x)) }
 {
     if x.tag() != tags::STRETCH {
         return true;
@@ -135,7 +135,7 @@ fn is_text_string(text: &[u8], x: EventString) -> bool
 // The same of a string in any form.
 fn is_text_value(text: &[u8], x: EventString) -> bool
     requires { Lies text.now x }
-    ensures { result ≡ isText (octetsOf text.now (locatedOf x)) }
+    ensures { result ≡ is_text (octets_of text.now (located_of x)) }
 {
     match x {
         EventString::Stretch(form, place, size) => {
@@ -151,7 +151,7 @@ fn is_text_value(text: &[u8], x: EventString) -> bool
 
 fn name_text(text: &[u8], e: Event) -> bool
     requires { Placed text.now e }
-    ensures { result ≡ nameText text.now (name_of e) }
+    ensures { result ≡ name_text text.now (name_of e) }
 {
     let prefix = e.prefix;
     let namespace = e.namespace;
@@ -162,7 +162,7 @@ fn name_text(text: &[u8], e: Event) -> bool
 // Every string of the record is text.
 fn all_text(text: &[u8], e: Event) -> bool
     requires { Placed text.now e }
-    ensures { result ≡ allText text.now (eventOf e.kind e) }
+    ensures { result ≡ all_text text.now (event_of e.kind e) }
 {
     let kind = e.kind;
     let prefix = e.prefix;
@@ -183,26 +183,26 @@ fn all_text(text: &[u8], e: Event) -> bool
 
 // A child may stand here, also behind a list of attributes that has a member.
 fn among_children(mode: usize) -> bool
-    ensures { result ≡ amongChildren (mode_of mode) }
+    ensures { result ≡ among_children (mode_of mode) }
 {
     mode == State::CONTENT || mode == State::LISTED
 }
 
 fn is_declaring(mode: usize) -> bool
-    ensures { result ≡ isDeclaring (mode_of mode) }
+    ensures { result ≡ is_declaring (mode_of mode) }
 {
     State::DECLARING <= mode
 }
 
 pub fn is_listing(mode: usize) -> bool
-    ensures { result ≡ isListing (mode_of mode) }
+    ensures { result ≡ is_listing (mode_of mode) }
 {
     mode == State::LISTING || mode == State::LISTED
 }
 
 // The record is the first of an element.
 fn opens(mode: usize, kind: Kind) -> bool
-    ensures { (e : Event) → result ≡ opens (mode_of mode) (eventOf kind e) }
+    ensures { (e : Event) → result ≡ opens (mode_of mode) (event_of kind e) }
 {
     match kind {
         Kind::Blank => false,
@@ -218,21 +218,21 @@ fn opens(mode: usize, kind: Kind) -> bool
 
 // An element may start here, or one that started goes on.
 fn takes_element(st: State) -> bool
-    ensures { (v : Vocabulary Located) → result ≡ (isDeclaring (mode_of st.mode) || (amongChildren (mode_of st.mode) && mayStart (state_of st v))) }
+    ensures { (v : Vocabulary Located) → result ≡ (is_declaring (mode_of st.mode) || (among_children (mode_of st.mode) && may_start (state_of st v))) }
 {
     is_declaring(st.mode) || (among_children(st.mode) && st.may_start())
 }
 
 // Among the children of an element, where a chunk or the element's end may stand.
 fn in_element(st: State) -> bool
-    ensures { result ≡ (amongChildren (mode_of st.mode) && ltb 0 st.level) }
+    ensures { result ≡ (among_children (mode_of st.mode) && ltb 0 st.level) }
 {
     among_children(st.mode) && 0 < st.level
 }
 
 // A document goes on with a record of this kind. What is said of a blank one does not matter: none is well made.
 fn goes_on(st: State, kind: Kind) -> bool
-    ensures { (v : Vocabulary Located) (e : Event) → result ≡ goesOn (state_of st v) (eventOf kind e) }
+    ensures { (v : Vocabulary Located) (e : Event) → result ≡ goes_on (state_of st v) (event_of kind e) }
 {
     match kind {
         Kind::Blank => in_element(st),
@@ -248,14 +248,14 @@ fn goes_on(st: State, kind: Kind) -> bool
 
 // A record of this kind opens an element, and no more may be open.
 fn too_deep(st: State, kind: Kind) -> bool
-    ensures { (e : Event) → result ≡ (opens (mode_of st.mode) (eventOf kind e) && leb link.depth st.level) }
+    ensures { (e : Event) → result ≡ (opens (mode_of st.mode) (event_of kind e) && leb link.depth st.level) }
 {
     opens(st.mode, kind) && State::LEVELS <= st.level
 }
 
 // What is wrong with a record before anything is written; 0 if nothing is.
 pub fn fault(st: State, text: &[u8], e: Event) -> u32
-    ensures { (v : Vocabulary Located) → result ≡ faultOf text.now (state_of st v) e }
+    ensures { (v : Vocabulary Located) → result ≡ fault_of text.now (state_of st v) e }
 {
     let kind = e.kind;
     if !well_made(text, e) {

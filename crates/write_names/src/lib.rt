@@ -4,20 +4,20 @@ mod naming;
 
 ghost use Rattle.std.specs.Prelude.{◌≡◌, ◌+◌, ◌*◌, ◌^◌, ◌-◌, ◌<◌, ◌≤◌, length};
 ghost use Rattle.format.specs.Numbers.{lengths, spell};
-ghost use Rattle.format.specs.Tables.{link, CONTENT-CHARACTER-CHUNK};
-ghost use Rattle.format.specs.Strings.{withLength, c15};
+ghost use Rattle.format.specs.Tables.{link, CONTENT_CHARACTER_CHUNK};
+ghost use Rattle.format.specs.Strings.{with_length, c15};
 ghost use Rattle.format.specs.Names.{has};
 ghost use Rattle.format.specs.declared.StringForm.TheVariants.{Utf8};
 ghost use Rattle.fields.specs.PutContracts.{Puts};
 ghost use Rattle.forms.specs.Reading.{places_of};
 ghost use Rattle.forms.specs.Streams.{part};
-ghost use Rattle.tables.specs.Located.{stretch, octetsOf};
+ghost use Rattle.tables.specs.Located.{stretch, octets_of};
 ghost use Rattle.tables.specs.Rows.{table_of};
 ghost use Rattle.tables.specs.Kept.{layout_of};
-ghost use Rattle.events.specs.Records.{locatedOf, optionalOf};
-ghost use Rattle.events.specs.Words.{stringTag};
-ghost use Rattle.write_names.specs.Choices.{writeId, writeOptional, fieldIn, formFor, writeLiteral, writeValue};
-ghost use Rattle.write_names.specs.Contracts.{stringMost, saidMost, valueMost, lastPlace, LayoutBit, plainMost, formatBits, less_one, withWidth, FewIntegers, orIntegers, HasForm, Chosen, chosenField, tablesIn, InOrder, Suits, Fills, heldAs, Looked, Enters, Added, Spells, Fitting, spelledAs, Stands, Meets};
+ghost use Rattle.events.specs.Records.{located_of, optional_of};
+ghost use Rattle.events.specs.Words.{string_tag};
+ghost use Rattle.write_names.specs.Choices.{write_id, write_optional, field_in, form_for, write_literal, write_value};
+ghost use Rattle.write_names.specs.Promises.{string_most, said_most, value_most, last_place, LayoutBit, plain_most, format_bits, less_one, with_width, FewIntegers, or_integers, HasForm, Chosen, chosen_field, tables_in, InOrder, Suits, Fills, held_as, Looked, Enters, Added, Spells, Fitting, spelled_as, Stands, Meets};
 
 use decimal::scanning::Found;
 use events::EventString;
@@ -88,7 +88,7 @@ pub fn number_of(
     x: EventString,
 ) -> u32
     requires { InOrder text.now counts.now t.now index.now × (table < 5) × Suits text.now table x }
-    ensures { (result ≡ heldAs text.now (table_of table) (tablesIn counts.now t.now) x) × (result ≤ 256) }
+    ensures { (result ≡ held_as text.now (table_of table) (tables_in counts.now t.now) x) × (result ≤ 256) }
 {
     match x {
         EventString::Absent => 0,
@@ -117,7 +117,7 @@ pub fn number_said(
     x: EventString,
 ) -> u32
     requires { InOrder text.now counts.now t.now index.now × (5 ≤ table) × (table < 8) × Spells text.now x }
-    ensures { (result ≡ heldAs text.now (table_of table) (tablesIn counts.now t.now) x) × (result ≤ 256) }
+    ensures { (result ≡ held_as text.now (table_of table) (tables_in counts.now t.now) x) × (result ≤ 256) }
 {
     let EventString::Stretch(form, place, size) = x else {
         return 0;
@@ -144,8 +144,8 @@ fn spelled(
     place: u32,
     size: u32,
 ) -> usize
-    requires { (at ≤ lastPlace) × (1 ≤ bit) × (bit ≤ 7) × (lead + 2 ^ (9 - bit) ≤ 256) × (0 < size) × (place + size ≤ length text.now) × (length text.now ≤ 16384) }
-    ensures { Puts out.old at result out.new (withLength (lengths bit) lead (octetsOf text.now (stretch Utf8 place size))) × (result ≤ at + stringMost) }
+    requires { (at ≤ last_place) × (1 ≤ bit) × (bit ≤ 7) × (lead + 2 ^ (9 - bit) ≤ 256) × (0 < size) × (place + size ≤ length text.now) × (length text.now ≤ 16384) }
+    ensures { Puts out.old at result out.new (with_length (lengths bit) lead (octets_of text.now (stretch Utf8 place size))) × (result ≤ at + string_most) }
 {
     let n = size as usize;
     let behind = put_length(out, at, bit, lead, n);
@@ -154,7 +154,7 @@ fn spelled(
 
 // 1 where there is a string.
 fn has(x: EventString) -> u8
-    ensures { (result ≡ has (optionalOf x)) × (result ≤ 1) }
+    ensures { (result ≡ has (optional_of x)) × (result ≤ 1) }
 {
     if x.is_absent() {
         return 0;
@@ -164,8 +164,8 @@ fn has(x: EventString) -> u8
 
 // The number of a name of table 8 or 9, C.27 or C.25.
 fn put_name_number(out: &mut [u8], at: usize, table: usize, lead: u8, n: u32) -> usize
-    requires { (at ≤ lastPlace) × (lead ≤ 0x80) × (1 ≤ n) × (n ≤ 256) }
-    ensures { Puts out.old at result out.new (spell (layout_of table).numberForms lead n) × (result ≤ at + 4) }
+    requires { (at ≤ last_place) × (lead ≤ 0x80) × (1 ≤ n) × (n ≤ 256) }
+    ensures { Puts out.old at result out.new (spell (layout_of table).number_forms lead n) × (result ≤ at + 4) }
 {
     if table == ELEMENT_NAME {
         return put_number(out, at, 3, lead, n);
@@ -201,8 +201,8 @@ fn id(
     at: usize,
     x: Sought,
 ) -> Wrote
-    requires { InOrder text.now counts.old t.old index.old × (at ≤ lastPlace) × (1 ≤ stringTag x.string) × Looked text.now counts.old t.old x }
-    ensures { Meets text.now out.old at stringMost result out.new counts.new t.new index.new (writeId text.now (table_of x.table) (tablesIn counts.old t.old) (locatedOf x.string)) }
+    requires { InOrder text.now counts.old t.old index.old × (at ≤ last_place) × (1 ≤ string_tag x.string) × Looked text.now counts.old t.old x }
+    ensures { Meets text.now out.old at string_most result out.new counts.new t.new index.new (write_id text.now (table_of x.table) (tables_in counts.old t.old) (located_of x.string)) }
 {
     if x.number != 0 {
         return Wrote::Put(put_number_at_bit_2(out, at, 0x80, x.number));
@@ -235,8 +235,8 @@ fn optional(
     at: usize,
     x: Sought,
 ) -> Wrote
-    requires { InOrder text.now counts.old t.old index.old × (at ≤ lastPlace) × Looked text.now counts.old t.old x }
-    ensures { Meets text.now out.old at stringMost result out.new counts.new t.new index.new (writeOptional text.now (table_of x.table) (tablesIn counts.old t.old) (optionalOf x.string)) }
+    requires { InOrder text.now counts.old t.old index.old × (at ≤ last_place) × Looked text.now counts.old t.old x }
+    ensures { Meets text.now out.old at string_most result out.new counts.new t.new index.new (write_optional text.now (table_of x.table) (tables_in counts.old t.old) (optional_of x.string)) }
 {
     let string = x.string;
     if string.is_absent() {
@@ -256,8 +256,8 @@ pub fn identified(
     table: usize,
     x: EventString,
 ) -> Wrote
-    requires { InOrder text.now counts.old t.old index.old × (at ≤ lastPlace) × (1 ≤ stringTag x) × (table < 4) × Suits text.now table x }
-    ensures { Meets text.now out.old at stringMost result out.new counts.new t.new index.new (writeId text.now (table_of table) (tablesIn counts.old t.old) (locatedOf x)) }
+    requires { InOrder text.now counts.old t.old index.old × (at ≤ last_place) × (1 ≤ string_tag x) × (table < 4) × Suits text.now table x }
+    ensures { Meets text.now out.old at string_most result out.new counts.new t.new index.new (write_id text.now (table_of table) (tables_in counts.old t.old) (located_of x)) }
 {
     let number = number_of(text, t, counts, index, table, x);
     let sought = Sought {
@@ -283,7 +283,7 @@ fn letters_in(text: &[u8], from: usize, size: usize) -> usize
 // How many octets a string has in UTF-8.
 pub fn octets_of(text: &[u8], x: EventString) -> usize
     requires { Spells text.now x × (length text.now ≤ 16384) }
-    ensures { (result ≡ length (octetsOf text.now (locatedOf x))) × (1 ≤ result) × (result ≤ saidMost) }
+    ensures { (result ≡ length (octets_of text.now (located_of x))) × (1 ≤ result) × (result ≤ said_most) }
 {
     let form = x.form();
     let size = x.size() as usize;
@@ -301,7 +301,7 @@ pub fn octets_of(text: &[u8], x: EventString) -> usize
 
 // The form of integers of w octets each.
 fn with_width(w: usize) -> StringForm
-    ensures { result ≡ withWidth w }
+    ensures { result ≡ with_width w }
 {
     match w {
         2 => StringForm::Short,
@@ -312,8 +312,8 @@ fn with_width(w: usize) -> StringForm
 
 // The form for a string of n characters of an alphabet: integers where they have fewer octets, of which a length takes no more, and on a tie the alphabet.
 fn or_integers(n: usize, found: Found) -> Formed
-    requires { (n ≤ saidMost) × FewIntegers n found }
-    ensures { result ≡ orIntegers n found }
+    requires { (n ≤ said_most) × FewIntegers n found }
+    ensures { result ≡ or_integers n found }
 {
     let packed = (n + 1) / 2;
     if let Found::Integers(k, w) = found {
@@ -333,7 +333,7 @@ fn or_integers(n: usize, found: Found) -> Formed
 
 // How many octets of a string no other form saves.
 fn plain_most(bit: u32) -> usize
-    ensures { result ≡ plainMost bit }
+    ensures { result ≡ plain_most bit }
 {
     if bit == 7 {
         return 2;
@@ -343,8 +343,8 @@ fn plain_most(bit: u32) -> usize
 
 // The form in which a string of n octets in UTF-8 is spelled. What integers say has characters of the first alphabet alone.
 fn form_for(text: &[u8], bit: u32, x: EventString, n: usize) -> Formed
-    requires { Spells text.now x × (length text.now ≤ 16384) × LayoutBit bit × (n ≡ length (octetsOf text.now (locatedOf x))) }
-    ensures { Chosen bit (octetsOf text.now (locatedOf x)) result }
+    requires { Spells text.now x × (length text.now ≤ 16384) × LayoutBit bit × (n ≡ length (octets_of text.now (located_of x))) }
+    ensures { Chosen bit (octets_of text.now (located_of x)) result }
 {
     if n <= plain_most(bit) {
         return Formed {
@@ -379,8 +379,8 @@ fn in_utf8(
     x: EventString,
     n: usize,
 ) -> usize
-    requires { Spells text.now x × (length text.now ≤ 16384) × (at < 2 ^ 31) × LayoutBit bit × (lead + 4 * 2 ^ (9 - bit) ≤ 256) × (n ≡ length (octetsOf text.now (locatedOf x))) }
-    ensures { Puts out.old at result out.new (fieldIn bit Utf8 lead (octetsOf text.now (locatedOf x))) × (result ≤ at + valueMost) }
+    requires { Spells text.now x × (length text.now ≤ 16384) × (at < 2 ^ 31) × LayoutBit bit × (lead + 4 * 2 ^ (9 - bit) ≤ 256) × (n ≡ length (octets_of text.now (located_of x))) }
+    ensures { Puts out.old at result out.new (field_in bit Utf8 lead (octets_of text.now (located_of x))) × (result ≤ at + value_most) }
 {
     let form = x.form();
     let from = x.place() as usize;
@@ -404,7 +404,7 @@ fn unit_before(bit: u32) -> u8
 }
 
 fn format_of(form: StringForm) -> Format
-    ensures { (result.bits ≡ formatBits form) × (result.number ≡ less_one form) × (result.bits ≤ 3) × (result.number ≤ 4) }
+    ensures { (result.bits ≡ format_bits form) × (result.number ≡ less_one form) × (result.bits ≤ 3) × (result.number ≤ 4) }
 {
     match form {
         StringForm::Utf8 => Format { bits: 0, number: 0 },
@@ -427,8 +427,8 @@ fn in_other(
     x: EventString,
     formed: Formed,
 ) -> usize
-    requires { Spells text.now x × (length text.now ≤ 16384) × (at < 2 ^ 31) × LayoutBit bit × (lead + 4 * 2 ^ (9 - bit) ≤ 256) × HasForm (octetsOf text.now (locatedOf x)) formed }
-    ensures { Puts out.old at result out.new (fieldIn bit formed.form lead (octetsOf text.now (locatedOf x))) × (result ≤ at + valueMost) }
+    requires { Spells text.now x × (length text.now ≤ 16384) × (at < 2 ^ 31) × LayoutBit bit × (lead + 4 * 2 ^ (9 - bit) ≤ 256) × HasForm (octets_of text.now (located_of x)) formed }
+    ensures { Puts out.old at result out.new (field_in bit formed.form lead (octets_of text.now (located_of x))) × (result ≤ at + value_most) }
 {
     let unit = unit_before(bit);
     let form = formed.form;
@@ -458,8 +458,8 @@ fn put_formed(
     x: EventString,
     n: usize,
 ) -> usize
-    requires { Spells text.now x × (length text.now ≤ 16384) × (at < 2 ^ 31) × LayoutBit bit × (lead + 4 * 2 ^ (9 - bit) ≤ 256) × (n ≡ length (octetsOf text.now (locatedOf x))) }
-    ensures { Puts out.old at result out.new (chosenField bit lead (octetsOf text.now (locatedOf x))) × (result ≤ at + valueMost) }
+    requires { Spells text.now x × (length text.now ≤ 16384) × (at < 2 ^ 31) × LayoutBit bit × (lead + 4 * 2 ^ (9 - bit) ≤ 256) × (n ≡ length (octets_of text.now (located_of x))) }
+    ensures { Puts out.old at result out.new (chosen_field bit lead (octets_of text.now (located_of x))) × (result ≤ at + value_most) }
 {
     let formed = form_for(text, bit, x, n);
     let form = formed.form;
@@ -479,8 +479,8 @@ pub fn put_string(
     x: EventString,
     n: usize,
 ) -> usize
-    requires { Spells text.now x × (length text.now ≤ 16384) × (at < 2 ^ 31) × LayoutBit bit × (lead + 4 * 2 ^ (9 - bit) ≤ 256) × (n ≡ length (octetsOf text.now (locatedOf x))) }
-    ensures { Puts out.old at result out.new (chosenField bit lead (octetsOf text.now (locatedOf x))) × (result ≤ at + valueMost) }
+    requires { Spells text.now x × (length text.now ≤ 16384) × (at < 2 ^ 31) × LayoutBit bit × (lead + 4 * 2 ^ (9 - bit) ≤ 256) × (n ≡ length (octets_of text.now (located_of x))) }
+    ensures { Puts out.old at result out.new (chosen_field bit lead (octets_of text.now (located_of x))) × (result ≤ at + value_most) }
 {
     let form = x.form();
     if form.number() != 0 {
@@ -505,8 +505,8 @@ fn literal(
     q: Spelling,
     x: EventString,
 ) -> usize
-    requires { InOrder text.now counts.old t.old index.old × (at ≤ lastPlace) × Spells text.now x × (0 ≡ heldAs text.now (table_of q.table) (tablesIn counts.old t.old) x) × Fitting q }
-    ensures { Stands text.now out.old at valueMost result out.new counts.new t.new index.new (spelledAs q text.now (tablesIn counts.old t.old) (locatedOf x)) }
+    requires { InOrder text.now counts.old t.old index.old × (at ≤ last_place) × Spells text.now x × (0 ≡ held_as text.now (table_of q.table) (tables_in counts.old t.old) x) × Fitting q }
+    ensures { Stands text.now out.old at value_most result out.new counts.new t.new index.new (spelled_as q text.now (tables_in counts.old t.old) (located_of x)) }
 {
     let EventString::Stretch(form, place, size) = x else {
         return at;
@@ -540,8 +540,8 @@ pub fn value(
     table: usize,
     x: EventString,
 ) -> usize
-    requires { InOrder text.now counts.old t.old index.old × (at ≤ lastPlace) × (5 ≤ table) × (table < 8) × Fills text.now x }
-    ensures { Stands text.now out.old at valueMost result out.new counts.new t.new index.new (writeValue link text.now (table_of table) (tablesIn counts.old t.old) (locatedOf x)) }
+    requires { InOrder text.now counts.old t.old index.old × (at ≤ last_place) × (5 ≤ table) × (table < 8) × Fills text.now x }
+    ensures { Stands text.now out.old at value_most result out.new counts.new t.new index.new (write_value link text.now (table_of table) (tables_in counts.old t.old) (located_of x)) }
 {
     if x.size() == 0 {
         put(out, at, 0xFF);
@@ -570,8 +570,8 @@ pub fn chunk(
     at: usize,
     x: EventString,
 ) -> usize
-    requires { InOrder text.now counts.old t.old index.old × (at ≤ lastPlace) × Spells text.now x }
-    ensures { Stands text.now out.old at valueMost result out.new counts.new t.new index.new (writeLiteral link c15 text.now CONTENT-CHARACTER-CHUNK (tablesIn counts.old t.old) (locatedOf x)) }
+    requires { InOrder text.now counts.old t.old index.old × (at ≤ last_place) × Spells text.now x }
+    ensures { Stands text.now out.old at value_most result out.new counts.new t.new index.new (write_literal link c15 text.now CONTENT_CHARACTER_CHUNK (tables_in counts.old t.old) (located_of x)) }
 {
     let table = CONTENT_CHARACTER_CHUNK;
     let k = number_said(text, t, counts, index, table, x);

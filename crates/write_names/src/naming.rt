@@ -1,13 +1,13 @@
 // Names and namespace declarations as octets: by number where the table holds them, else in parts.
 ghost use Rattle.std.specs.Prelude.{◌≡◌, ◌+◌, ◌*◌, ◌<◌, ◌≤◌, length, get_or};
-ghost use Rattle.tables.specs.Counts.{tableWords};
-ghost use Rattle.tables.specs.Search.{numberOfTriple};
-ghost use Rattle.tables.specs.Rows.{tripleAt, entries};
+ghost use Rattle.tables.specs.Counts.{table_words};
+ghost use Rattle.tables.specs.Search.{number_of_triple};
+ghost use Rattle.tables.specs.Rows.{triple_at, entries};
 ghost use Rattle.tables.specs.Kept.{layout_of, triple_of};
 ghost use Rattle.index.specs.Indexed.{slots};
-ghost use Rattle.events.specs.Records.{optionalOf};
-ghost use Rattle.write_names.specs.Choices.{writeName};
-ghost use Rattle.write_names.specs.Contracts.{pairMost, nameMost, lastPlace, tablesIn, InOrder, Suits, Looked, Proper, New, named_of, numberThen, Tripled, pairBehind, declared_by, Meets};
+ghost use Rattle.events.specs.Records.{optional_of};
+ghost use Rattle.write_names.specs.Choices.{write_name};
+ghost use Rattle.write_names.specs.Promises.{pair_most, name_most, last_place, tables_in, InOrder, Suits, Looked, Proper, New, named_of, number_then, Tripled, pair_behind, declared_by, Meets};
 
 use crate::{QualifiedName, Sought, Wrote, has, id, number_of, optional, put_name_number};
 use events::EventString;
@@ -33,7 +33,7 @@ pub struct Numbers {
 // A string's number once it is written: k, or the next of its table, which has n entries; 0 where there is no string.
 fn number_then(n: u32, x: EventString, k: u32) -> u32
     requires { n ≤ 256 }
-    ensures { result ≡ numberThen n x k }
+    ensures { result ≡ number_then n x k }
 {
     if k != 0 {
         return k;
@@ -53,7 +53,7 @@ fn triple(
     table: usize,
     x: Row,
 ) -> Wrote
-    requires { (length t.old ≡ tableWords) × (length counts.old ≡ 10) × (length index.old ≡ slots) × (8 ≤ table) × (table < 10) × (0 ≡ numberOfTriple (entries (tripleAt t.old) (768 * table) (get_or counts.old table 0)) (triple_of x)) }
+    requires { (length t.old ≡ table_words) × (length counts.old ≡ 10) × (length index.old ≡ slots) × (8 ≤ table) × (table < 10) × (0 ≡ number_of_triple (entries (triple_at t.old) (768 * table) (get_or counts.old table 0)) (triple_of x)) }
     ensures { Tripled at counts.old t.old index.old table x result counts.new t.new index.new }
 {
     let n = counts[table];
@@ -75,8 +75,8 @@ fn pair(
     at: usize,
     x: Opening,
 ) -> Wrote
-    requires { InOrder text.now counts.old t.old index.old × (at + nameMost ≤ lastPlace) × (x.prefix.table ≡ 0) × (x.namespace.table ≡ 1) × Looked text.now counts.old t.old x.prefix × Looked text.now counts.old t.old x.namespace }
-    ensures { Meets text.now out.old at pairMost result out.new counts.new t.new index.new (pairBehind x.first text.now (tablesIn counts.old t.old) (optionalOf x.prefix.string) (optionalOf x.namespace.string)) }
+    requires { InOrder text.now counts.old t.old index.old × (at + name_most ≤ last_place) × (x.prefix.table ≡ 0) × (x.namespace.table ≡ 1) × Looked text.now counts.old t.old x.prefix × Looked text.now counts.old t.old x.namespace }
+    ensures { Meets text.now out.old at pair_most result out.new counts.new t.new index.new (pair_behind x.first text.now (tables_in counts.old t.old) (optional_of x.prefix.string) (optional_of x.namespace.string)) }
 {
     put(out, at, x.first);
     let prefix = x.prefix;
@@ -98,8 +98,8 @@ fn parts(
     name: QualifiedName,
     k: Numbers,
 ) -> Wrote
-    requires { InOrder text.now counts.old t.old index.old × (at + nameMost ≤ lastPlace) × New text.now (tablesIn counts.old t.old) name k × Proper text.now name }
-    ensures { Meets text.now out.old at nameMost result out.new counts.new t.new index.new (writeName (layout_of name.table) name.lead text.now (tablesIn counts.old t.old) (named_of name)) }
+    requires { InOrder text.now counts.old t.old index.old × (at + name_most ≤ last_place) × New text.now (tables_in counts.old t.old) name k × Proper text.now name }
+    ensures { Meets text.now out.old at name_most result out.new counts.new t.new index.new (write_name (layout_of name.table) name.lead text.now (tables_in counts.old t.old) (named_of name)) }
 {
     let prefix = name.prefix;
     let namespace = name.namespace;
@@ -144,8 +144,8 @@ pub fn name(
     at: usize,
     name: QualifiedName,
 ) -> Wrote
-    requires { InOrder text.now counts.old t.old index.old × (at + nameMost ≤ lastPlace) × Proper text.now name }
-    ensures { Meets text.now out.old at nameMost result out.new counts.new t.new index.new (writeName (layout_of name.table) name.lead text.now (tablesIn counts.old t.old) (named_of name)) }
+    requires { InOrder text.now counts.old t.old index.old × (at + name_most ≤ last_place) × Proper text.now name }
+    ensures { Meets text.now out.old at name_most result out.new counts.new t.new index.new (write_name (layout_of name.table) name.lead text.now (tables_in counts.old t.old) (named_of name)) }
 {
     let prefix = name.prefix;
     let namespace = name.namespace;
@@ -180,8 +180,8 @@ pub fn declared(
     prefix: EventString,
     namespace: EventString,
 ) -> Wrote
-    requires { InOrder text.now counts.old t.old index.old × (at + nameMost ≤ lastPlace) × Suits text.now 0 prefix × Suits text.now 1 namespace }
-    ensures { Meets text.now out.old at pairMost result out.new counts.new t.new index.new (declared_by text.now (tablesIn counts.old t.old) (optionalOf prefix) (optionalOf namespace)) }
+    requires { InOrder text.now counts.old t.old index.old × (at + name_most ≤ last_place) × Suits text.now 0 prefix × Suits text.now 1 namespace }
+    ensures { Meets text.now out.old at pair_most result out.new counts.new t.new index.new (declared_by text.now (tables_in counts.old t.old) (optional_of prefix) (optional_of namespace)) }
 {
     let k = number_of(text, t, counts, index, PREFIX, prefix);
     let n = number_of(text, t, counts, index, NAMESPACE_NAME, namespace);

@@ -13,17 +13,17 @@ use Rattle.write_rows.specs.declared.ahead.Look.TheVariants.{Before, Behind, Kno
 use Rattle.write_rows.specs.AheadContracts.{decided, onward}
 
 -- ---- a look at the records from number n on
-pub look-inside : (a : Look) (n end : ℕ) → onward a n end ≡ true → n < end
+pub look_inside : (a : Look) (n end : ℕ) → onward a n end ≡ true → n < end
 unfolding onward
-look-inside Before n end h = ltb-true n end h
-look-inside Behind n end h = ltb-true n end h
-look-inside (Known answer) n end h = absurd (true≢false (sym h))
+look_inside Before n end h = ltb-true n end h
+look_inside Behind n end h = ltb-true n end h
+look_inside (Known answer) n end h = absurd (true≢false (sym h))
 
-pub look-past : (a b : Look) (e : Event) (xs : List Event) (n : ℕ) {w : Bool} → decided a (drop n xs) ≡ w → ((es : List Event) → decided b es ≡ decided a (e ∷ es)) → drop n xs ≡ e ∷ drop (suc n) xs → decided b (drop (n + 1) xs) ≡ w
-look-past a b e xs n leads past at = rw (add-one n) (past (drop (suc n) xs) ∙ ap (decided a) (sym at) ∙ leads)
+pub look_past : (a b : Look) (e : Event) (xs : List Event) (n : ℕ) {w : Bool} → decided a (drop n xs) ≡ w → ((es : List Event) → decided b es ≡ decided a (e ∷ es)) → drop n xs ≡ e ∷ drop (suc n) xs → decided b (drop (n + 1) xs) ≡ w
+look_past a b e xs n leads past at = rw (add-one n) (past (drop (suc n) xs) ∙ ap (decided a) (sym at) ∙ leads)
 
-pub look-over : (a : Look) (xs : List Event) (n : ℕ) {w : Bool} → decided a (drop n xs) ≡ w → onward a n (length xs) ≡ false → decided a [] ≡ w
+pub look_over : (a : Look) (xs : List Event) (n : ℕ) {w : Bool} → decided a (drop n xs) ≡ w → onward a n (length xs) ≡ false → decided a [] ≡ w
 unfolding onward decided
-look-over Before xs n leads h = rw (drop_of_length-le xs (ltb-false n (length xs) h)) at leads
-look-over Behind xs n leads h = rw (drop_of_length-le xs (ltb-false n (length xs) h)) at leads
-look-over (Known answer) xs n leads h = leads
+look_over Before xs n leads h = rw (drop_of_length-le xs (ltb-false n (length xs) h)) at leads
+look_over Behind xs n leads h = rw (drop_of_length-le xs (ltb-false n (length xs) h)) at leads
+look_over (Known answer) xs n leads h = leads

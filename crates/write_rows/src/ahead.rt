@@ -1,7 +1,7 @@
 // Whether an element has attributes, by the records of a row: a look at them, one after the other. What is decided is decided by value.
 ghost use Rattle.std.specs.Prelude.{◌≡◌, List, [], ◌∷◌, drop};
 ghost use Rattle.events.specs.declared.Event.{Event};
-ghost use Rattle.write_items.specs.Steps.{attributeNext, announced};
+ghost use Rattle.write_items.specs.Steps.{attribute_next, announced};
 ghost use Rattle.write_rows.specs.AheadContracts.{decided, onward};
 
 use events::{Event, Kind, kinds};
@@ -67,7 +67,7 @@ fn before_start(e: Event) -> Look
 }
 
 fn is_attribute(e: Event) -> bool
-    ensures { (es : List Event) → result ≡ attributeNext (e ∷ es) }
+    ensures { (es : List Event) → result ≡ attribute_next (e ∷ es) }
 {
     let kind = e.kind;
     kind.number() == kinds::ATTRIBUTE

@@ -6,7 +6,7 @@ mod ahead;
 ghost use Rattle.std.specs.Prelude.{◌≡◌, length, replicate};
 ghost use Rattle.format.specs.Tables.{link};
 ghost use Rattle.index.specs.Indexed.{slots};
-ghost use Rattle.writer.specs.Writing.{Leaves, writeOf};
+ghost use Rattle.writer.specs.Writing.{Leaves, write_of};
 
 use events::Event;
 use writer::Answer;
@@ -21,7 +21,7 @@ fn written(
     index: &mut [u8],
 ) -> Answer
     requires { index.old ≡ replicate slots 0 }
-    ensures { Leaves result out.new tables.new (writeOf link given.now events.now text.now (length out.old) (length tables.old)) }
+    ensures { Leaves result out.new tables.new (write_of link given.now events.now text.now (length out.old) (length tables.old)) }
 {
     let mut p = writer::prepared(given, text, out, tables, index);
     let mut i = 0;
@@ -42,7 +42,7 @@ pub fn write(
     out: &mut [u8],
     tables: &mut [u32],
 ) -> Answer
-    ensures { Leaves result out.new tables.new (writeOf link given.now events.now text.now (length out.old) (length tables.old)) }
+    ensures { Leaves result out.new tables.new (write_of link given.now events.now text.now (length out.old) (length tables.old)) }
 {
     let mut index = [0u8; index::SLOTS];
     written(given, events, text, out, tables, &mut index)

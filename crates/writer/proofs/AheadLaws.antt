@@ -10,42 +10,42 @@ use lib.ListN.{drop}
 use Rattle.events.specs.declared.Kind.{Kind}
 use Rattle.events.specs.declared.Kind.TheVariants.{Blank, Namespace, Start, Attribute, Chunk, Comment, Instruction, End}
 use Rattle.events.specs.declared.Event.{Event}
-use Rattle.events.specs.Words.{kindNumber}
-use Rattle.events.specs.FromWords.{beginsWith}
+use Rattle.events.specs.Words.{kind_number}
+use Rattle.events.specs.FromWords.{begins_with}
 use Rattle.tables.proofs.Found.{clash}
-use Rattle.write_items.specs.Steps.{attributeNext, announced}
+use Rattle.write_items.specs.Steps.{attribute_next, announced}
 
 module _ (e : Event) (es : List Event) where
-  pub announced-on : e.kind ≡ Namespace → announced (e ∷ es) ≡ announced es
+  pub announced_on : e.kind ≡ Namespace → announced (e ∷ es) ≡ announced es
   unfolding announced
-  announced-on h = rw h
+  announced_on h = rw h
 
 -- ---- records one by one
-drop-suc : {A : Type 0} (n : ℕ) (xs : List A) → drop 1 (drop n xs) ≡ drop (suc n) xs
-drop-suc zero xs = refl
-drop-suc (suc n) [] = refl
-drop-suc (suc n) (x ∷ xs) = drop-suc n xs
+drop_suc : {A : Type 0} (n : ℕ) (xs : List A) → drop 1 (drop n xs) ≡ drop (suc n) xs
+drop_suc zero xs = refl
+drop_suc (suc n) [] = refl
+drop_suc (suc n) (x ∷ xs) = drop_suc n xs
 
 -- ---- by the kinds' numbers
-declared-kind : (k : Kind) → eqb (kindNumber k) 1 ≡ true → k ≡ Namespace
-declared-kind Blank h = clash h
-declared-kind Namespace h = refl
-declared-kind Start h = clash h
-declared-kind Attribute h = clash h
-declared-kind Chunk h = clash h
-declared-kind Comment h = clash h
-declared-kind Instruction h = clash h
-declared-kind End h = clash h
+declared_kind : (k : Kind) → eqb (kind_number k) 1 ≡ true → k ≡ Namespace
+declared_kind Blank h = clash h
+declared_kind Namespace h = refl
+declared_kind Start h = clash h
+declared_kind Attribute h = clash h
+declared_kind Chunk h = clash h
+declared_kind Comment h = clash h
+declared_kind Instruction h = clash h
+declared_kind End h = clash h
 
-declared-past : (es : List Event) → beginsWith 1 es ≡ true → announced es ≡ announced (drop 1 es)
-declared-past [] h = clash h
-declared-past (e ∷ es) h = announced-on e es (declared-kind e.kind h)
+declared_past : (es : List Event) → begins_with 1 es ≡ true → announced es ≡ announced (drop 1 es)
+declared_past [] h = clash h
+declared_past (e ∷ es) h = announced_on e es (declared_kind e.kind h)
 
-pub attribute-first : (es : List Event) → attributeNext es ≡ beginsWith 3 es
-attribute-first [] = refl
-attribute-first (e ∷ es) = by e.kind
+pub attribute_first : (es : List Event) → attribute_next es ≡ begins_with 3 es
+attribute_first [] = refl
+attribute_first (e ∷ es) = by e.kind
   where
-    by : (k : Kind) → elim k [ Blank ↦ false | Namespace ↦ false | Start ↦ false | Attribute ↦ true | Chunk ↦ false | Comment ↦ false | Instruction ↦ false | End ↦ false ] ≡ eqb (kindNumber k) 3
+    by : (k : Kind) → elim k [ Blank ↦ false | Namespace ↦ false | Start ↦ false | Attribute ↦ true | Chunk ↦ false | Comment ↦ false | Instruction ↦ false | End ↦ false ] ≡ eqb (kind_number k) 3
     by Blank = refl
     by Namespace = refl
     by Start = refl
@@ -56,8 +56,8 @@ attribute-first (e ∷ es) = by e.kind
     by End = refl
 
 -- what a kind that is no declaration's says of the records behind it, where an attribute is next there or not
-started : (k : Kind) (next on : Bool) → eqb (kindNumber k) 1 ≡ false
-    → elim k [ Blank ↦ false | Namespace ↦ on | Start ↦ next | Attribute ↦ false | Chunk ↦ false | Comment ↦ false | Instruction ↦ false | End ↦ false ] ≡ (eqb (kindNumber k) 2 && next)
+started : (k : Kind) (next on : Bool) → eqb (kind_number k) 1 ≡ false
+    → elim k [ Blank ↦ false | Namespace ↦ on | Start ↦ next | Attribute ↦ false | Chunk ↦ false | Comment ↦ false | Instruction ↦ false | End ↦ false ] ≡ (eqb (kind_number k) 2 && next)
 started Blank next on h = refl
 started Namespace next on h = clash (sym h)
 started Start next on h = refl
@@ -67,17 +67,17 @@ started Comment next on h = refl
 started Instruction next on h = refl
 started End next on h = refl
 
-declared-over : (es : List Event) → beginsWith 1 es ≡ false → announced es ≡ (beginsWith 2 es && beginsWith 3 (drop 1 es))
+declared_over : (es : List Event) → begins_with 1 es ≡ false → announced es ≡ (begins_with 2 es && begins_with 3 (drop 1 es))
 unfolding announced
-declared-over [] h = refl
-declared-over (e ∷ es) h = rw (← attribute-first es) (started e.kind (attributeNext es) (announced es) h)
+declared_over [] h = refl
+declared_over (e ∷ es) h = rw (← attribute_first es) (started e.kind (attribute_next es) (announced es) h)
 
 module _ (xs : List Event) (n : ℕ) where
-  one_more : drop 1 (drop n xs) ≡ drop (n + 1) xs
-  one_more = rw (add-one n) (drop-suc n xs)
+  one_more_lem : drop 1 (drop n xs) ≡ drop (n + 1) xs
+  one_more_lem = rw (add-one n) (drop_suc n xs)
 
-  pub past-declared : beginsWith 1 (drop n xs) ≡ true → announced (drop (n + 1) xs) ≡ announced (drop n xs)
-  past-declared h = rw (← one_more) (sym (declared-past (drop n xs) h))
+  pub past_declared : begins_with 1 (drop n xs) ≡ true → announced (drop (n + 1) xs) ≡ announced (drop n xs)
+  past_declared h = rw (← one_more_lem) (sym (declared_past (drop n xs) h))
 
-  pub behind-declared : beginsWith 1 (drop n xs) ≡ false → {w : Bool} → announced (drop n xs) ≡ w → (beginsWith 2 (drop n xs) && beginsWith 3 (drop (n + 1) xs)) ≡ w
-  behind-declared h q = rw (← one_more) (sym (declared-over (drop n xs) h) ∙ q)
+  pub behind_declared : begins_with 1 (drop n xs) ≡ false → {w : Bool} → announced (drop n xs) ≡ w → (begins_with 2 (drop n xs) && begins_with 3 (drop (n + 1) xs)) ≡ w
+  behind_declared h q = rw (← one_more_lem) (sym (declared_over (drop n xs) h) ∙ q)

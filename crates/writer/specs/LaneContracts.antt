@@ -4,20 +4,20 @@ use Rattle.std.proofs.Math.Option.{Option, none, some}
 use Rattle.format.specs.Octets.{Octets, Halves, Words}
 use Rattle.format.specs.Numbers.{spell, numbers}
 use Rattle.format.specs.Events.{Name}
-use Rattle.format.specs.Tables.{StringTable, PREFIX, NAMESPACE-NAME, LOCAL-NAME, ELEMENT-NAME, Triple, Vocabulary, strings, names, link}
+use Rattle.format.specs.Tables.{StringTable, PREFIX, NAMESPACE_NAME, LOCAL_NAME, ELEMENT_NAME, Triple, Vocabulary, strings, names, link}
 use Rattle.format.specs.Strings.{bit}
 use Rattle.format.specs.Items as F
 use Rattle.format.specs.Document.{aligned}
 use Rattle.fields.specs.PutContracts.{Puts}
-use Rattle.tables.specs.Located.{Located, octetsOf}
-use Rattle.tables.specs.Search.{number_in, numberOfTriple}
+use Rattle.tables.specs.Located.{Located, octets_of}
+use Rattle.tables.specs.Search.{number_in, number_of_triple}
 use Rattle.events.specs.declared.Kind.TheVariants.{Start}
 use Rattle.events.specs.declared.Event.{Event}
-use Rattle.events.specs.Records.{blank, placed, unplaced, endRecord}
-use Rattle.events.specs.FromWords.{recordAt, recordsOf, beginsWith}
+use Rattle.events.specs.Records.{blank, placed, unplaced, end_record}
+use Rattle.events.specs.FromWords.{record_at, records_of, begins_with}
 use Rattle.write_names.specs.Choices.{within}
-use Rattle.write_items.specs.Events.{wellMade, name_of, nameText}
-use Rattle.write_items.specs.OutputContracts.{Holds, endOctet}
+use Rattle.write_items.specs.Events.{well_made, name_of, name_text}
+use Rattle.write_items.specs.OutputContracts.{Holds, end_octet}
 use Rattle.writer.specs.declared.lane.Lane.{Lane}
 use Rattle.writer.specs.Writing.{run, Outcome}
 use Rattle.writer.specs.RunContracts.{behind}
@@ -32,22 +32,22 @@ pub record SameWords (w : Words) (a : ℕ) (u : Words) (b : ℕ) : Type 0 where
 -- A string that may be absent has the number k in its table, 0 if it is absent.
 abbrev pub HasNumber : Octets → StringTable → Vocabulary Located → Option Located → ℕ → Type 0
 HasNumber text t v none k = k ≡ 0
-HasNumber text t v (some x) k = (number_in (map (octetsOf text) (strings v t)) (octetsOf text x) ≡ k) × (1 ≤ k)
+HasNumber text t v (some x) k = (number_in (map (octets_of text) (strings v t)) (octets_of text x) ≡ k) × (1 ≤ k)
 
 -- The tables hold the name of an element, with its strings, and k is its number.
 pub record Known (text : Octets) (v : Vocabulary Located) (x : Name Located) (k : ℕ) : Type 0 where
   pub triple : Triple
   pub prefix : HasNumber text PREFIX v x.prefix triple.prefix
-  pub namespace : HasNumber text NAMESPACE-NAME v x.namespace triple.namespace
-  pub local : HasNumber text LOCAL-NAME v (some x.local) triple.local
-  pub is : numberOfTriple (names v ELEMENT-NAME) triple ≡ k
+  pub namespace : HasNumber text NAMESPACE_NAME v x.namespace triple.namespace
+  pub local : HasNumber text LOCAL_NAME v (some x.local) triple.local
+  pub is : number_of_triple (names v ELEMENT_NAME) triple ≡ k
   pub held : 1 ≤ k
 
 -- The record is a Start that is well made and text, and the tables hold its name with the number k.
 pub record Taught (text : Octets) (v : Vocabulary Located) (e : Event) (k : ℕ) : Type 0 where
   pub kind : e.kind ≡ Start
-  pub made : wellMade text Start e ≡ true
-  pub texts : nameText text (name_of e) ≡ true
+  pub made : well_made text Start e ≡ true
+  pub texts : name_text text (name_of e) ≡ true
   pub few : k ≤ 256
   pub known : Known text v (name_of e) k
 
@@ -65,7 +65,7 @@ pub record Recalled (w memory : Words) (i k : ℕ) : Type 0 where
   pub slot : ℕ
   pub filled : 0 < get_or memory slot 0
   pub number : get_or memory slot 0 % 512 ≡ k
-  pub same : unplaced (recordAt w (14 * i)) ≡ unplaced (recordAt w (14 * (get_or memory slot 0 / 512)))
+  pub same : unplaced (record_at w (14 * i)) ≡ unplaced (record_at w (14 * (get_or memory slot 0 / 512)))
 
 -- Start i is remembered with the number k.
 pub record Kept (memory : Words) (i k : ℕ) (memory' : Words) : Type 0 where
@@ -75,7 +75,7 @@ pub record Kept (memory : Words) (i k : ℕ) (memory' : Words) : Type 0 where
 -- ---- the lane
 -- What is known where the lane stands, inside the root.
 abbrev pub standing : Vocabulary Located → Lane → F.State Located
-standing v l = record { tables = v; level = l.level; root = true; mode = F.afterStart l.listing }
+standing v l = record { tables = v; level = l.level; root = true; mode = F.after_start l.listing }
 
 -- The place and the level are no large numbers, nor is what is remembered.
 pub record Safe (w memory : Words) (l : Lane) : Type 0 where
@@ -93,7 +93,7 @@ pub record OnWay (o : Outcome) (text : Octets) (room : ℕ) (es : List Event) (v
 -- Records were taken: where the lane was on its way it is so still, further on or not. The tables are as they were.
 abbrev pub Passes : (w memory : Words) (room : ℕ) → Lane → Octets → Lane → Octets → Type 0
 Passes w memory room l out l' out' =
-    (o : Outcome) (text : Octets) (v : Vocabulary Located) → within link v ≡ true → Remembered (recordsOf w) text v memory → OnWay o text room (recordsOf w) v l out → OnWay o text room (recordsOf w) v l' out'
+    (o : Outcome) (text : Octets) (v : Vocabulary Located) → within link v ≡ true → Remembered (records_of w) text v memory → OnWay o text room (records_of w) v l out → OnWay o text room (records_of w) v l' out'
 
 -- From record i to record j, of n.
 pub record Onward (i j n : ℕ) : Type 0 where
@@ -107,12 +107,12 @@ pub record Ahead (w memory : Words) (l : Lane) (room k : ℕ) : Type 0 where
   pub fits : l.at / 2 + 5 ≤ room
   pub limit : l.at / 2 + 5 ≤ 16384
   pub there : l.i < length w / 14
-  pub end : k ≡ 512 → recordAt w (14 * l.i) ≡ placed (get_or w (14 * l.i + 13) 0) endRecord
+  pub end : k ≡ 512 → record_at w (14 * l.i) ≡ placed (get_or w (14 * l.i + 13) 0) end_record
   pub start : (k ≡ 512 → ⊥) → Recalled w memory l.i k × (l.level < 32)
 
 -- Whether an attribute is behind record i.
 abbrev pub listed : Words → ℕ → Bool
-listed w i = beginsWith 3 (drop (i + 1) (recordsOf w))
+listed w i = begins_with 3 (drop (i + 1) (records_of w))
 
 -- A Start by the number k was put, or an End.
 pub record Started (w : Words) (l : Lane) (out : Octets) (k : ℕ) (l' : Lane) (out' : Octets) : Type 0 where
@@ -122,7 +122,7 @@ pub record Started (w : Words) (l : Lane) (out : Octets) (k : ℕ) (l' : Lane) (
   pub is : l' ≡ record { at = 2 * octet; level = l.level + 1; i = l.i + 1; listing = listed w l.i }
 
 pub record Ended (l : Lane) (out : Octets) (l' : Lane) (out' : Octets) : Type 0 where
-  pub puts : out' ≡ set out (l.at / 2) (endOctet l.at)
+  pub puts : out' ≡ set out (l.at / 2) (end_octet l.at)
   pub is : l' ≡ record { at = l.at + 1; level = l.level - 1; i = l.i + 1; listing = false }
 
 -- What is next may be put, and was.

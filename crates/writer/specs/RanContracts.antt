@@ -6,25 +6,25 @@ use Rattle.format.specs.Numbers.{pick}
 use Rattle.format.specs.Tables.{link}
 use Rattle.format.specs.Refusals.{SIZE, ROOM}
 use Rattle.events.specs.declared.Event.{Event}
-use Rattle.events.specs.FromWords.{recordsOf}
+use Rattle.events.specs.FromWords.{records_of}
 use Rattle.writer.specs.declared.Answer.{Answer}
 use Rattle.writer.specs.declared.Answer.TheVariants.{Accepted, Refused}
-use Rattle.writer.specs.Writing.{Outcome, writeOf}
+use Rattle.writer.specs.Writing.{Outcome, write_of}
 use Rattle.writer.specs.Words.{WordsLeft, nothing, in_words}
 
 -- The document that this answer gives, in an output that holds it.
-abbrev pub documentIn : Answer → Octets → Octets
-documentIn (Accepted n c) out = take n out
-documentIn (Refused n p) out = []
+abbrev pub document_in : Answer → Octets → Octets
+document_in (Accepted n c) out = take n out
+document_in (Refused n p) out = []
 
 -- The same in an output of `size` octets: as much of the document as it reaches, and 0 behind it.
 abbrev pub reached : (size : ℕ) → Outcome → Outcome
-reached size o = record { answer = o.answer; told = o.told; out = sets (replicate size 0) 0 (documentIn o.answer o.out); tables = o.tables }
+reached size o = record { answer = o.answer; told = o.told; out = sets (replicate size 0) 0 (document_in o.answer o.out); tables = o.tables }
 
 -- What a call leaves in an output of `size` octets that judges by `room`, from events and from words.
-unfoldable pub ranOf : (given : Words) → List Event → Octets → (room size table : ℕ) → Outcome
-ranOf given es text room size table = reached size (writeOf link given es text room table)
+unfoldable pub ran_of : (given : Words) → List Event → Octets → (room size table : ℕ) → Outcome
+ran_of given es text room size table = reached size (write_of link given es text room table)
 
-unfoldable pub ranWords : (given records : Words) → Octets → (room size t c : ℕ) → WordsLeft
-ranWords given records text room size t c =
-    pick (leb (length text) link.octets) (pick (eqb c 10) (in_words (ranOf given (recordsOf records) text room size t)) (nothing ROOM size t c)) (nothing SIZE size t c)
+unfoldable pub ran_words : (given records : Words) → Octets → (room size t c : ℕ) → WordsLeft
+ran_words given records text room size t c =
+    pick (leb (length text) link.octets) (pick (eqb c 10) (in_words (ran_of given (records_of records) text room size t)) (nothing ROOM size t c)) (nothing SIZE size t c)

@@ -7,8 +7,8 @@ use Rattle.tables.specs.Located.{Located}
 use Rattle.states.specs.declared.State.{State}
 use Rattle.events.specs.declared.Kind.TheVariants.{Start}
 use Rattle.events.specs.declared.Event.{Event}
-use Rattle.events.specs.FromWords.{recordAt, recordsOf}
-use Rattle.write_names.specs.Contracts.{tablesIn}
+use Rattle.events.specs.FromWords.{record_at, records_of}
+use Rattle.write_names.specs.Promises.{tables_in}
 use Rattle.writer.specs.declared.lane.Lane.{Lane}
 use Rattle.writer.specs.declared.run.Phase.{Phase}
 use Rattle.writer.specs.Writing.{Outcome}
@@ -18,17 +18,17 @@ use Rattle.writer.specs.LaneContracts.{Taught, Remembered, Onward}
 -- What is remembered is still so, with record i or without it: there are n names of elements then, and if there were fewer before, a Start was that of the last.
 abbrev pub Learns : Words → (i before n : ℕ) → (memory memory' : Words) → Type 0
 Learns w i before n memory memory' =
-    (text : Octets) (v : Vocabulary Located) → (before < n → (recordAt w (14 * i)).kind ≡ Start → Taught text v (recordAt w (14 * i)) n) → Remembered (recordsOf w) text v memory → Remembered (recordsOf w) text v memory'
+    (text : Octets) (v : Vocabulary Located) → (before < n → (record_at w (14 * i)).kind ≡ Start → Taught text v (record_at w (14 * i)) n) → Remembered (records_of w) text v memory → Remembered (records_of w) text v memory'
 
 -- The state behind the records that the lane took.
-abbrev pub arrivedAt : State → Lane → State
-arrivedAt st l = record { at = l.at; level = l.level; root = st.root; mode = pick l.listing 1 st.mode }
+abbrev pub arrived_at : State → Lane → State
+arrived_at st l = record { at = l.at; level = l.level; root = st.root; mode = pick l.listing 1 st.mode }
 
 -- From record i on the lane took those before its next: a run that was underway is so still.
 pub record Rides (w memory : Words) (room i : ℕ) (st : State) (out : Octets) (l : Lane) (out' : Octets) : Type 0 where
   pub onward : Onward i l.i (length w / 14)
-  pub under : (o : Outcome) (text : Octets) (c t : Words) (index : Octets) → Remembered (recordsOf w) text (tablesIn c t) memory → Underway o text room (recordsOf w) i st c out t index
-      → Underway o text room (recordsOf w) l.i (arrivedAt st l) c out' t index
+  pub under : (o : Outcome) (text : Octets) (c t : Words) (index : Octets) → Remembered (records_of w) text (tables_in c t) memory → Underway o text room (records_of w) i st c out t index
+      → Underway o text room (records_of w) l.i (arrived_at st l) c out' t index
 
 -- Before the events es, a run leads to something.
 pub record Leading (es : List Event) (text : Octets) (room table : ℕ) (p : Phase) (out : Octets) (w : Words) (index : Octets) : Type 0 where

@@ -7,16 +7,16 @@ use Rattle.format.specs.Tables.{Vocabulary, Version}
 use Rattle.format.specs.Items.{State}
 use Rattle.format.specs.Document.{pad, beginning}
 use Rattle.format.specs.Refusals.{SIZE, ROOM, EVENT}
-use Rattle.tables.specs.Counts.{countsOf, tableWords, entryWords, words_of}
+use Rattle.tables.specs.Counts.{counts_of, table_words, entry_words, words_of}
 use Rattle.tables.specs.Kept.{listed}
-use Rattle.tables.specs.Told.{Told, toldAccepted, toldRefused, entriesOf}
+use Rattle.tables.specs.Told.{Told, told_accepted, told_refused, entries_of}
 use Rattle.events.specs.declared.Event.{Event}
 use Rattle.tables.specs.Located.{Located}
-use Rattle.write_head.specs.Given.{Given, isGiven, given_of}
-use Rattle.write_head.specs.Head.{tables_of, headOctets, faultOfHead}
-use Rattle.write_items.specs.Events.{eventOf, isContent}
-use Rattle.write_items.specs.Items.{WroteItem, writeItem}
-use Rattle.write_items.specs.Steps.{announced, settled, fits, halvesOf, judge, joined}
+use Rattle.write_head.specs.Given.{Given, is_given, given_of}
+use Rattle.write_head.specs.Head.{tables_of, head_octets, fault_of_head}
+use Rattle.write_items.specs.Events.{event_of, is_content}
+use Rattle.write_items.specs.Items.{WroteItem, write_item}
+use Rattle.write_items.specs.Steps.{announced, settled, fits, halves_of, judge, joined}
 use Rattle.writer.specs.declared.Answer as A
 use Rattle.writer.specs.declared.Answer.TheVariants.{Accepted, Refused}
 
@@ -33,7 +33,7 @@ module _ (ver : Version) (text : Octets) (room : ℕ) where
   -- The document's end behind the last event, number i: owed too soon (16), no room (14).
   unfoldable pub finish : ℕ → State Located → ℕ → Result
   finish at v i =
-      pick (isContent v.mode && (eqb v.level 0 && v.root))
+      pick (is_content v.mode && (eqb v.level 0 && v.root))
       (pick (fits ver text room (suc at)) (written [] (15 ∷ pad (suc at)) v) (refusal ROOM i))
       (refusal EVENT i)
 
@@ -41,10 +41,10 @@ module _ (ver : Version) (text : Octets) (room : ℕ) where
   unfoldable pub run : ℕ → State Located → ℕ → List Event → Result
   run at v i [] = finish at v i
   run at v i (e ∷ es) =
-      let w : WroteItem = writeItem ver text (announced (e ∷ es)) (settled v (eventOf e.kind e)) (eventOf e.kind e) in
-      let hs : Halves = halvesOf ver text room at v (eventOf e.kind e) w in
+      let w : WroteItem = write_item ver text (announced (e ∷ es)) (settled v (event_of e.kind e)) (event_of e.kind e) in
+      let hs : Halves = halves_of ver text room at v (event_of e.kind e) w in
       elim (judge ver text room at v e w hs) [
-        | zero ↦ plus (eventOf e.kind e by w.choice) hs (run (at + length hs) w.state (suc i) es)
+        | zero ↦ plus (event_of e.kind e by w.choice) hs (run (at + length hs) w.state (suc i) es)
         | suc n ↦ refusal (suc n) i
       ]
 
@@ -52,8 +52,8 @@ module _ (ver : Version) (text : Octets) (room : ℕ) where
   unfoldable pub trace : ℕ → State Located → List Event → List (State Located)
   trace at v [] = []
   trace at v (e ∷ es) =
-      let w : WroteItem = writeItem ver text (announced (e ∷ es)) (settled v (eventOf e.kind e)) (eventOf e.kind e) in
-      let hs : Halves = halvesOf ver text room at v (eventOf e.kind e) w in
+      let w : WroteItem = write_item ver text (announced (e ∷ es)) (settled v (event_of e.kind e)) (event_of e.kind e) in
+      let hs : Halves = halves_of ver text room at v (event_of e.kind e) w in
       elim (judge ver text room at v e w hs) [
         | zero ↦ w.state ∷ trace (at + length hs) w.state es
         | suc n ↦ []
@@ -61,8 +61,8 @@ module _ (ver : Version) (text : Octets) (room : ℕ) where
 
 -- What the requirements' table says of each answer.
 abbrev pub told : A.Answer → Told
-told (Accepted n c) = toldAccepted n (listed c)
-told (Refused k p) = toldRefused k p
+told (Accepted n c) = told_accepted n (listed c)
+told (Refused k p) = told_refused k p
 
 -- What a call answers and leaves: the answer, as an enum and in the requirements' numbers, every octet of the output, every table word.
 pub record Outcome : Type 0 where
@@ -77,42 +77,42 @@ Leaves r out tables o = (r ≡ o.answer) × (told r ≡ o.told) × (out ≡ o.ou
 
 -- A refusal blanks all the room that was lent.
 abbrev pub refusing : ℕ → ℕ → ℕ → ℕ → Outcome
-refusing n p room table = record { answer = Refused n p; told = toldRefused n p; out = replicate room 0; tables = replicate table 0 }
+refusing n p room table = record { answer = Refused n p; told = told_refused n p; out = replicate room 0; tables = replicate table 0 }
 
 abbrev pub accepting : Octets → Vocabulary Located → ℕ → Outcome
 accepting s v room =
     record {
-      answer = Accepted (length s) (countsOf v);
-      told = toldAccepted (length s) (entriesOf v);
+      answer = Accepted (length s) (counts_of v);
+      told = told_accepted (length s) (entries_of v);
       out = s ++ replicate (room - length s) 0;
-      tables = words_of entryWords v;
+      tables = words_of entry_words v;
     }
 
 module _ (ver : Version) where
   -- The document is the octets before its body, and then those of the halves.
   abbrev pub outcome : (before : Octets) → Result → ℕ → Outcome
   outcome before (written is hs z) room = accepting (before ++ joined hs) z.tables room
-  outcome before (refusal n p) room = refusing n p room tableWords
+  outcome before (refusal n p) room = refusing n p room table_words
 
   -- From the tables g that are given for the head, and these events, over this text area, with so much output lent: what is wrong with the head is refused at place 0; then
   -- the events, behind it and from its tables. Without a head, the header is event 0's.
   unfoldable pub writing : Given → Octets → ℕ → List Event → Result
   writing g text room es =
-      elim (faultOfHead ver text g room) [
-        | zero ↦ run ver text room (2 * length (headOctets ver text g)) (beginning (tables_of ver g)) 0 es
+      elim (fault_of_head ver text g room) [
+        | zero ↦ run ver text room (2 * length (head_octets ver text g)) (beginning (tables_of ver g)) 0 es
         | suc n ↦ refusal (suc n) 0
       ]
 
   -- And what is known after each of them, if the head is right.
-  unfoldable pub knownWriting : Given → Octets → ℕ → List Event → List (State Located)
-  knownWriting g text room es = trace ver text room (2 * length (headOctets ver text g)) (beginning (tables_of ver g)) es
+  unfoldable pub known_writing : Given → Octets → ℕ → List Event → List (State Located)
+  known_writing g text room es = trace ver text room (2 * length (head_octets ver text g)) (beginning (tables_of ver g)) es
 
   -- Writing, with the words `given` for the head, `room` octets of output and `table` table words lent: SIZE (1), since a text area is no longer than a document; then the table
   -- room (14); then more or fewer given words than their counts say (16), all at place 0; then the head and the events.
-  unfoldable pub writeOf : (given : Words) → List Event → Octets → (room table : ℕ) → Outcome
-  writeOf given es text room table =
+  unfoldable pub write_of : (given : Words) → List Event → Octets → (room table : ℕ) → Outcome
+  write_of given es text room table =
       pick (leb (length text) ver.octets)
-      (pick (eqb table tableWords)
-      (pick (isGiven given) (outcome (headOctets ver text (given_of given)) (writing (given_of given) text room es) room) (refusing EVENT 0 room table))
+      (pick (eqb table table_words)
+      (pick (is_given given) (outcome (head_octets ver text (given_of given)) (writing (given_of given) text room es) room) (refusing EVENT 0 room table))
       (refusing ROOM 0 room table))
       (refusing SIZE 0 room table)

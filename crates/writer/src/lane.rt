@@ -1,8 +1,8 @@
 // A quick lane over words: Ends, and Starts whose words, but for the place, are those of an earlier one that is remembered with its name's number. Such records need no judging and
 // no search; any other is left to the step.
 ghost use Rattle.std.specs.Prelude.{◌≡◌, true, ◌+◌, ◌*◌, ◌/◌, ◌^◌, ◌<◌, ◌≤◌, length, get_or, replicate};
-ghost use Rattle.events.specs.Records.{placed, unplaced, endRecord};
-ghost use Rattle.events.specs.FromWords.{recordAt};
+ghost use Rattle.events.specs.Records.{placed, unplaced, end_record};
+ghost use Rattle.events.specs.FromWords.{record_at};
 ghost use Rattle.writer.specs.LaneContracts.{SameWords, Filed, Recalled, Kept, Safe, Passes, Ahead, Started, Ended, Passable, Passed, Onward};
 
 use events::{RECORD, is_kind, kinds, strings};
@@ -51,7 +51,7 @@ fn no_string(w: &[u32], at: usize) -> bool
 // Record i is that of an End.
 fn is_end(w: &[u32], i: usize) -> bool
     requires { i < length w.now / 14 }
-    ensures { result ≡ true → recordAt w.now (14 * i) ≡ placed (get_or w.now (14 * i + 13) 0) endRecord }
+    ensures { result ≡ true → record_at w.now (14 * i) ≡ placed (get_or w.now (14 * i + 13) 0) end_record }
 {
     let at = RECORD * i;
     w[at] == kinds::END
@@ -70,7 +70,7 @@ fn same_string(w: &[u32], a: usize, b: usize) -> bool
 // Two records are of the same event: all words but the place are the same.
 fn same_record(w: &[u32], i: usize, j: usize) -> bool
     requires { (i < length w.now / 14) × (j < length w.now / 14) }
-    ensures { result ≡ true → unplaced (recordAt w.now (14 * i)) ≡ unplaced (recordAt w.now (14 * j)) }
+    ensures { result ≡ true → unplaced (record_at w.now (14 * i)) ≡ unplaced (record_at w.now (14 * j)) }
 {
     let a = RECORD * i;
     let b = RECORD * j;

@@ -3,13 +3,13 @@
 ghost use Rattle.std.specs.Prelude.{◌≡◌, ◌&&◌, ◌≤◌, eqb, length, replicate};
 ghost use Rattle.format.specs.Tables.{link};
 ghost use Rattle.index.specs.Indexed.{slots};
-ghost use Rattle.states.specs.States.{mode_of, rootOf};
-ghost use Rattle.events.specs.FromWords.{recordsOf};
-ghost use Rattle.write_items.specs.Events.{isContent};
+ghost use Rattle.states.specs.States.{mode_of, root_of};
+ghost use Rattle.events.specs.FromWords.{records_of};
+ghost use Rattle.write_items.specs.Events.{is_content};
 ghost use Rattle.writer.specs.Writing.{Leaves};
-ghost use Rattle.writer.specs.Words.{answerWord, leaving, writeWords, measured, measureWords};
-ghost use Rattle.writer.specs.RanContracts.{ranOf, ranWords};
-ghost use Rattle.writer.specs.RunContracts.{Finishes, goesOn, fromMode, lookFrom, bit_of, Readies, Prepares, Steady, Bounded, Turns, Ends, Settles};
+ghost use Rattle.writer.specs.Words.{answer_word, leaving, write_words, measured, measure_words};
+ghost use Rattle.writer.specs.RanContracts.{ran_of, ran_words};
+ghost use Rattle.writer.specs.RunContracts.{Finishes, goes_on, from_mode, look_from, bit_of, Readies, Prepares, Steady, Bounded, Turns, Ends, Settles};
 ghost use Rattle.writer.specs.RideContracts.{Leading, Through};
 
 use crate::Answer;
@@ -31,7 +31,7 @@ pub enum Phase {
 
 // Behind the root, where the document may end.
 fn complete(st: State) -> bool
-    ensures { result ≡ (isContent (mode_of st.mode) && (eqb st.level 0 && rootOf st.root)) }
+    ensures { result ≡ (is_content (mode_of st.mode) && (eqb st.level 0 && root_of st.root)) }
 {
     st.mode == State::CONTENT && (st.level == 0 && st.root != 0)
 }
@@ -98,7 +98,7 @@ pub fn prepared(
 
 // Among declarations no record is looked at a second time: their bit is known.
 pub fn look_from(mode: usize, i: usize, n: usize) -> usize
-    ensures { result ≡ fromMode (mode_of mode) i n }
+    ensures { result ≡ from_mode (mode_of mode) i n }
 {
     if State::DECLARING <= mode {
         return n;
@@ -118,7 +118,7 @@ pub fn bit(mode: usize, a: bool) -> bool
 impl Phase {
     // There is a further record, number i of n, and it is to be written.
     pub fn goes_on(self, i: usize, n: usize) -> bool
-        ensures { result ≡ goesOn self i n }
+        ensures { result ≡ goes_on self i n }
     {
         match self {
             Phase::Onward(_, _) => i < n,
@@ -128,7 +128,7 @@ impl Phase {
 
     // The record from which the attribute bit of record i is looked for.
     pub fn look_from(self, i: usize, n: usize) -> usize
-        ensures { result ≡ lookFrom self i n }
+        ensures { result ≡ look_from self i n }
     {
         match self {
             Phase::Onward(st, _) => look_from(st.mode, i, n),
@@ -183,8 +183,8 @@ impl Phase {
         t: &mut [u32],
         index: &mut [u8],
     ) -> Phase
-        requires { Leading (recordsOf records.now) text.now room (length t.old) self out.old t.old index.old }
-        ensures { Through (recordsOf records.now) text.now room (length t.old) self out.old t.old index.old result out.new t.new index.new }
+        requires { Leading (records_of records.now) text.now room (length t.old) self out.old t.old index.old }
+        ensures { Through (records_of records.now) text.now room (length t.old) self out.old t.old index.old result out.new t.new index.new }
     {
         match self {
             Phase::Onward(st, counts) => steps(records, text, out, room, t, index, st, counts),
@@ -235,7 +235,7 @@ fn written(
     room: usize,
     t: &mut [u32],
 ) -> Answer
-    ensures { Leaves result out.new t.new (ranOf given.now (recordsOf records.now) text.now room (length out.old) (length t.old)) }
+    ensures { Leaves result out.new t.new (ran_of given.now (records_of records.now) text.now room (length out.old) (length t.old)) }
 {
     let mut index = [0u8; index::SLOTS];
     let p = prepared_for(given, text, out, room, t, &mut index);
@@ -244,7 +244,7 @@ fn written(
 }
 
 fn number(a: Answer) -> u64
-    ensures { result ≡ answerWord a }
+    ensures { result ≡ answer_word a }
 {
     match a {
         Answer::Accepted(octets, _) => octets as u64 * 0x1_0000_0000,
@@ -264,7 +264,7 @@ fn in_words(
     tables: &mut [u32],
     counts: &mut [u32],
 ) -> u64
-    ensures { leaving result out.new tables.new counts.new ≡ ranWords given.now records.now text.now room (length out.old) (length tables.old) (length counts.old) }
+    ensures { leaving result out.new tables.new counts.new ≡ ran_words given.now records.now text.now room (length out.old) (length tables.old) (length counts.old) }
 {
     tables::clear(counts);
     if counts.len() != Counts::TABLES {
@@ -294,7 +294,7 @@ pub fn write_words(
     tables: &mut [u32],
     counts: &mut [u32],
 ) -> u64
-    ensures { leaving result out.new tables.new counts.new ≡ writeWords link given.now records.now text.now (length out.old) (length tables.old) (length counts.old) }
+    ensures { leaving result out.new tables.new counts.new ≡ write_words link given.now records.now text.now (length out.old) (length tables.old) (length counts.old) }
 {
     in_words(given, records, text, out, out.len(), tables, counts)
 }
@@ -308,7 +308,7 @@ pub fn measure_words(
     tables: &mut [u32],
     counts: &mut [u32],
 ) -> u64
-    ensures { measured result tables.new counts.new ≡ measureWords link given.now records.now text.now (length tables.old) (length counts.old) }
+    ensures { measured result tables.new counts.new ≡ measure_words link given.now records.now text.now (length tables.old) (length counts.old) }
 {
     let mut none = [0u8; 0];
     in_words(

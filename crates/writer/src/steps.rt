@@ -1,10 +1,10 @@
 // The records of words one by one: a step, then the quick lane as far as it goes.
 ghost use Rattle.std.specs.Prelude.{◌≡◌, ◌/◌, ◌<◌, ◌≤◌, length};
 ghost use Rattle.format.specs.Numbers.{pick};
-ghost use Rattle.events.specs.FromWords.{recordsOf};
+ghost use Rattle.events.specs.FromWords.{records_of};
 ghost use Rattle.writer.specs.declared.run.Phase.TheVariants.{Onward};
 ghost use Rattle.writer.specs.LaneContracts.{Filed};
-ghost use Rattle.writer.specs.RideContracts.{arrivedAt, Learns, Rides, Leading, Through};
+ghost use Rattle.writer.specs.RideContracts.{arrived_at, Learns, Rides, Leading, Through};
 
 use crate::ahead;
 use crate::lane::{Lane, SLOTS, remember};
@@ -70,7 +70,7 @@ fn mode_behind(mode: usize, listing: bool) -> usize
 
 // Where the lane let the writer off.
 fn arrived(st: State, l: Lane) -> State
-    ensures { result ≡ arrivedAt st l }
+    ensures { result ≡ arrived_at st l }
 {
     State {
         at: l.at,
@@ -91,8 +91,8 @@ pub fn steps(
     first: State,
     start: Counts,
 ) -> Phase
-    requires { Leading (recordsOf records.now) text.now room (length t.old) (Onward first start) out.old t.old index.old }
-    ensures { Through (recordsOf records.now) text.now room (length t.old) (Onward first start) out.old t.old index.old result out.new t.new index.new }
+    requires { Leading (records_of records.now) text.now room (length t.old) (Onward first start) out.old t.old index.old }
+    ensures { Through (records_of records.now) text.now room (length t.old) (Onward first start) out.old t.old index.old result out.new t.new index.new }
 {
     let mut memory = [0u32; SLOTS];
     let mut counts = [0u32; Counts::TABLES];

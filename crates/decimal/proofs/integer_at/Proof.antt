@@ -2,7 +2,7 @@
 -- Assumes nothing.
 use mathlib.Core.Path.{◌∙◌, ap}
 use borrow.Author.Rules.{rules}
-use Rattle.decimal.specs.Reading.{signed, integerOf}
+use Rattle.decimal.specs.Reading.{signed, integer_of}
 use Rattle.decimal.proofs.Halves.{back}
 use Rattle.decimal.proofs.integer_at.Statement.{statement}
 use Rattle.decimal.proofs.integer_at.Tie as tie
@@ -14,7 +14,7 @@ signed-requires : tie.Need-signed-requires
 signed-requires c κs = search rules
 
 returns : tie.Need-returns
-unfolding integerOf
+unfolding integer_of
 returns c =
     let r = c.signed in
     let e = back r.result r.type-inv in

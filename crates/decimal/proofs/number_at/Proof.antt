@@ -6,7 +6,7 @@ use native.Mathlib.Omega.{arith}
 use borrow.Author.Rules.{rules}
 use lib.ListN.{take, drop}
 use Rattle.decimal.specs.Reading.{number}
-use Rattle.decimal.proofs.Parts.{part, part-all, number-next, number-end, grows, roomy}
+use Rattle.decimal.proofs.Parts.{part, part_all, number_next, number_end, grows, roomy}
 use Rattle.decimal.proofs.number_at.Statement.{statement}
 use Rattle.decimal.proofs.number_at.Tie as tie
 
@@ -17,7 +17,7 @@ abbrev decreases-loop : tie.decreases-loop
 decreases-loop s at w v₀ i₀ v i = at + w - i
 
 loop-holds : tie.Need-loop-init invariant-loop decreases-loop
-loop-holds c = let a = c.before.args in let e : a.at - a.at ≡ 0 = omega arith in (omega arith, omega arith, rw (part-all a.s.now a.at a.w), rw e (omega arith))
+loop-holds c = let a = c.before.args in let e : a.at - a.at ≡ 0 = omega arith in (omega arith, omega arith, rw (part_all a.s.now a.at a.w), rw e (omega arith))
 
 add-loop : tie.Need-overflow-add-loop invariant-loop decreases-loop
 add-loop c = search rules
@@ -45,14 +45,14 @@ loop-again c =
     let a = c.before.before.before.before.before.args in
     let l = c.before.before.before.loop in
     let e : l.i + 1 - a.at ≡ (l.i - a.at) + 1 = omega arith in
-    (omega arith, omega arith, number-next a.s.now l.i (a.at + a.w) l.v _ l.invariant.2 _ (omega arith) (omega arith) c.wide.ensures.0, rw e (grows (l.i - a.at) l.v _ l.invariant.3 (omega arith)))
+    (omega arith, omega arith, number_next a.s.now l.i (a.at + a.w) l.v _ l.invariant.2 _ (omega arith) (omega arith) c.wide.ensures.0, rw e (grows (l.i - a.at) l.v _ l.invariant.3 (omega arith)))
 
 returns : tie.Need-returns invariant-loop decreases-loop
 returns c =
     let a = c.before.before.before.args in
     let l = c.before.loop in
     let e : l.i - a.at ≡ a.w = omega arith in
-    (number-end a.s.now l.i (a.at + a.w) l.v _ l.invariant.2 (omega arith), rw e at l.invariant.3)
+    (number_end a.s.now l.i (a.at + a.w) l.v _ l.invariant.2 (omega arith), rw e at l.invariant.3)
 
 pub number-at-spec : {M : Type 1} → statement M
 number-at-spec =

@@ -4,7 +4,7 @@ use native.Mathlib.Omega.{arith}
 use borrow.Author.Rules.{rules}
 use mir.Syntax.{w16}
 use Rattle.format.specs.Integers.{half}
-use Rattle.decimal.proofs.Halves.{widens, widened, widened-held}
+use Rattle.decimal.proofs.Halves.{widens, widened, widened_held}
 use Rattle.decimal.proofs.put_short.Statement.{statement}
 use Rattle.decimal.proofs.put_short.Tie as tie
 
@@ -12,7 +12,7 @@ cast-put-integer : tie.Need-overflow-cast-put-integer
 cast-put-integer c = widens c.before.before.args.z w16 (omega arith) c.before.before.ranges.z
 
 put-integer-requires : tie.Need-put-integer-requires
-put-integer-requires c κs = (c.before.before.requires, omega arith, omega arith, unfold half in widened-held c.before.before.args.z w16 (omega arith) c.before.before.ranges.z)
+put-integer-requires c κs = (c.before.before.requires, omega arith, omega arith, unfold half in widened_held c.before.before.args.z w16 (omega arith) c.before.before.ranges.z)
 
 same_length : tie.Need-same-length
 same_length c = search rules

@@ -1,5 +1,5 @@
 -- `events::blank_from` meets its contract: a walk of its MIR, by hand, with a loop. The borrow of the row is opened once, before the loop, and closed once, after it.
--- The loop's invariant is that what is still to be done leads to the answer: `filled zs i` is the same all along (`filled-step`), and where the loop is left it is zs (`filled-end`).
+-- The loop's invariant is that what is still to be done leads to the answer: `filled zs i` is the same all along (`filled_step`), and where the loop is left it is zs (`filled_end`).
 -- Assumes nothing.
 use mathlib.Core.Path.{◌≡◌, refl, sym, ◌∙◌, ap, subst}
 use Prim.Native.Nat.{ℕ, suc, ◌+◌, ◌-◌, ◌≤◌, ◌<◌, ◌^◌}
@@ -46,11 +46,11 @@ use denote.Triple.Table.{cited}
 use denote.Triple.Walked.{says, Stays, stay_slice, stay_dropped, walk_of, Goes-slice, Goes-dropped, ends_at}
 use denote.Exit.{yes}
 use Rattle.walk.proofs.Close.{by-walk}
-use Rattle.walk.proofs.Row.{Slice, Opened, opens_row, closes-row, offset-fits}
+use Rattle.walk.proofs.Row.{Slice, Opened, opens_row, closes_row, offset_fits}
 use Rattle.walk.proofs.Walk.{whiles, full, free}
 use Rattle.events.specs.declared.Event.{Event}
 use Rattle.events.specs.Records.{blank}
-use Rattle.events.proofs.Rows.{rowTy, val, Told, typed, begins-at, record-out, record-over}
+use Rattle.events.proofs.Rows.{row_ty, val, Told, typed, begins_at, record_out, record_over}
 use Rattle.events.specs.contracts.Event as E
 use Rattle.events.proofs.Event.TheLaws as E'
 use Rattle.events.specs.contracts.blank as blank'
@@ -80,14 +80,14 @@ next_fits i n l r = omega arith
 falls : (i n : ℕ) → i < n → n - (i + 1) < n - i
 falls i n l = omega arith
 
-filled-step : (zs : List Event) (i : ℕ) → i < length zs → filled (set zs i blank) (i + 1) ≡ filled zs i
-filled-step zs i l =
+filled_step : (zs : List Event) (i : ℕ) → i < length zs → filled (set zs i blank) (i + 1) ≡ filled zs i
+filled_step zs i l =
     ap (λ (k : List Event). k ++ replicate (length (set zs i blank) - (i + 1)) blank) (ap (λ (m : ℕ). take m (set zs i blank)) (add-one i) ∙ take-suc-set zs i blank l)
     ∙ append_assoc (take i zs) (blank ∷ []) (replicate (length (set zs i blank) - (i + 1)) blank)
     ∙ ap (λ (k : List Event). take i zs ++ k) (ap (λ (n : ℕ). blank ∷ replicate (n - (i + 1)) blank) (length-set zs i blank) ∙ sym (ap (λ (m : ℕ). replicate m blank) (one_less (length zs) i l)))
 
-filled-end : (zs : List Event) (i : ℕ) → length zs ≤ i → filled zs i ≡ zs
-filled-end zs i l = ap (λ (m : ℕ). take i zs ++ replicate m blank) (none_left (length zs) i l) ∙ append-nil (take i zs) ∙ take_all i zs l
+filled_end : (zs : List Event) (i : ℕ) → length zs ≤ i → filled zs i ≡ zs
+filled_end zs i l = ap (λ (m : ℕ). take i zs ++ replicate m blank) (none_left (length zs) i l) ∙ append-nil (take i zs) ∙ take_all i zs l
 
 -- ---- the function
 abbrev stayed : Stays (blank-from.ended).signature.params (blank-from.ended).kept
@@ -142,28 +142,28 @@ module _ {M : Type 1} {𝓤 : Ura M} (𝓛 : Logic 𝓤) (mem : Memory → SProp
   inside t l = subst (λ (n : ℕ). t.i < n) (sym t.long) l
 
   abbrev next : (t : State) → t.i < length ys → State
-  next t l = record { i = t.i + 1; zs = set t.zs t.i blank; long = length-set t.zs t.i blank ∙ t.long; leads = filled-step t.zs t.i (inside t l) ∙ t.leads }
+  next t l = record { i = t.i + 1; zs = set t.zs t.i blank; long = length-set t.zs t.i blank ∙ t.long; leads = filled_step t.zs t.i (inside t l) ∙ t.leads }
 
   abbrev Nearer : State → State → Type 0
   Nearer t' t = length ys - t'.i < length ys - t.i
 
-  Nearer-wf : WellFounded Nearer
-  Nearer-wf = InvImage.wf (λ (t : State). length ys - t.i) lt-wf_rel.wf
+  NearerWf : WellFounded Nearer
+  NearerWf = InvImage.wf (λ (t : State). length ys - t.i) lt-wf_rel.wf
 
   -- what asking for the blank record takes: nothing
-  abbrev to-blank : (Blank 𝓛 mem run).Ghost
-  to-blank = ((tt, tt, tt, tt, tt), tt)
+  abbrev to_blank : (Blank 𝓛 mem run).Ghost
+  to_blank = ((tt, tt, tt, tt, tt), tt)
 
-  goes_blank : ent 𝓤 (emp 𝓤) ((Blank 𝓛 mem run).pre to-blank)
+  goes_blank : ent 𝓤 (emp 𝓤) ((Blank 𝓛 mem run).pre to_blank)
   goes_blank = qed 𝓛 [] ∵ nothing ! $ nothing ! $ nothing ! $ join ! $ frame ! $ done !
 
   module _ (𝓣 : Tables 𝓤 H) (told : Told blank) (l₀ l₁ l₂ l₃ l₄ l₅ l₆ l₇ : ℕ) where
     abbrev En : Env 𝓤 H
-    En = (ty_unit, l₀) ∷ (rowTy, l₁) ∷ (ty_int w64, l₂) ∷ (E'.mir, l₃) ∷ (ty_int w64, l₄) ∷ (ty_int w64, l₅) ∷ (ty_bool, l₆) ∷ (ty_ptr, l₇) ∷ []
+    En = (ty_unit, l₀) ∷ (row_ty, l₁) ∷ (ty_int w64, l₂) ∷ (E'.mir, l₃) ∷ (ty_int w64, l₄) ∷ (ty_int w64, l₅) ∷ (ty_bool, l₆) ∷ (ty_ptr, l₇) ∷ []
 
     -- [the row; the open borrow; obs; auth; _7; …; _6; …; _5; …; _4; …; _3; …; _2; …; _1; …; room for _0; …]
     abbrev At : State → List (Item 𝓤)
-    At t = Opened E.the_row κ γ b o q ys t.zs ++ free ty_ptr l₇ ++ free ty_bool l₆ ++ free (ty_int w64) l₅ ++ full (ty_int w64) l₄ (vint w64 t.i) ++ full E'.mir l₃ (val blank) ++ full (ty_int w64) l₂ (vint w64 m) ++ full rowTy l₁ s ++ free ty_unit l₀
+    At t = Opened E.the_row κ γ b o q ys t.zs ++ free ty_ptr l₇ ++ free ty_bool l₆ ++ free (ty_int w64) l₅ ++ full (ty_int w64) l₄ (vint w64 t.i) ++ full E'.mir l₃ (val blank) ++ full (ty_int w64) l₂ (vint w64 m) ++ full row_ty l₁ s ++ free ty_unit l₀
 
     -- a turn's postcondition: it ends nearer, or the loop is left and the rest of the body runs
     abbrev Turned : State → Out → SProp 𝓤
@@ -176,19 +176,19 @@ module _ {M : Type 1} {𝓤 : Ura M} (𝓛 : Logic 𝓤) (mem : Memory → SProp
         assigns ! (bin ! (load ! (from ! (stop !)) (look ! 10 refl)) (load ! (from ! (stop !)) (look ! 8 refl)) tt) (from ! (stop !)) (init ! 6 refl (tt, tt)) $
         whiles ! (load ! (from ! (stop !)) (look ! 6 refl))
         (λ less.
-        assigns ! (bin ! (load ! (from ! (stop !)) (look ! 10 refl)) (lit ! tt) (record { fits = offset-fits E.the_row t.i (length ys) (below t less) room })) (from ! (stop !)) (store ! 8 refl (tt, record { fits = offset-fits E.the_row t.i (length ys) (below t less) room })) $
+        assigns ! (bin ! (load ! (from ! (stop !)) (look ! 10 refl)) (lit ! tt) (record { fits = offset_fits E.the_row t.i (length ys) (below t less) room })) (from ! (stop !)) (store ! 8 refl (tt, record { fits = offset_fits E.the_row t.i (length ys) (below t less) room })) $
         assigns ! (bin ! (load ! (from ! (fld ! refl (stop !))) (look_in ! 16 (sub ! 0 refl (whole !)))) (load ! (from ! (stop !)) (look ! 8 refl)) tt) (from ! (stop !)) (init ! 4 refl (tt, tt)) $
-        rewrite ! 4 (λ (p : ℕ). ‵ (fat full_share ty_ptr l₇ 0 (vptr b p))) (begins-at o t.i) refl $ record-out ! full_share b o t.zs t.i (inside t (below t less)) (λ _.
+        rewrite ! 4 (λ (p : ℕ). ‵ (fat full_share ty_ptr l₇ 0 (vptr b p))) (begins_at o t.i) refl $ record_out ! full_share b o t.zs t.i (inside t (below t less)) (λ _.
         -- [record i; what it owns; the others; the open borrow; obs; auth; _7; …]
-        assigns ! (of_opd ! (load ! (from ! (stop !)) (look ! 14 refl))) (from ! (hop ! (look ! 6 refl) (stop !))) (store_raw ! 0 refl (typed 𝓛 blank told)) $ record-over ! b o t.zs t.i blank told (inside t (below t less)) $
+        assigns ! (of_opd ! (load ! (from ! (stop !)) (look ! 14 refl))) (from ! (hop ! (look ! 6 refl) (stop !))) (store_raw ! 0 refl (typed 𝓛 blank told)) $ record_over ! b o t.zs t.i blank told (inside t (below t less)) $
         assigns_last ! (bin ! (load ! (from ! (stop !)) (look ! 10 refl)) (lit ! tt) (record { fits = next_fits t.i (length ys) (below t less) room.0 })) (from ! (stop !)) (store ! 10 refl (tt, record { fits = next_fits t.i (length ys) (below t less) room.0 })) $
         forget ! 4 refl $ forget ! 6 refl $ forget ! 8 refl $ again ! Nearer At t (next t (below t less)) (falls t.i (length ys) (below t less))))
-        (λ over. exec ! 𝓣.C 𝓣.Λ En mir.t-4 (at_ret En Post) $ closes-row ! tt E.the_row b o ys t.zs room t.long $
+        (λ over. exec ! 𝓣.C 𝓣.Λ En mir.t-4 (at_ret En Post) $ closes_row ! tt E.the_row b o ys t.zs room t.long $
         -- [the slice; the token; _7; …]
         assigns ! (of_opd ! (unit_lit !)) (from ! (stop !)) (init ! 16 refl (tt, tt)) $ returns ! (look ! 16 refl) $
         move ! (16 ∷ 17 ∷ 14 ∷ 15 ∷ 12 ∷ 13 ∷ 10 ∷ 11 ∷ 8 ∷ 9 ∷ 6 ∷ 7 ∷ 4 ∷ 5 ∷ 2 ∷ 3 ∷ []) $ forget ! 0 refl $ free1 ! $ forget ! 0 refl $ free1 ! $ forget ! 0 refl $ free1 ! $ forget ! 0 refl $ free1 ! $
         forget ! 0 refl $ free1 ! $ forget ! 0 refl $ free1 ! $ forget ! 0 refl $ free1 ! $ free1 ! $ free0 ! $
-        by ! (exits t.zs t.long (sym (filled-end t.zs t.i (subst (λ (n : ℕ). n ≤ t.i) (sym t.long) (nltb→le t.i (length ys) over))) ∙ t.leads)))
+        by ! (exits t.zs t.long (sym (filled_end t.zs t.i (subst (λ (n : ℕ). n ≤ t.i) (sym t.long) (nltb→le t.i (length ys) over))) ∙ t.leads)))
 
   module _ (𝓣 : Tables 𝓤 H) (known : Triple 𝓤 (𝓣.C #events·blank) (Blank 𝓛 mem run)) where
     walk : ent 𝓤 (on_entry 𝓛 blank-from.signature (κ, tt) (q, tt) a at) (WpFn 𝓤 H 𝓣.C 𝓣.Λ code.function (s ∷ vint w64 m ∷ []) Post)
@@ -197,8 +197,8 @@ module _ {M : Type 1} {𝓤 : Ura M} (𝓛 : Logic 𝓤) (mem : Memory → SProp
         alloc1 ! (λ l₀. alloc1 ! (λ l₁. alloc1 ! (λ l₂. alloc1 ! (λ l₃. alloc1 ! (λ l₄. alloc1 ! (λ l₅. alloc1 ! (λ l₆. alloc1 ! (λ l₇. alloc0 ! $ params1 ! $
         pass1 ! (init ! 12 refl (tt, (tt, (record { fits = room.0 }, tt)))) $ pass1 ! (init ! 10 refl (tt, record { fits = m-fits })) $ pass0 ! $
         -- [_7; …; _6; …; _5; …; _4; …; _3; …; _2; …; _1; …; room for _0; …; the token and true; what the arguments own]
-        use0 𝓛 (raw ((Blank 𝓛 mem run).pre to-blank)) goes_blank $
-        calls_at ! (fm_of 𝓤 H 𝓛.laws 𝓣) (Blank 𝓛 mem run) known to-blank (no_more !) (λ v.
+        use0 𝓛 (raw ((Blank 𝓛 mem run).pre to_blank)) goes_blank $
+        calls_at ! (fm_of 𝓤 H 𝓛.laws 𝓣) (Blank 𝓛 mem run) known to_blank (no_more !) (λ v.
         use1 𝓛 (later (some (λ (r : Event). (‵ ftrue ⊛ ‵ ((E.the_row).own_val r (v ∷ []))) ⊛ raw (ensured 𝓛 blank'.ended (blank'.clauses 𝓛 mem run) tt tt tt r)))) (id⊢ 𝓤 _) $ await ! tt $ pick ! (λ r.
         split ! $ move ! (1 ∷ []) $ use1 𝓛 (raw (fact 𝓤 (r ≡ blank))) (got_of 𝓛 mem run r) $ heard ! (r ≡ blank) (λ e. split ! $ drop ! $
         facts ! E.the_row (Is E.the_row) (shows 𝓛 E.the_row) r (v ∷ []) (λ is.
@@ -206,7 +206,7 @@ module _ {M : Type 1} {𝓤 : Ura M} (𝓛 : Logic 𝓤) (mem : Memory → SProp
         rewrite ! 8 (λ (u : Val). ‵ (fat full_share E'.mir l₃ 0 u)) (ap only (LL.tells E.the_type E'.the_laws r _ is) ∙ ap val e) refl $
         assigns ! (of_opd ! (load ! (from ! (stop !)) (look ! 10 refl))) (from ! (stop !)) (init ! 6 refl (tt, record { fits = m-fits })) $
         move ! (16 ∷ 17 ∷ []) $ split ! $ move ! (1 ∷ []) $ drop ! $ move ! (1 ∷ []) $ fsplit ! $ move ! (1 ∷ []) $ drop ! $ opens_row ! tt E.the_row b o ys $
-        first ! $ blocks ! $ loops ! 𝓣 Nearer Nearer-wf (At 𝓣 (told-blank r v e is) l₀ l₁ l₂ l₃ l₄ l₅ l₆ l₇) (turns 𝓣 (told-blank r v e is) l₀ l₁ l₂ l₃ l₄ l₅ l₆ l₇) begins))))))))))))
+        first ! $ blocks ! $ loops ! 𝓣 Nearer NearerWf (At 𝓣 (told-blank r v e is) l₀ l₁ l₂ l₃ l₄ l₅ l₆ l₇) (turns 𝓣 (told-blank r v e is) l₀ l₁ l₂ l₃ l₄ l₅ l₆ l₇) begins))))))))))))
       where
         told-blank : (r : Event) (v : Val) → r ≡ blank → Is E.the_row r (v ∷ []) → Told blank
         told-blank r v e is = subst Told e (subst (Is E.the_row r) (LL.tells E.the_type E'.the_laws r _ is) is)

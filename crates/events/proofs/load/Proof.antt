@@ -33,10 +33,10 @@ use denote.Triple.Entry.{on_entry}
 use denote.Triple.Walked.{says, needs, Stays, stay_dropped, walk_of, Goes-dropped, ends_at}
 use denote.Exit.{yes}
 use Rattle.walk.proofs.Close.{by-walk}
-use Rattle.walk.proofs.Row.{offset-fits}
+use Rattle.walk.proofs.Row.{offset_fits}
 use Rattle.events.specs.declared.Event.{Event}
 use Rattle.events.specs.Records.{blank}
-use Rattle.events.proofs.Rows.{val, Told, typed, begins-at, record-out}
+use Rattle.events.proofs.Rows.{val, Told, typed, begins_at, record_out}
 use Rattle.events.specs.contracts.Event as E
 use Rattle.events.proofs.Event.TheLaws as E'
 use Rattle.events.specs.contracts.load.Key.{name as #events·load}
@@ -80,11 +80,11 @@ module _ {M : Type 1} {𝓤 : Ura M} (𝓛 : Logic 𝓤) (mem : Memory → SProp
         alloc1 ! (λ l₀. alloc1 ! (λ l₁. alloc1 ! (λ l₂. alloc1 ! (λ l₃. alloc1 ! (λ l₄. alloc1 ! (λ l₅. alloc0 ! $ params1 ! $
         pass1 ! (init ! 8 refl (tt, (tt, (record { fits = room.0 }, tt)))) $ pass1 ! (init ! 6 refl (tt, record { fits = i-fits })) $ pass0 ! $
         -- [_5; …; _4; …; _3; …; _2; …; _1; …; room for _0; …; the token and true; what the arguments own]
-        assigns ! (bin ! (load ! (from ! (stop !)) (look ! 6 refl)) (lit ! tt) (record { fits = offset-fits E.the_row i (length ys) l room })) (from ! (stop !)) (init ! 4 refl (tt, record { fits = offset-fits E.the_row i (length ys) l room })) $
+        assigns ! (bin ! (load ! (from ! (stop !)) (look ! 6 refl)) (lit ! tt) (record { fits = offset_fits E.the_row i (length ys) l room })) (from ! (stop !)) (init ! 4 refl (tt, record { fits = offset_fits E.the_row i (length ys) l room })) $
         assigns ! (bin ! (load ! (from ! (fld ! refl (stop !))) (look_in ! 8 (sub ! 0 refl (whole !)))) (load ! (from ! (stop !)) (look ! 4 refl)) tt) (from ! (stop !)) (init ! 2 refl (tt, tt)) $
-        rewrite ! 2 (λ (p : ℕ). ‵ (fat full_share ty_ptr l₄ 0 (vptr b p))) (begins-at o i) refl $
+        rewrite ! 2 (λ (p : ℕ). ‵ (fat full_share ty_ptr l₄ 0 (vptr b p))) (begins_at o i) refl $
         move ! (13 ∷ []) $ fsplit ! $ fsplit ! $ move ! (1 ∷ []) $ fsplit ! $ move ! (16 ∷ []) $ split ! $ move ! (3 ∷ 0 ∷ []) $
-        looks_slice ! tt E.the_row (Is E.the_row) (shows 𝓛 E.the_row) (LL.vals E.the_type E'.the_laws) (LL.tells E.the_type E'.the_laws) (LL.copy E.the_type E'.the_copy 𝓛) ys b o (λ q'. record-out ! q' b o ys i l (λ told.
+        looks_slice ! tt E.the_row (Is E.the_row) (shows 𝓛 E.the_row) (LL.vals E.the_type E'.the_laws) (LL.tells E.the_type E'.the_laws) (LL.copy E.the_type E'.the_copy 𝓛) ys b o (λ q'. record_out ! q' b o ys i l (λ told.
         -- [record i; what it owns; the others; what shuts; the fractured borrow; true; res; the slice's fact; i's; _5; …; _4; …; _3; …; _2; …; _1; …; room for _0; …]
         assigns ! (of_opd ! (load ! (from ! (hop ! (look ! 11 refl) (stop !))) (look_raw ! 0 refl))) (from ! (stop !)) (init ! 9 refl (typed 𝓛 it told)) $
         assigns ! (of_opd ! (load ! (from ! (stop !)) (look ! 9 refl))) (from ! (stop !)) (init ! 19 refl (typed 𝓛 it told)) $

@@ -33,10 +33,10 @@ use denote.Triple.Entry.{on_entry}
 use denote.Triple.Walked.{says, Stays, stay_slice, stay_dropped, walk_of, Goes-slice, Goes-dropped, ends_at}
 use denote.Exit.{yes}
 use Rattle.walk.proofs.Close.{by-walk}
-use Rattle.walk.proofs.Row.{Slice, Opened, opens_row, closes-row, offset-fits}
+use Rattle.walk.proofs.Row.{Slice, Opened, opens_row, closes_row, offset_fits}
 use Rattle.walk.proofs.Walk.{full, free}
 use Rattle.events.specs.declared.Event.{Event}
-use Rattle.events.proofs.Rows.{rowTy, val, Told, typed, begins-at, record-out, record-over}
+use Rattle.events.proofs.Rows.{row_ty, val, Told, typed, begins_at, record_out, record_over}
 use Rattle.events.specs.contracts.Event as E
 use Rattle.events.proofs.Event.TheLaws as E'
 use Rattle.events.specs.contracts.store.Key.{name as #events·store}
@@ -77,16 +77,16 @@ module _ {M : Type 1} {𝓤 : Ura M} (𝓛 : Logic 𝓤) (mem : Memory → SProp
 
   module _ (C : Calls 𝓤 H) (Λ : Loops 𝓤 H) (l₀ l₁ l₂ l₃ l₄ l₅ l₆ l₇ : ℕ) where
     abbrev En : Env 𝓤 H
-    En = (ty_unit, l₀) ∷ (rowTy, l₁) ∷ (ty_int w64, l₂) ∷ (E'.mir, l₃) ∷ (ty_int w64, l₄) ∷ (ty_bool, l₅) ∷ (ty_int w64, l₆) ∷ (ty_ptr, l₇) ∷ []
+    En = (ty_unit, l₀) ∷ (row_ty, l₁) ∷ (ty_int w64, l₂) ∷ (E'.mir, l₃) ∷ (ty_int w64, l₄) ∷ (ty_bool, l₅) ∷ (ty_int w64, l₆) ∷ (ty_ptr, l₇) ∷ []
 
     -- after the branch, with the row at zs and the test's outcome y
     abbrev After : List Event → Val → List (Item 𝓤)
     After zs y = Opened E.the_row κ γ b o q ys zs ++ free ty_ptr l₇ ++ free (ty_int w64) l₆ ++ full ty_bool l₅ y ++ full (ty_int w64) l₄ (vint w64 (length ys))
-        ++ full E'.mir l₃ (val e) ++ full (ty_int w64) l₂ (vint w64 i) ++ full rowTy l₁ s ++ free ty_unit l₀
+        ++ full E'.mir l₃ (val e) ++ full (ty_int w64) l₂ (vint w64 i) ++ full row_ty l₁ s ++ free ty_unit l₀
 
     leaves : (zs : List Event) (y : Val) → length zs ≡ length ys → zs ≡ set ys i e → Sq 𝓛 (After zs y) (runs C Λ En mir.t-4 (at_ret En Post))
     leaves zs y long eq =
-        closes-row ! tt E.the_row b o ys zs room long $
+        closes_row ! tt E.the_row b o ys zs room long $
         -- [the slice; the token; _7; …; _6; …; _5; …; _4; …; _3; …; _2; …; _1; …; room for _0; …]
         assigns ! (of_opd ! (unit_lit !)) (from ! (stop !)) (init ! 16 refl (tt, tt)) $ returns ! (look ! 16 refl) $
         move ! (16 ∷ 17 ∷ 14 ∷ 15 ∷ 12 ∷ 13 ∷ 10 ∷ 11 ∷ 8 ∷ 9 ∷ 6 ∷ 7 ∷ 4 ∷ 5 ∷ 2 ∷ 3 ∷ []) $ forget ! 0 refl $ free1 ! $ forget ! 0 refl $ free1 ! $ forget ! 0 refl $ free1 ! $ forget ! 0 refl $ free1 ! $
@@ -106,11 +106,11 @@ module _ {M : Type 1} {𝓤 : Ura M} (𝓛 : Logic 𝓤) (mem : Memory → SProp
         first ! $ branches ! (load ! (from ! (stop !)) (look ! 8 refl))
         (λ less.
         let l : i < length ys = ltb→lt i (length ys) less in
-        assigns ! (bin ! (load ! (from ! (stop !)) (look ! 14 refl)) (lit ! tt) (record { fits = offset-fits E.the_row i (length ys) l room })) (from ! (stop !)) (init ! 6 refl (tt, record { fits = offset-fits E.the_row i (length ys) l room })) $
+        assigns ! (bin ! (load ! (from ! (stop !)) (look ! 14 refl)) (lit ! tt) (record { fits = offset_fits E.the_row i (length ys) l room })) (from ! (stop !)) (init ! 6 refl (tt, record { fits = offset_fits E.the_row i (length ys) l room })) $
         assigns ! (bin ! (load ! (from ! (fld ! refl (stop !))) (look_in ! 16 (sub ! 0 refl (whole !)))) (load ! (from ! (stop !)) (look ! 6 refl)) tt) (from ! (stop !)) (init ! 4 refl (tt, tt)) $
-        rewrite ! 4 (λ (p : ℕ). ‵ (fat full_share ty_ptr l₇ 0 (vptr b p))) (begins-at o i) refl $ record-out ! full_share b o ys i l (λ _.
+        rewrite ! 4 (λ (p : ℕ). ‵ (fat full_share ty_ptr l₇ 0 (vptr b p))) (begins_at o i) refl $ record_out ! full_share b o ys i l (λ _.
         -- [record i; what it owns; the others; the open borrow; obs; auth; _7; …]
-        assigns_last ! (of_opd ! (load ! (from ! (stop !)) (look ! 14 refl))) (from ! (hop ! (look ! 6 refl) (stop !))) (store_raw ! 0 refl (typed 𝓛 e told)) $ record-over ! b o ys i e told l $ forget ! 4 refl $ forget ! 6 refl $
+        assigns_last ! (of_opd ! (load ! (from ! (stop !)) (look ! 14 refl))) (from ! (hop ! (look ! 6 refl) (stop !))) (store_raw ! 0 refl (typed 𝓛 e told)) $ record_over ! b o ys i e told l $ forget ! 4 refl $ forget ! 6 refl $
         exec ! C Λ (En C Λ l₀ l₁ l₂ l₃ l₄ l₅ l₆ l₇) mir.t-4 (at_ret (En C Λ l₀ l₁ l₂ l₃ l₄ l₅ l₆ l₇) Post) $ leaves C Λ l₀ l₁ l₂ l₃ l₄ l₅ l₆ l₇ (set ys i e) _ (length-set ys i e) refl))
         (λ over. skips ! $ exec ! C Λ (En C Λ l₀ l₁ l₂ l₃ l₄ l₅ l₆ l₇) mir.t-4 (at_ret (En C Λ l₀ l₁ l₂ l₃ l₄ l₅ l₆ l₇) Post) $
         leaves C Λ l₀ l₁ l₂ l₃ l₄ l₅ l₆ l₇ ys _ refl (sym (set_out ys i e (nltb→le i (length ys) over))))))))))))

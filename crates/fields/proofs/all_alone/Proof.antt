@@ -2,7 +2,7 @@
 -- Assumes nothing.
 use Rattle.std.proofs.Common.{◌≡◌, ℕ, ◌+◌, ◌-◌, ◌<◌, ◌≤◌, true, List, get_or, arith, rules, leb-true}
 use Rattle.fields.specs.Utf8.{alone}
-use Rattle.fields.proofs.Plain.{one_more, joined}
+use Rattle.fields.proofs.Plain.{one_more_lem, joined}
 use Rattle.fields.proofs.all_alone.Statement.{statement}
 use Rattle.fields.proofs.all_alone.Tie as tie
 
@@ -14,7 +14,7 @@ abbrev Stretch : List ℕ → (low from to : ℕ) → Type 0
 Stretch s low from to = (j : ℕ) → from ≤ j → j < to → Single s low j
 
 wider : (s : List ℕ) (low from i below : ℕ) → Stretch s low from (from + i) → below ≤ low → Single s below (from + i) → Stretch s below from (from + (i + 1))
-wider s low from i below p l w j m k = one_more (Single s below) from (from + i) (λ j m k h. p j m k (omega arith)) w j m (omega arith)
+wider s low from i below p l w j m k = one_more_lem (Single s below) from (from + i) (λ j m k h. p j m k (omega arith)) w j m (omega arith)
 
 abbrev invariant-loop : tie.invariant-loop
 invariant-loop s from to half second low₀ i₀ low i = (i ≤ half) × Stretch s low from (from + i) × Stretch s low second (second + i)

@@ -3,7 +3,7 @@
 use Rattle.std.proofs.Common.{◌≡◌, ℕ, ◌+◌, ◌-◌, ◌*◌, ◌/◌, ◌^◌, sym, ◌∙◌, true≢false, arith, rules, eqb-true}
 use lib.Bits.{bit_and}
 use Rattle.fields.specs.WeightContracts.{high_bits}
-use Rattle.fields.proofs.Plain.{neither, eight-plain, first_plain, At, joined}
+use Rattle.fields.proofs.Plain.{neither, eight_plain, first_plain, At, joined}
 use Rattle.fields.proofs.all_plain.Statement.{statement}
 use Rattle.fields.proofs.all_plain.Tie as tie
 
@@ -28,8 +28,8 @@ returns-3 c =
     let n : a.to - 8 + 8 ≡ a.to = omega arith in
     λ e.
     let m = neither c.before.before.not-plain2.result c.not-plain3.result (high_bits 8) (eqb-true _ _ e) in
-    let p = eight-plain x a.from _ c.before.before.before.eight2.ensures (rw c.before.before.not-plain2.ensures at m.0) in
-    let q = rw n at (eight-plain x (a.to - 8) _ c.before.eight3.ensures (rw c.not-plain3.ensures at m.1)) in
+    let p = eight_plain x a.from _ c.before.before.before.eight2.ensures (rw c.before.before.not-plain2.ensures at m.0) in
+    let q = rw n at (eight_plain x (a.to - 8) _ c.before.eight3.ensures (rw c.not-plain3.ensures at m.1)) in
     joined (At x) a.from (a.from + 8) p (a.to - 8) a.to q (omega arith)
 
 returns-4 : tie.Need-returns-4

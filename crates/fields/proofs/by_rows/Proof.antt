@@ -1,7 +1,7 @@
 -- `by_rows` meets its contract: row by row, the octets fit one of the rows from here on where they fit one of all.
 -- Assumes nothing.
 use Rattle.std.proofs.Common.{◌≡◌, ◌-◌, ◌≤◌, take, drop, sym, refl, ◌∙◌, arith, length-drop, length-take, rules}
-use Rattle.fields.specs.Utf8.{byRows}
+use Rattle.fields.specs.Utf8.{by_rows}
 use Rattle.fields.proofs.Utf8.{row_next, no_row}
 use Rattle.fields.proofs.by_rows.Statement.{statement}
 use Rattle.fields.proofs.by_rows.Tie as tie
@@ -9,7 +9,7 @@ use Rattle.fields.proofs.by_rows.Tie as tie
 abbrev invariant-loop : tie.invariant-loop
 invariant-loop rows first end s i to n r₀ r =
     (r ≤ end)
-    × (byRows n (take (end - first) (drop first rows)) (take (to - i) (drop i s)) ≡ byRows n (take (end - r) (drop r rows)) (take (to - i) (drop i s)))
+    × (by_rows n (take (end - first) (drop first rows)) (take (to - i) (drop i s)) ≡ by_rows n (take (end - r) (drop r rows)) (take (to - i) (drop i s)))
 
 abbrev decreases-loop : tie.decreases-loop
 decreases-loop rows first end s i to n r₀ r = end - r
@@ -39,7 +39,7 @@ loop-again c =
     )
 
 returns-3 : tie.Need-returns-3 invariant-loop decreases-loop
-unfolding byRows
+unfolding by_rows
 returns-3 c =
     let a = c.before.before.before.before.args in
     let l = c.before.loop in

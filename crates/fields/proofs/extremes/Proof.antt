@@ -1,7 +1,7 @@
 -- `extremes` meets its contract: of each stretch the octets so far; the second starts where the first has ended, or before.
 -- Assumes nothing.
 use Rattle.std.proofs.Common.{ℕ, ◌+◌, ◌-◌, ◌<◌, ◌≤◌, List, get_or, arith, rules}
-use Rattle.fields.proofs.Plain.{one_more, joined}
+use Rattle.fields.proofs.Plain.{one_more_lem, joined}
 use Rattle.fields.proofs.extremes.Statement.{statement}
 use Rattle.fields.proofs.extremes.Tie as tie
 
@@ -16,7 +16,7 @@ Stretch s low high from to = (j : ℕ) → from ≤ j → j < to → Within s lo
 wider : (s : List ℕ) (low high from i below above : ℕ) → Stretch s low high from (from + i) → below ≤ low → high ≤ above → Within s below above (from + i)
     → Stretch s below above from (from + (i + 1))
 wider s low high from i below above p l h w j m k =
-    one_more (Within s below above) from (from + i) (λ j m k. let q = p j m k in (omega arith, omega arith)) w j m (omega arith)
+    one_more_lem (Within s below above) from (from + i) (λ j m k. let q = p j m k in (omega arith, omega arith)) w j m (omega arith)
 
 abbrev invariant-loop : tie.invariant-loop
 invariant-loop s from to half second low₀ high₀ i₀ low high i = (i ≤ half) × Stretch s low high from (from + i) × Stretch s low high second (second + i)

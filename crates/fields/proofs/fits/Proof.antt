@@ -1,9 +1,9 @@
 -- `fits` meets its contract: range by range, the octets from here on fit where all do.
 -- Assumes nothing.
 use Rattle.std.proofs.Common.{◌≡◌, ◌+◌, ◌-◌, ◌≤◌, drop, sym, refl, ◌∙◌, arith, rules}
-use borrow.Author.Tests.{not-true, not-false}
+use borrow.Author.Tests.{not_true, not-false}
 use Rattle.fields.specs.Utf8.{fits, ranges}
-use Rattle.fields.proofs.Utf8.{range-next, no-ranges}
+use Rattle.fields.proofs.Utf8.{range_next, no_ranges}
 use Rattle.fields.proofs.fits.Statement.{statement}
 use Rattle.fields.proofs.fits.Tie as tie
 
@@ -24,22 +24,22 @@ returns : tie.Need-returns invariant-loop decreases-loop
 returns c =
     let a = c.before.before.before.before.before.before.args in
     let l = c.before.before.before.before.loop in
-    sym (l.invariant.1 ∙ range-next a.t1 a.s.now l.k a.n (a.i + l.k) _ _ (omega arith) (omega arith) refl
-    (sym (not-true _ c.if1.true) ∙ c.before.among.ensures))
+    sym (l.invariant.1 ∙ range_next a.t1 a.s.now l.k a.n (a.i + l.k) _ _ (omega arith) (omega arith) refl
+    (sym (not_true _ c.if1.true) ∙ c.before.among.ensures))
 
 loop-again : tie.Need-loop-preserved invariant-loop decreases-loop
 loop-again c =
     let a = c.before.before.before.before.before.before.args in
     let l = c.before.before.before.before.loop in (
       omega arith,
-      l.invariant.1 ∙ range-next a.t1 a.s.now l.k a.n (a.i + l.k) (a.i + (l.k + 1)) _ (omega arith) (omega arith) (omega arith)
+      l.invariant.1 ∙ range_next a.t1 a.s.now l.k a.n (a.i + l.k) (a.i + (l.k + 1)) _ (omega arith) (omega arith) (omega arith)
           (sym (not-false _ c.if1.false) ∙ c.before.among.ensures),
     )
 
 returns-2 : tie.Need-returns-2 invariant-loop decreases-loop
 returns-2 c =
     let l = c.before.loop in
-    sym (l.invariant.1 ∙ no-ranges _ _ l.k _ (omega arith))
+    sym (l.invariant.1 ∙ no_ranges _ _ l.k _ (omega arith))
 
 pub fits-spec : {M : Type 1} → statement M
 fits-spec =

@@ -2,7 +2,7 @@
 -- Assumes nothing.
 use Rattle.std.proofs.Common.{arith, rules}
 use Rattle.fields.specs.WeightContracts.{weight}
-use Rattle.fields.proofs.Weights.{four-octets}
+use Rattle.fields.proofs.Weights.{four_octets}
 use Rattle.fields.proofs.four.Statement.{statement}
 use Rattle.fields.proofs.four.Tie as tie
 
@@ -10,7 +10,7 @@ returns : tie.Need-returns
 unfolding weight
 returns c =
     let a = c.before.before.before.before.before.before.before.before.before.args in
-    rw (four-octets a.x.now a.at (omega arith))
+    rw (four_octets a.x.now a.at (omega arith))
     (omega arith, (omega arith, (omega arith, (omega arith, (omega arith, tt)))), omega arith)
 
 pub four-spec : {M : Type 1} → statement M

@@ -1,8 +1,8 @@
 -- `is_easy` meets its contract: the lowest and the highest octet are plain, or no octet is high and each was looked at by itself.
 -- Assumes nothing.
 use Rattle.std.proofs.Common.{sym, ◌∙◌, true≢false, arith, rules, le-ltb}
-use Rattle.fields.proofs.Plain.{between-plain}
-use Rattle.fields.proofs.Utf8.{plain-alones}
+use Rattle.fields.proofs.Plain.{between_plain}
+use Rattle.fields.proofs.Utf8.{plain_alones}
 use Rattle.fields.proofs.is_easy.Statement.{statement}
 use Rattle.fields.proofs.is_easy.Tie as tie
 
@@ -11,8 +11,8 @@ returns c =
     let a = c.before.before.before.before.before.before.args in
     let x = c.before.before.before.before.extremes in
     λ e.
-    plain-alones a.s.now a.from a.to
-    (between-plain a.s.now x.result.low x.result.high a.from a.to x.ensures
+    plain_alones a.s.now a.from a.to
+    (between_plain a.s.now x.result.low x.result.high a.from a.to x.ensures
     (sym c.before.before.before.is_plain.ensures ∙ c.before.before.if1.true)
     (sym c.before.is-plain2.ensures ∙ c.if2.true))
 

@@ -2,12 +2,12 @@
 -- Assumes nothing.
 use Rattle.std.proofs.Common.{◌≡◌, ◌+◌, ◌-◌, ◌%◌, ◌^◌, ap, arith, rules}
 use lib.Bits.{bit_or}
-use Rattle.fields.specs.WeightContracts.{notPlain, spaces}
+use Rattle.fields.specs.WeightContracts.{not_plain, spaces}
 use Rattle.fields.proofs.not_plain.Statement.{statement}
 use Rattle.fields.proofs.not_plain.Tie as tie
 
 returns : tie.Need-returns
-unfolding notPlain spaces
+unfolding not_plain spaces
 returns c =
     let x = c.before.args.x in
     let w : c.wrapping-sub-u64.result ≡ (x + 2 ^ 64 - spaces 8) % 2 ^ 64 = (let h = c.wrapping-sub-u64.ensures in omega arith) in

@@ -3,7 +3,7 @@
 use Rattle.std.proofs.Common.{◌≡◌, ◌+◌, ◌-◌, ◌≤◌, arith, rules}
 use lib.Bits.{bit_and}
 use Rattle.fields.specs.WeightContracts.{high_bits, Plain}
-use Rattle.fields.proofs.Plain.{neither, eight-plain, At, joined}
+use Rattle.fields.proofs.Plain.{neither, eight_plain, At, joined}
 use Rattle.fields.proofs.not_plain_by_eights.Statement.{statement}
 use Rattle.fields.proofs.not_plain_by_eights.Tie as tie
 
@@ -17,7 +17,7 @@ loop-holds : tie.Need-loop-init invariant-loop decreases-loop
 loop-holds c =
     let a = c.before.before.before.args in
     let e : a.to - 8 + 8 ≡ a.to = omega arith in
-    (omega arith, λ z. ((λ j l h. absurd (omega arith)), rw e at (eight-plain a.s.now (a.to - 8) _ c.before.eight.ensures (rw c.not_plain.ensures at z))))
+    (omega arith, λ z. ((λ j l h. absurd (omega arith)), rw e at (eight_plain a.s.now (a.to - 8) _ c.before.eight.ensures (rw c.not_plain.ensures at z))))
 
 loop-again : tie.Need-loop-preserved invariant-loop decreases-loop
 loop-again c =
@@ -26,7 +26,7 @@ loop-again c =
       omega arith,
       λ z.
           let n = neither l.seen c.not-plain2.result (high_bits 8) z in
-          let m = eight-plain a.s.now l.i _ c.before.eight2.ensures (rw c.not-plain2.ensures at n.1) in
+          let m = eight_plain a.s.now l.i _ c.before.eight2.ensures (rw c.not-plain2.ensures at n.1) in
           let p = l.invariant.1 n.0 in
           (joined (At a.s.now) a.from l.i p.0 l.i (l.i + 8) m (omega arith), p.1),
     )

@@ -6,7 +6,7 @@ use mathlib.Core.Path.{◌≡◌, refl}
 use lib.ListN.{length}
 use Rattle.format.specs.Tables.{same}
 use Rattle.forms.specs.Streams.{ahead, Fine}
-use Rattle.forms.proofs.Streams.{differ, goes_on, shorter, left-longer, right-longer, both_end}
+use Rattle.forms.proofs.Streams.{differ, goes_on, shorter, left-longer, right_longer, both_end}
 use Rattle.forms.proofs.alike.Statement.{statement}
 use Rattle.forms.proofs.alike.Tie as tie
 
@@ -57,7 +57,7 @@ returns-3 c =
     let l = c.before.before.before.before.before.before.loop in
     let x = c.before.before.before.before.before.next in
     let y = c.before.before.before.before.next2 in
-    right-longer c.before.before.before.before.before.before.before.before.args.s.now l.p l.q x.result y.result x.ensures y.ensures _ l.invariant.2 c.before.before.enum-told2.given.1 _ _ c.enum-told3.given.1
+    right_longer c.before.before.before.before.before.before.before.before.args.s.now l.p l.q x.result y.result x.ensures y.ensures _ l.invariant.2 c.before.before.enum-told2.given.1 _ _ c.enum-told3.given.1
 
 returns-4 : tie.Need-returns-4 invariant-loop decreases-loop
 returns-4 c =

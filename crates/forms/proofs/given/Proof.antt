@@ -2,21 +2,21 @@
 -- Assumes nothing.
 use borrow.Author.Rules.{rules}
 use native.Mathlib.Omega.{arith}
-use Rattle.forms.proofs.Streams.{given-1, given-2, given-3, given-4}
+use Rattle.forms.proofs.Streams.{given_1, given_2, given_3, given_4}
 use Rattle.forms.proofs.given.Statement.{statement}
 use Rattle.forms.proofs.given.Tie as tie
 
 returns : tie.Need-returns
-returns c = given-1 _ _ _ _ _ (omega arith) c.narrow.ensures
+returns c = given_1 _ _ _ _ _ (omega arith) c.narrow.ensures
 
 returns-2 : tie.Need-returns-2
-returns-2 c = given-2 _ _ _ _ _ _ (omega arith) (omega arith) c.before.narrow2.ensures c.tail.ensures
+returns-2 c = given_2 _ _ _ _ _ _ (omega arith) (omega arith) c.before.narrow2.ensures c.tail.ensures
 
 returns-3 : tie.Need-returns-3
-returns-3 c = given-3 _ _ _ _ _ _ _ (omega arith) (omega arith) c.before.before.narrow3.ensures c.before.tail2.ensures c.tail3.ensures
+returns-3 c = given_3 _ _ _ _ _ _ _ (omega arith) (omega arith) c.before.before.narrow3.ensures c.before.tail2.ensures c.tail3.ensures
 
 returns-4 : tie.Need-returns-4
-returns-4 c = given-4 _ _ _ _ _ _ _ _ (omega arith) c.before.before.before.narrow4.ensures c.before.before.tail4.ensures c.before.tail5.ensures c.tail6.ensures
+returns-4 c = given_4 _ _ _ _ _ _ _ _ (omega arith) c.before.before.before.narrow4.ensures c.before.before.tail4.ensures c.before.tail5.ensures c.tail6.ensures
 
 pub given-spec : {M : Type 1} → statement M
 given-spec =

@@ -5,7 +5,7 @@ use native.Mathlib.Omega.{arith}
 use lib.ListN.{length}
 use Rattle.forms.specs.Streams.{ahead, Fine}
 use Rattle.forms.proofs.Streams.{gave, shorter, ended, bounded}
-use Rattle.forms.proofs.Puts.{Left, left-done, left-next, left-place, left-kept}
+use Rattle.forms.proofs.Puts.{Left, left_done, left_next, left-place, left-kept}
 use Rattle.forms.proofs.put_said.Statement.{statement}
 use Rattle.forms.proofs.put_said.Tie as tie
 
@@ -29,7 +29,7 @@ returns c =
     let a = c.before.before.before.before.before.before.before.args in
     let p = c.before.before.before.before.before.before.before.requires in
     let l = c.before.before.before.loop in
-    let all = left-done a.out.now a.at _ l.out l.i _ (ended a.s.now l.u c.before.before.next.result c.before.before.next.ensures c.enum_told.given.1) l.invariant.1 in
+    let all = left_done a.out.now a.at _ l.out l.i _ (ended a.s.now l.u c.before.before.next.result c.before.before.next.ensures c.enum_told.given.1) l.invariant.1 in
     let e = c.before.before.before.before.over.ensures.1 in
     let b = rw e at (bounded a.s.now a.form a.from a.to p.2 p.4) in
     let i = all.behind in
@@ -52,7 +52,7 @@ loop-again c =
     let a = c.before.before.before.before.before.before.before.before.before.before.before.before.args in
     let l = c.before.before.before.before.before.before.before.before.loop in
     let g = gave a.s.now l.u c.before.before.before.before.before.before.before.next.result c.before.before.before.before.before.before.before.next.ensures _ _ c.before.before.before.before.before.o.given.1 in
-    (g.1, left-next a.out.now a.at _ l.out l.i _ _ _ _ g.0 c.before.before.put.ensures l.invariant.1)
+    (g.1, left_next a.out.now a.at _ l.out l.i _ _ _ _ g.0 c.before.before.put.ensures l.invariant.1)
 
 pub put-said-spec : {M : Type 1} → statement M
 put-said-spec =

@@ -2,13 +2,13 @@
 -- Assumes nothing.
 use borrow.Author.Rules.{rules}
 use mathlib.Core.Path.{sym, ◌∙◌}
-use Rattle.tables.proofs.FormLaws.{form-zero}
+use Rattle.tables.proofs.FormLaws.{form_zero}
 use Rattle.index.proofs.bucket_said.Statement.{statement}
 use Rattle.index.proofs.bucket_said.Tie as tie
 
 returns : tie.Need-returns
 returns c =
-    let utf8 = form-zero c.before.before.before.before.args.form (sym c.before.before.number.ensures.0 ∙ c.before.if1.true) in
+    let utf8 = form_zero c.before.before.before.before.args.form (sym c.before.before.number.ensures.0 ∙ c.before.if1.true) in
     (rw utf8 c.bucket-of.ensures.0, c.bucket-of.ensures.1)
 
 pub bucket-said-spec : {M : Type 1} → statement M

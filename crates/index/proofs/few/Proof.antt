@@ -2,8 +2,8 @@
 -- Assumes nothing.
 use borrow.Author.Rules.{rules}
 use native.Mathlib.Omega.{arith}
-use Rattle.index.proofs.Hash.{bucket-few}
-use Rattle.index.proofs.Plain.{few-plain}
+use Rattle.index.proofs.Hash.{bucket_few}
+use Rattle.index.proofs.Plain.{few_plain}
 use Rattle.index.proofs.few.Statement.{statement}
 use Rattle.index.proofs.few.Tie as tie
 
@@ -14,8 +14,8 @@ returns c =
     let end = c.before.before.before.octet2.ensures in
     let first = c.before.octet3.ensures in (
       omega arith,
-      rw (middle.0, end.0, first.0) (bucket-few _ _ _ (omega arith) (omega arith) (omega arith)),
-      λ z l. few-plain a.s.now a.place a.len _ _ _ first.0 middle.0 end.0 first.1 middle.1 end.1 (omega arith) (omega arith)
+      rw (middle.0, end.0, first.0) (bucket_few _ _ _ (omega arith) (omega arith) (omega arith)),
+      λ z l. few_plain a.s.now a.place a.len _ _ _ first.0 middle.0 end.0 first.1 middle.1 end.1 (omega arith) (omega arith)
           (rw c.not_plain.ensures at z),
     )
 

@@ -2,8 +2,8 @@
 -- Assumes nothing.
 use borrow.Author.Rules.{rules}
 use native.Mathlib.Omega.{arith}
-use Rattle.index.proofs.Hash.{bucket-four}
-use Rattle.index.proofs.Plain.{four-plain}
+use Rattle.index.proofs.Hash.{bucket_four}
+use Rattle.index.proofs.Plain.{four_plain}
 use Rattle.index.proofs.fours.Statement.{statement}
 use Rattle.index.proofs.fours.Tie as tie
 
@@ -12,8 +12,8 @@ returns c =
     let end = c.before.before.four.ensures in
     let first = c.before.four2.ensures in (
       omega arith,
-      rw (end.0, first.0) (bucket-four _ _ _ (omega arith) (omega arith) (omega arith)),
-      λ z l. four-plain _ _ _ _ _ first end (omega arith) (omega arith) (rw c.not_plain.ensures at z),
+      rw (end.0, first.0) (bucket_four _ _ _ (omega arith) (omega arith) (omega arith)),
+      λ z l. four_plain _ _ _ _ _ first end (omega arith) (omega arith) (rw c.not_plain.ensures at z),
     )
 
 pub fours-spec : {M : Type 1} → statement M

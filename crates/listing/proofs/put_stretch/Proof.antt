@@ -7,7 +7,7 @@ use Rattle.listing.proofs.put_stretch.Statement.{statement}
 use Rattle.listing.proofs.put_stretch.Tie as tie
 
 over-requires : tie.Need-over-requires
-over-requires c κs = (omega arith, omega arith, c.before.is-text.ensures.1 (not-false _ c.if3.false))
+over-requires c κs = (omega arith, omega arith, c.before.is_text_lem.ensures.1 (not-false _ c.if3.false))
 
 pub put-stretch-spec : {M : Type 1} → statement M
 put-stretch-spec =

@@ -7,10 +7,10 @@ use lib.ListN.{length}
 use Rattle.format.specs.Tables.{link}
 use Rattle.tables.specs.Rows.{vocabulary}
 use Rattle.tables.specs.Kept.{unlisted}
-use Rattle.read_names.specs.Contracts.{Left}
+use Rattle.read_names.specs.Promises.{Left}
 use Rattle.read_head.specs.Head.{entries_at}
-use Rattle.read_head.specs.Contracts.{table_at}
-use Rattle.read_head.proofs.HeadLaws.{left_here, left-then, handed-on, entries-end, entries_next, entries-refused}
+use Rattle.read_head.specs.Promises.{table_at}
+use Rattle.read_head.proofs.HeadLaws.{left_here, left-then, handed_on, entries_end, entries_next, entries_refused}
 use Rattle.read_head.proofs.entries.Statement.{statement}
 use Rattle.read_head.proofs.entries.Tie as tie
 
@@ -62,7 +62,7 @@ returns c =
     let at_entry_lem = c.before.before.before.before.before.before.before.before in
     let at-loop = at_entry_lem.before.before.before.before.before in
     let at-start = at-loop.before.before.before.before.before in
-    handed-on at-start.args.s.now at-start.args.counts.now at-start.args.t.now _ _ _ _ _ _ at_entry_lem.entry.result _ _ _ c.enum_told.given.1 at_entry_lem.entry.ensures λ e. entries-refused _ _ _ _ _ (omega arith) _ _ e ∙ at-loop.loop.invariant.4
+    handed_on at-start.args.s.now at-start.args.counts.now at-start.args.t.now _ _ _ _ _ _ at_entry_lem.entry.result _ _ _ c.enum_told.given.1 at_entry_lem.entry.ensures λ e. entries_refused _ _ _ _ _ (omega arith) _ _ e ∙ at-loop.loop.invariant.4
 
 loop-again : tie.Need-loop-preserved invariant-loop decreases-loop
 loop-again c =
@@ -74,7 +74,7 @@ loop-again c =
     (omega arith, omega arith, omega arith, left-then inv.3 r.1, entries_next _ _ _ _ _ (omega arith) _ _ r.0 ∙ inv.4)
 
 returns-2 : tie.Need-returns-2 invariant-loop decreases-loop
-returns-2 c = let inv = c.before.loop.invariant in (sym (entries-end _ _ _ _ _ (omega arith)) ∙ inv.4, inv.3)
+returns-2 c = let inv = c.before.loop.invariant in (sym (entries_end _ _ _ _ _ (omega arith)) ∙ inv.4, inv.3)
 
 pub entries-spec : {M : Type 1} → statement M
 entries-spec =

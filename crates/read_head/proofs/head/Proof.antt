@@ -2,29 +2,29 @@
 -- Assumes nothing.
 use borrow.Author.Rules.{rules}
 use native.Mathlib.Omega.{arith}
-use Rattle.read_head.proofs.HeadLaws.{head-missing, head-padded, head-other, head-short, head-empty, head_read}
+use Rattle.read_head.proofs.HeadLaws.{head_missing, head_padded, head_other, head_short, head_empty, head_read}
 use Rattle.read_head.proofs.head.Statement.{statement}
 use Rattle.read_head.proofs.head.Tie as tie
 
 returns : tie.Need-returns
 returns c =
     let at-start = c.before.before.before.before.before in
-    (head-missing _ _ _ (omega arith), (omega arith, at-start.requires.1))
+    (head_missing _ _ _ (omega arith), (omega arith, at-start.requires.1))
 
 returns-2 : tie.Need-returns-2
 returns-2 c =
     let at-start = c.before.before.before.before.before.before.before in
-    (head-padded _ _ _ (omega arith) (omega arith), (omega arith, at-start.requires.1))
+    (head_padded _ _ _ (omega arith) (omega arith), (omega arith, at-start.requires.1))
 
 returns-3 : tie.Need-returns-3
 returns-3 c =
     let at-start = c.before.before.before.before.before.before.before.before in
-    (head-other _ _ _ (omega arith) (omega arith) (omega arith), (omega arith, at-start.requires.1))
+    (head_other _ _ _ (omega arith) (omega arith) (omega arith), (omega arith, at-start.requires.1))
 
 returns-4 : tie.Need-returns-4
 returns-4 c =
     let at-start = c.before.before.before.before.before.before.before.before.before in
-    (head-short _ _ _ (omega arith) (omega arith) (omega arith), (omega arith, at-start.requires.1))
+    (head_short _ _ _ (omega arith) (omega arith) (omega arith), (omega arith, at-start.requires.1))
 
 returns-5 : tie.Need-returns-5
 returns-5 c =
@@ -32,7 +32,7 @@ returns-5 c =
     let at-if3 = at-if4.before in
     let at-if1 = at-if3.before.before.before in
     let at-start = at-if1.before.before.before.before.before in
-    (head-empty _ _ _ at-if1.if1.false at-if3.if3.false at-if4.if4.false _ (let w = c.before.before.before.wide.ensures.0 in let v = c.before.wide2.ensures.0 in omega arith) c.if5.true, (omega arith, at-start.requires.1))
+    (head_empty _ _ _ at-if1.if1.false at-if3.if3.false at-if4.if4.false _ (let w = c.before.before.before.wide.ensures.0 in let v = c.before.wide2.ensures.0 in omega arith) c.if5.true, (omega arith, at-start.requires.1))
 
 returns-6 : tie.Need-returns-6
 returns-6 c =

@@ -2,7 +2,7 @@
 -- Assumes nothing.
 use mathlib.Core.Path.{refl}
 use mathlib.Core.List.{[]}
-use Rattle.read_rows.proofs.Laws.{good-lent, reaches-spent, nearby, reaches-behind, numbered, reaches-by}
+use Rattle.read_rows.proofs.Laws.{good_lent, reaches_spent, nearby, reaches_behind, numbered, reaches_by}
 use borrow.Author.Rules.{rules}
 use native.Mathlib.Omega.{arith}
 use Rattle.read_rows.proofs.advance.Statement.{statement}
@@ -12,13 +12,13 @@ returns : tie.Need-returns
 returns c =
     let start = c.before.before.before.before.before.before.before in
     let a = start.args in
-    reaches-spent a.s.now a.p a.c a.t.now a.index.now start.requires c.before.if1.true
+    reaches_spent a.s.now a.p a.c a.t.now a.index.now start.requires c.before.if1.true
 
 head-requires : tie.Need-head-requires
 head-requires c κs =
     let start = c.before.before.before.before.before.before.before.before.before.before.before.before.before.before in
     let put-counts = c.before.before.before.before.before.before.put-counts in
-    let good = good-lent start.requires _ [] put-counts.ensures in
+    let good = good_lent start.requires _ [] put-counts.ensures in
     let l = start.requires.at in
     (good.tidy, omega arith)
 
@@ -40,13 +40,13 @@ returns-2 c =
     let if2 = c.before.before.before.before.before.before.before.before.before.before.before.before.before.before.if2 in
     let head = c.before.before.before.before.before.before.before.before.before.head in
     let a = start.args in
-    rw c.counts-in.ensures (reaches-behind a.s.now a.p a.c a.t.now _ put-counts.ensures if1.false if2.true start.requires.tidy.size head.result _ _ _ head.ensures _ c.before.before.passed.ensures)
+    rw c.counts-in.ensures (reaches_behind a.s.now a.p a.c a.t.now _ put-counts.ensures if1.false if2.true start.requires.tidy.size head.result _ _ _ head.ensures _ c.before.before.passed.ensures)
 
 step-requires : tie.Need-step-requires
 step-requires c κs =
     let start = c.before.before.before.before.before.before.before.before.before.before.before.before.before.before in
     let put-counts = c.before.before.before.before.before.before.put-counts in
-    good-lent start.requires _ _ put-counts.ensures
+    good_lent start.requires _ _ put-counts.ensures
 
 told-requires : tie.Need-told-requires
 told-requires c κs =
@@ -66,7 +66,7 @@ returns-3 c =
     let if2 = c.before.before.before.before.before.before.before.before.before.before.before.before.before.before.before.before.if2 in
     let step = c.before.before.before.before.before.before.before.before.before.before.before.step in
     let a = start.args in
-    rw c.counts-in2.ensures (reaches-by a.s.now a.p a.c a.t.now a.index.now _ refl _ put-counts.ensures if1.false if2.false start.requires _ _ step.ensures _ c.before.before.told.ensures)
+    rw c.counts-in2.ensures (reaches_by a.s.now a.p a.c a.t.now a.index.now _ refl _ put-counts.ensures if1.false if2.false start.requires _ _ step.ensures _ c.before.before.told.ensures)
 
 pub advance-spec : {M : Type 1} → statement M
 advance-spec =

@@ -4,7 +4,7 @@ use mathlib.Core.Path.{ap, ◌∙◌}
 use borrow.Author.Rules.{rules}
 use Rattle.states.specs.declared.State.{State}
 use Rattle.read_rows.specs.declared.Next.TheVariants.{Passed}
-use Rattle.read_rows.specs.Contracts.{placed}
+use Rattle.read_rows.specs.Promises.{placed}
 use Rattle.read_rows.proofs.passed.Statement.{statement}
 use Rattle.read_rows.proofs.passed.Tie as tie
 

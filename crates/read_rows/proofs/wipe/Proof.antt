@@ -37,7 +37,7 @@ use denote.Triple.Call.{calls_at}
 use denote.Triple.Clauses.{ensured, lasts}
 use denote.Triple.Table.{cited}
 use denote.Triple.Walked.{says, Stays, stay_slice, walk_of, Goes-slice, ends_at}
-use Rattle.walk.proofs.Again.{Holds, Lends, Keeps, lends-call, back-call}
+use Rattle.walk.proofs.Again.{Holds, Lends, Keeps, lends_call, back_call}
 use Rattle.walk.proofs.Close.{by-walk}
 use Rattle.tables.specs.contracts.clear as clear
 use Rattle.tables.proofs.clear.Symbol as clear-def
@@ -55,8 +55,8 @@ use Rattle.read_rows.specs.contracts.wipe as wipe
 use Rattle.read_rows.proofs.wipe.Statement as stated
 use Rattle.read_rows.proofs.wipe.Code as code
 
-all-blank : (ys : List Event) → take 0 ys ++ replicate (length ys - 0) blank ≡ replicate (length ys) blank
-all-blank ys = let z : length ys - 0 ≡ length ys = omega arith in ap (λ (k : ℕ). replicate k blank) z
+all_blank : (ys : List Event) → take 0 ys ++ replicate (length ys - 0) blank ≡ replicate (length ys) blank
+all_blank ys = let z : length ys - 0 ≡ length ys = omega arith in ap (λ (k : ℕ). replicate k blank) z
 
 abbrev stayed : Stays (wipe.ended).signature.params (wipe.ended).kept
 stayed = (stay_slice (0 ∷ []) tt (plain (λ _. E.the_row)), (stay_slice (1 ∷ []) tt (plain (λ _. u32)), tt))
@@ -117,35 +117,35 @@ module _ {M : Type 1} {𝓤 : Ura M} (𝓛 : Logic 𝓤) (at_mem : Memory → SP
   abbrev lends_row : ℕ × GName → Fml
   lends_row = Lends E.the_row κ₀ q₀ γ b o (named 0) (named 0) (length ys) ys
 
-  abbrev keeps-row : ℕ × GName → Fml
-  keeps-row = Keeps E.the_row κ₀ q₀ γ b o (named 0) (named 0) (length ys) ys
+  abbrev keeps_row_lem : ℕ × GName → Fml
+  keeps_row_lem = Keeps E.the_row κ₀ q₀ γ b o (named 0) (named 0) (length ys) ys
 
-  abbrev blank-args : GName → MutBor (List Event) × (ℕ × Unit {0})
-  blank-args δ = (x δ, (0, tt))
+  abbrev blank_args : GName → MutBor (List Event) × (ℕ × Unit {0})
+  blank_args δ = (x δ, (0, tt))
 
-  abbrev to-blank : ℕ × GName → (BlankFrom 𝓛 at_mem run).Ghost
-  to-blank g = (((g.0 ∷ [], tt), (full_share, tt), tt, blank-args g.1, (s₁ ∷ [], (vint w64 0 ∷ [], tt))), tt)
+  abbrev to_blank : ℕ × GName → (BlankFrom 𝓛 at_mem run).Ghost
+  to_blank g = (((g.0 ∷ [], tt), (full_share, tt), tt, blank_args g.1, (s₁ ∷ [], (vint w64 0 ∷ [], tt))), tt)
 
-  goes_blank : (g : ℕ × GName) → ent 𝓤 (sep 𝓤 (A.lft (g.0 ∷ []) full_share) (sem 𝓛 (lends_row g))) ((BlankFrom 𝓛 at_mem run).pre (to-blank g))
+  goes_blank : (g : ℕ × GName) → ent 𝓤 (sep 𝓤 (A.lft (g.0 ∷ []) full_share) (sem 𝓛 (lends_row g))) ((BlankFrom 𝓛 at_mem run).pre (to_blank g))
   goes_blank g =
       qed 𝓛 (‵ (flft (g.0 ∷ []) full_share) ∷ ‵ (lends_row g) ∷ []) ∵ nothing ! $ owned ! usize (Is usize) (uint_Makes 𝓛 w64) 0 _ (refl, lit< tt) $ fjoin ! $ move ! (2 ∷ 0 ∷ []) $ fjoin ! $
       nothing ! $ move ! (2 ∷ 0 ∷ []) $ join ! $ join ! $ frame ! $ done !
 
-  abbrev lends-tab : ℕ × GName → Fml
-  lends-tab = Lends u32 κ₁ q₁ γ₁ b₁ o₁ (named 1) (named 0) (length ts) ts
+  abbrev lends_tab : ℕ × GName → Fml
+  lends_tab = Lends u32 κ₁ q₁ γ₁ b₁ o₁ (named 1) (named 0) (length ts) ts
 
-  abbrev keeps-tab : ℕ × GName → Fml
-  keeps-tab = Keeps u32 κ₁ q₁ γ₁ b₁ o₁ (named 1) (named 0) (length ts) ts
+  abbrev keeps_tab : ℕ × GName → Fml
+  keeps_tab = Keeps u32 κ₁ q₁ γ₁ b₁ o₁ (named 1) (named 0) (length ts) ts
 
-  abbrev clear-args : GName → MutBor (List ℕ) × Unit {0}
-  clear-args δ = (tab δ, tt)
+  abbrev clear_args : GName → MutBor (List ℕ) × Unit {0}
+  clear_args δ = (tab δ, tt)
 
   abbrev to_clear : ℕ × GName → (Clear 𝓛 at_mem run).Ghost
-  to_clear g = (((g.0 ∷ [], tt), (full_share, tt), tt, clear-args g.1, (s₂ ∷ [], tt)), tt)
+  to_clear g = (((g.0 ∷ [], tt), (full_share, tt), tt, clear_args g.1, (s₂ ∷ [], tt)), tt)
 
-  goes-clear : (g : ℕ × GName) → ent 𝓤 (sep 𝓤 (A.lft (g.0 ∷ []) full_share) (sem 𝓛 (lends-tab g))) ((Clear 𝓛 at_mem run).pre (to_clear g))
-  goes-clear g =
-      qed 𝓛 (‵ (flft (g.0 ∷ []) full_share) ∷ ‵ (lends-tab g) ∷ []) ∵ nothing ! $ move ! (2 ∷ 0 ∷ []) $ fjoin ! $ nothing ! $ move ! (2 ∷ 0 ∷ []) $ join ! $ join ! $ frame ! $ done !
+  goes_clear : (g : ℕ × GName) → ent 𝓤 (sep 𝓤 (A.lft (g.0 ∷ []) full_share) (sem 𝓛 (lends_tab g))) ((Clear 𝓛 at_mem run).pre (to_clear g))
+  goes_clear g =
+      qed 𝓛 (‵ (flft (g.0 ∷ []) full_share) ∷ ‵ (lends_tab g) ∷ []) ∵ nothing ! $ move ! (2 ∷ 0 ∷ []) $ fjoin ! $ nothing ! $ move ! (2 ∷ 0 ∷ []) $ join ! $ join ! $ frame ! $ done !
 
   module _ (C : Calls 𝓤 H) (Λ : Loops 𝓤 H) (fm : FmC 𝓤 H 𝓛.laws C) (known-blank : Triple 𝓤 (C #events·blank-from) (BlankFrom 𝓛 at_mem run)) (known-clear : Triple 𝓤 (C #tables·clear) (Clear 𝓛 at_mem run)) where
     walk : ent 𝓤 (on_entry 𝓛 wipe.signature (κ₀, (κ₁, tt)) (q₀, (q₁, tt)) a at) (WpFn 𝓤 H C Λ code.function (s₁ ∷ s₂ ∷ []) Post)
@@ -157,35 +157,35 @@ module _ {M : Type 1} {𝓤 : Ura M} (𝓛 : Logic 𝓤) (at_mem : Memory → SP
         -- [the row; its token; the tables; their token; _7 4; _6 6; _5 8; _4 10; _3 12; _2 14; _1 16; _0 18]
         assigns ! (addr ! (from ! (fld ! refl (hop ! (look_in ! 16 (sub ! 0 refl (whole !))) (stop !))))) (from ! (stop !)) (init ! 10 refl (tt, tt)) $
         assigns ! (agg ! (and_then ! (load ! (from ! (stop !)) (look ! 10 refl)) (and_then ! (load ! (from ! (fld ! refl (stop !))) (look_in ! 16 (sub ! 1 refl (whole !)))) (no_more !)))) (from ! (stop !)) (init ! 8 refl (tt, (tt, (record { fits = room-e.0 }, tt)))) $
-        use2 𝓛 (later (some (λ (g : ℕ × GName). ‵ (flft (g.0 ∷ []) full_share) ⊛ (‵ (lends_row g) ⊛ ‵ (keeps-row g))))) (lends-call E.the_row κ₀ q₀ γ b o (named 0) (named 0) (length ys) 𝓛 ys refl) $ await ! tt $ pick ! (λ g. split ! $ move ! (1 ∷ []) $ split ! $
+        use2 𝓛 (later (some (λ (g : ℕ × GName). ‵ (flft (g.0 ∷ []) full_share) ⊛ (‵ (lends_row g) ⊛ ‵ (keeps_row_lem g))))) (lends_call E.the_row κ₀ q₀ γ b o (named 0) (named 0) (length ys) 𝓛 ys refl) $ await ! tt $ pick ! (λ g. split ! $ move ! (1 ∷ []) $ split ! $
         -- [the row that is lent; what is kept of it; the call's token; the tables; their token; _7 5; …]
-        move ! (2 ∷ 0 ∷ []) $ use2 𝓛 (raw ((BlankFrom 𝓛 at_mem run).pre (to-blank g))) (goes_blank g) $
-        calls_at ! fm (BlankFrom 𝓛 at_mem run) known-blank (to-blank g) (and_then ! (load ! (from ! (stop !)) (look ! 8 refl)) (and_then ! (lit ! tt) (no_more !))) (λ v.
-        use1 𝓛 (later (some (λ (u : Unit {0}). ((‵ (flft (g.0 ∷ []) full_share) ⊛ ‵ ftrue) ⊛ ‵ (unit.own_val u (v ∷ []))) ⊛ raw (ensured 𝓛 blank-from.ended (blank-from.clauses 𝓛 at_mem run) (g.0 ∷ [], tt) (blank-args g.1) tt u)))) (id⊢ 𝓤 _) $ await ! tt $ pick ! (λ u.
-        split ! $ move ! (1 ∷ []) $ use1 𝓛 (some (λ (ws : List Event × (Unit {0} × Unit {0})). ‵ (lasts blank-from.ended (g.0 ∷ [], tt) (blank-args g.1) ws) ⊛ raw (fact 𝓤 (ws.0 ≡ take 0 ys ++ replicate (length ys - 0) blank)))) (id⊢ 𝓤 _) $ pick ! (λ ws.
+        move ! (2 ∷ 0 ∷ []) $ use2 𝓛 (raw ((BlankFrom 𝓛 at_mem run).pre (to_blank g))) (goes_blank g) $
+        calls_at ! fm (BlankFrom 𝓛 at_mem run) known-blank (to_blank g) (and_then ! (load ! (from ! (stop !)) (look ! 8 refl)) (and_then ! (lit ! tt) (no_more !))) (λ v.
+        use1 𝓛 (later (some (λ (u : Unit {0}). ((‵ (flft (g.0 ∷ []) full_share) ⊛ ‵ ftrue) ⊛ ‵ (unit.own_val u (v ∷ []))) ⊛ raw (ensured 𝓛 blank-from.ended (blank-from.clauses 𝓛 at_mem run) (g.0 ∷ [], tt) (blank_args g.1) tt u)))) (id⊢ 𝓤 _) $ await ! tt $ pick ! (λ u.
+        split ! $ move ! (1 ∷ []) $ use1 𝓛 (some (λ (ws : List Event × (Unit {0} × Unit {0})). ‵ (lasts blank-from.ended (g.0 ∷ [], tt) (blank_args g.1) ws) ⊛ raw (fact 𝓤 (ws.0 ≡ take 0 ys ++ replicate (length ys - 0) blank)))) (id⊢ 𝓤 _) $ pick ! (λ ws.
         split ! $ move ! (1 ∷ []) $ heard ! (ws.0 ≡ take 0 ys ++ replicate (length ys - 0) blank) (λ did. fsplit ! $ fsplit ! $ move ! (1 ∷ []) $ feq_l ! (λ same.
         move ! (2 ∷ []) $ split ! $ move ! (1 ∷ []) $ facts ! unit (Is unit) (shows 𝓛 unit) u (v ∷ []) (λ isu.
         -- [the call's token; the last row; …; what is kept; the tables; their token; _7 6; …]
         land ! (from ! (stop !)) (init ! 14 refl ((Nothing-Lawful 𝓛).typed u _ isu).0) $
-        split ! $ move ! (0 ∷ 4 ∷ 2 ∷ []) $ use3 𝓛 (later (Row ws.0)) (back-call E.the_row κ₀ q₀ γ b o (named 0) (named 0) (length ys) 𝓛 ys refl g ws.0 room-e same) $ await ! tt $ move ! (1 ∷ []) $ drop ! $ move ! (1 ∷ []) $ drop ! $
+        split ! $ move ! (0 ∷ 4 ∷ 2 ∷ []) $ use3 𝓛 (later (Row ws.0)) (back_call E.the_row κ₀ q₀ γ b o (named 0) (named 0) (length ys) 𝓛 ys refl g ws.0 room-e same) $ await ! tt $ move ! (1 ∷ []) $ drop ! $ move ! (1 ∷ []) $ drop ! $
         -- [the row; the tables; their token; _7 3; _6 5; _5 7; _4 9; _3 11; _2 13; …]
         assigns ! (addr ! (from ! (fld ! refl (hop ! (look_in ! 13 (sub ! 0 refl (whole !))) (stop !))))) (from ! (stop !)) (init ! 5 refl (tt, tt)) $
         assigns ! (agg ! (and_then ! (load ! (from ! (stop !)) (look ! 5 refl)) (and_then ! (load ! (from ! (fld ! refl (stop !))) (look_in ! 13 (sub ! 1 refl (whole !)))) (no_more !)))) (from ! (stop !)) (init ! 3 refl (tt, (tt, (record { fits = room-t.0 }, tt)))) $
-        move ! (1 ∷ 2 ∷ []) $ use2 𝓛 (later (some (λ (h : ℕ × GName). ‵ (flft (h.0 ∷ []) full_share) ⊛ (‵ (lends-tab h) ⊛ ‵ (keeps-tab h))))) (lends-call u32 κ₁ q₁ γ₁ b₁ o₁ (named 1) (named 0) (length ts) 𝓛 ts refl) $ await ! tt $ pick ! (λ h. split ! $ move ! (1 ∷ []) $ split ! $
-        move ! (2 ∷ 0 ∷ []) $ use2 𝓛 (raw ((Clear 𝓛 at_mem run).pre (to_clear h))) (goes-clear h) $
+        move ! (1 ∷ 2 ∷ []) $ use2 𝓛 (later (some (λ (h : ℕ × GName). ‵ (flft (h.0 ∷ []) full_share) ⊛ (‵ (lends_tab h) ⊛ ‵ (keeps_tab h))))) (lends_call u32 κ₁ q₁ γ₁ b₁ o₁ (named 1) (named 0) (length ts) 𝓛 ts refl) $ await ! tt $ pick ! (λ h. split ! $ move ! (1 ∷ []) $ split ! $
+        move ! (2 ∷ 0 ∷ []) $ use2 𝓛 (raw ((Clear 𝓛 at_mem run).pre (to_clear h))) (goes_clear h) $
         -- [the `pre`; what is kept; the row; _7 3; …]
         calls_at ! fm (Clear 𝓛 at_mem run) known-clear (to_clear h) (and_then ! (load ! (from ! (stop !)) (look ! 3 refl)) (no_more !)) (λ v'.
-        use1 𝓛 (later (some (λ (u' : Unit {0}). ((‵ (flft (h.0 ∷ []) full_share) ⊛ ‵ ftrue) ⊛ ‵ (unit.own_val u' (v' ∷ []))) ⊛ raw (ensured 𝓛 clear.ended (clear.clauses 𝓛 at_mem run) (h.0 ∷ [], tt) (clear-args h.1) tt u')))) (id⊢ 𝓤 _) $ await ! tt $ pick ! (λ u'.
-        split ! $ move ! (1 ∷ []) $ use1 𝓛 (some (λ (ws' : List ℕ × Unit {0}). ‵ (lasts clear.ended (h.0 ∷ [], tt) (clear-args h.1) ws') ⊛ raw (fact 𝓤 (ws'.0 ≡ replicate (length ts) 0)))) (id⊢ 𝓤 _) $ pick ! (λ ws'.
+        use1 𝓛 (later (some (λ (u' : Unit {0}). ((‵ (flft (h.0 ∷ []) full_share) ⊛ ‵ ftrue) ⊛ ‵ (unit.own_val u' (v' ∷ []))) ⊛ raw (ensured 𝓛 clear.ended (clear.clauses 𝓛 at_mem run) (h.0 ∷ [], tt) (clear_args h.1) tt u')))) (id⊢ 𝓤 _) $ await ! tt $ pick ! (λ u'.
+        split ! $ move ! (1 ∷ []) $ use1 𝓛 (some (λ (ws' : List ℕ × Unit {0}). ‵ (lasts clear.ended (h.0 ∷ [], tt) (clear_args h.1) ws') ⊛ raw (fact 𝓤 (ws'.0 ≡ replicate (length ts) 0)))) (id⊢ 𝓤 _) $ pick ! (λ ws'.
         split ! $ move ! (1 ∷ []) $ heard ! (ws'.0 ≡ replicate (length ts) 0) (λ did'. fsplit ! $ fsplit ! $ move ! (1 ∷ []) $ feq_l ! (λ same'.
         move ! (2 ∷ []) $ split ! $ move ! (1 ∷ []) $ facts ! unit (Is unit) (shows 𝓛 unit) u' (v' ∷ []) (λ isu'.
         -- [the call's token; the last tables; …; what is kept; the row; _7 5; …; _3 13; …]
         land ! (from ! (stop !)) (store ! 13 refl ((Nothing-Lawful 𝓛).typed u' _ isu').0) $
-        split ! $ move ! (0 ∷ 4 ∷ 2 ∷ []) $ use3 𝓛 (later (Tab ws'.0)) (back-call u32 κ₁ q₁ γ₁ b₁ o₁ (named 1) (named 0) (length ts) 𝓛 ts refl h ws'.0 room-t same') $ await ! tt $ move ! (1 ∷ []) $ drop ! $ move ! (1 ∷ []) $ drop ! $
+        split ! $ move ! (0 ∷ 4 ∷ 2 ∷ []) $ use3 𝓛 (later (Tab ws'.0)) (back_call u32 κ₁ q₁ γ₁ b₁ o₁ (named 1) (named 0) (length ts) 𝓛 ts refl h ws'.0 room-t same') $ await ! tt $ move ! (1 ∷ []) $ drop ! $ move ! (1 ∷ []) $ drop ! $
         -- [the tables; the row; _7 2; _6 4; _5 6; _4 8; _3 10; _2 12; _1 14; _0 16]
         assigns ! (of_opd ! (unit_lit !)) (from ! (stop !)) (init ! 16 refl (tt, tt)) $ returns ! (look ! 16 refl) $ move ! (16 ∷ 17 ∷ 14 ∷ 15 ∷ 12 ∷ 13 ∷ 10 ∷ 11 ∷ 8 ∷ 9 ∷ 6 ∷ 7 ∷ 4 ∷ 5 ∷ 2 ∷ 3 ∷ []) $
         forget ! 0 refl $ free1 ! $ forget ! 0 refl $ free1 ! $ forget ! 0 refl $ free1 ! $ forget ! 0 refl $ free1 ! $ forget ! 0 refl $ free1 ! $ forget ! 0 refl $ free1 ! $ forget ! 0 refl $ free1 ! $ forget ! 0 refl $ free1 ! $ free0 ! $
-        by ! (exits ws.0 ws'.0 same same' (did ∙ all-blank ys) did')))))))))))))))))))))))
+        by ! (exits ws.0 ws'.0 same same' (did ∙ all_blank ys) did')))))))))))))))))))))))
 
 pub wipe-spec : {M : Type 1} → stated.statement M
 unfolding code.routine tables_of

@@ -6,8 +6,8 @@ use native.Mathlib.Omega.{arith}
 use borrow.Author.Rules.{rules}
 use lib.ListN.{get_or}
 use Rattle.format.specs.Forms.{form_of}
-use Rattle.tables.proofs.FormLaws.{form-of}
-use Rattle.tables.proofs.SaidLaws.{same-form, same-said, sound-part, says_some, none_row, some-row}
+use Rattle.tables.proofs.FormLaws.{form_of_lem}
+use Rattle.tables.proofs.SaidLaws.{same_form, same-said, sound_part, says_some, none_row, some_row}
 use Rattle.tables.proofs.is_said.Statement.{statement}
 use Rattle.tables.proofs.is_said.Tie as tie
 
@@ -29,7 +29,7 @@ returns-2 c =
     let n = c.before.before.before.before.before.before.before.wide.ensures in
     let row = (p.5 (λ z. c.before.before.before.before.before.before.if1.false (n ∙ z))).1 in
     let e = rw (c.before.before.before.before.wide2.ensures, n) at c.same-octets.ensures in
-    rw (some-row _ _ (λ z. c.before.before.before.before.before.before.if1.false (n ∙ z))) (e ∙ same-form _ _ _ _ _ _ _ (form-of _ _ (c.before.if2.true ∙ c.before.before.number.ensures.0)) row p.4)
+    rw (some_row _ _ (λ z. c.before.before.before.before.before.before.if1.false (n ∙ z))) (e ∙ same_form _ _ _ _ _ _ _ (form_of_lem _ _ (c.before.if2.true ∙ c.before.before.number.ensures.0)) row p.4)
 
 add_same : tie.Need-overflow-add-same
 add_same c =
@@ -46,13 +46,13 @@ same-requires c κs =
     let row = p.5 (λ z. c.before.before.before.before.before.before.if1.false (n ∙ z)) in
     let ends = row.0 in
     let t = x.t.now in
-    let sound = sound-part x.s.now (form_of (get_or t (x.j + 2) 0)) (get_or t x.j 0) (get_or t (x.j + 1) 0) row.1 in
-    (omega arith, omega arith, rw (c.of.ensures, a, n) sound, omega arith, omega arith, sound-part x.s.now x.form x.place x.len p.4)
+    let sound = sound_part x.s.now (form_of (get_or t (x.j + 2) 0)) (get_or t x.j 0) (get_or t (x.j + 1) 0) row.1 in
+    (omega arith, omega arith, rw (c.of.ensures, a, n) sound, omega arith, omega arith, sound_part x.s.now x.form x.place x.len p.4)
 
 returns-3 : tie.Need-returns-3
 returns-3 c =
     let n = c.before.before.before.before.before.before.before.before.wide.ensures in
-    rw (some-row _ _ (λ z. c.before.before.before.before.before.before.before.if1.false (n ∙ z))) (rw (c.before.of.ensures, c.before.before.before.before.before.wide2.ensures, c.before.before.before.before.before.before.before.before.wide.ensures) at c.same.ensures ∙ same-said _ _ _ _ _ _ _)
+    rw (some_row _ _ (λ z. c.before.before.before.before.before.before.before.if1.false (n ∙ z))) (rw (c.before.of.ensures, c.before.before.before.before.before.wide2.ensures, c.before.before.before.before.before.before.before.before.wide.ensures) at c.same.ensures ∙ same-said _ _ _ _ _ _ _)
 
 pub is-said-spec : {M : Type 1} → statement M
 is-said-spec =

@@ -1,10 +1,10 @@
 -- `begin` meets its contract: a law for each way out.
 -- Assumes nothing.
 use borrow.Author.Rules.{rules}
-use borrow.Author.Tests.{not-true, not-false}
+use borrow.Author.Tests.{not_true, not-false}
 use native.Mathlib.Omega.{arith}
 use mathlib.Core.Path.{sym, ◌∙◌}
-use Rattle.write_head.proofs.BeginLaws.{no-tables, given-words, no_words, no_bits, opened-none}
+use Rattle.write_head.proofs.BeginLaws.{no_tables, given-words, no_words, no_bits, opened_none}
 use Rattle.write_head.proofs.begin.Statement.{statement}
 use Rattle.write_head.proofs.begin.Tie as tie
 use Rattle.write_head.proofs.begin.Reads as reads
@@ -18,7 +18,7 @@ is-given-requires : tie.Need-is-given-requires
 is-given-requires c κs = search rules
 
 returns : tie.Need-returns
-returns c = no-tables _ _ _ (sym (not-true _ c.if1.true) ∙ c.before.is-given.ensures)
+returns c = no_tables _ _ _ (sym (not_true _ c.if1.true) ∙ c.before.is-given.ensures)
 
 put-header-requires : tie.Need-put-header-requires
 put-header-requires c κs = search rules
@@ -30,7 +30,7 @@ same-length-2 : tie.Need-same-length-2
 same-length-2 c = search rules
 
 returns-2 : tie.Need-returns-2
-returns-2 c = let s = c.before.before.before.before.before.before.before.before.before.before.before.before.before.before.before.before in let h = c.before.before.before.before.put-header.ensures in opened-none _ s.requires.0 h.1 s.requires.2 s.requires.4 _ _ (sym c.before.before.before.before.before.before.before.before.before.is-given.ensures ∙ not-false _ c.before.before.before.before.before.before.before.before.if1.false) (no_words s.args.given.now (omega arith)) s.requires.1 h.0
+returns-2 c = let s = c.before.before.before.before.before.before.before.before.before.before.before.before.before.before.before.before in let h = c.before.before.before.before.put-header.ensures in opened_none _ s.requires.0 h.1 s.requires.2 s.requires.4 _ _ (sym c.before.before.before.before.before.before.before.before.before.is-given.ensures ∙ not-false _ c.before.before.before.before.before.before.before.before.if1.false) (no_words s.args.given.now (omega arith)) s.requires.1 h.0
 
 presence-requires : tie.Need-presence-requires
 presence-requires c κs = let s = c.before.before.before.before.before.before.before.before.before in (given-words s.args.text.now s.args.given.now (sym c.before.before.is-given.ensures ∙ not-false _ c.before.if1.false) (omega arith)).0
@@ -45,7 +45,7 @@ same-length-4 : tie.Need-same-length-4
 same-length-4 c = search rules
 
 returns-3 : tie.Need-returns-3
-returns-3 c = let s = c.before.before.before.before.before.before.before.before.before.before.before.before.before.before.before.before.before.before in let h = c.before.before.before.before.put-header2.ensures in opened-none _ s.requires.0 h.1 s.requires.2 s.requires.4 _ _ (sym c.before.before.before.before.before.before.before.before.before.before.before.is-given.ensures ∙ not-false _ c.before.before.before.before.before.before.before.before.before.before.if1.false) (no_bits s.args.given.now (omega arith)) s.requires.1 h.0
+returns-3 c = let s = c.before.before.before.before.before.before.before.before.before.before.before.before.before.before.before.before.before.before in let h = c.before.before.before.before.put-header2.ensures in opened_none _ s.requires.0 h.1 s.requires.2 s.requires.4 _ _ (sym c.before.before.before.before.before.before.before.before.before.before.before.is-given.ensures ∙ not-false _ c.before.before.before.before.before.before.before.before.before.before.if1.false) (no_bits s.args.given.now (omega arith)) s.requires.1 h.0
 
 begin-head-requires : tie.Need-begin-head-requires
 begin-head-requires c κs = let s = c.before.before.before.before.before.before.before.before.before.before.before.before.before.before.before in (s.requires.0, s.requires.1, s.requires.2, s.requires.3, s.requires.4, given-words s.args.text.now s.args.given.now (sym c.before.before.before.before.before.before.before.before.is-given.ensures ∙ not-false _ c.before.before.before.before.before.before.before.if1.false) (omega arith), λ e. omega arith)

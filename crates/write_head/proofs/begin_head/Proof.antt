@@ -1,12 +1,12 @@
 -- `begin_head` meets its contract: a law for each way out.
 -- Assumes nothing.
 use borrow.Author.Rules.{rules}
-use borrow.Author.Tests.{not-true, not-false}
+use borrow.Author.Tests.{not_true, not-false}
 use native.Mathlib.Omega.{arith}
 use mathlib.Core.Path.{sym, ap, ◌∙◌}
 use Rattle.tables.specs.Kept.{listed}
-use Rattle.write_head.specs.RowContracts.{addTables}
-use Rattle.write_head.proofs.BeginLaws.{entries-wrong, entry-repeats, no_room, opened, order-begun, tables-begun, start-counts}
+use Rattle.write_head.specs.RowContracts.{add_tables}
+use Rattle.write_head.proofs.BeginLaws.{entries_wrong, entry_repeats, no_room, opened, order_begun, tables_begun, start_counts}
 use Rattle.write_head.proofs.begin_head.Statement.{statement}
 use Rattle.write_head.proofs.begin_head.Tie as tie
 use Rattle.write_head.proofs.begin_head.Reads as reads
@@ -21,7 +21,7 @@ fault-requires : tie.Need-fault-requires
 fault-requires c κs = search rules
 
 returns : tie.Need-returns
-returns c = entries-wrong _ _ _ _ c.before.before.before.before.before.before.before.before.requires.5 c.before.fault.ensures (omega arith)
+returns c = entries_wrong _ _ _ _ c.before.before.before.before.before.before.before.before.requires.5 c.before.fault.ensures (omega arith)
 
 start-requires : tie.Need-start-requires
 start-requires c κs = search rules
@@ -30,8 +30,8 @@ put-counts-requires : tie.Need-put-counts-requires
 put-counts-requires c κs = search rules
 
 add-tables-requires : tie.Need-add-tables-requires
-unfolding addTables
-add-tables-requires c κs = let s = c.before.before.before.before.before.before.before.before.before.before.before.before.before.before.before.before in let j = c.before.before.before.before.before.before.before.before.before.fault.ensures in let e = c.before.before.before.before.before.put-counts.ensures ∙ ap listed c.before.before.before.before.before.before.start.ensures in (order-begun _ s.requires.0 e s.requires.2 s.requires.4, s.requires.5, j.right (omega arith), j.few (omega arith), tables-begun s.args.text.now s.requires.0 e s.requires.2 s.requires.4, λ k. rw e (start-counts k), j.texts (omega arith))
+unfolding add_tables
+add-tables-requires c κs = let s = c.before.before.before.before.before.before.before.before.before.before.before.before.before.before.before.before in let j = c.before.before.before.before.before.before.before.before.before.fault.ensures in let e = c.before.before.before.before.before.put-counts.ensures ∙ ap listed c.before.before.before.before.before.before.start.ensures in (order_begun _ s.requires.0 e s.requires.2 s.requires.4, s.requires.5, j.right (omega arith), j.few (omega arith), tables_begun s.args.text.now s.requires.0 e s.requires.2 s.requires.4, λ k. rw e (start_counts k), j.texts (omega arith))
 
 same_length : tie.Need-same-length
 same_length c = search rules
@@ -43,7 +43,7 @@ same-length-3 : tie.Need-same-length-3
 same-length-3 c = search rules
 
 returns-2 : tie.Need-returns-2
-returns-2 c = entry-repeats _ _ _ _ c.before.before.before.before.before.before.before.before.before.before.before.before.before.before.before.before.before.before.before.before.before.before.before.before.requires.5 c.before.before.before.before.before.before.before.before.before.before.before.before.before.before.before.before.before.fault.ensures (omega arith) (sym (not-true _ c.if2.true) ∙ c.before.before.before.before.before.before.before.add-tables.ensures.0)
+returns-2 c = entry_repeats _ _ _ _ c.before.before.before.before.before.before.before.before.before.before.before.before.before.before.before.before.before.before.before.before.before.before.before.before.requires.5 c.before.before.before.before.before.before.before.before.before.before.before.before.before.before.before.before.before.fault.ensures (omega arith) (sym (not_true _ c.if2.true) ∙ c.before.before.before.before.before.before.before.add-tables.ensures.0)
 
 put-head-requires : tie.Need-put-head-requires
 put-head-requires c κs = let s = c.before.before.before.before.before.before.before.before.before.before.before.before.before.before.before.before.before.before.before.before.before.before.before.before.before in let j = c.before.before.before.before.before.before.before.before.before.before.before.before.before.before.before.before.before.before.fault.ensures in (s.requires.5, j.right (omega arith), j.few (omega arith), s.requires.0, j.texts (omega arith))

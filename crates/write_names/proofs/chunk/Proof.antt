@@ -2,8 +2,8 @@
 -- Assumes nothing.
 use borrow.Author.Rules.{rules}
 use native.Mathlib.Omega.{arith}
-use Rattle.write_names.specs.Contracts.{at-bit-7}
-use Rattle.write_names.proofs.StringLaws.{chunk-numbered, chunk-spelled}
+use Rattle.write_names.specs.Promises.{at_bit_7}
+use Rattle.write_names.proofs.StringLaws.{chunk_numbered, chunk_spelled}
 use Rattle.write_names.proofs.chunk.Tie as tie
 use Rattle.write_names.proofs.chunk.Statement.{statement}
 
@@ -15,19 +15,19 @@ number-said-requires c κs =
 returns : tie.Need-returns
 returns c =
     let at-start = c.before.before.before.before.before.before.before.before.before.before.before.before.before.before in
-    chunk-numbered _ _ _ _ at-start.requires.0 at-start.args.x at-start.requires.2 _ c.before.before.before.before.before.number-said.ensures.0 (λ e. omega arith) c.before.before.put-number.ensures
+    chunk_numbered _ _ _ _ at-start.requires.0 at-start.args.x at-start.requires.2 _ c.before.before.before.before.before.number-said.ensures.0 (λ e. omega arith) c.before.before.put-number.ensures
 
 literal-requires : tie.Need-literal-requires
 literal-requires c κs =
     let at-start = c.before.before.before.before.before.before.before.before.before.before.before.before.before.before in
     let held = c.before.before.before.before.before.number-said.ensures.0 in
-    (at-start.requires.0, at-start.requires.1, at-start.requires.2, omega arith, (omega arith, omega arith, at-bit-7, omega arith))
+    (at-start.requires.0, at-start.requires.1, at-start.requires.2, omega arith, (omega arith, omega arith, at_bit_7, omega arith))
 
 returns-2 : tie.Need-returns-2
 returns-2 c =
     let at-start = c.before.before.before.before.before.before.before.before.before.before.before.before.before.before.before.before.before.before.before.before.before.before.before in
     let new = c.before.before.before.before.before.before.before.before.before.before.before.before.before.if1.false in
-    rw (← chunk-spelled _ _ _ _ at-start.requires.0 at-start.args.x at-start.requires.2 _ c.before.before.before.before.before.before.before.before.before.before.before.before.before.before.number-said.ensures.0 (omega (arith, new))) c.before.before.before.before.before.before.before.before.literal.ensures
+    rw (← chunk_spelled _ _ _ _ at-start.requires.0 at-start.args.x at-start.requires.2 _ c.before.before.before.before.before.before.before.before.before.before.before.before.before.before.number-said.ensures.0 (omega (arith, new))) c.before.before.before.before.before.before.before.before.literal.ensures
 
 pub chunk-spec : {M : Type 1} → statement M
 chunk-spec =

@@ -3,9 +3,9 @@
 use borrow.Author.Rules.{rules}
 use native.Mathlib.Omega.{arith}
 use mathlib.Core.Path.{refl, sym, ap, ◌∙◌}
-use Rattle.forms.specs.Packing.{alphabetFor}
+use Rattle.forms.specs.Packing.{alphabet_for}
 use Rattle.write_names.proofs.Stretches.{stretched, says, part_sound, said-length}
-use Rattle.write_names.proofs.FormLaws.{few-integers, choose-short, choose-utf8, choose-integers, choose-dates}
+use Rattle.write_names.proofs.FormLaws.{few_integers, choose_short, choose_utf8, choose_integers, choose_dates}
 use Rattle.write_names.proofs.form_for.Tie as tie
 use Rattle.write_names.proofs.form_for.Statement.{statement}
 
@@ -14,7 +14,7 @@ returns c =
     let at-start = c.before.before.before in
     let s = stretched at-start.args.text.now at-start.args.x at-start.requires.0 refl refl refl in
     let l = said-length s at-start.requires.1 in
-    choose-short at-start.requires.2 _ l.0 l.1 _ at-start.requires.3 (rw c.before.plain-most.ensures at c.if1.true)
+    choose_short at-start.requires.2 _ l.0 l.1 _ at-start.requires.3 (rw c.before.plain-most.ensures at c.if1.true)
 
 alphabet-for-requires : tie.Need-alphabet-for-requires
 alphabet-for-requires c κs =
@@ -33,7 +33,7 @@ or-integers-requires c κs =
     let at-start = c.before.before.before.before.before.before.before.before.before.before in
     let s = stretched at-start.args.text.now at-start.args.x at-start.requires.0 c.before.before.before.before.before.before.form.ensures c.before.before.before.before.before.place.ensures c.before.before.before.before.size.ensures in
     let l = said-length s at-start.requires.1 in
-    (omega arith, rw (at-start.requires.3, c.integers-for.ensures, ← says s) (few-integers _))
+    (omega arith, rw (at-start.requires.3, c.integers-for.ensures, ← says s) (few_integers _))
 
 add-t16 : tie.Need-overflow-add-t16
 add-t16 c =
@@ -47,24 +47,24 @@ returns-2 c =
     let at-start = c.before.before.before.before.before.before.before.before.before in
     let s = stretched at-start.args.text.now at-start.args.x at-start.requires.0 c.before.before.before.before.before.form.ensures c.before.before.before.before.place.ensures c.before.before.before.size.ensures in
     let l = said-length s at-start.requires.1 in
-    let letters = c.before.before.alphabet-for.ensures ∙ ap alphabetFor (sym (says s)) in
-    choose-utf8 at-start.requires.2 _ l.0 l.1 _ at-start.requires.3 (rw c.before.before.before.before.before.before.before.plain-most.ensures at c.before.before.before.before.before.before.if1.false) _ letters (sym c.before.number.ensures.0 ∙ c.match.keys1)
+    let letters = c.before.before.alphabet-for.ensures ∙ ap alphabet_for (sym (says s)) in
+    choose_utf8 at-start.requires.2 _ l.0 l.1 _ at-start.requires.3 (rw c.before.before.before.before.before.before.before.plain-most.ensures at c.before.before.before.before.before.before.if1.false) _ letters (sym c.before.number.ensures.0 ∙ c.match.keys1)
 
 returns-3 : tie.Need-returns-3
 returns-3 c =
     let at-start = c.before.before.before.before.before.before.before.before.before.before.before in
     let s = stretched at-start.args.text.now at-start.args.x at-start.requires.0 c.before.before.before.before.before.before.before.form.ensures c.before.before.before.before.before.before.place.ensures c.before.before.before.before.before.size.ensures in
     let l = said-length s at-start.requires.1 in
-    let letters = c.before.before.before.before.alphabet-for.ensures ∙ ap alphabetFor (sym (says s)) in
-    choose-integers at-start.requires.2 _ l.0 l.1 _ at-start.requires.3 (rw c.before.before.before.before.before.before.before.before.before.plain-most.ensures at c.before.before.before.before.before.before.before.before.if1.false) _ letters (sym c.before.before.before.number.ensures.0 ∙ c.before.before.match.keys2) (c.or-integers.ensures ∙ rw (c.before.integers-for.ensures, says s))
+    let letters = c.before.before.before.before.alphabet-for.ensures ∙ ap alphabet_for (sym (says s)) in
+    choose_integers at-start.requires.2 _ l.0 l.1 _ at-start.requires.3 (rw c.before.before.before.before.before.before.before.before.before.plain-most.ensures at c.before.before.before.before.before.before.before.before.if1.false) _ letters (sym c.before.before.before.number.ensures.0 ∙ c.before.before.match.keys2) (c.or-integers.ensures ∙ rw (c.before.integers-for.ensures, says s))
 
 returns-4 : tie.Need-returns-4
 returns-4 c =
     let at-start = c.before.before.before.before.before.before.before.before.before in
     let s = stretched at-start.args.text.now at-start.args.x at-start.requires.0 c.before.before.before.before.before.form.ensures c.before.before.before.before.place.ensures c.before.before.before.size.ensures in
     let l = said-length s at-start.requires.1 in
-    let letters = c.before.before.alphabet-for.ensures ∙ ap alphabetFor (sym (says s)) in
-    choose-dates at-start.requires.2 _ l.0 l.1 _ at-start.requires.3 (rw c.before.before.before.before.before.before.before.plain-most.ensures at c.before.before.before.before.before.before.if1.false) _ letters (λ e. c.match.rest.0.1 (c.before.number.ensures.0 ∙ e)) (λ e. c.match.rest.1 (c.before.number.ensures.0 ∙ e))
+    let letters = c.before.before.alphabet-for.ensures ∙ ap alphabet_for (sym (says s)) in
+    choose_dates at-start.requires.2 _ l.0 l.1 _ at-start.requires.3 (rw c.before.before.before.before.before.before.before.plain-most.ensures at c.before.before.before.before.before.before.if1.false) _ letters (λ e. c.match.rest.0.1 (c.before.number.ensures.0 ∙ e)) (λ e. c.match.rest.1 (c.before.number.ensures.0 ∙ e))
 
 pub form-for-spec : {M : Type 1} → statement M
 form-for-spec =

@@ -3,7 +3,7 @@
 use borrow.Author.Rules.{rules}
 use native.Mathlib.Omega.{arith}
 use mathlib.Core.Path.{refl, sym, ◌∙◌}
-use Rattle.write_names.proofs.Stretches.{stretched, part_sound, octets-plain, octets-letters, octets-put}
+use Rattle.write_names.proofs.Stretches.{stretched, part_sound, octets-plain, octets-letters, octets_put}
 use Rattle.write_names.proofs.octets_of.Tie as tie
 use Rattle.write_names.proofs.octets_of.Statement.{statement}
 
@@ -35,7 +35,7 @@ returns-3 : tie.Need-returns-3
 returns-3 c =
     let at-start = c.before.before.before.before.before.before.before.before.before.before.before.before in
     let s = stretched at-start.args.text.now at-start.args.x at-start.requires.0 c.before.before.before.before.before.before.before.before.before.before.form.ensures c.before.before.before.before.before.before.place.ensures c.before.before.before.before.before.before.before.before.before.size.ensures in
-    octets-put s at-start.requires.1 c.before.put-said.ensures.0
+    octets_put s at-start.requires.1 c.before.put-said.ensures.0
 
 pub octets-of-spec : {M : Type 1} → statement M
 octets-of-spec =

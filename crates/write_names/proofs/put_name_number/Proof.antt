@@ -2,15 +2,15 @@
 -- Assumes nothing.
 use borrow.Author.Rules.{rules}
 use native.Mathlib.Omega.{arith}
-use Rattle.write_names.proofs.StringLaws.{element-forms, attribute-forms}
+use Rattle.write_names.proofs.StringLaws.{element_forms, attribute_forms}
 use Rattle.write_names.proofs.put_name_number.Statement.{statement}
 use Rattle.write_names.proofs.put_name_number.Tie as tie
 
 returns : tie.Need-returns
-returns c = rw (element-forms c.before.before.before.before.before.before.args.table (omega arith)) c.before.before.put-number.ensures
+returns c = rw (element_forms c.before.before.before.before.before.before.args.table (omega arith)) c.before.before.put-number.ensures
 
 returns-2 : tie.Need-returns-2
-returns-2 c = rw (attribute-forms c.before.before.before.before.before.before.args.table (omega arith)) (c.before.before.put-number-at-bit-2.ensures.0, omega arith)
+returns-2 c = rw (attribute_forms c.before.before.before.before.before.before.args.table (omega arith)) (c.before.before.put-number-at-bit-2.ensures.0, omega arith)
 
 pub put-name-number-spec : {M : Type 1} → statement M
 put-name-number-spec =

@@ -3,12 +3,12 @@
 use borrow.Author.Rules.{rules}
 use native.Mathlib.Omega.{arith}
 use mathlib.Core.Path.{◌≡◌, refl, sym, ◌∙◌}
-use Rattle.format.specs.Forms.{formNumber}
+use Rattle.format.specs.Forms.{form_number}
 use Rattle.format.specs.declared.StringForm.TheVariants.{Utf8}
-use Rattle.events.specs.Words.{stringSize}
+use Rattle.events.specs.Words.{string_size}
 use Rattle.write_names.proofs.Stretches.{stretched, said-length, plain-length}
-use Rattle.write_names.proofs.FormLaws.{bit-range, begins-plain}
-use Rattle.write_names.proofs.FieldLaws.{puts_plain, puts-chosen}
+use Rattle.write_names.proofs.FormLaws.{bit_range, begins_plain}
+use Rattle.write_names.proofs.FieldLaws.{puts_plain, puts_chosen}
 use Rattle.write_names.proofs.put_string.Tie as tie
 use Rattle.write_names.proofs.put_string.Statement.{statement}
 
@@ -28,23 +28,23 @@ put-length-requires : tie.Need-put-length-requires
 put-length-requires c κs =
     let at-start = c.before.before.before.before.before.before.before.before.before.before in
     let s = stretched at-start.args.text.now at-start.args.x at-start.requires.0 c.before.before.before.before.before.before.before.form.ensures c.before.before.before.before.place.ensures refl in
-    omega (arith, bit-range at-start.requires.3, said-length s at-start.requires.1)
+    omega (arith, bit_range at-start.requires.3, said-length s at-start.requires.1)
 
 put-part-requires : tie.Need-put-part-requires
 put-part-requires c κs =
     let at-start = c.before.before.before.before.before.before.before.before.before.before.before.before.before.before in
     let s = stretched at-start.args.text.now at-start.args.x at-start.requires.0 c.before.before.before.before.before.before.before.before.before.before.before.form.ensures c.before.before.before.before.before.before.before.before.place.ensures refl in
-    let z : formNumber c.before.before.before.before.before.before.before.before.before.before.before.form.result ≡ 0 = sym c.before.before.before.before.before.before.before.before.before.before.number.ensures.0 ∙ omega arith in
-    omega (arith, s.lies, plain-length s z, c.before.before.before.put-length.ensures.1)
+    let z : form_number c.before.before.before.before.before.before.before.before.before.before.before.form.result ≡ 0 = sym c.before.before.before.before.before.before.before.before.before.before.number.ensures.0 ∙ omega arith in
+    omega (arith, s.lies, plain-length s z, c.before.before.before.put_length.ensures.1)
 
 returns-3 : tie.Need-returns-3
 returns-3 c =
     let at-start = c.before.before.before.before.before.before.before.before.before.before.before.before.before.before.before.before.before in
     let s = stretched at-start.args.text.now at-start.args.x at-start.requires.0 c.before.before.before.before.before.before.before.before.before.before.before.before.before.before.form.ensures c.before.before.before.before.before.before.before.before.before.before.before.place.ensures refl in
-    let z : formNumber c.before.before.before.before.before.before.before.before.before.before.before.before.before.before.form.result ≡ 0 = sym c.before.before.before.before.before.before.before.before.before.before.before.before.before.number.ensures.0 ∙ omega arith in
-    let n : at-start.args.n ≡ stringSize at-start.args.x = at-start.requires.5 ∙ plain-length s z in
-    puts-chosen _ _ _ Utf8 (begins-plain _ s z (c.before.before.before.before.before.before.before.before.before.may-begin.ensures c.before.before.before.before.before.before.before.before.if2.false))
-    (puts_plain _ _ s _ at-start.requires.5 (let l = said-length s at-start.requires.1 in omega arith) c.before.before.before.before.before.before.put-length.ensures z (rw n at c.before.before.put-part.ensures))
+    let z : form_number c.before.before.before.before.before.before.before.before.before.before.before.before.before.before.form.result ≡ 0 = sym c.before.before.before.before.before.before.before.before.before.before.before.before.before.number.ensures.0 ∙ omega arith in
+    let n : at-start.args.n ≡ string_size at-start.args.x = at-start.requires.5 ∙ plain-length s z in
+    puts_chosen _ _ _ Utf8 (begins_plain _ s z (c.before.before.before.before.before.before.before.before.before.may-begin.ensures c.before.before.before.before.before.before.before.before.if2.false))
+    (puts_plain _ _ s _ at-start.requires.5 (let l = said-length s at-start.requires.1 in omega arith) c.before.before.before.before.before.before.put_length.ensures z (rw n at c.before.before.put-part.ensures))
 
 pub put-string-spec : {M : Type 1} → statement M
 put-string-spec =

@@ -1,6 +1,6 @@
 -- `write` meets its contract: a walk of its MIR, by hand. The index is a local array of zeros, lent as a slice to `written`, and taken back, so that the local can be freed.
---     zeros-are                    the array of zeros has its machine value
---     written-lends, written_back  what is had of the given words, the row, the text, the output, the tables and the array makes what the call asks, and comes back of what it leaves
+--     zeros_are                    the array of zeros has its machine value
+--     written_lends, written_back  what is had of the given words, the row, the text, the output, the tables and the array makes what the call asks, and comes back of what it leaves
 -- Assumes nothing.
 use mathlib.Core.Path.{◌≡◌, refl, ap, subst}
 use Prim.Native.Nat.{ℕ, zero, suc}
@@ -44,16 +44,16 @@ use denote.Triple.Clauses.{ensured, lasts}
 use denote.Triple.Table.{cited}
 use denote.Triple.Walked.{says, Stays, stay_slice, stay_dropped, walk_of, Goes-slice, Goes-dropped, ends_at}
 use denote.Exit.{yes}
-use Rattle.walk.proofs.Again.{Lends, Keeps, lends-call, back-call}
+use Rattle.walk.proofs.Again.{Lends, Keeps, lends_call, back_call}
 use Rattle.walk.proofs.Close.{by-walk}
-use Rattle.walk.proofs.Local.{lends-array, array_back}
-use Rattle.walk.proofs.Walk.{big-lit}
+use Rattle.walk.proofs.Local.{lends_array, array_back}
+use Rattle.walk.proofs.Walk.{big_lit}
 use Rattle.format.specs.Tables.{link}
 use Rattle.index.specs.Indexed.{slots}
 use Rattle.events.specs.declared.Event.{Event}
 use Rattle.events.specs.contracts.Event as E
 use Rattle.writer.specs.declared.Answer.{Answer}
-use Rattle.writer.specs.Writing.{Leaves, writeOf}
+use Rattle.writer.specs.Writing.{Leaves, write_of}
 use Rattle.writer.specs.contracts.Answer as R
 use Rattle.writer.proofs.Answer.TheLaws as R'
 use Rattle.write_rows.specs.contracts.written as written'
@@ -68,11 +68,11 @@ use Rattle.write_rows.proofs.write.Code as code
 abbrev stayed : Stays (write'.ended).signature.params (write'.ended).kept
 stayed = (stay_dropped (shr_slice_of (0 ∷ []) tt (plain (λ _. u32))) yes, (stay_dropped (shr_slice_of (1 ∷ []) tt (plain (λ _. E.the_row))) yes, (stay_dropped (shr_slice_of (2 ∷ []) tt (plain (λ _. u8))) yes, (stay_slice (3 ∷ []) tt (plain (λ _. u8)), (stay_slice (4 ∷ []) tt (plain (λ _. u32)), tt)))))
 
-abbrev valR : Answer → Val
-valR = Le.val R.the_type R'.the_laws
+abbrev val_r : Answer → Val
+val_r = Le.val R.the_type R'.the_laws
 
 abbrev IsR : Answer → Type 0
-IsR w = Is R.the_row w (valR w ∷ [])
+IsR w = Is R.the_row w (val_r w ∷ [])
 
 -- ---- the index at the start
 abbrev nums : List ℕ → Val
@@ -81,21 +81,21 @@ nums vs = only (array_vals (uint_vals w8) vs)
 abbrev zeros : List ℕ
 zeros = replicate slots 0
 
-each-zero : (n : ℕ) → shadow (each ℕ u8.own_val (replicate n 0) (replicate n (vint w8 0)))
-each-zero zero = tt
-each-zero (suc n) = ((refl, lit< tt), each-zero n)
+each_zero : (n : ℕ) → shadow (each ℕ u8.own_val (replicate n 0) (replicate n (vint w8 0)))
+each_zero zero = tt
+each_zero (suc n) = ((refl, lit< tt), each_zero n)
 
-zeros-are : (n : ℕ) → Is (Array u8 n) (replicate n 0) (array_val (replicate n (vint w8 0)) ∷ [])
-zeros-are n = (replicate n (vint w8 0), ((refl, length-replicate {A = ℕ} n 0), each-zero n))
+zeros_are : (n : ℕ) → Is (Array u8 n) (replicate n 0) (array_val (replicate n (vint w8 0)) ∷ [])
+zeros_are n = (replicate n (vint w8 0), ((refl, length-replicate {A = ℕ} n 0), each_zero n))
 
-zeros-told : (n : ℕ) → (array_val (replicate n (vint w8 0)) ∷ []) ≡ (nums (replicate n 0) ∷ [])
-zeros-told n = Array-Tells u8 (uint_vals w8) (uint_Tells w8) n (replicate n 0) _ (zeros-are n)
+zeros_told : (n : ℕ) → (array_val (replicate n (vint w8 0)) ∷ []) ≡ (nums (replicate n 0) ∷ [])
+zeros_told n = Array-Tells u8 (uint_vals w8) (uint_Tells w8) n (replicate n 0) _ (zeros_are n)
 
-zeros-is : (n : ℕ) → Is (Array u8 n) (replicate n 0) (nums (replicate n 0) ∷ [])
-zeros-is n = subst (Is (Array u8 n) (replicate n 0)) (zeros-told n) (zeros-are n)
+zeros_is : (n : ℕ) → Is (Array u8 n) (replicate n 0) (nums (replicate n 0) ∷ [])
+zeros_is n = subst (Is (Array u8 n) (replicate n 0)) (zeros_told n) (zeros_are n)
 
-index-room : Room u8 3840
-index-room = (lit< tt, lit< tt)
+index_room : Room u8 3840
+index_room = (lit< tt, lit< tt)
 
 -- the contract that the proof cites
 abbrev Writing : {M : Type 1} {𝓤 : Ura M} (𝓛 : Logic 𝓤) (at_mem : Memory → SProp 𝓤) (run : Routine → Fun 𝓤) → Contract 𝓤
@@ -149,59 +149,59 @@ module _ {M : Type 1} {𝓤 : Ura M} (𝓛 : Logic 𝓤) (at_mem : Memory → SP
   abbrev Post : Val → SProp 𝓤
   Post = (walk_of 𝓛 write'.ended stayed (write'.clauses 𝓛 at_mem run)).post (((κ₀, (κ₁, (κ₂, (κ₃, (κ₄, tt))))), (q₀, (q₁, (q₂, (q₃, (q₄, tt))))), tt, a, at), tt)
 
-  abbrev own-giv : Fml
-  own-giv = (ShrSlice (named 0) κ₀ u32).own_val giv (s₁ ∷ [])
+  abbrev own_giv : Fml
+  own_giv = (ShrSlice (named 0) κ₀ u32).own_val giv (s₁ ∷ [])
 
   abbrev own_row : Fml
   own_row = (ShrSlice (named 1) κ₁ E.the_row).own_val x (s₂ ∷ [])
 
-  abbrev own-doc : Fml
-  own-doc = (ShrSlice (named 2) κ₂ u8).own_val doc (s₃ ∷ [])
+  abbrev own_doc : Fml
+  own_doc = (ShrSlice (named 2) κ₂ u8).own_val doc (s₃ ∷ [])
 
   abbrev own_out : List ℕ → Fml
   own_out zs = (MutSlice (named 3) κ₃ u8).own_val (outs γ₃ zs) (s₄ ∷ [])
 
-  abbrev own-tab : List ℕ → Fml
-  own-tab us = (MutSlice (named 4) κ₄ u32).own_val (tab γ₄ us) (s₅ ∷ [])
+  abbrev own_tab : List ℕ → Fml
+  own_tab us = (MutSlice (named 4) κ₄ u32).own_val (tab γ₄ us) (s₅ ∷ [])
 
   -- each with its token: as an item, and as what it means
   abbrev Giv : Item 𝓤
-  Giv = ‵ own-giv ⊛ ‵ (flft κ₀ q₀)
+  Giv = ‵ own_giv ⊛ ‵ (flft κ₀ q₀)
 
   abbrev Row : Item 𝓤
   Row = ‵ own_row ⊛ ‵ (flft κ₁ q₁)
 
   abbrev Doc : Item 𝓤
-  Doc = ‵ own-doc ⊛ ‵ (flft κ₂ q₂)
+  Doc = ‵ own_doc ⊛ ‵ (flft κ₂ q₂)
 
   abbrev Outs : List ℕ → Item 𝓤
   Outs zs = ‵ (own_out zs) ⊛ ‵ (flft κ₃ q₃)
 
   abbrev Tab : List ℕ → Item 𝓤
-  Tab us = ‵ (own-tab us) ⊛ ‵ (flft κ₄ q₄)
+  Tab us = ‵ (own_tab us) ⊛ ‵ (flft κ₄ q₄)
 
-  abbrev giv-of : SProp 𝓤
-  giv-of = sep 𝓤 (sem 𝓛 own-giv) (A.lft κ₀ q₀)
+  abbrev giv_of : SProp 𝓤
+  giv_of = sep 𝓤 (sem 𝓛 own_giv) (A.lft κ₀ q₀)
 
   abbrev row_of : SProp 𝓤
   row_of = sep 𝓤 (sem 𝓛 own_row) (A.lft κ₁ q₁)
 
-  abbrev doc-of : SProp 𝓤
-  doc-of = sep 𝓤 (sem 𝓛 own-doc) (A.lft κ₂ q₂)
+  abbrev doc_of : SProp 𝓤
+  doc_of = sep 𝓤 (sem 𝓛 own_doc) (A.lft κ₂ q₂)
 
   abbrev out_of : List ℕ → SProp 𝓤
   out_of zs = sep 𝓤 (sem 𝓛 (own_out zs)) (A.lft κ₃ q₃)
 
-  abbrev tab-of : List ℕ → SProp 𝓤
-  tab-of us = sep 𝓤 (sem 𝓛 (own-tab us)) (A.lft κ₄ q₄)
+  abbrev tab_of : List ℕ → SProp 𝓤
+  tab_of us = sep 𝓤 (sem 𝓛 (own_tab us)) (A.lft κ₄ q₄)
 
   -- at exit the given words, the row and the text are not had any more, but their tokens are
   abbrev Left : List ℕ → List ℕ → List (Item 𝓤)
   Left zs us = ‵ (flft κ₀ q₀) ∷ ‵ (flft κ₁ q₁) ∷ ‵ (flft κ₂ q₂) ∷ Outs zs ∷ Tab us ∷ []
 
-  exits : (zs us : List ℕ) (w : Answer) → length zs ≡ length os → length us ≡ length ts → IsR w → Leaves w zs us (writeOf link gs ys ss (length os) (length ts)) → ent 𝓤 (⋆ 𝓛 (Left zs us)) (Post (valR w))
+  exits : (zs us : List ℕ) (w : Answer) → length zs ≡ length os → length us ≡ length ts → IsR w → Leaves w zs us (write_of link gs ys ss (length os) (length ts)) → ent 𝓤 (⋆ 𝓛 (Left zs us)) (Post (val_r w))
   exits zs us w long long' is e =
-      qed 𝓛 (Left zs us) ∵ suffices ! _ (ends_at 𝓛 write'.ended stayed (write'.clauses 𝓛 at_mem run) (((κ₀, (κ₁, (κ₂, (κ₃, (κ₄, tt))))), (q₀, (q₁, (q₂, (q₃, (q₄, tt))))), tt, a, at), tt) (valR w) w (tt, (tt, (tt, (zs, (us, tt))))) (tt, (tt, (tt, (long, (long', tt)))))) $
+      qed 𝓛 (Left zs us) ∵ suffices ! _ (ends_at 𝓛 write'.ended stayed (write'.clauses 𝓛 at_mem run) (((κ₀, (κ₁, (κ₂, (κ₃, (κ₄, tt))))), (q₀, (q₁, (q₂, (q₃, (q₄, tt))))), tt, a, at), tt) (val_r w) w (tt, (tt, (tt, (zs, (us, tt))))) (tt, (tt, (tt, (long, (long', tt)))))) $
       says ! e $ move ! (3 ∷ 2 ∷ 1 ∷ 0 ∷ []) $ split ! $ move ! (5 ∷ []) $ split ! $
       -- [the tables; their token; the output; its token; the text's token; the row's; that of the given words]
       nothing ! $ move ! (2 ∷ 0 ∷ []) $ join ! $ move ! (3 ∷ 0 ∷ []) $ join ! $ move ! (3 ∷ 0 ∷ []) $ join ! $ move ! (3 ∷ 0 ∷ []) $ join ! $ move ! (3 ∷ 0 ∷ []) $ join ! $ frame ! $
@@ -217,11 +217,11 @@ module _ {M : Type 1} {𝓤 : Ura M} (𝓛 : Logic 𝓤) (at_mem : Memory → SP
   abbrev kept_out : ℕ × GName → Fml
   kept_out = Keeps u8 κ₃ q₃ γ₃ b₃ o₃ (named 3) (named 3) (length os) os
 
-  abbrev lent-tab : ℕ × GName → Fml
-  lent-tab = Lends u32 κ₄ q₄ γ₄ b₄ o₄ (named 4) (named 4) (length ts) ts
+  abbrev lent_tab : ℕ × GName → Fml
+  lent_tab = Lends u32 κ₄ q₄ γ₄ b₄ o₄ (named 4) (named 4) (length ts) ts
 
-  abbrev kept-tab : ℕ × GName → Fml
-  kept-tab = Keeps u32 κ₄ q₄ γ₄ b₄ o₄ (named 4) (named 4) (length ts) ts
+  abbrev kept_tab : ℕ × GName → Fml
+  kept_tab = Keeps u32 κ₄ q₄ γ₄ b₄ o₄ (named 4) (named 4) (length ts) ts
 
   module _ (l : ℕ) where
     abbrev ind : GName → MutBor (List ℕ)
@@ -230,11 +230,11 @@ module _ {M : Type 1} {𝓤 : Ura M} (𝓛 : Logic 𝓤) (at_mem : Memory → SP
     abbrev s₆ : Val
     s₆ = slice_val (l, 0) 3840
 
-    abbrev lent-ind : ℕ × GName → Fml
-    lent-ind p = (MutSlice (named 5) (p.0 ∷ []) u8).own_val (ind p.1) (s₆ ∷ [])
+    abbrev lent_ind : ℕ × GName → Fml
+    lent_ind p = (MutSlice (named 5) (p.0 ∷ []) u8).own_val (ind p.1) (s₆ ∷ [])
 
-    abbrev kept-ind : ℕ × GName → Fml
-    kept-ind p = flent (p.0 ∷ []) (Held u8 3840 l 0 p.1)
+    abbrev kept_ind : ℕ × GName → Fml
+    kept_ind p = flent (p.0 ∷ []) (Held u8 3840 l 0 p.1)
 
     abbrev cell : List ℕ → Fml
     cell vs = fat full_share (ty_array (ty_int w8) 3840) l 0 (nums vs)
@@ -242,24 +242,24 @@ module _ {M : Type 1} {𝓤 : Ura M} (𝓛 : Logic 𝓤) (at_mem : Memory → SP
     abbrev WrittenArg : Type 0
     WrittenArg = Bor (List ℕ) × (Bor (List Event) × (Bor (List ℕ) × (Bor (List ℕ) × (Bor (List ℕ) × (Bor (List ℕ) × Unit {0})))))
 
-    abbrev written-args : Loans → WrittenArg
-    written-args g = (giv, (x, (doc, (outs g.0.1 os, (tab g.1.0.1 ts, (ind g.1.1.1, tt))))))
+    abbrev written_args : Loans → WrittenArg
+    written_args g = (giv, (x, (doc, (outs g.0.1 os, (tab g.1.0.1 ts, (ind g.1.1.1, tt))))))
 
-    abbrev to-written : Loans → (Writing 𝓛 at_mem run).Ghost
-    to-written g = (((κ₀, (κ₁, (κ₂, (g.0.0 ∷ [], (g.1.0.0 ∷ [], (g.1.1.0 ∷ [], tt)))))), (q₀, (q₁, (q₂, (full_share, (full_share, (full_share, tt)))))), tt, written-args g, (s₁ ∷ [], (s₂ ∷ [], (s₃ ∷ [], (s₄ ∷ [], (s₅ ∷ [], (s₆ ∷ [], tt))))))), tt)
+    abbrev to_written : Loans → (Writing 𝓛 at_mem run).Ghost
+    to_written g = (((κ₀, (κ₁, (κ₂, (g.0.0 ∷ [], (g.1.0.0 ∷ [], (g.1.1.0 ∷ [], tt)))))), (q₀, (q₁, (q₂, (full_share, (full_share, (full_share, tt)))))), tt, written_args g, (s₁ ∷ [], (s₂ ∷ [], (s₃ ∷ [], (s₄ ∷ [], (s₅ ∷ [], (s₆ ∷ [], tt))))))), tt)
 
     abbrev Tokens : Loans → Item 𝓤
     Tokens g = ‵ (flft κ₀ q₀) ⊛ ‵ (flft κ₁ q₁) ⊛ ‵ (flft κ₂ q₂) ⊛ ‵ (flft (g.0.0 ∷ []) full_share) ⊛ ‵ (flft (g.1.0.0 ∷ []) full_share) ⊛ ‵ (flft (g.1.1.0 ∷ []) full_share)
 
-    abbrev tokens-of : Loans → SProp 𝓤
-    tokens-of g = sep 𝓤 (A.lft κ₀ q₀) (sep 𝓤 (A.lft κ₁ q₁) (sep 𝓤 (A.lft κ₂ q₂) (sep 𝓤 (A.lft (g.0.0 ∷ []) full_share) (sep 𝓤 (A.lft (g.1.0.0 ∷ []) full_share) (A.lft (g.1.1.0 ∷ []) full_share)))))
+    abbrev tokens_of : Loans → SProp 𝓤
+    tokens_of g = sep 𝓤 (A.lft κ₀ q₀) (sep 𝓤 (A.lft κ₁ q₁) (sep 𝓤 (A.lft κ₂ q₂) (sep 𝓤 (A.lft (g.0.0 ∷ []) full_share) (sep 𝓤 (A.lft (g.1.0.0 ∷ []) full_share) (A.lft (g.1.1.0 ∷ []) full_share)))))
 
     abbrev kept_of : Loans → SProp 𝓤
-    kept_of g = sep 𝓤 (sem 𝓛 (kept_out g.0)) (sep 𝓤 (sem 𝓛 (kept-tab g.1.0)) (sem 𝓛 (kept-ind g.1.1)))
+    kept_of g = sep 𝓤 (sem 𝓛 (kept_out g.0)) (sep 𝓤 (sem 𝓛 (kept_tab g.1.0)) (sem 𝓛 (kept_ind g.1.1)))
 
-    goes-written : (g : Loans) → ent 𝓤 (sep 𝓤 (tokens-of g) (sep 𝓤 (sep 𝓤 (sem 𝓛 own-giv) (sep 𝓤 (sem 𝓛 own_row) (sem 𝓛 own-doc))) (sep 𝓤 (sem 𝓛 (lent_out g.0)) (sep 𝓤 (sem 𝓛 (lent-tab g.1.0)) (sem 𝓛 (lent-ind g.1.1)))))) ((Writing 𝓛 at_mem run).pre (to-written g))
-    goes-written g =
-        qed 𝓛 (Tokens g ∷ (‵ own-giv ⊛ ‵ own_row ⊛ ‵ own-doc) ∷ (‵ (lent_out g.0) ⊛ ‵ (lent-tab g.1.0) ⊛ ‵ (lent-ind g.1.1)) ∷ []) ∵ says ! refl $ move ! (2 ∷ []) $ split ! $ move ! (1 ∷ []) $ split ! $
+    goes_written : (g : Loans) → ent 𝓤 (sep 𝓤 (tokens_of g) (sep 𝓤 (sep 𝓤 (sem 𝓛 own_giv) (sep 𝓤 (sem 𝓛 own_row) (sem 𝓛 own_doc))) (sep 𝓤 (sem 𝓛 (lent_out g.0)) (sep 𝓤 (sem 𝓛 (lent_tab g.1.0)) (sem 𝓛 (lent_ind g.1.1)))))) ((Writing 𝓛 at_mem run).pre (to_written g))
+    goes_written g =
+        qed 𝓛 (Tokens g ∷ (‵ own_giv ⊛ ‵ own_row ⊛ ‵ own_doc) ∷ (‵ (lent_out g.0) ⊛ ‵ (lent_tab g.1.0) ⊛ ‵ (lent_ind g.1.1)) ∷ []) ∵ says ! refl $ move ! (2 ∷ []) $ split ! $ move ! (1 ∷ []) $ split ! $
         -- [the tables; the index; the output; the tokens; the given words, the row and the text]
         nothing ! $ move ! (2 ∷ 0 ∷ []) $ fjoin ! $ move ! (1 ∷ 0 ∷ []) $ fjoin ! $ move ! (1 ∷ 0 ∷ []) $ fjoin ! $ move ! (2 ∷ []) $ split ! $ move ! (1 ∷ []) $ split ! $ move ! (1 ∷ 3 ∷ []) $ fjoin ! $ move ! (1 ∷ 0 ∷ []) $ fjoin ! $ move ! (1 ∷ 0 ∷ []) $ fjoin ! $
         -- [what the arguments own; the tokens]
@@ -267,59 +267,59 @@ module _ {M : Type 1} {𝓤 : Ura M} (𝓛 : Logic 𝓤) (at_mem : Memory → SP
         -- [the tables' token; the index's; the output's; the text's; the row's; that of the given words; what the arguments own]
         nothing ! $ move ! (2 ∷ 0 ∷ []) $ join ! $ move ! (1 ∷ 0 ∷ []) $ join ! $ move ! (1 ∷ 0 ∷ []) $ join ! $ move ! (1 ∷ 0 ∷ []) $ join ! $ move ! (1 ∷ 0 ∷ []) $ join ! $ move ! (1 ∷ 0 ∷ []) $ join ! $ join ! $ done !
 
-    written-lends : ent 𝓤 (sep 𝓤 (sep 𝓤 giv-of (sep 𝓤 row_of doc-of)) (sep 𝓤 (sep 𝓤 (out_of os) (tab-of ts)) (sem 𝓛 (cell zeros)))) (H.⇛ (ex 𝓤 (λ (g : Loans). sep 𝓤 ((Writing 𝓛 at_mem run).pre (to-written g)) (kept_of g))))
-    written-lends =
+    written_lends : ent 𝓤 (sep 𝓤 (sep 𝓤 giv_of (sep 𝓤 row_of doc_of)) (sep 𝓤 (sep 𝓤 (out_of os) (tab_of ts)) (sem 𝓛 (cell zeros)))) (H.⇛ (ex 𝓤 (λ (g : Loans). sep 𝓤 ((Writing 𝓛 at_mem run).pre (to_written g)) (kept_of g))))
+    written_lends =
         qed 𝓛 ((Giv ⊛ Row ⊛ Doc) ∷ (Outs os ⊛ Tab ts) ∷ ‵ (cell zeros) ∷ []) ∵ updating ! $ lft_new ! tt (λ ν. move ! (3 ∷ []) $
-        use1 𝓛 (later (some (λ (δ : GName). ‵ (lent-ind (ν, δ)) ⊛ ‵ (kept-ind (ν, δ)))))
-        (lends-array 𝓛 u8 tt 3840 nums (λ v b o. refl) (Array-Tells u8 (uint_vals w8) (uint_Tells w8) 3840) (Array-Makes 𝓛 u8 (uint_Makes 𝓛 w8) 3840) (named 5) (ν ∷ []) zeros l 0 index-room (zeros-is 3840)) $ await ! tt $ pick ! (λ δ. split ! $
+        use1 𝓛 (later (some (λ (δ : GName). ‵ (lent_ind (ν, δ)) ⊛ ‵ (kept_ind (ν, δ)))))
+        (lends_array 𝓛 u8 tt 3840 nums (λ v b o. refl) (Array-Tells u8 (uint_vals w8) (uint_Tells w8) 3840) (Array-Makes 𝓛 u8 (uint_Makes 𝓛 w8) 3840) (named 5) (ν ∷ []) zeros l 0 index_room (zeros_is 3840)) $ await ! tt $ pick ! (λ δ. split ! $
         -- [the lent index; what is kept of it; its token; the given words, the row and the text; the output and the tables]
         move ! (4 ∷ []) $ split ! $ split ! $
-        use2 𝓛 (later (some (λ (g : ℕ × GName). ‵ (flft (g.0 ∷ []) full_share) ⊛ (‵ (lent_out g) ⊛ ‵ (kept_out g))))) (lends-call u8 κ₃ q₃ γ₃ b₃ o₃ (named 3) (named 3) (length os) 𝓛 os refl) $ await ! tt $ pick ! (λ g. split ! $ move ! (1 ∷ []) $ split ! $
+        use2 𝓛 (later (some (λ (g : ℕ × GName). ‵ (flft (g.0 ∷ []) full_share) ⊛ (‵ (lent_out g) ⊛ ‵ (kept_out g))))) (lends_call u8 κ₃ q₃ γ₃ b₃ o₃ (named 3) (named 3) (length os) 𝓛 os refl) $ await ! tt $ pick ! (λ g. split ! $ move ! (1 ∷ []) $ split ! $
         move ! (3 ∷ []) $ split ! $
-        use2 𝓛 (later (some (λ (h : ℕ × GName). ‵ (flft (h.0 ∷ []) full_share) ⊛ (‵ (lent-tab h) ⊛ ‵ (kept-tab h))))) (lends-call u32 κ₄ q₄ γ₄ b₄ o₄ (named 4) (named 4) (length ts) 𝓛 ts refl) $ await ! tt $ pick ! (λ h. split ! $ move ! (1 ∷ []) $ split ! $
+        use2 𝓛 (later (some (λ (h : ℕ × GName). ‵ (flft (h.0 ∷ []) full_share) ⊛ (‵ (lent_tab h) ⊛ ‵ (kept_tab h))))) (lends_call u32 κ₄ q₄ γ₄ b₄ o₄ (named 4) (named 4) (length ts) 𝓛 ts refl) $ await ! tt $ pick ! (λ h. split ! $ move ! (1 ∷ []) $ split ! $
         -- [the lent tables; what is kept of them; their token; the lent output; what is kept of it; its token; the lent index; what is kept of it; its token; the given words, the row and the text]
         move ! (9 ∷ []) $ split ! $ split ! $ move ! (2 ∷ []) $ split ! $ split ! $ move ! (2 ∷ []) $ split ! $
         -- [the text; its token; the row; its token; the given words; their token; the lent tables 6; what is kept of them; their token; the lent output 9; what is kept of it; its token; the lent index 12; what is kept of it; its token]
         move ! (8 ∷ 14 ∷ []) $ join ! $ move ! (11 ∷ 0 ∷ []) $ join ! $ move ! (2 ∷ 0 ∷ []) $ join ! $ move ! (3 ∷ 0 ∷ []) $ join ! $ move ! (4 ∷ 0 ∷ []) $ join ! $
         -- [the tokens; the text; the row; the given words; the lent tables; what is kept of them; the lent output; what is kept of it; the lent index; what is kept of it]
         move ! (4 ∷ 8 ∷ []) $ join ! $ move ! (6 ∷ 0 ∷ []) $ join ! $ move ! (3 ∷ 2 ∷ []) $ join ! $ move ! (3 ∷ 0 ∷ []) $ join ! $ move ! (2 ∷ 0 ∷ 1 ∷ []) $
-        use3 𝓛 (raw ((Writing 𝓛 at_mem run).pre (to-written (g, (h, (ν, δ)))))) (goes-written (g, (h, (ν, δ)))) $
+        use3 𝓛 (raw ((Writing 𝓛 at_mem run).pre (to_written (g, (h, (ν, δ)))))) (goes_written (g, (h, (ν, δ)))) $
         -- [the `pre`; what is kept of the tables; of the output; of the index]
-        at_once ! $ show ! (λ (j : Loans). sep 𝓤 ((Writing 𝓛 at_mem run).pre (to-written j)) (kept_of j)) (g, (h, (ν, δ))) $ frame ! $ move ! (1 ∷ []) $ frame ! $ frame ! $ done !))))
+        at_once ! $ show ! (λ (j : Loans). sep 𝓤 ((Writing 𝓛 at_mem run).pre (to_written j)) (kept_of j)) (g, (h, (ν, δ))) $ frame ! $ move ! (1 ∷ []) $ frame ! $ frame ! $ done !))))
 
     -- the answer, and the output, the tables and the index that it leaves
     abbrev Came : Type 0
     Came = Answer × (List ℕ × (List ℕ × List ℕ))
 
     abbrev Learns : Val → Came → Type 0
-    Learns v k = Is R.the_row k.0 (v ∷ []) × (length k.1.0 ≡ length os) × (length k.1.1.0 ≡ length ts) × Leaves k.0 k.1.0 k.1.1.0 (writeOf link gs ys ss (length os) (length ts))
+    Learns v k = Is R.the_row k.0 (v ∷ []) × (length k.1.0 ≡ length os) × (length k.1.1.0 ≡ length ts) × Leaves k.0 k.1.0 k.1.1.0 (write_of link gs ys ss (length os) (length ts))
 
-    abbrev left-of : Came → SProp 𝓤
-    left-of k = sep 𝓤 (A.lft κ₀ q₀) (sep 𝓤 (A.lft κ₁ q₁) (sep 𝓤 (A.lft κ₂ q₂) (sep 𝓤 (out_of k.1.0) (sep 𝓤 (tab-of k.1.1.0) (sem 𝓛 (cell k.1.1.1))))))
+    abbrev left_of : Came → SProp 𝓤
+    left_of k = sep 𝓤 (A.lft κ₀ q₀) (sep 𝓤 (A.lft κ₁ q₁) (sep 𝓤 (A.lft κ₂ q₂) (sep 𝓤 (out_of k.1.0) (sep 𝓤 (tab_of k.1.1.0) (sem 𝓛 (cell k.1.1.1))))))
 
     abbrev Lasts : Type 0
     Lasts = Unit {0} × (Unit {0} × (Unit {0} × (List ℕ × (List ℕ × (List ℕ × Unit {0})))))
 
     abbrev Did : Answer → Lasts → Type 0
-    Did w ws = Leaves w ws.1.1.1.0 ws.1.1.1.1.0 (writeOf link gs ys ss (length os) (length ts))
+    Did w ws = Leaves w ws.1.1.1.0 ws.1.1.1.1.0 (write_of link gs ys ss (length os) (length ts))
 
-    written_back : (g : Loans) (v : Val) → ent 𝓤 (sep 𝓤 ((Writing 𝓛 at_mem run).post (to-written g) v) (kept_of g)) (H.⇛ (ex 𝓤 (λ (k : Came). guard 𝓤 (Learns v k) (left-of k))))
+    written_back : (g : Loans) (v : Val) → ent 𝓤 (sep 𝓤 ((Writing 𝓛 at_mem run).post (to_written g) v) (kept_of g)) (H.⇛ (ex 𝓤 (λ (k : Came). guard 𝓤 (Learns v k) (left_of k))))
     written_back g v =
-        qed 𝓛 (raw ((Writing 𝓛 at_mem run).post (to-written g) v) ∷ ‵ (kept_out g.0) ∷ ‵ (kept-tab g.1.0) ∷ ‵ (kept-ind g.1.1) ∷ []) ∵ updating ! $
-        use1 𝓛 (later (some (λ (w : Answer). ((‵ (flft κ₀ q₀) ⊛ ‵ (flft κ₁ q₁) ⊛ ‵ (flft κ₂ q₂) ⊛ ‵ (flft (g.0.0 ∷ []) full_share) ⊛ ‵ (flft (g.1.0.0 ∷ []) full_share) ⊛ ‵ (flft (g.1.1.0 ∷ []) full_share) ⊛ ‵ ftrue) ⊛ ‵ ((R.the_row).own_val w (v ∷ []))) ⊛ raw (ensured 𝓛 written'.ended (written'.clauses 𝓛 at_mem run) (κ₀, (κ₁, (κ₂, (g.0.0 ∷ [], (g.1.0.0 ∷ [], (g.1.1.0 ∷ [], tt)))))) (written-args g) tt w)))) (id⊢ 𝓤 _) $ await ! tt $ pick ! (λ w.
-        split ! $ move ! (1 ∷ []) $ use1 𝓛 (some (λ (ws : Lasts). ‵ (lasts written'.ended (κ₀, (κ₁, (κ₂, (g.0.0 ∷ [], (g.1.0.0 ∷ [], (g.1.1.0 ∷ [], tt)))))) (written-args g) ws) ⊛ raw (fact 𝓤 (Did w ws)))) (id⊢ 𝓤 _) $ pick ! (λ ws.
+        qed 𝓛 (raw ((Writing 𝓛 at_mem run).post (to_written g) v) ∷ ‵ (kept_out g.0) ∷ ‵ (kept_tab g.1.0) ∷ ‵ (kept_ind g.1.1) ∷ []) ∵ updating ! $
+        use1 𝓛 (later (some (λ (w : Answer). ((‵ (flft κ₀ q₀) ⊛ ‵ (flft κ₁ q₁) ⊛ ‵ (flft κ₂ q₂) ⊛ ‵ (flft (g.0.0 ∷ []) full_share) ⊛ ‵ (flft (g.1.0.0 ∷ []) full_share) ⊛ ‵ (flft (g.1.1.0 ∷ []) full_share) ⊛ ‵ ftrue) ⊛ ‵ ((R.the_row).own_val w (v ∷ []))) ⊛ raw (ensured 𝓛 written'.ended (written'.clauses 𝓛 at_mem run) (κ₀, (κ₁, (κ₂, (g.0.0 ∷ [], (g.1.0.0 ∷ [], (g.1.1.0 ∷ [], tt)))))) (written_args g) tt w)))) (id⊢ 𝓤 _) $ await ! tt $ pick ! (λ w.
+        split ! $ move ! (1 ∷ []) $ use1 𝓛 (some (λ (ws : Lasts). ‵ (lasts written'.ended (κ₀, (κ₁, (κ₂, (g.0.0 ∷ [], (g.1.0.0 ∷ [], (g.1.1.0 ∷ [], tt)))))) (written_args g) ws) ⊛ raw (fact 𝓤 (Did w ws)))) (id⊢ 𝓤 _) $ pick ! (λ ws.
         split ! $ move ! (1 ∷ []) $ heard ! (Did w ws) (λ did. fsplit ! $ drop ! $ fsplit ! $ drop ! $ fsplit ! $ drop ! $ fsplit ! $ fsplit ! $ move ! (1 ∷ []) $ feq_l ! (λ same. move ! (1 ∷ []) $ fsplit ! $ fsplit ! $ move ! (1 ∷ []) $ feq_l ! (λ same'. move ! (1 ∷ []) $ fsplit ! $ fsplit ! $ move ! (1 ∷ []) $ feq_l ! (λ same''.
         -- [the last index; true; the last tables; the last output; the tokens and the result; what is kept of the output; of the tables; of the index]
         move ! (4 ∷ []) $ split ! $ move ! (1 ∷ []) $ facts ! R.the_row (Is R.the_row) (shows 𝓛 R.the_row) w (v ∷ []) (λ isw. split ! $ move ! (1 ∷ []) $ split ! $ move ! (1 ∷ []) $ split ! $ move ! (1 ∷ []) $ split ! $ move ! (1 ∷ []) $ split ! $ move ! (1 ∷ []) $ split ! $
         -- [the index's token; true; the tables'; the output's; the text's; the row's; that of the given words; the last index 7; true; the last tables; the last output; what is kept of the output; of the tables; of the index]
-        move ! (3 ∷ 11 ∷ 10 ∷ []) $ use3 𝓛 (later (Outs ws.1.1.1.0)) (back-call u8 κ₃ q₃ γ₃ b₃ o₃ (named 3) (named 3) (length os) 𝓛 os refl g.0 ws.1.1.1.0 room-o same) $ await ! tt $
-        move ! (3 ∷ 10 ∷ 9 ∷ []) $ use3 𝓛 (later (Tab ws.1.1.1.1.0)) (back-call u32 κ₄ q₄ γ₄ b₄ o₄ (named 4) (named 4) (length ts) 𝓛 ts refl g.1.0 ws.1.1.1.1.0 room-t same') $ await ! tt $
+        move ! (3 ∷ 11 ∷ 10 ∷ []) $ use3 𝓛 (later (Outs ws.1.1.1.0)) (back_call u8 κ₃ q₃ γ₃ b₃ o₃ (named 3) (named 3) (length os) 𝓛 os refl g.0 ws.1.1.1.0 room-o same) $ await ! tt $
+        move ! (3 ∷ 10 ∷ 9 ∷ []) $ use3 𝓛 (later (Tab ws.1.1.1.1.0)) (back_call u32 κ₄ q₄ γ₄ b₄ o₄ (named 4) (named 4) (length ts) 𝓛 ts refl g.1.0 ws.1.1.1.1.0 room-t same') $ await ! tt $
         -- [the tables; the output; the index's token; true; the text's; the row's; that of the given words; the last index 7; true; what is kept of the index]
         move ! (2 ∷ []) $ lft_end ! tt $ move ! (0 ∷ 9 ∷ 7 ∷ []) $
         use3 𝓛 (later (given (Is (Array u8 3840) ws.1.1.1.1.1.0 (nums ws.1.1.1.1.1.0 ∷ [])) (‵ (cell ws.1.1.1.1.1.0))))
         (array_back 𝓛 u8 tt 3840 nums (λ v b o. refl) (Array-Tells u8 (uint_vals w8) (uint_Tells w8) 3840) (Array-Makes 𝓛 u8 (uint_Makes 𝓛 w8) 3840) (g.1.1.0 ∷ []) g.1.1.1 ws.1.1.1.1.1.0 l 0) $ await ! tt $ learn ! (λ _.
         -- [the array; the tables; the output; true; the text's token; the row's; that of the given words; true]
-        at_once ! $ show ! (λ (k : Came). guard 𝓤 (Learns v k) (left-of k)) (w, (ws.1.1.1.0, (ws.1.1.1.1.0, ws.1.1.1.1.1.0))) $ check ! (isw, same, same', did) $ keep ! (6 ∷ 5 ∷ 4 ∷ 2 ∷ 1 ∷ 0 ∷ []) $ frame ! $ frame ! $ frame ! $ frame ! $ frame ! $ done !))))))))
+        at_once ! $ show ! (λ (k : Came). guard 𝓤 (Learns v k) (left_of k)) (w, (ws.1.1.1.0, (ws.1.1.1.1.0, ws.1.1.1.1.1.0))) $ check ! (isw, same, same', did) $ keep ! (6 ∷ 5 ∷ 4 ∷ 2 ∷ 1 ∷ 0 ∷ []) $ frame ! $ frame ! $ frame ! $ frame ! $ frame ! $ done !))))))))
 
   module _ (𝓣 : Tables 𝓤 H) (known_written : Triple 𝓤 (𝓣.C the-written-#write-rows) (Writing 𝓛 at_mem run)) where
     walk : ent 𝓤 (on_entry 𝓛 write'.signature (κ₀, (κ₁, (κ₂, (κ₃, (κ₄, tt))))) (q₀, (q₁, (q₂, (q₃, (q₄, tt))))) a at) (WpFn 𝓤 H 𝓣.C 𝓣.Λ code.function (s₁ ∷ s₂ ∷ s₃ ∷ s₄ ∷ s₅ ∷ []) Post)
@@ -331,18 +331,18 @@ module _ {M : Type 1} {𝓤 : Ura M} (𝓛 : Logic 𝓤) (at_mem : Memory → SP
         -- [the tables' token; true; the output's; the text's; the row's; that of the given words; the tables; true; the output; the text; the row; the given words; _12 12; …]
         move ! (6 ∷ 0 ∷ []) $ join ! $ move ! (7 ∷ 2 ∷ []) $ join ! $ move ! (7 ∷ 3 ∷ []) $ join ! $ move ! (7 ∷ 4 ∷ []) $ join ! $ move ! (7 ∷ 5 ∷ []) $ join ! $ move ! (5 ∷ []) $ drop ! $ move ! (5 ∷ []) $ drop ! $
         -- [the given words; the row; the text; the output; the tables; _12 5; …]
-        assigns ! (rep ! 3840 (lit ! tt)) (from ! (stop !)) (init ! 17 refl ((Array-Lawful 𝓛 u8 (uint_Lawful 𝓛 w8) 3840).typed zeros _ (zeros-are 3840)).0) $ rewrite ! 17 (λ (u : Val). ‵ (fat full_share (ty_array (ty_int w8) 3840) l₆ 0 u)) (ap only (zeros-told 3840)) refl $
+        assigns ! (rep ! 3840 (lit ! tt)) (from ! (stop !)) (init ! 17 refl ((Array-Lawful 𝓛 u8 (uint_Lawful 𝓛 w8) 3840).typed zeros _ (zeros_are 3840)).0) $ rewrite ! 17 (λ (u : Val). ‵ (fat full_share (ty_array (ty_int w8) 3840) l₆ 0 u)) (ap only (zeros_told 3840)) refl $
         assigns ! (addr ! (from ! (fld ! refl (hop ! (look_in ! 21 (sub ! 0 refl (whole !))) (stop !))))) (from ! (stop !)) (init ! 15 refl (tt, tt)) $
         assigns ! (agg ! (and_then ! (load ! (from ! (stop !)) (look ! 15 refl)) (and_then ! (load ! (from ! (fld ! refl (stop !))) (look_in ! 21 (sub ! 1 refl (whole !)))) (no_more !)))) (from ! (stop !)) (init ! 13 refl (tt, (tt, (record { fits = room-o.0 }, tt)))) $
         assigns ! (addr ! (from ! (fld ! refl (hop ! (look_in ! 19 (sub ! 0 refl (whole !))) (stop !))))) (from ! (stop !)) (init ! 11 refl (tt, tt)) $
         assigns ! (agg ! (and_then ! (load ! (from ! (stop !)) (look ! 11 refl)) (and_then ! (load ! (from ! (fld ! refl (stop !))) (look_in ! 19 (sub ! 1 refl (whole !)))) (no_more !)))) (from ! (stop !)) (init ! 9 refl (tt, (tt, (record { fits = room-t.0 }, tt)))) $
         assigns ! (addr ! (from ! (stop !))) (from ! (stop !)) (init ! 7 refl (tt, tt)) $
-        assigns ! (agg ! (and_then ! (load ! (from ! (stop !)) (look ! 7 refl)) (and_then ! (big-lit ! (record { fits = lit< tt })) (no_more !)))) (from ! (stop !)) (init ! 5 refl (tt, (tt, (record { fits = lit< tt }, tt)))) $
+        assigns ! (agg ! (and_then ! (load ! (from ! (stop !)) (look ! 7 refl)) (and_then ! (big_lit ! (record { fits = lit< tt })) (no_more !)))) (from ! (stop !)) (init ! 5 refl (tt, (tt, (record { fits = lit< tt }, tt)))) $
         move ! (1 ∷ 2 ∷ []) $ join ! $ move ! (1 ∷ 0 ∷ []) $ join ! $ move ! (1 ∷ 2 ∷ []) $ join ! $
         -- [the output and the tables; the given words, the row and the text; _12 2; …; _6 14; …]
-        move ! (1 ∷ 0 ∷ 14 ∷ []) $ use3 𝓛 (later (some (λ (g : Loans). raw ((Writing 𝓛 at_mem run).pre (to-written l₆ g)) ⊛ (‵ (kept_out g.0) ⊛ (‵ (kept-tab g.1.0) ⊛ ‵ (kept-ind l₆ g.1.1)))))) (written-lends l₆) $ await ! tt $ pick ! (λ g. split ! $
+        move ! (1 ∷ 0 ∷ 14 ∷ []) $ use3 𝓛 (later (some (λ (g : Loans). raw ((Writing 𝓛 at_mem run).pre (to_written l₆ g)) ⊛ (‵ (kept_out g.0) ⊛ (‵ (kept_tab g.1.0) ⊛ ‵ (kept_ind l₆ g.1.1)))))) (written_lends l₆) $ await ! tt $ pick ! (λ g. split ! $
         -- [the `pre`; what is kept; _12 2; _11 4; _10 6; _9 8; _8 10; _7 12; … 14; _5 15; _4 17; _3 19; _2 21; _1 23; _0 25]
-        calls_at ! (fm_of 𝓤 H 𝓛.laws 𝓣) (Writing 𝓛 at_mem run) known_written (to-written l₆ g) (and_then ! (load ! (from ! (stop !)) (look ! 23 refl)) (and_then ! (load ! (from ! (stop !)) (look ! 21 refl)) (and_then ! (load ! (from ! (stop !)) (look ! 19 refl)) (and_then ! (load ! (from ! (stop !)) (look ! 10 refl)) (and_then ! (load ! (from ! (stop !)) (look ! 6 refl)) (and_then ! (load ! (from ! (stop !)) (look ! 2 refl)) (no_more !))))))) (λ v.
+        calls_at ! (fm_of 𝓤 H 𝓛.laws 𝓣) (Writing 𝓛 at_mem run) known_written (to_written l₆ g) (and_then ! (load ! (from ! (stop !)) (look ! 23 refl)) (and_then ! (load ! (from ! (stop !)) (look ! 21 refl)) (and_then ! (load ! (from ! (stop !)) (look ! 19 refl)) (and_then ! (load ! (from ! (stop !)) (look ! 10 refl)) (and_then ! (load ! (from ! (stop !)) (look ! 6 refl)) (and_then ! (load ! (from ! (stop !)) (look ! 2 refl)) (no_more !))))))) (λ v.
         use2 𝓛 (later (some (λ (k : Came l₆). given (Learns l₆ v k) (‵ (flft κ₀ q₀) ⊛ (‵ (flft κ₁ q₁) ⊛ (‵ (flft κ₂ q₂) ⊛ (Outs k.1.0 ⊛ (Tab k.1.1.0 ⊛ ‵ (cell l₆ k.1.1.1))))))))) (written_back l₆ g v) $ await ! tt $ pick ! (λ k. learn ! (λ it.
         split ! $ move ! (1 ∷ []) $ split ! $ move ! (1 ∷ []) $ split ! $ move ! (1 ∷ []) $ split ! $ move ! (1 ∷ []) $ split ! $ move ! (5 ∷ 4 ∷ 3 ∷ 2 ∷ 0 ∷ 1 ∷ []) $
         -- [the token of the given words; the row's; the text's; the output; the tables; the array; _12 6; …; _7 16; … 18; _5 19; …; _0 29]

@@ -4,12 +4,12 @@ use borrow.Author.Rules.{rules}
 use mathlib.Core.Path.{◌∙◌, ap}
 use Prim.Native.Nat.{◌+◌, ◌/◌, ◌%◌}
 use lib.Dec.{lit<}
-use Rattle.decimal.proofs.Figures.{power-some}
+use Rattle.decimal.proofs.Figures.{power_some}
 use Rattle.decimal.proofs.printing.digit_at.Statement.{statement}
 use Rattle.decimal.proofs.printing.digit_at.Tie as tie
 
 div-digit : tie.Need-nonzero-div-digit
-div-digit c = rw c.ten-to.ensures (power-some 10 0x30 (lit< tt) _)
+div-digit c = rw c.ten-to.ensures (power_some 10 0x30 (lit< tt) _)
 
 returns : tie.Need-returns
 returns c =

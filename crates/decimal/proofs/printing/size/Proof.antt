@@ -3,7 +3,7 @@
 use Prim.Native.Nat.{◌-◌, ◌^◌, ◌≤◌}
 use native.Mathlib.Omega.{arith}
 use borrow.Author.Rules.{rules}
-use Rattle.decimal.proofs.Tens.{size_is, count_next, count-last}
+use Rattle.decimal.proofs.Tens.{size_is, count_next, count_last}
 use Rattle.decimal.proofs.printing.size.Statement.{statement}
 use Rattle.decimal.proofs.printing.size.Tie as tie
 
@@ -32,7 +32,7 @@ loop-again : tie.Need-loop-preserved invariant-loop decreases-loop
 loop-again c = let l = c.before.before.before.loop in (omega arith, omega arith, count_next _ l.k l.invariant.2 l.invariant.0 (omega arith))
 
 returns-2 : tie.Need-returns-2 invariant-loop decreases-loop
-returns-2 c = let l = c.before.loop in (count-last _ l.k l.invariant.2 c.before.before.ranges.n.fits (omega arith), omega arith)
+returns-2 c = let l = c.before.loop in (count_last _ l.k l.invariant.2 c.before.before.ranges.n.fits (omega arith), omega arith)
 
 pub size-spec : {M : Type 1} → statement M
 size-spec =

@@ -6,7 +6,7 @@ use borrow.Author.Rules.{rules}
 use mir.Syntax.{w16, w32}
 use Rattle.format.specs.Integers.{decimal}
 use Rattle.decimal.proofs.Halves.{back, widens, widened}
-use Rattle.decimal.proofs.Steps.{no-integers}
+use Rattle.decimal.proofs.Steps.{no_integers}
 use Rattle.decimal.proofs.printing.text_at.Statement.{statement}
 use Rattle.decimal.proofs.printing.text_at.Tie as tie
 
@@ -64,7 +64,7 @@ returns-3 c =
     rw c.before.before.enum-told3.given.1 (c.of3.ensures.0 ∙ ap decimal (back r.result r.type-inv ∙ r.ensures), c.of3.ensures.1)
 
 returns-4 : tie.Need-returns-4
-returns-4 c = let a = c.before.before.before in no-integers a.args.form c.before.match.keys4 a.requires.0
+returns-4 c = let a = c.before.before.before in no_integers a.args.form c.before.match.keys4 a.requires.0
 
 pub text-at-spec : {M : Type 1} → statement M
 text-at-spec =

@@ -2,18 +2,18 @@
 -- Assumes nothing.
 use native.Mathlib.Omega.{arith}
 use borrow.Author.Rules.{rules}
-use Rattle.decimal.proofs.Steps.{grown-low, grown-high, grown-over, grown-more}
+use Rattle.decimal.proofs.Steps.{grown_low, grown_high, grown_over, grown-more}
 use Rattle.decimal.proofs.scanning.grown.Statement.{statement}
 use Rattle.decimal.proofs.scanning.grown.Tie as tie
 
 returns : tie.Need-returns
-returns c = let a = c.before.args in grown-low a.minus a.n a.o (omega arith)
+returns c = let a = c.before.args in grown_low a.minus a.n a.o (omega arith)
 
 returns-2 : tie.Need-returns-2
-returns-2 c = let a = c.before.before.args in grown-high a.minus a.n a.o (omega arith)
+returns-2 c = let a = c.before.before.args in grown_high a.minus a.n a.o (omega arith)
 
 returns-3 : tie.Need-returns-3
-returns-3 c = let a = c.before.before.before.args in grown-over a.minus a.n a.o (omega arith)
+returns-3 c = let a = c.before.before.before.args in grown_over a.minus a.n a.o (omega arith)
 
 mul-t5 : tie.Need-overflow-mul-t5
 mul-t5 c = search rules

@@ -5,7 +5,7 @@ use native.Mathlib.Omega.{arith}
 use borrow.Author.Rules.{rules}
 use Rattle.format.specs.Integers.{half}
 use Rattle.decimal.proofs.Halves.{back}
-use Rattle.decimal.proofs.Steps.{below-lowest, is_negative, above-highest, is_plain}
+use Rattle.decimal.proofs.Steps.{below-lowest, is_negative, above_highest, is_plain}
 use Rattle.decimal.proofs.scanning.integer_by.Statement.{statement}
 use Rattle.decimal.proofs.scanning.integer_by.Tie as tie
 
@@ -19,7 +19,7 @@ returns-2 : tie.Need-returns-2
 returns-2 c = let a = c.before.before.before.args in is_negative a.minus a.n c.before.before.if1.true (unfold half in omega arith) (back _ c.opposite.type-inv ∙ c.opposite.ensures)
 
 returns-3 : tie.Need-returns-3
-returns-3 c = let a = c.before.before.args in above-highest a.minus a.n c.before.if1.false (unfold half in omega arith)
+returns-3 c = let a = c.before.before.args in above_highest a.minus a.n c.before.if1.false (unfold half in omega arith)
 
 plus-requires : tie.Need-plus-requires
 plus-requires c κs = search rules

@@ -4,7 +4,7 @@ use borrow.Author.Rules.{rules}
 use mir.Syntax.{w16, w32}
 use Rattle.format.specs.Integers.{half}
 use Rattle.decimal.proofs.Halves.{back, narrows, narrowed}
-use Rattle.decimal.proofs.Steps.{no-integers, held-some}
+use Rattle.decimal.proofs.Steps.{no_integers, held_some}
 use Rattle.decimal.proofs.scanning.put_held.Statement.{statement}
 use Rattle.decimal.proofs.scanning.put_held.Tie as tie
 
@@ -61,7 +61,7 @@ returns-3 : tie.Need-returns-3
 returns-3 c = rw c.before.before.before.before.enum-told3.given.1 (rw (back _ c.before.before.before.before.before.before.before.ranges.z.sfits) at c.before.before.put-long.ensures)
 
 returns-4 : tie.Need-returns-4
-returns-4 c = let a = c.before.before in no-integers a.args.form c.match.keys4 (held-some _ a.args.z a.requires.1)
+returns-4 c = let a = c.before.before in no_integers a.args.form c.match.keys4 (held_some _ a.args.z a.requires.1)
 
 pub put-held-spec : {M : Type 1} → statement M
 put-held-spec =

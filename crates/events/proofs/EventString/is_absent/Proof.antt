@@ -6,11 +6,11 @@ use borrow.Author.Rules.{rules}
 use lib.Dec.{eqb}
 use Rattle.format.specs.declared.StringForm.{StringForm}
 use Rattle.format.specs.declared.StringForm.TheVariants.{Utf8, Utf16, Numeric, Dates, Short, Int, Long}
-use Rattle.events.specs.Words.{formTag}
+use Rattle.events.specs.Words.{form_tag}
 use Rattle.events.proofs.EventString.is_absent.Statement.{statement}
 use Rattle.events.proofs.EventString.is_absent.Tie as tie
 
-there : (form : StringForm) → false ≡ eqb (formTag form) 0
+there : (form : StringForm) → false ≡ eqb (form_tag form) 0
 there Utf8 = refl
 there Utf16 = refl
 there Numeric = refl

@@ -4,17 +4,17 @@ use mathlib.Core.Path.{◌≡◌, refl, sym, ap, ◌∙◌}
 use Prim.Native.Nat.{ℕ, ◌+◌}
 use borrow.Author.Rules.{rules}
 use native.Mathlib.Omega.{arith}
-use Rattle.format.specs.Forms.{formNumber}
+use Rattle.format.specs.Forms.{form_number}
 use Rattle.format.specs.declared.StringForm.{StringForm}
 use Rattle.format.specs.declared.StringForm.TheVariants.{Utf8, Utf16, Numeric, Dates, Short, Int, Long}
 use Rattle.events.specs.declared.EventString.{EventString}
 use Rattle.events.specs.declared.EventString.TheVariants.{Absent, Empty, Stretch, XmlPrefix, XmlNamespace}
-use Rattle.events.specs.Words.{formTag, stringTag, stringForm}
+use Rattle.events.specs.Words.{form_tag, string_tag, string_form}
 use Rattle.events.proofs.EventString.tag.Statement.{statement}
 use Rattle.events.proofs.EventString.tag.Tie as tie
 
 -- a stretch in another form, and one in utf-8
-another : (x : EventString) (n : ℕ) → n ≡ formNumber (stringForm x) → (n ≡ 0 → ⊥) → n + 4 ≡ stringTag x
+another : (x : EventString) (n : ℕ) → n ≡ form_number (string_form x) → (n ≡ 0 → ⊥) → n + 4 ≡ string_tag x
 another Absent n e h = absurd (h e)
 another Empty n e h = absurd (h e)
 another (Stretch Utf8 place size) n e h = absurd (h e)
@@ -27,7 +27,7 @@ another (Stretch Long place size) n e h = omega arith
 another XmlPrefix n e h = absurd (h e)
 another XmlNamespace n e h = absurd (h e)
 
-plain : (form : StringForm) → formNumber form ≡ 0 → 2 ≡ formTag form
+plain : (form : StringForm) → form_number form ≡ 0 → 2 ≡ form_tag form
 plain Utf8 e = refl
 plain Utf16 e = absurd (omega arith)
 plain Numeric e = absurd (omega arith)
@@ -37,12 +37,12 @@ plain Int e = absurd (omega arith)
 plain Long e = absurd (omega arith)
 
 returns : tie.Need-returns
-returns c = another c.before.before.before.args.self c.before.number.result (c.before.number.ensures.0 ∙ ap formNumber c.before.before.form.ensures) (λ z. omega arith)
+returns c = another c.before.before.before.args.self c.before.number.result (c.before.number.ensures.0 ∙ ap form_number c.before.before.form.ensures) (λ z. omega arith)
 
 returns-4 : tie.Need-returns-4
 returns-4 c =
-    let f : formNumber (stringForm c.before.before.before.before.before.args.self) ≡ 0 =
-    sym (c.before.before.before.number.ensures.0 ∙ ap formNumber c.before.before.before.before.form.ensures) ∙ omega arith in
+    let f : form_number (string_form c.before.before.before.before.before.args.self) ≡ 0 =
+    sym (c.before.before.before.number.ensures.0 ∙ ap form_number c.before.before.before.before.form.ensures) ∙ omega arith in
     rw c.enum-told3.given.1 (plain c.enum-told3.given.0.0 (rw c.enum-told3.given.1 at f))
 
 pub tag-spec : {M : Type 1} → statement M

@@ -5,12 +5,12 @@ use mathlib.Core.Logic.{⊎_elim}
 use native.Mathlib.Omega.{arith}
 use borrow.Author.Rules.{rules}
 use borrow.Author.Tests.{ltb-true, ltb-false}
-use Rattle.events.proofs.WordLaws.{record-low, record-high, record-framed}
+use Rattle.events.proofs.WordLaws.{record_low, record_high, record_framed}
 use Rattle.events.proofs.words.from_words.Statement.{statement}
 use Rattle.events.proofs.words.from_words.Tie as tie
 
 returns : tie.Need-returns
-returns c = c.blank.ensures ∙ ⊎_elim (λ x. record-low _ _ (omega arith)) (λ x. record-high _ _ (omega arith) (omega (arith, ltb-true))) c.before.if1.branch
+returns c = c.blank.ensures ∙ ⊎_elim (λ x. record_low _ _ (omega arith)) (λ x. record_high _ _ (omega arith) (omega (arith, ltb-true))) c.before.if1.branch
 
 returns-2 : tie.Need-returns-2
 returns-2 c =
@@ -19,7 +19,7 @@ returns-2 c =
     let second = third.before in
     let first = second.before in
     c.framed.ensures ∙ rw (first.before.kind-of.ensures, first.told_at.ensures, second.told-at2.ensures, third.told-at3.ensures, fourth.told-at4.ensures)
-    (record-framed _ _ (omega arith) (omega (arith, ltb-false)))
+    (record_framed _ _ (omega arith) (omega (arith, ltb-false)))
 
 pub from-words-spec : {M : Type 1} → statement M
 from-words-spec =

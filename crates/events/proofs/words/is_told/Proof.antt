@@ -4,13 +4,13 @@ use mathlib.Core.Path.{ap, ◌∙◌}
 use native.Mathlib.Omega.{arith}
 use borrow.Author.Rules.{rules}
 use borrow.Author.Tests.{ne_eqb}
-use Rattle.events.specs.FromWords.{isSaid}
-use Rattle.events.proofs.WordLaws.{told-stretch, plain-said, placed-said, formed-said}
+use Rattle.events.specs.FromWords.{is_said}
+use Rattle.events.proofs.WordLaws.{told_stretch, plain-said, placed-said, formed_said}
 use Rattle.events.proofs.words.is_told.Statement.{statement}
 use Rattle.events.proofs.words.is_told.Tie as tie
 
 returns : tie.Need-returns
-returns c = ap isSaid (told-stretch _ _ _ c.if1.true)
+returns c = ap is_said (told_stretch _ _ _ c.if1.true)
 
 returns-2 : tie.Need-returns-2
 returns-2 c = plain-said _ _ _ c.before.before.before.before.if1.false (omega arith) c.before.if3.true
@@ -19,7 +19,7 @@ returns-3 : tie.Need-returns-3
 returns-3 c = ne_eqb _ 0 c.if3.false ∙ placed-said _ _ _ c.before.before.before.if1.false (omega arith) c.if3.false
 
 returns-4 : tie.Need-returns-4
-returns-4 c = formed-said _ _ _ (omega arith)
+returns-4 c = formed_said _ _ _ (omega arith)
 
 pub is-told-spec : {M : Type 1} → statement M
 is-told-spec =

@@ -4,12 +4,12 @@ use Prim.Native.Nat.{◌+◌, ◌*◌}
 use native.Mathlib.Omega.{arith}
 use borrow.Author.Rules.{rules}
 use lib.ListN.{length-set}
-use Rattle.events.proofs.Kept.{kept-not, kept-all}
+use Rattle.events.proofs.Kept.{kept_not, kept_all}
 use Rattle.events.proofs.words.keep.Statement.{statement}
 use Rattle.events.proofs.words.keep.Tie as tie
 
 returns : tie.Need-returns
-returns c = kept-not _ _ _ _ (omega arith)
+returns c = kept_not _ _ _ _ (omega arith)
 
 put-string-requires : tie.Need-put-string-requires
 put-string-requires c κs = simp length-set (omega arith)
@@ -43,7 +43,7 @@ returns-2 c =
     let second = third.before.before.before.before in
     let first = second.before.before.before.before in
     let number = first.before.before.number in
-    kept-all _ _ _ _ number.result _ _ _ _ (omega arith) number.ensures first.put-string.ensures second.put-string2.ensures third.put-string3.ensures fourth.put-string4.ensures
+    kept_all _ _ _ _ number.result _ _ _ _ (omega arith) number.ensures first.put-string.ensures second.put-string2.ensures third.put-string3.ensures fourth.put-string4.ensures
 
 pub keep_spec : {M : Type 1} → statement M
 keep_spec =

@@ -2,7 +2,7 @@
 -- Assumes nothing.
 use native.Mathlib.Omega.{arith}
 use Rattle.tables.proofs.ByNumber.{at_least}
-use Rattle.events.proofs.WordLaws.{kind_at, kind-none}
+use Rattle.events.proofs.WordLaws.{kind_at, kind_none}
 use Rattle.events.proofs.words.kind_of.Statement.{statement}
 use Rattle.events.proofs.words.kind_of.Tie as tie
 
@@ -18,4 +18,4 @@ kind-of-spec =
     (λ c. kind_at _ 5 (omega arith))
     (λ c. kind_at _ 6 (omega arith))
     (λ c. kind_at _ 7 (omega arith))
-    (λ c. kind-none _ (at_least 8 _ c.match.rest)))
+    (λ c. kind_none _ (at_least 8 _ c.match.rest)))

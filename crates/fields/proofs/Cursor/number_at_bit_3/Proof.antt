@@ -2,13 +2,13 @@
 -- Assumes nothing.
 use Rattle.std.proofs.Common.{refl, ◌∙◌, arith, rules}
 use Rattle.format.specs.Numbers.{numbers}
-use Rattle.fields.proofs.Cases.{field-missing}
+use Rattle.fields.proofs.Cases.{field_missing}
 use Rattle.fields.proofs.FirstOctet.{at_least}
 use Rattle.fields.proofs.Cursor.number_at_bit_3.Statement.{statement}
 use Rattle.fields.proofs.Cursor.number_at_bit_3.Tie as tie
 
 returns : tie.Need-returns
-returns c = field-missing _ _ _ _ _ (omega arith)
+returns c = field_missing _ _ _ _ _ (omega arith)
 
 returns-2 : tie.Need-returns-2
 unfolding numbers

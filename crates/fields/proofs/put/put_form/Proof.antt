@@ -1,7 +1,7 @@
 -- `put_form` meets its contract: the first octet, and the others behind it.
 -- Assumes nothing.
 use Rattle.std.proofs.Common.{◌≡◌, ◌+◌, ◌/◌, ◌^◌, arith, rules}
-use Rattle.fields.proofs.Puts.{puts-octet, above}
+use Rattle.fields.proofs.Puts.{puts_octet, above}
 use Rattle.fields.proofs.put.put_form.Statement.{statement}
 use Rattle.fields.proofs.put.put_form.Tie as tie
 
@@ -15,7 +15,7 @@ returns : tie.Need-returns
 returns c =
     let args = c.before.before.before.before.before.before.before.before.before.before.args in
     let e : c.before.before.before.before.before.before.before.narrow.result ≡ args.lead + args.v / 256 ^ args.more = omega (arith, above args.more args.v) in
-    puts-octet (rw e at c.before.before.before.before.before.before.put.ensures) c.before.before.put-octets.ensures
+    puts_octet (rw e at c.before.before.before.before.before.before.put.ensures) c.before.before.put-octets.ensures
 
 pub put-form-spec : {M : Type 1} → statement M
 put-form-spec =

@@ -2,23 +2,23 @@
 -- Assumes nothing.
 use Rattle.std.proofs.Common.{refl, arith, rules}
 use Rattle.format.specs.Numbers.{c25}
-use Rattle.fields.proofs.Laws.{sizesIn, roomsIn}
-use Rattle.fields.proofs.Numbers.{c25-are, c25-ordered}
-use Rattle.fields.proofs.Spelled.{puts-form}
+use Rattle.fields.proofs.Laws.{sizes_in, rooms_in}
+use Rattle.fields.proofs.Numbers.{c25_are, c25_ordered}
+use Rattle.fields.proofs.Spelled.{puts_form}
 use Rattle.fields.proofs.put.put_number_at_bit_2.Statement.{statement}
 use Rattle.fields.proofs.put.put_number_at_bit_2.Tie as tie
 
 returns : tie.Need-returns
-unfolding sizesIn roomsIn
-returns c = puts-form 2 c25 _ c25-ordered c25-are (omega arith) 0 refl _ _ _ _ (omega arith) (omega arith) (omega arith) c.before.before.put-form.ensures
+unfolding sizes_in rooms_in
+returns c = puts_form 2 c25 _ c25_ordered c25_are (omega arith) 0 refl _ _ _ _ (omega arith) (omega arith) (omega arith) c.before.before.put-form.ensures
 
 returns-2 : tie.Need-returns-2
-unfolding sizesIn roomsIn
-returns-2 c = puts-form 2 c25 _ c25-ordered c25-are (omega arith) 1 refl _ _ _ _ (omega arith) (omega arith) (omega arith) c.before.before.put-form2.ensures
+unfolding sizes_in rooms_in
+returns-2 c = puts_form 2 c25 _ c25_ordered c25_are (omega arith) 1 refl _ _ _ _ (omega arith) (omega arith) (omega arith) c.before.before.put-form2.ensures
 
 returns-3 : tie.Need-returns-3
-unfolding sizesIn roomsIn
-returns-3 c = puts-form 2 c25 _ c25-ordered c25-are (omega arith) 2 refl _ _ _ _ (omega arith) (omega arith) (omega arith) c.before.before.put-form3.ensures
+unfolding sizes_in rooms_in
+returns-3 c = puts_form 2 c25 _ c25_ordered c25_are (omega arith) 2 refl _ _ _ _ (omega arith) (omega arith) (omega arith) c.before.before.put-form3.ensures
 
 pub put-number-at-bit-2-spec : {M : Type 1} → statement M
 put-number-at-bit-2-spec =

@@ -4,7 +4,7 @@ use Rattle.std.proofs.Common.{◌+◌, ◌-◌, ◌≤◌, take, ◌∙◌, arit
 use Rattle.format.specs.Numbers.{octets}
 use Rattle.fields.specs.PutContracts.{Puts}
 use Rattle.fields.proofs.Laws.{octets-length}
-use Rattle.fields.proofs.Puts.{puts-nothing, puts-kept, puts-next, puts-all, octet-at}
+use Rattle.fields.proofs.Puts.{puts_nothing, puts_kept, puts_next, puts_all, octet_at}
 use Rattle.fields.proofs.put.put_octets.Statement.{statement}
 use Rattle.fields.proofs.put.put_octets.Tie as tie
 
@@ -15,18 +15,18 @@ abbrev decreases-loop : tie.decreases-loop
 decreases-loop out₀ at v more i₀ out i = more - i
 
 loop-holds : tie.Need-loop-init invariant-loop decreases-loop
-loop-holds c = (omega arith, puts-nothing (omega arith))
+loop-holds c = (omega arith, puts_nothing (omega arith))
 
 loop-again : tie.Need-loop-preserved invariant-loop decreases-loop
 loop-again c =
     let n = octets-length c.before.before.before.before.before.before.before.before.args.more c.before.before.before.before.before.before.before.before.args.v in
-    (omega arith, puts-next _ _ c.before.before.before.before.before.before.loop.invariant.1 (omega arith) (c.before.before.before.narrow.ensures ∙ octet-at _ _ _ (omega arith)) c.before.before.put.ensures)
+    (omega arith, puts_next _ _ c.before.before.before.before.before.before.loop.invariant.1 (omega arith) (c.before.before.before.narrow.ensures ∙ octet_at _ _ _ (omega arith)) c.before.before.put.ensures)
 
 same_length : tie.Need-same-length invariant-loop decreases-loop
-same_length c = puts-kept c.before.loop.invariant.1
+same_length c = puts_kept c.before.loop.invariant.1
 
 returns : tie.Need-returns invariant-loop decreases-loop
-returns c = puts-all _ _ c.before.loop.invariant.1 (octets-length _ _) (omega arith) (omega arith)
+returns c = puts_all _ _ c.before.loop.invariant.1 (octets-length _ _) (omega arith) (omega arith)
 
 pub put-octets-spec : {M : Type 1} → statement M
 put-octets-spec =

@@ -2,14 +2,14 @@
 -- Assumes nothing.
 use borrow.Author.Rules.{rules}
 use native.Mathlib.Omega.{arith}
-use Rattle.forms.proofs.Sizes.{fits-end, fits_one}
+use Rattle.forms.proofs.Sizes.{fits_end, fits_one}
 use Rattle.forms.proofs.deciding.fits1.Statement.{statement}
 use Rattle.forms.proofs.deciding.fits1.Tie as tie
 
 returns : tie.Need-returns
 returns c =
     let a = c.before.before.args in
-    fits-end a.s.now a.at a.to _ _ _ (omega arith)
+    fits_end a.s.now a.at a.to _ _ _ (omega arith)
 
 returns-2 : tie.Need-returns-2
 returns-2 c =

@@ -10,9 +10,9 @@ use Rattle.decimal.specs.Machine.{written, fitting}
 use Rattle.decimal.specs.declared.scanning.Word.TheVariants.{Empty}
 use Rattle.forms.specs.Streams.{ahead, Fine}
 use Rattle.forms.proofs.Streams.{gave, shorter, ended, bounded}
-use Rattle.fields.proofs.Puts.{puts-kept}
+use Rattle.fields.proofs.Puts.{puts_kept}
 use Rattle.forms.proofs.Puts.{Left, left-place}
-use Rattle.forms.proofs.Scanned.{width-most, all_fit, all-written, written-most, end-held, end-put, space-held, space-behind, space-put, octet-fits, octet-left}
+use Rattle.forms.proofs.Scanned.{width-most, all_fit, all_written, written-most, end_held, end_put, space_held, space_behind, space_put, octet-fits, octet-left}
 use Rattle.forms.proofs.integers.put_integers.Statement.{statement}
 use Rattle.forms.proofs.integers.put_integers.Tie as tie
 
@@ -38,13 +38,13 @@ put-ended-requires c κs =
     let b = rw e at (bounded a.s.now a.form a.from a.to p.2 p.4) in
     let m = written-most (width c.before.before.before.before.before.before.before.before.before.args.integers) w (ahead c.before.before.before.before.before.before.before.before.before.args.s.now c.before.before.before.before.before.before.over.result) (rw e at p.5) in
     let i = left-place _ _ _ _ c.before.before.before.before.before.loop.i _ c.before.before.before.before.before.loop.invariant.2 in
-    (omega arith, rw c.ended.ensures (end-held (width c.before.before.before.before.before.before.before.before.before.args.integers) _ _ _ _ _ c.before.before.before.before.before.loop.word _ c.before.before.before.before.before.loop.invariant.1 c.before.before.before.before.before.loop.invariant.2 (ended c.before.before.before.before.before.before.before.before.before.args.s.now c.before.before.before.before.before.loop.u c.before.before.before.before.next.result c.before.before.before.before.next.ensures c.before.before.enum_told.given.1)))
+    (omega arith, rw c.ended.ensures (end_held (width c.before.before.before.before.before.before.before.before.before.args.integers) _ _ _ _ _ c.before.before.before.before.before.loop.word _ c.before.before.before.before.before.loop.invariant.1 c.before.before.before.before.before.loop.invariant.2 (ended c.before.before.before.before.before.before.before.before.before.args.s.now c.before.before.before.before.before.loop.u c.before.before.before.before.next.result c.before.before.before.before.next.ensures c.before.before.enum_told.given.1)))
 
 same_length : tie.Need-same-length invariant-loop decreases-loop
-same_length c = puts-kept (end-put (width c.before.before.before.before.before.before.before.before.before.before.before.before.args.integers) _ _ _ _ _ c.before.before.before.before.before.before.before.before.loop.word _ c.before.before.before.before.before.before.before.before.loop.invariant.1 c.before.before.before.before.before.before.before.before.loop.invariant.2 (ended c.before.before.before.before.before.before.before.before.before.before.before.before.args.s.now c.before.before.before.before.before.before.before.before.loop.u c.before.before.before.before.before.before.before.next.result c.before.before.before.before.before.before.before.next.ensures c.before.before.before.before.before.enum_told.given.1) _ _ (rw c.before.before.before.ended.ensures at c.before.before.put_ended.ensures))
+same_length c = puts_kept (end_put (width c.before.before.before.before.before.before.before.before.before.before.before.before.args.integers) _ _ _ _ _ c.before.before.before.before.before.before.before.before.loop.word _ c.before.before.before.before.before.before.before.before.loop.invariant.1 c.before.before.before.before.before.before.before.before.loop.invariant.2 (ended c.before.before.before.before.before.before.before.before.before.before.before.before.args.s.now c.before.before.before.before.before.before.before.before.loop.u c.before.before.before.before.before.before.before.next.result c.before.before.before.before.before.before.before.next.ensures c.before.before.before.before.before.enum_told.given.1) _ _ (rw c.before.before.before.ended.ensures at c.before.before.put_ended.ensures))
 
 returns : tie.Need-returns invariant-loop decreases-loop
-returns c = let e = c.before.before.before.before.before.before.before.before.before.over.ensures.1 in rw (e, ← all-written (width c.before.before.before.before.before.before.before.before.before.before.before.before.args.integers) (width-most c.before.before.before.before.before.before.before.before.before.before.before.before.args.integers) _ (rw e at c.before.before.before.before.before.before.before.before.before.before.before.before.requires.5)) (end-put (width c.before.before.before.before.before.before.before.before.before.before.before.before.args.integers) _ _ _ _ _ c.before.before.before.before.before.before.before.before.loop.word _ c.before.before.before.before.before.before.before.before.loop.invariant.1 c.before.before.before.before.before.before.before.before.loop.invariant.2 (ended c.before.before.before.before.before.before.before.before.before.before.before.before.args.s.now c.before.before.before.before.before.before.before.before.loop.u c.before.before.before.before.before.before.before.next.result c.before.before.before.before.before.before.before.next.ensures c.before.before.before.before.before.enum_told.given.1) _ _ (rw c.before.before.before.ended.ensures at c.before.before.put_ended.ensures))
+returns c = let e = c.before.before.before.before.before.before.before.before.before.over.ensures.1 in rw (e, ← all_written (width c.before.before.before.before.before.before.before.before.before.before.before.before.args.integers) (width-most c.before.before.before.before.before.before.before.before.before.before.before.before.args.integers) _ (rw e at c.before.before.before.before.before.before.before.before.before.before.before.before.requires.5)) (end_put (width c.before.before.before.before.before.before.before.before.before.before.before.before.args.integers) _ _ _ _ _ c.before.before.before.before.before.before.before.before.loop.word _ c.before.before.before.before.before.before.before.before.loop.invariant.1 c.before.before.before.before.before.before.before.before.loop.invariant.2 (ended c.before.before.before.before.before.before.before.before.before.before.before.before.args.s.now c.before.before.before.before.before.before.before.before.loop.u c.before.before.before.before.before.before.before.next.result c.before.before.before.before.before.before.before.next.ensures c.before.before.before.before.before.enum_told.given.1) _ _ (rw c.before.before.before.ended.ensures at c.before.before.put_ended.ensures))
 
 put-ended-requires-2 : tie.Need-put-ended-requires-2 invariant-loop decreases-loop
 put-ended-requires-2 c κs =
@@ -56,13 +56,13 @@ put-ended-requires-2 c κs =
     let m = written-most (width c.before.before.before.before.before.before.before.before.before.before.before.args.integers) w (ahead c.before.before.before.before.before.before.before.before.before.before.before.args.s.now c.before.before.before.before.before.before.before.before.over.result) (rw e at p.5) in
     let i = left-place _ _ _ _ c.before.before.before.before.before.before.before.loop.i _ c.before.before.before.before.before.before.before.loop.invariant.2 in
     let g = (gave c.before.before.before.before.before.before.before.before.before.before.before.args.s.now c.before.before.before.before.before.before.before.loop.u c.before.before.before.before.before.before.next.result c.before.before.before.before.before.before.next.ensures _ _ c.before.before.before.before.o.given.1) in
-    (omega arith, rw c.ended2.ensures (space-held (width c.before.before.before.before.before.before.before.before.before.before.before.args.integers) _ _ _ _ _ c.before.before.before.before.before.before.before.loop.word _ c.before.before.before.before.before.before.before.loop.invariant.1 c.before.before.before.before.before.before.before.loop.invariant.2 _ _ g.0 c.before.before.if1.true))
+    (omega arith, rw c.ended2.ensures (space_held (width c.before.before.before.before.before.before.before.before.before.before.before.args.integers) _ _ _ _ _ c.before.before.before.before.before.before.before.loop.word _ c.before.before.before.before.before.before.before.loop.invariant.1 c.before.before.before.before.before.before.before.loop.invariant.2 _ _ g.0 c.before.before.if1.true))
 
 loop-less : tie.Need-loop-smaller invariant-loop decreases-loop
 loop-less c = shorter c.before.before.before.before.before.before.before.before.before.before.before.before.before.before.args.s.now c.before.before.before.before.before.before.before.before.before.before.loop.u c.before.before.before.before.before.before.before.before.before.next.result c.before.before.before.before.before.before.before.before.before.next.ensures _ _ c.before.before.before.before.before.before.before.o.given.1
 
 loop-again : tie.Need-loop-preserved invariant-loop decreases-loop
-loop-again c = let g = (gave c.before.before.before.before.before.before.before.before.before.before.before.before.before.before.args.s.now c.before.before.before.before.before.before.before.before.before.before.loop.u c.before.before.before.before.before.before.before.before.before.next.result c.before.before.before.before.before.before.before.before.before.next.ensures _ _ c.before.before.before.before.before.before.before.o.given.1) in (g.1, space-behind (width c.before.before.before.before.before.before.before.before.before.before.before.before.before.before.args.integers) _ _ _ _ _ c.before.before.before.before.before.before.before.before.before.before.loop.word _ c.before.before.before.before.before.before.before.before.before.before.loop.invariant.1 c.before.before.before.before.before.before.before.before.before.before.loop.invariant.2 _ _ g.0 c.before.before.before.before.before.if1.true, space-put (width c.before.before.before.before.before.before.before.before.before.before.before.before.before.before.args.integers) _ _ _ _ _ c.before.before.before.before.before.before.before.before.before.before.loop.word _ c.before.before.before.before.before.before.before.before.before.before.loop.invariant.1 c.before.before.before.before.before.before.before.before.before.before.loop.invariant.2 _ _ g.0 c.before.before.before.before.before.if1.true _ _ (rw c.before.before.before.ended2.ensures at c.before.before.put-ended2.ensures))
+loop-again c = let g = (gave c.before.before.before.before.before.before.before.before.before.before.before.before.before.before.args.s.now c.before.before.before.before.before.before.before.before.before.before.loop.u c.before.before.before.before.before.before.before.before.before.next.result c.before.before.before.before.before.before.before.before.before.next.ensures _ _ c.before.before.before.before.before.before.before.o.given.1) in (g.1, space_behind (width c.before.before.before.before.before.before.before.before.before.before.before.before.before.before.args.integers) _ _ _ _ _ c.before.before.before.before.before.before.before.before.before.before.loop.word _ c.before.before.before.before.before.before.before.before.before.before.loop.invariant.1 c.before.before.before.before.before.before.before.before.before.before.loop.invariant.2 _ _ g.0 c.before.before.before.before.before.if1.true, space_put (width c.before.before.before.before.before.before.before.before.before.before.before.before.before.before.args.integers) _ _ _ _ _ c.before.before.before.before.before.before.before.before.before.before.loop.word _ c.before.before.before.before.before.before.before.before.before.before.loop.invariant.1 c.before.before.before.before.before.before.before.before.before.before.loop.invariant.2 _ _ g.0 c.before.before.before.before.before.if1.true _ _ (rw c.before.before.before.ended2.ensures at c.before.before.put-ended2.ensures))
 
 loop-less-2 : tie.Need-loop-smaller-2 invariant-loop decreases-loop
 loop-less-2 c = shorter c.before.before.before.before.before.before.before.before.before.before.args.s.now c.before.before.before.before.before.before.loop.u c.before.before.before.before.before.next.result c.before.before.before.before.before.next.ensures _ _ c.before.before.before.o.given.1

@@ -8,8 +8,8 @@ use native.Mathlib.Omega.{arith}
 use borrow.Author.Tests.{leb-true, lt-leb, eq-eqb, ne_eqb}
 use lib.Dec.{leb, eqb}
 use Rattle.format.specs.Forms.{numeric, dates}
-use Rattle.forms.specs.Packing.{isLetter}
-use Rattle.forms.proofs.Packs.{or-then, or_else, range-then, range-else, by_tests, numeric-letters, dates-letters, digit-letter}
+use Rattle.forms.specs.Packing.{is_letter}
+use Rattle.forms.proofs.Packs.{or_then, or_else, range_then, range_else, by_tests, numeric-letters, dates-letters, digit_letter}
 use Rattle.forms.proofs.packing.fit_octet.Statement.{statement}
 use Rattle.forms.proofs.packing.fit_octet.Tie as tie
 use Rattle.forms.proofs.packing.fit_octet.Reads as reads
@@ -20,25 +20,25 @@ module _ (c : lts.Joined8 reads.Pre reads.Post) where
   abbrev octet : ℕ
   octet = c.before.before.before.before.before.before.before.args.o
 
-  came : (c.before.before.if6.t11 ≡ isLetter numeric octet) × ((c.if8.if9 || eqb octet 0x5A) ≡ isLetter dates octet)
+  came : (c.before.before.if6.t11 ≡ is_letter numeric octet) × ((c.if8.if9 || eqb octet 0x5A) ≡ is_letter dates octet)
   came =
-      let digit : false ≡ (leb 0x30 octet && leb octet 0x39) = ⊎_elim (λ x. range-then false 0x30 0x39 octet x.0.taken (sym x.1.left)) (λ x. range-else false 0x30 0x39 octet x.left (sym (lt-leb 0x30 octet x.left))) c.before.before.before.before.before.before.if1.branch in
-      let or3 : c.before.before.before.before.before.if3.both ≡ (eqb octet 0x2D || eqb octet 0x20) = ⊎_elim (λ x. or-then _ _ _ (eq-eqb octet 0x2D x.0.taken) x.1) (λ x. or_else _ _ _ (ne_eqb octet 0x2D x.0.left) x.1) c.before.before.before.before.before.if3.branch in
-      let or4 : c.before.before.before.before.if4.if5 ≡ (c.before.before.before.before.before.if3.both || eqb octet 0x2B) = ⊎_elim (λ x. or-then _ _ _ x.0.taken x.1) (λ x. or_else _ _ _ x.0.left x.1) c.before.before.before.before.if4.branch in
-      let or5 : c.before.before.before.if5.if6 ≡ (c.before.before.before.before.if4.if5 || eqb octet 0x2E) = ⊎_elim (λ x. or-then _ _ _ x.0.taken x.1) (λ x. or_else _ _ _ x.0.left x.1) c.before.before.before.if5.branch in
-      let or6 : c.before.before.if6.t11 ≡ (c.before.before.before.if5.if6 || eqb octet 0x65) = ⊎_elim (λ x. or-then _ _ _ x.0.taken x.1) (λ x. or_else _ _ _ x.0.left x.1) c.before.before.if6.branch in
-      let or7 : c.before.if7.if8 ≡ (c.before.before.before.before.before.if3.both || eqb octet 0x3A) = ⊎_elim (λ x. or-then _ _ _ x.0.taken x.1) (λ x. or_else _ _ _ x.0.left x.1) c.before.if7.branch in
-      let or8 : c.if8.if9 ≡ (c.before.if7.if8 || eqb octet 0x54) = ⊎_elim (λ x. or-then _ _ _ x.0.taken x.1) (λ x. or_else _ _ _ x.0.left x.1) c.if8.branch in
+      let digit : false ≡ (leb 0x30 octet && leb octet 0x39) = ⊎_elim (λ x. range_then false 0x30 0x39 octet x.0.taken (sym x.1.left)) (λ x. range_else false 0x30 0x39 octet x.left (sym (lt-leb 0x30 octet x.left))) c.before.before.before.before.before.before.if1.branch in
+      let or3 : c.before.before.before.before.before.if3.both ≡ (eqb octet 0x2D || eqb octet 0x20) = ⊎_elim (λ x. or_then _ _ _ (eq-eqb octet 0x2D x.0.taken) x.1) (λ x. or_else _ _ _ (ne_eqb octet 0x2D x.0.left) x.1) c.before.before.before.before.before.if3.branch in
+      let or4 : c.before.before.before.before.if4.if5 ≡ (c.before.before.before.before.before.if3.both || eqb octet 0x2B) = ⊎_elim (λ x. or_then _ _ _ x.0.taken x.1) (λ x. or_else _ _ _ x.0.left x.1) c.before.before.before.before.if4.branch in
+      let or5 : c.before.before.before.if5.if6 ≡ (c.before.before.before.before.if4.if5 || eqb octet 0x2E) = ⊎_elim (λ x. or_then _ _ _ x.0.taken x.1) (λ x. or_else _ _ _ x.0.left x.1) c.before.before.before.if5.branch in
+      let or6 : c.before.before.if6.t11 ≡ (c.before.before.before.if5.if6 || eqb octet 0x65) = ⊎_elim (λ x. or_then _ _ _ x.0.taken x.1) (λ x. or_else _ _ _ x.0.left x.1) c.before.before.if6.branch in
+      let or7 : c.before.if7.if8 ≡ (c.before.before.before.before.before.if3.both || eqb octet 0x3A) = ⊎_elim (λ x. or_then _ _ _ x.0.taken x.1) (λ x. or_else _ _ _ x.0.left x.1) c.before.if7.branch in
+      let or8 : c.if8.if9 ≡ (c.before.if7.if8 || eqb octet 0x54) = ⊎_elim (λ x. or_then _ _ _ x.0.taken x.1) (λ x. or_else _ _ _ x.0.left x.1) c.if8.branch in
       let h = c.before.before.before.before.before.before.before.ranges.o in (
         by_tests 0x2B 0x2E 0x65 octet _ _ _ _ _ _ digit refl or3 or4 or5 or6 ∙ numeric-letters octet (omega arith),
         by_tests 0x3A 0x54 0x5A octet _ _ _ _ _ _ digit refl or3 or7 or8 refl ∙ dates-letters octet (omega arith),
       )
 
 returns : tie.Need-returns
-returns c = let h = c.before.before.ranges.o in digit-letter _ (omega arith) c.before.if1.true (leb-true _ 0x39 c.if2.true)
+returns c = let h = c.before.before.ranges.o in digit_letter _ (omega arith) c.before.if1.true (leb-true _ 0x39 c.if2.true)
 
 returns-2 : tie.Need-returns-2
-returns-2 c = let t = came c.before in (t.0, or-then _ _ _ c.if9.true refl ∙ t.1)
+returns-2 c = let t = came c.before in (t.0, or_then _ _ _ c.if9.true refl ∙ t.1)
 
 returns-3 : tie.Need-returns-3
 returns-3 c = let t = came c.before in (t.0, or_else _ _ _ c.if9.false refl ∙ t.1)

@@ -8,7 +8,7 @@ use lib.ListN.{length}
 use Rattle.format.specs.Forms.{numeric, dates}
 use Rattle.forms.specs.Streams.{ahead, Fine}
 use Rattle.forms.proofs.Streams.{gave, shorter, ended}
-use Rattle.forms.proofs.Packs.{and_then, and-else, Seen, seen_next, seen_end}
+use Rattle.forms.proofs.Packs.{and_then, and_else, Seen, seen_next, seen_end}
 use Rattle.forms.proofs.packing.fit_said.Statement.{statement}
 use Rattle.forms.proofs.packing.fit_said.Tie as tie
 
@@ -38,7 +38,7 @@ loop-again c =
     let l = c.before.before.before.before.before.before.before.loop in
     let f = c.before.before.fit-octet in
     let g = gave c.before.before.before.before.before.before.before.before.before.args.s.now l.u c.before.before.before.before.before.before.next.result c.before.before.before.before.before.before.next.ensures _ _ c.before.before.before.before.o.given.1 in
-    let m : c.before.if1.n ≡ (l.n && f.result.numeric) = ⊎_elim (λ x. and_then _ _ _ x.0.taken x.1) (λ x. and-else _ _ _ x.0.left x.1) c.before.if1.branch in
+    let m : c.before.if1.n ≡ (l.n && f.result.numeric) = ⊎_elim (λ x. and_then _ _ _ x.0.taken x.1) (λ x. and_else _ _ _ x.0.left x.1) c.before.if1.branch in
     (g.1, seen_next numeric l.n _ _ l.invariant.1 _ _ _ _ g.0 f.ensures.0 m, seen_next dates l.d _ _ l.invariant.2 _ _ _ _ g.0 f.ensures.1 (and_then _ _ _ c.if2.true refl))
 
 loop-less-2 : tie.Need-loop-smaller-2 invariant-loop decreases-loop
@@ -49,8 +49,8 @@ loop-again-2 c =
     let l = c.before.before.before.before.before.before.before.loop in
     let f = c.before.before.fit-octet in
     let g = gave c.before.before.before.before.before.before.before.before.before.args.s.now l.u c.before.before.before.before.before.before.next.result c.before.before.before.before.before.before.next.ensures _ _ c.before.before.before.before.o.given.1 in
-    let m : c.before.if1.n ≡ (l.n && f.result.numeric) = ⊎_elim (λ x. and_then _ _ _ x.0.taken x.1) (λ x. and-else _ _ _ x.0.left x.1) c.before.if1.branch in
-    (g.1, seen_next numeric l.n _ _ l.invariant.1 _ _ _ _ g.0 f.ensures.0 m, seen_next dates l.d _ _ l.invariant.2 _ _ _ _ g.0 f.ensures.1 (and-else _ _ _ c.if2.false refl))
+    let m : c.before.if1.n ≡ (l.n && f.result.numeric) = ⊎_elim (λ x. and_then _ _ _ x.0.taken x.1) (λ x. and_else _ _ _ x.0.left x.1) c.before.if1.branch in
+    (g.1, seen_next numeric l.n _ _ l.invariant.1 _ _ _ _ g.0 f.ensures.0 m, seen_next dates l.d _ _ l.invariant.2 _ _ _ _ g.0 f.ensures.1 (and_else _ _ _ c.if2.false refl))
 
 pub fit-said-spec : {M : Type 1} → statement M
 fit-said-spec =

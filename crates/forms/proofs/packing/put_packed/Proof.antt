@@ -2,7 +2,7 @@
 -- Assumes nothing.
 use borrow.Author.Rules.{rules}
 use native.Mathlib.Omega.{arith}
-use Rattle.fields.proofs.Puts.{puts-kept}
+use Rattle.fields.proofs.Puts.{puts_kept}
 use Rattle.forms.proofs.Forms.{said-utf8}
 use Rattle.forms.proofs.Streams.{bounded}
 use Rattle.forms.proofs.packing.put_packed.Statement.{statement}
@@ -22,13 +22,13 @@ pack-said-requires c κs =
     (p.0, omega (arith, m, p.1, p.2, p.3), e.0, rw e.1 at p.5)
 
 same_length : tie.Need-same-length
-same_length c = puts-kept c.before.before.pack-octets.ensures
+same_length c = puts_kept c.before.before.pack-octets.ensures
 
 returns : tie.Need-returns
 returns c = rw (said-utf8 _ _ c.before.before.before.before.enum_told.given.1) c.before.before.pack-octets.ensures
 
 same-length-2 : tie.Need-same-length-2
-same-length-2 c = puts-kept c.before.before.pack-said.ensures
+same-length-2 c = puts_kept c.before.before.pack-said.ensures
 
 returns-2 : tie.Need-returns-2
 returns-2 c = rw c.before.before.before.over.ensures.1 c.before.before.pack-said.ensures

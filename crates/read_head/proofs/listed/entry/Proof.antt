@@ -1,7 +1,7 @@
 -- `entry` meets its contract: the table's number says what an entry is.
 -- Assumes nothing.
 use borrow.Author.Rules.{rules}
-use Rattle.read_head.proofs.EntryLaws.{entry-identifying, entry-another, entry-name}
+use Rattle.read_head.proofs.EntryLaws.{entry_identifying, entry_another, entry_name}
 use Rattle.read_head.proofs.listed.entry.Statement.{statement}
 use Rattle.read_head.proofs.listed.entry.Tie as tie
 
@@ -9,7 +9,7 @@ returns : tie.Need-returns
 returns c =
     let at-identifying = c.before.before.before.before.before.before in
     let at-if1 = at-identifying.before.before.before.before in
-    (entry-identifying _ _ _ _ _ at-if1.if1.true at-identifying.identifying.ensures.0, at-identifying.identifying.ensures.1)
+    (entry_identifying _ _ _ _ _ at-if1.if1.true at-identifying.identifying.ensures.0, at-identifying.identifying.ensures.1)
 
 returns-2 : tie.Need-returns-2
 returns-2 c =
@@ -18,13 +18,13 @@ returns-2 c =
     let at-if1 = at-if2.before in
     let at-start = at-if1.before.before.before.before.before in
     let e = at-another.another.ensures at-start.args.index.now at-start.requires.0 in
-    (entry-another _ _ _ _ _ at-if1.if1.false at-if2.if2.true e.0, e.1)
+    (entry_another _ _ _ _ _ at-if1.if1.false at-if2.if2.true e.0, e.1)
 
 returns-3 : tie.Need-returns-3
 returns-3 c =
     let at-surrogate = c.before.before.before.before.before.before in
     let at-if2 = at-surrogate.before.before.before.before in
-    (entry-name _ _ _ _ _ at-if2.if2.false at-surrogate.surrogate.ensures.0, at-surrogate.surrogate.ensures.1)
+    (entry_name _ _ _ _ _ at-if2.if2.false at-surrogate.surrogate.ensures.0, at-surrogate.surrogate.ensures.1)
 
 pub entry_spec : {M : Type 1} → statement M
 entry_spec =

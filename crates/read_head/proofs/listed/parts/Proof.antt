@@ -4,7 +4,7 @@ use borrow.Author.Rules.{rules}
 use native.Mathlib.Omega.{arith}
 use mathlib.Core.Path.{refl}
 use Rattle.read_names.proofs.NameLaws.{addable}
-use Rattle.read_head.proofs.EntryLaws.{name-prefix, name-namespace, name-local, name-added, parts-ranged}
+use Rattle.read_head.proofs.EntryLaws.{name_prefix, name_namespace, name_local, name_added, parts_ranged}
 use Rattle.read_head.proofs.listed.parts.Statement.{statement}
 use Rattle.read_head.proofs.listed.parts.Tie as tie
 
@@ -16,7 +16,7 @@ part-requires c κs =
 returns : tie.Need-returns
 returns c =
     let at-start = c.before.before.before.before.before.before.before.before.before in
-    name-prefix _ _ _ _ _ at-start.requires.1 _ at-start.requires.4 at-start.requires.5 at-start.requires.6 _ _ c.before.before.before.part.result _ _ c.before.enum_told.given.1 c.behind-entry.ensures (c.before.before.before.part.ensures.0 at-start.args.t.now)
+    name_prefix _ _ _ _ _ at-start.requires.1 _ at-start.requires.4 at-start.requires.5 at-start.requires.6 _ _ c.before.before.before.part.result _ _ c.before.enum_told.given.1 c.behind-entry.ensures (c.before.before.before.part.ensures.0 at-start.args.t.now)
 
 part-requires-2 : tie.Need-part-requires-2
 part-requires-2 c κs =
@@ -32,7 +32,7 @@ returns-2 c =
     let at_part = at_first.before.before in
     let at-start = at_part.before.before.before.before.before.before in
     let first = rw at_first.first.given.1 at at_part.part.ensures in
-    name-namespace _ _ _ _ _ at-start.requires.1 _ at-start.requires.4 at-start.requires.5 at-start.requires.6 _ at_bits.bits.ensures _ _ (first.0 at-start.args.t.now) first.1.1 _ _ c.before.before.before.part2.result _ _ c.before.enum-told2.given.1 c.behind-entry2.ensures (c.before.before.before.part2.ensures.0 at-start.args.t.now)
+    name_namespace _ _ _ _ _ at-start.requires.1 _ at-start.requires.4 at-start.requires.5 at-start.requires.6 _ at_bits.bits.ensures _ _ (first.0 at-start.args.t.now) first.1.1 _ _ c.before.before.before.part2.result _ _ c.before.enum-told2.given.1 c.behind-entry2.ensures (c.before.before.before.part2.ensures.0 at-start.args.t.now)
 
 part-requires-3 : tie.Need-part-requires-3
 part-requires-3 c κs =
@@ -51,7 +51,7 @@ returns-3 c =
     let at-start = at_part.before.before.before.before.before.before in
     let first = rw at_first.first.given.1 at at_part.part.ensures in
     let second = rw at_second.second.given.1 at at-part2.part2.ensures in
-    name-local _ _ _ _ _ at-start.requires.1 _ at-start.requires.4 at-start.requires.5 at-start.requires.6 _ at_bits.bits.ensures _ _ (first.0 at-start.args.t.now) first.1.1 _ _ (second.0 at-start.args.t.now) second.1.1 _ _ c.before.before.before.part3.result _ _ c.before.enum-told3.given.1 c.behind-entry3.ensures (c.before.before.before.part3.ensures.0 at-start.args.t.now)
+    name_local _ _ _ _ _ at-start.requires.1 _ at-start.requires.4 at-start.requires.5 at-start.requires.6 _ at_bits.bits.ensures _ _ (first.0 at-start.args.t.now) first.1.1 _ _ (second.0 at-start.args.t.now) second.1.1 _ _ c.before.before.before.part3.result _ _ c.before.enum-told3.given.1 c.behind-entry3.ensures (c.before.before.before.part3.ensures.0 at-start.args.t.now)
 
 triple-requires : tie.Need-triple-requires
 triple-requires c κs =
@@ -65,7 +65,7 @@ triple-requires c κs =
     let first = rw at_first.first.given.1 at at_part.part.ensures in
     let second = rw at_second.second.given.1 at at-part2.part2.ensures in
     let third = rw at-third.third.given.1 at at-part3.part3.ensures in
-    addable _ _ _ _ at-start.requires.0 _ at-start.requires.2 at-start.requires.3 _ (parts-ranged at-start.args.counts.now _ _ _ first.1.0 second.1.0 (third.1.2 refl) third.1.0)
+    addable _ _ _ _ at-start.requires.0 _ at-start.requires.2 at-start.requires.3 _ (parts_ranged at-start.args.counts.now _ _ _ first.1.0 second.1.0 (third.1.2 refl) third.1.0)
 
 returns-4 : tie.Need-returns-4
 returns-4 c =
@@ -82,7 +82,7 @@ returns-4 c =
     let second = rw at_second.second.given.1 at at-part2.part2.ensures in
     let third = rw at-third.third.given.1 at at-part3.part3.ensures in
     let t = at-triple.triple.ensures in
-    name-added _ _ _ _ _ at-start.requires.1 _ at-start.requires.4 at-start.requires.5 at-start.requires.6 _ at_bits.bits.ensures _ _ (first.0 at-start.args.t.now) first.1.1 _ _ (second.0 at-start.args.t.now) second.1.1 _ _ (third.0 at-start.args.t.now) third.1.1 at-triple.triple.result _ _ _ t.0 (t.1 _ at-start.requires.0 third.1.1) _ c.behind-entry4.ensures
+    name_added _ _ _ _ _ at-start.requires.1 _ at-start.requires.4 at-start.requires.5 at-start.requires.6 _ at_bits.bits.ensures _ _ (first.0 at-start.args.t.now) first.1.1 _ _ (second.0 at-start.args.t.now) second.1.1 _ _ (third.0 at-start.args.t.now) third.1.1 at-triple.triple.result _ _ _ t.0 (t.1 _ at-start.requires.0 third.1.1) _ c.behind-entry4.ensures
 
 pub parts-spec : {M : Type 1} → statement M
 parts-spec =

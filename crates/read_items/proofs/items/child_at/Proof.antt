@@ -2,20 +2,20 @@
 -- Assumes nothing.
 use native.Mathlib.Omega.{arith}
 use borrow.Author.Rules.{rules}
-use Rattle.read_items.proofs.StepLaws.{met_by, refuse-here, other}
-use Rattle.read_items.proofs.ItemLaws.{child-missing, child-text-outside, child-text, child-instruction, child-comment, child-other}
+use Rattle.read_items.proofs.StepLaws.{met_by, refuse_here, other}
+use Rattle.read_items.proofs.ItemLaws.{child_missing, child_text_outside, child_text, child_instruction, child_comment, child_other}
 use Rattle.read_items.proofs.items.child_at.Statement.{statement}
 use Rattle.read_items.proofs.items.child_at.Tie as tie
 
 returns : tie.Need-returns
-returns c = rw c.stop.ensures.0 (refuse-here c.before.before.before.before.before.before.before.requires.0 c.stop.ensures.1 (child-missing _ _ _ (omega arith)))
+returns c = rw c.stop.ensures.0 (refuse_here c.before.before.before.before.before.before.before.requires.0 c.stop.ensures.1 (child_missing _ _ _ (omega arith)))
 
 returns-2 : tie.Need-returns-2
 returns-2 c =
     let at-start = c.before.before.before.before.before.before.before.before.before.before.before.before in
     let known = c.before.before.before.before.before.shared-slice-known2.given at-start.args.k in
     let b = c.before.before.before.before.bits.ensures in
-    rw c.stop2.ensures.0 (refuse-here at-start.requires.0 c.stop2.ensures.1 (child-text-outside _ _ _ (omega arith) (omega arith) (omega arith) (omega arith)))
+    rw c.stop2.ensures.0 (refuse_here at-start.requires.0 c.stop2.ensures.1 (child_text_outside _ _ _ (omega arith) (omega arith) (omega arith) (omega arith)))
 
 chunk-at-requires : tie.Need-chunk-at-requires
 chunk-at-requires c κs =
@@ -36,7 +36,7 @@ returns-3 c =
     let b = at_bits.bits.ensures in
     let i = at-if1.if1.false in
     let j = at-if2.if2.true in
-    met_by c.before.before.before.before.before.before.before.before.chunk-at.ensures (child-text _ _ _ (omega (arith, i)) (omega (arith, b, j, known)) (omega (arith, b, j, known)) (omega (arith, at-if3.if3.false)))
+    met_by c.before.before.before.before.before.before.before.before.chunk-at.ensures (child_text _ _ _ (omega (arith, i)) (omega (arith, b, j, known)) (omega (arith, b, j, known)) (omega (arith, at-if3.if3.false)))
 
 instruction-at-requires : tie.Need-instruction-at-requires
 instruction-at-requires c κs =
@@ -47,7 +47,7 @@ returns-4 : tie.Need-returns-4
 returns-4 c =
     let at-if4 = c.before.before.before.before.before.before.before.before.before.before.before.before.before in
     let at-if1 = at-if4.before.before.before.before in
-    met_by c.before.before.before.before.before.before.before.before.instruction-at.ensures (child-instruction _ _ _ (omega (arith, at-if1.if1.false)) (omega (arith, at-if4.if4.true)))
+    met_by c.before.before.before.before.before.before.before.before.instruction-at.ensures (child_instruction _ _ _ (omega (arith, at-if1.if1.false)) (omega (arith, at-if4.if4.true)))
 
 comment-at-requires : tie.Need-comment-at-requires
 comment-at-requires c κs =
@@ -58,7 +58,7 @@ returns-5 : tie.Need-returns-5
 returns-5 c =
     let at-if5 = c.before.before.before.before.before.before.before.before.before.before.before.before.before in
     let at-if1 = at-if5.before.before.before.before.before in
-    met_by c.before.before.before.before.before.before.before.before.comment-at.ensures (child-comment _ _ _ (omega (arith, at-if1.if1.false)) (omega (arith, at-if5.if5.true)))
+    met_by c.before.before.before.before.before.before.before.before.comment-at.ensures (child_comment _ _ _ (omega (arith, at-if1.if1.false)) (omega (arith, at-if5.if5.true)))
 
 returns-6 : tie.Need-returns-6
 returns-6 c =
@@ -66,7 +66,7 @@ returns-6 c =
     let known = c.before.before.before.before.before.shared-slice-known2.given at-start.args.k in
     let b = c.before.before.before.before.bits.ensures in
     let high = at-start.requires.2 (omega arith) in
-    rw c.other_at.ensures (met_by (other at-start.requires.0 _) (child-other _ _ _ (omega arith) (omega arith) (omega arith) (omega arith) (omega arith)))
+    rw c.other_at.ensures (met_by (other at-start.requires.0 _) (child_other _ _ _ (omega arith) (omega arith) (omega arith) (omega arith) (omega arith)))
 
 pub child-at-spec : {M : Type 1} → statement M
 child-at-spec =

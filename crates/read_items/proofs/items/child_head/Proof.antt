@@ -3,15 +3,15 @@
 use native.Mathlib.Omega.{arith}
 use borrow.Author.Rules.{rules}
 use mathlib.Core.Path.{refl}
-use Rattle.read_items.proofs.ItemLaws.{child-element}
-use Rattle.read_items.proofs.HeadLaws.{tells-by}
+use Rattle.read_items.proofs.ItemLaws.{child_element}
+use Rattle.read_items.proofs.HeadLaws.{tells_by}
 use Rattle.read_items.proofs.items.child_head.Statement.{statement}
 use Rattle.read_items.proofs.items.child_head.Tie as tie
 
 returns : tie.Need-returns
 returns c =
     let a = c.before.before.before.before.before.before.before.args in
-    tells-by (c.element-head.ensures _ (omega arith)) (λ w. child-element _ _ _ (omega arith) _ _ (omega (arith, c.before.before.before.before.shared-slice-known2.given a.k)) c.before.before.before.bits.ensures c.before.bits2.ensures (omega (arith, c.before.before.if2.true)))
+    tells_by (c.element-head.ensures _ (omega arith)) (λ w. child_element _ _ _ (omega arith) _ _ (omega (arith, c.before.before.before.before.shared-slice-known2.given a.k)) c.before.before.before.bits.ensures c.before.bits2.ensures (omega (arith, c.before.before.if2.true)))
 
 returns-2 : tie.Need-returns-2
 returns-2 c =

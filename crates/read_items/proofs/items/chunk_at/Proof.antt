@@ -4,7 +4,7 @@ use native.Mathlib.Omega.{arith}
 use borrow.Author.Rules.{rules}
 use mathlib.Core.Path.{refl}
 use Rattle.read_items.proofs.Fields.{near}
-use Rattle.read_items.proofs.ItemLaws.{chunk-refused, chunk-more}
+use Rattle.read_items.proofs.ItemLaws.{chunk_refused, chunk_more}
 use Rattle.read_items.proofs.items.chunk_at.Statement.{statement}
 use Rattle.read_items.proofs.items.chunk_at.Tie as tie
 
@@ -25,7 +25,7 @@ returns c =
     let at-chunk = c.before.before.before.before.before.before.before.before in
     let at-start = at-chunk.before.before.before.before.before.before.before.before in
     rw c.stop.ensures.0
-    (chunk-refused _ c.before.before.number.given.1 c.stop.ensures.1 refl (at-chunk.chunk.ensures _ at-start.requires.0.tidy))
+    (chunk_refused _ c.before.before.number.given.1 c.stop.ensures.1 refl (at-chunk.chunk.ensures _ at-start.requires.0.tidy))
 
 returns-2 : tie.Need-returns-2
 returns-2 c =
@@ -34,7 +34,7 @@ returns-2 c =
     let at-chunk = at_x.before.before.before.before.before.before in
     let at-start = at-chunk.before.before.before.before.before.before.before.before in
     rw c.moved.ensures
-    (chunk-more _ at_x.x.given.1 at-start.requires.0 c.before.before.before.keep.ensures at-chunk2.chunk2.ensures
+    (chunk_more _ at_x.x.given.1 at-start.requires.0 c.before.before.before.keep.ensures at-chunk2.chunk2.ensures
     (at-chunk.chunk.ensures _ at-start.requires.0.tidy))
 
 pub chunk-at-spec : {M : Type 1} → statement M

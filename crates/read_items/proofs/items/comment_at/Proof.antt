@@ -5,7 +5,7 @@ use borrow.Author.Rules.{rules}
 use mathlib.Core.Path.{refl}
 use Rattle.tables.specs.Rows.{table_of}
 use Rattle.read_items.proofs.Fields.{near}
-use Rattle.read_items.proofs.ItemLaws.{comment-refused, comment-more}
+use Rattle.read_items.proofs.ItemLaws.{comment_refused, comment_more}
 use Rattle.read_items.proofs.items.comment_at.Statement.{statement}
 use Rattle.read_items.proofs.items.comment_at.Tie as tie
 
@@ -27,7 +27,7 @@ returns c =
     let at_value = c.before.before.before.before.before.before.before.before in
     let at-start = at_value.before.before.before.before.before.before.before.before in
     rw c.stop.ensures.0
-    (comment-refused _ c.before.before.number.given.1 c.stop.ensures.1 refl (at_value.value.ensures _ at-start.requires.0.tidy))
+    (comment_refused _ c.before.before.number.given.1 c.stop.ensures.1 refl (at_value.value.ensures _ at-start.requires.0.tidy))
 
 returns-2 : tie.Need-returns-2
 unfolding table_of
@@ -37,7 +37,7 @@ returns-2 c =
     let at_value = at_x.before.before.before.before.before.before in
     let at-start = at_value.before.before.before.before.before.before.before.before in
     rw c.moved.ensures
-    (comment-more _ at_x.x.given.1 at-start.requires.0 c.before.before.before.keep.ensures at-comment.comment.ensures
+    (comment_more _ at_x.x.given.1 at-start.requires.0 c.before.before.before.keep.ensures at-comment.comment.ensures
     (at_value.value.ensures _ at-start.requires.0.tidy))
 
 pub comment-at-spec : {M : Type 1} → statement M

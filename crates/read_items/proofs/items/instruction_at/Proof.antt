@@ -4,9 +4,9 @@ use native.Mathlib.Omega.{arith}
 use borrow.Author.Rules.{rules}
 use mathlib.Core.Path.{refl}
 use Rattle.tables.specs.Rows.{table_of}
-use Rattle.read_items.specs.Contracts.{lent}
+use Rattle.read_items.specs.Promises.{lent}
 use Rattle.read_items.proofs.Fields.{near}
-use Rattle.read_items.proofs.ItemLaws.{target-refused, instruction-refused, instruction-more}
+use Rattle.read_items.proofs.ItemLaws.{target_refused, instruction_refused, instruction_more}
 use Rattle.read_items.proofs.items.instruction_at.Statement.{statement}
 use Rattle.read_items.proofs.items.instruction_at.Tie as tie
 
@@ -56,7 +56,7 @@ unfolding table_of
 returns c =
     let at-id = c.before.before.before.before.before.before.before.before.before.before in
     rw c.stop.ensures.0
-    (target-refused _ c.before.before.number.given.1 c.stop.ensures.1 refl at-id.id.ensures.0 at-id.id.ensures.1)
+    (target_refused _ c.before.before.number.given.1 c.stop.ensures.1 refl at-id.id.ensures.0 at-id.id.ensures.1)
 
 returns-2 : tie.Need-returns-2
 unfolding table_of
@@ -68,7 +68,7 @@ returns-2 c =
     let there = rw at_Target.target.given.1 at at-id.id.ensures.1 in
     let said = at_value.value.ensures _ there.0.tidy in
     rw c.stop2.ensures.0
-    (instruction-refused _ (lent at-id.id.new.1.0 at-id.id.new.1.1.0 at-id.id.new.1.1.1.0 at-start.args.records.now)
+    (instruction_refused _ (lent at-id.id.new.1.0 at-id.id.new.1.1.0 at-id.id.new.1.1.1.0 at-start.args.records.now)
     at_Target.target.given.1 at-id.id.ensures.0 at-id.id.ensures.1 said c.before.before.number2.given.1 c.stop2.ensures.1 refl)
 
 same-length-7 : tie.Need-same-length-7
@@ -102,7 +102,7 @@ returns-3 c =
     let there = rw at_Target.target.given.1 at at-id.id.ensures.1 in
     let said = at_value.value.ensures _ there.0.tidy in
     rw c.moved.ensures
-    (instruction-more _ (lent at-id.id.new.1.0 at-id.id.new.1.1.0 at-id.id.new.1.1.1.0 at-start.args.records.now)
+    (instruction_more _ (lent at-id.id.new.1.0 at-id.id.new.1.1.0 at-id.id.new.1.1.1.0 at-start.args.records.now)
     at_Target.target.given.1 at-id.id.ensures.0 at-id.id.ensures.1 said at-content.content.given.1 at-start.requires.0
     c.before.before.before.keep.ensures (rw (← at-string-at.string-at.ensures) at-instruction.instruction.ensures))
 

@@ -1,7 +1,7 @@
 -- `item_at` meets its contract, by what the first octets say.
 -- Assumes nothing.
 use borrow.Author.Rules.{rules}
-use Rattle.read_items.proofs.StepLaws.{met_by, refuse-here}
+use Rattle.read_items.proofs.StepLaws.{met_by, refuse_here}
 use Rattle.read_items.proofs.items.item_at.Statement.{statement}
 use Rattle.read_items.proofs.items.item_at.Tie as tie
 
@@ -36,7 +36,7 @@ returns c =
     let at-start = c.before.before.before.before.before.before.before.before.before.before in
     let p = at-start.requires in
     let t = rw c.before.before.x.given.1 at c.before.before.before.before.head_at.ensures in
-    rw c.stop.ensures.0 (refuse-here p.0 c.stop.ensures.1 (t.is _))
+    rw c.stop.ensures.0 (refuse_here p.0 c.stop.ensures.1 (t.is _))
 
 returns-2 : tie.Need-returns-2
 returns-2 c =

@@ -4,7 +4,7 @@ use native.Mathlib.Omega.{arith}
 use borrow.Author.Rules.{rules}
 use mathlib.Core.Path.{refl}
 use Rattle.read_items.proofs.Fields.{near}
-use Rattle.read_items.proofs.ItemLaws.{namespace-refused, namespace-more}
+use Rattle.read_items.proofs.ItemLaws.{namespace_refused, namespace_more}
 use Rattle.read_items.proofs.items.namespace_at.Statement.{statement}
 use Rattle.read_items.proofs.items.namespace_at.Tie as tie
 
@@ -42,7 +42,7 @@ returns : tie.Need-returns
 returns c =
     let at-declared = c.before.before.before.before.before.before.before.before.before.before in
     rw c.stop.ensures.0
-    (namespace-refused _ _ at-declared.declared.ensures.0 at-declared.declared.ensures.1 c.before.before.number.given.1
+    (namespace_refused _ _ at-declared.declared.ensures.0 at-declared.declared.ensures.1 c.before.before.number.given.1
     c.stop.ensures.1 refl)
 
 same-length-4 : tie.Need-same-length-4
@@ -57,7 +57,7 @@ returns-2 c =
     let at-declared = at-prefix.before.before.before.before.before.before.before.before in
     let at-start = at-declared.before.before.before.before.before.before.before.before.before in
     rw (c.moved.ensures, c.before.declaring.ensures)
-    (namespace-more _ _ at-declared.declared.ensures.0 at-declared.declared.ensures.1 at-prefix.prefix.given.1 at-start.requires.2
+    (namespace_more _ _ at-declared.declared.ensures.0 at-declared.declared.ensures.1 at-prefix.prefix.given.1 at-start.requires.2
     c.before.before.before.before.keep.ensures (rw (← at-string-at.string-at.ensures, ← at-string-at2.string-at2.ensures)
     at-namespace.namespace.ensures))
 

@@ -2,12 +2,12 @@
 -- Assumes nothing.
 use native.Mathlib.Omega.{arith}
 use borrow.Author.Rules.{rules}
-use Rattle.read_items.proofs.StepLaws.{other-end, other_format, other_none}
+use Rattle.read_items.proofs.StepLaws.{other_end, other_format, other_none}
 use Rattle.read_items.proofs.items.other_at.Statement.{statement}
 use Rattle.read_items.proofs.items.other_at.Tie as tie
 
 returns : tie.Need-returns
-returns c = rw c.stop.ensures.0 (other-end _ _ _ (omega arith))
+returns c = rw c.stop.ensures.0 (other_end _ _ _ (omega arith))
 
 returns-2 : tie.Need-returns-2
 returns-2 c =

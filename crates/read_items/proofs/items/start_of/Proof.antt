@@ -4,12 +4,12 @@ use native.Mathlib.Omega.{arith}
 use borrow.Author.Rules.{rules}
 use mathlib.Core.Path.{ap}
 use Rattle.read_items.specs.declared.Step.TheVariants.{More}
-use Rattle.read_items.proofs.StepLaws.{start-refused, start-deep, start-opened}
+use Rattle.read_items.proofs.StepLaws.{start_refused, start_deep, start-opened}
 use Rattle.read_items.proofs.items.start_of.Statement.{statement}
 use Rattle.read_items.proofs.items.start_of.Tie as tie
 
 returns : tie.Need-returns
-returns c = start-deep _ _ _ _ _ _ c.before.before.before.before.r2.given.1 (omega arith) c.stop2.ensures.0
+returns c = start_deep _ _ _ _ _ _ c.before.before.before.before.r2.given.1 (omega arith) c.stop2.ensures.0
 
 keep-named-requires : tie.Need-keep-named-requires
 keep-named-requires c κs =
@@ -23,7 +23,7 @@ opened-requires c κs =
     let named = rw at-r2.r2.given.1 at at-start.requires.0 in let near = named.1 in (omega arith, omega arith)
 
 returns-2 : tie.Need-returns-2
-returns-2 c = start-refused _ _ _ _ _ _ c.before.before.r.given.1 c.stop.ensures.1 c.stop.ensures.0
+returns-2 c = start_refused _ _ _ _ _ _ c.before.before.r.given.1 c.stop.ensures.1 c.stop.ensures.0
 
 returns-3 : tie.Need-returns-3
 returns-3 c =

@@ -3,17 +3,17 @@
 use native.Mathlib.Omega.{arith}
 use borrow.Author.Rules.{rules}
 use mathlib.Core.Path.{sym, ◌∙◌}
-use borrow.Author.Tests.{not-true, not-false}
-use Rattle.read_items.proofs.StepLaws.{met_by, refuse-here}
-use Rattle.read_items.proofs.EndLaws.{ends_low, ends-within}
-use Rattle.read_items.proofs.ItemLaws.{step_end, step-padding, step-item}
+use borrow.Author.Tests.{not_true, not-false}
+use Rattle.read_items.proofs.StepLaws.{met_by, refuse_here}
+use Rattle.read_items.proofs.EndLaws.{ends_low, ends_within}
+use Rattle.read_items.proofs.ItemLaws.{step_end, step_padding, step_item}
 use Rattle.read_items.proofs.items.step.Statement.{statement}
 use Rattle.read_items.proofs.items.step.Tie as tie
 
 end-at-requires : tie.Need-end-at-requires
 end-at-requires c κs =
     let at-start = c.before.before.before.before.before.before.before.before in (
-      ends-within _ _ _ (sym c.before.if1.true ∙ c.before.before.ends-here.ensures),
+      ends_within _ _ _ (sym c.before.if1.true ∙ c.before.before.ends-here.ensures),
       at-start.requires.tidy.size,
       ends_low _ _
           (sym c.before.if1.true ∙ c.before.before.ends-here.ensures),
@@ -30,9 +30,9 @@ returns-2 : tie.Need-returns-2
 returns-2 c =
     let at-start = c.before.before.before.before.before.before.before.before.before.before in
     rw c.stop.ensures.0
-    (refuse-here at-start.requires c.stop.ensures.1 (step-padding _ _
+    (refuse_here at-start.requires c.stop.ensures.1 (step_padding _ _
     (sym c.before.before.before.if1.false ∙ c.before.before.before.before.ends-here.ensures)
-    (sym (not-true _ c.before.if2.true) ∙ c.before.before.pads-at.ensures)))
+    (sym (not_true _ c.before.if2.true) ∙ c.before.before.pads-at.ensures)))
 
 item-at-requires : tie.Need-item-at-requires
 item-at-requires c κs =
@@ -46,7 +46,7 @@ returns-3 c =
     let at-pads-at = at-if2.before in
     let at-if1 = at-pads-at.before in
     let at-ends-here = at-if1.before in
-    met_by at-item-at.item-at.ensures (step-item _ _ (sym at-if1.if1.false ∙ at-ends-here.ends-here.ensures)
+    met_by at-item-at.item-at.ensures (step_item _ _ (sym at-if1.if1.false ∙ at-ends-here.ends-here.ensures)
     (sym (not-false _ at-if2.if2.false) ∙ at-pads-at.pads-at.ensures))
 
 pub step_spec : {M : Type 1} → statement M

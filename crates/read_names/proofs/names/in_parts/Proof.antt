@@ -2,23 +2,23 @@
 -- Assumes nothing.
 use borrow.Author.Rules.{rules}
 use native.Mathlib.Omega.{arith}
-use Rattle.read_names.proofs.NameLaws.{addable, layout-table, parts-lone, parts-prefix, parts-namespace, parts-local, parts-read, handed, positive, strings-ranged, local-new, new-says}
-use Rattle.read_names.proofs.Grown.{grown-on, left-on}
-use Rattle.tables.specs.Kept.{nameTableOf}
+use Rattle.read_names.proofs.NameLaws.{addable, layout_table, parts_lone, parts_prefix, parts_namespace, parts-local, parts-read, handed, positive, strings_ranged, local_new, new_says}
+use Rattle.read_names.proofs.Grown.{grown_on, left_on}
+use Rattle.tables.specs.Kept.{name_table_of}
 use Rattle.read_names.proofs.names.in_parts.Statement.{statement}
 use Rattle.read_names.proofs.names.in_parts.Tie as tie
 
 returns : tie.Need-returns
 returns c =
     let at-start = c.before.before.before.before.before.before in
-    (parts-lone _ _ _ _ _ _ c.before.bits.ensures c.if1.true, (at-start.requires.0.ten, at-start.requires.0.room), tt)
+    (parts_lone _ _ _ _ _ _ c.before.bits.ensures c.if1.true, (at-start.requires.0.ten, at-start.requires.0.room), tt)
 
 returns-2 : tie.Need-returns-2
 returns-2 c =
     let at-if1 = c.before.before.before.before.before.before.before.before.before.before.before.before in
     let at_bits = at-if1.before in
     let f = rw c.enum_told.given.1 at c.before.before.before.before.before.before.before.before.optional.ensures in
-    handed _ _ _ _ _ _ _ _ _ _ (parts-prefix _ _ _ _ _ _ at_bits.bits.ensures at-if1.if1.false _ _ f.0) f.1 _ c.enum_told.given.1
+    handed _ _ _ _ _ _ _ _ _ _ (parts_prefix _ _ _ _ _ _ at_bits.bits.ensures at-if1.if1.false _ _ f.0) f.1 _ c.enum_told.given.1
 
 optional-requires-2 : tie.Need-optional-requires-2
 optional-requires-2 c κs =
@@ -35,7 +35,7 @@ returns-3 c =
     let at_bits = at-if1.before in
     let first = rw at_first.first.given.1 at at-optional.optional.ensures in
     let f = rw c.enum-told2.given.1 at c.before.before.before.before.before.before.before.before.optional2.ensures in
-    handed _ _ _ _ _ _ _ _ _ _ (parts-namespace _ _ _ _ _ _ at_bits.bits.ensures at-if1.if1.false _ at-bits2.bits2.ensures _ _ _ first.0 _ _ f.0) f.1 _ c.enum-told2.given.1
+    handed _ _ _ _ _ _ _ _ _ _ (parts_namespace _ _ _ _ _ _ at_bits.bits.ensures at-if1.if1.false _ at-bits2.bits2.ensures _ _ _ first.0 _ _ f.0) f.1 _ c.enum-told2.given.1
 
 slice-read-locals : tie.Need-slice-read-locals
 slice-read-locals c =
@@ -87,8 +87,8 @@ triple-requires c κs =
     let first = rw at_first.first.given.1 at at-optional.optional.ensures in
     let second = rw at_second.second.given.1 at at-optional2.optional2.ensures in
     let third = rw c.before.before.before.before.third.given.1 at at-id.id.ensures in (
-      addable _ _ _ _ third.1.0.tidy _ at-start.requires.2 at-start.requires.3 _ (strings-ranged _ _ _ _ _ _ _ _ _ first.1.1 second.1.1 third.1.1 second.1.0.grown third.1.0.grown third.2),
-      λ h. local-new _ _ _ _ at-id.id.new.1.1.0 at-id.id.new.1.0 _ _ _ second.1.0.tidy third.0 (nameTableOf at-start.args.table) at_first.first.given.0.0 at_second.second.given.0.0 h,
+      addable _ _ _ _ third.1.0.tidy _ at-start.requires.2 at-start.requires.3 _ (strings_ranged _ _ _ _ _ _ _ _ _ first.1.1 second.1.1 third.1.1 second.1.0.grown third.1.0.grown third.2),
+      λ h. local_new _ _ _ _ at-id.id.new.1.1.0 at-id.id.new.1.0 _ _ _ second.1.0.tidy third.0 (name_table_of at-start.args.table) at_first.first.given.0.0 at_second.second.given.0.0 h,
     )
 
 same-length-10 : tie.Need-same-length-10
@@ -130,8 +130,8 @@ returns-5 c =
     let third = rw at-third.third.given.1 at at-id.id.ensures in
     let t = at-triple.triple.ensures in
     let left = t.1 _ third.1.0.tidy third.1.0.within in (
-      parts-read _ _ _ _ _ _ at_bits.bits.ensures at-if1.if1.false _ at-bits2.bits2.ensures _ _ _ first.0 _ _ _ second.0 _ _ _ third.0 _ (layout-table _ at-start.requires.2 at-start.requires.3) at-triple.triple.result _ _ t.0 (new-says _ _ _ _ _ _ _ _ _ first.1.1 second.1.1 third.1.1 second.1.0.grown third.1.0.grown _ _ _ _ _ at-triple.triple.result left t.2),
-      left-on _ _ _ _ _ _ _ _ _ at-triple.triple.result (grown-on _ _ _ _ _ _ first.1.0.grown (grown-on _ _ _ _ _ _ second.1.0.grown third.1.0.grown)) left,
+      parts-read _ _ _ _ _ _ at_bits.bits.ensures at-if1.if1.false _ at-bits2.bits2.ensures _ _ _ first.0 _ _ _ second.0 _ _ _ third.0 _ (layout_table _ at-start.requires.2 at-start.requires.3) at-triple.triple.result _ _ t.0 (new_says _ _ _ _ _ _ _ _ _ first.1.1 second.1.1 third.1.1 second.1.0.grown third.1.0.grown _ _ _ _ _ at-triple.triple.result left t.2),
+      left_on _ _ _ _ _ _ _ _ _ at-triple.triple.result (grown_on _ _ _ _ _ _ first.1.0.grown (grown_on _ _ _ _ _ _ second.1.0.grown third.1.0.grown)) left,
       positive _ _ _ at-triple.triple.result t.2,
     )
 

@@ -2,7 +2,7 @@
 -- Assumes nothing.
 use borrow.Author.Rules.{rules}
 use native.Mathlib.Omega.{arith}
-use Rattle.read_names.proofs.NameLaws.{name-numbered, name-parts}
+use Rattle.read_names.proofs.NameLaws.{name_numbered, name_parts}
 use Rattle.read_names.proofs.names.name.Statement.{statement}
 use Rattle.read_names.proofs.names.name.Tie as tie
 
@@ -15,14 +15,14 @@ returns : tie.Need-returns
 returns c =
     let at-start = c.before.before.before.before.before.before.before.before in
     let e = c.numbered.ensures.0 at-start.args.t.now at-start.args.index.now at-start.requires.0 (omega arith) in
-    (name-numbered _ _ _ _ _ _ _ c.before.before.before.parts-bits.ensures.0 c.before.before.if1.true e.0, e.1, c.numbered.ensures.1)
+    (name_numbered _ _ _ _ _ _ _ c.before.before.before.parts-bits.ensures.0 c.before.before.if1.true e.0, e.1, c.numbered.ensures.1)
 
 returns-2 : tie.Need-returns-2
 returns-2 c =
     let at-in-parts = c.before.before.before.before.before.before in
     let at-if1 = at-in-parts.before.before.before.before in
     let at-parts-bits = at-if1.before in (
-      name-parts _ _ _ _ _ _ _ at-parts-bits.parts-bits.ensures.0 at-if1.if1.false at-in-parts.in-parts.ensures.0,
+      name_parts _ _ _ _ _ _ _ at-parts-bits.parts-bits.ensures.0 at-if1.if1.false at-in-parts.in-parts.ensures.0,
       at-in-parts.in-parts.ensures.1,
       at-in-parts.in-parts.ensures.2,
     )

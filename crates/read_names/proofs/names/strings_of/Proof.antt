@@ -2,7 +2,7 @@
 -- Assumes nothing.
 use borrow.Author.Rules.{rules}
 use native.Mathlib.Omega.{arith}
-use Rattle.read_names.proofs.NameLaws.{row_is, strings-are}
+use Rattle.read_names.proofs.NameLaws.{row_is, strings_are_lem}
 use Rattle.read_names.proofs.names.strings_of.Statement.{statement}
 use Rattle.read_names.proofs.names.strings_of.Tie as tie
 
@@ -25,7 +25,7 @@ string-at-requires-3 c κs =
     (at-start.requires.0, omega arith, rw (← r) at at-start.requires.7)
 
 returns : tie.Need-returns
-returns c = strings-are _ _ _ _ c.before.before.before.entry.ensures _ _ _ c.before.before.string-at.ensures c.before.string-at2.ensures c.string-at3.ensures
+returns c = strings_are_lem _ _ _ _ c.before.before.before.entry.ensures _ _ _ c.before.before.string-at.ensures c.before.string-at2.ensures c.string-at3.ensures
 
 pub strings-of-spec : {M : Type 1} → statement M
 strings-of-spec =

@@ -2,8 +2,8 @@
 -- Assumes nothing.
 use native.Mathlib.Omega.{arith}
 use borrow.Author.Rules.{rules}
-use borrow.Author.Tests.{not-true, not-false}
-use Rattle.read_names.proofs.StringLaws.{length-read, begins, table-small, table-inside, table-indexed, fresh-refused, fresh-past, fresh-bad, new-known, new-full, new-done}
+use borrow.Author.Tests.{not_true, not-false}
+use Rattle.read_names.proofs.StringLaws.{length-read, begins, table_small, table_inside, table_indexed, fresh_refused, fresh_past, fresh_bad, new_known, new_full, new_done}
 use Rattle.read_names.proofs.strings.fresh.Statement.{statement}
 use Rattle.read_names.proofs.strings.fresh.Tie as tie
 
@@ -14,7 +14,7 @@ returns : tie.Need-returns
 returns c =
     let at-start = c.before.before.before.before.before.before.before.before.before in
     let b = begins _ _ _ _ c.before.before.n.given.1 (length-read _ _ 2 _ c.before.before.before.before.length.ensures) in
-    fresh-past _ _ _ _ _ _ at-start.requires.0 (let l = at-start.requires.1 in omega arith) at-start.requires.2 _ c.before.before.before.before.length.ensures _ _ c.before.before.n.given.1 (omega arith)
+    fresh_past _ _ _ _ _ _ at-start.requires.0 (let l = at-start.requires.1 in omega arith) at-start.requires.2 _ c.before.before.before.before.length.ensures _ _ c.before.before.n.given.1 (omega arith)
 
 mark-requires : tie.Need-mark-requires
 mark-requires c κs =
@@ -25,7 +25,7 @@ returns-2 : tie.Need-returns-2
 returns-2 c =
     let at-start = c.before.before.before.before.before.before.before.before.before.before.before.before in
     let b = begins _ _ _ _ c.before.before.before.before.before.n.given.1 (length-read _ _ 2 _ c.before.before.before.before.before.before.before.length.ensures) in
-    fresh-bad _ _ _ _ _ _ at-start.requires.0 (let l = at-start.requires.1 in omega arith) at-start.requires.2 _ c.before.before.before.before.before.before.before.length.ensures _ _ c.before.before.before.before.before.n.given.1 _ (omega arith) c.before.before.mark.ensures.2 (not-true _ c.if2.true)
+    fresh_bad _ _ _ _ _ _ at-start.requires.0 (let l = at-start.requires.1 in omega arith) at-start.requires.2 _ c.before.before.before.before.before.before.before.length.ensures _ _ c.before.before.before.before.before.n.given.1 _ (omega arith) c.before.before.mark.ensures.2 (not_true _ c.if2.true)
 
 add-new-requires : tie.Need-add-new-requires
 add-new-requires c κs =
@@ -36,11 +36,11 @@ add-new-requires c κs =
       at-start.requires.0.room,
       at-start.requires.0.indexed.size,
       omega arith,
-      table-small _ _ _ _ _ at-start.requires.0,
+      table_small _ _ _ _ _ at-start.requires.0,
       b.0,
       omega arith,
-      table-inside _ _ _ _ _ at-start.requires.0 (omega arith),
-      table-indexed _ _ _ _ _ at-start.requires.0 at-start.requires.1,
+      table_inside _ _ _ _ _ at-start.requires.0 (omega arith),
+      table_indexed _ _ _ _ _ at-start.requires.0 at-start.requires.1,
       c.before.before.before.before.before.mark.ensures.0,
       c.before.before.before.before.before.mark.ensures.1,
       omega arith,
@@ -59,7 +59,7 @@ add-t29 c =
 returns-3 : tie.Need-returns-3
 returns-3 c =
     let at-start = c.before.before.before.before.before.before.before.before in
-    fresh-refused _ _ _ _ _ _ at-start.requires.0 (let l = at-start.requires.1 in omega arith) at-start.requires.2 _ c.before.before.before.length.ensures _ _ c.before.k.given.1
+    fresh_refused _ _ _ _ _ _ at-start.requires.0 (let l = at-start.requires.1 in omega arith) at-start.requires.2 _ c.before.before.before.length.ensures _ _ c.before.k.given.1
 
 returns-4 : tie.Need-returns-4
 returns-4 c =
@@ -69,7 +69,7 @@ returns-4 c =
     let at_length = at_n.before.before in
     let at-start = at_length.before.before.before.before.before in
     let b = begins _ _ _ _ at_n.n.given.1 (length-read _ _ 2 _ at_length.length.ensures) in
-    new-known _ _ _ _ _ _ at-start.requires.0 (let l = at-start.requires.1 in omega arith) at-start.requires.2 _ at_length.length.ensures _ _ at_n.n.given.1 _ (omega arith) at_mark.mark.ensures.2 (not-false _ at-if2.if2.false) _ _ (rw c.enum_told.given.1 at c.before.before.before.before.before.before.add-new.ensures)
+    new_known _ _ _ _ _ _ at-start.requires.0 (let l = at-start.requires.1 in omega arith) at-start.requires.2 _ at_length.length.ensures _ _ at_n.n.given.1 _ (omega arith) at_mark.mark.ensures.2 (not-false _ at-if2.if2.false) _ _ (rw c.enum_told.given.1 at c.before.before.before.before.before.before.add-new.ensures)
 
 returns-5 : tie.Need-returns-5
 returns-5 c =
@@ -79,7 +79,7 @@ returns-5 c =
     let at_length = at_n.before.before in
     let at-start = at_length.before.before.before.before.before in
     let b = begins _ _ _ _ at_n.n.given.1 (length-read _ _ 2 _ at_length.length.ensures) in
-    new-full _ _ _ _ _ _ at-start.requires.0 (let l = at-start.requires.1 in omega arith) at-start.requires.2 _ at_length.length.ensures _ _ at_n.n.given.1 _ (omega arith) at_mark.mark.ensures.2 (not-false _ at-if2.if2.false) _ _ (rw c.enum-told2.given.1 at c.before.before.before.before.before.before.add-new.ensures)
+    new_full _ _ _ _ _ _ at-start.requires.0 (let l = at-start.requires.1 in omega arith) at-start.requires.2 _ at_length.length.ensures _ _ at_n.n.given.1 _ (omega arith) at_mark.mark.ensures.2 (not-false _ at-if2.if2.false) _ _ (rw c.enum-told2.given.1 at c.before.before.before.before.before.before.add-new.ensures)
 
 returns-6 : tie.Need-returns-6
 returns-6 c =
@@ -89,7 +89,7 @@ returns-6 c =
     let at_length = at_n.before.before in
     let at-start = at_length.before.before.before.before.before in
     let b = begins _ _ _ _ at_n.n.given.1 (length-read _ _ 2 _ at_length.length.ensures) in
-    new-done _ _ _ _ _ _ at-start.requires.0 (let l = at-start.requires.1 in omega arith) at-start.requires.2 _ at_length.length.ensures _ _ at_n.n.given.1 _ (omega arith) at_mark.mark.ensures.2 (not-false _ at-if2.if2.false) _ _ (rw c.enum-told3.given.1 at c.before.before.before.before.before.before.add-new.ensures)
+    new_done _ _ _ _ _ _ at-start.requires.0 (let l = at-start.requires.1 in omega arith) at-start.requires.2 _ at_length.length.ensures _ _ at_n.n.given.1 _ (omega arith) at_mark.mark.ensures.2 (not-false _ at-if2.if2.false) _ _ (rw c.enum-told3.given.1 at c.before.before.before.before.before.before.add-new.ensures)
 
 pub fresh-spec : {M : Type 1} → statement M
 fresh-spec =

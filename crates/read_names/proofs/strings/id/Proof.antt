@@ -2,7 +2,7 @@
 -- Assumes nothing.
 use native.Mathlib.Omega.{arith}
 use borrow.Author.Rules.{rules}
-use Rattle.read_names.proofs.StringLaws.{id-held}
+use Rattle.read_names.proofs.StringLaws.{id_held}
 use Rattle.read_names.proofs.strings.id.Statement.{statement}
 use Rattle.read_names.proofs.strings.id.Tie as tie
 
@@ -14,7 +14,7 @@ held-requires c κs =
 returns-2 : tie.Need-returns-2
 returns-2 c =
     let at-start = c.before.before.before.before.before.before.before.before.before.before in
-    id-held _ _ _ _ _ _ at-start.requires.0 (omega arith) (omega arith) _ c.before.number-at-bit-2.ensures _ c.held.ensures
+    id_held _ _ _ _ _ _ at-start.requires.0 (omega arith) (omega arith) _ c.before.number-at-bit-2.ensures _ c.held.ensures
 
 pub id_spec : {M : Type 1} → statement M
 id_spec =

@@ -4,32 +4,32 @@ use mathlib.Core.Path.{refl}
 use Prim.Native.Nat.{◌-◌, ◌*◌, ◌%◌, ◌^◌}
 use native.Mathlib.Omega.{arith}
 use borrow.Author.Rules.{rules}
-use Rattle.read_names.proofs.MethodLaws.{half-few, length-short, length-middle, length-long}
+use Rattle.read_names.proofs.MethodLaws.{half_few, length_short, length_middle, length_long}
 use Rattle.read_names.proofs.strings.method_length.Statement.{statement}
 use Rattle.read_names.proofs.strings.method_length.Tie as tie
 
 mul-if1 : tie.Need-overflow-mul-if1
-mul-if1 c = let h = (half-few c.before.before.before.args.bit c.before.before.before.requires.0 c.before.before.before.requires.1 (1 * 2 ^ (7 - c.before.before.before.args.bit) % 18446744073709551616) refl).2 in omega arith
+mul-if1 c = let h = (half_few c.before.before.before.args.bit c.before.before.before.requires.0 c.before.before.before.requires.1 (1 * 2 ^ (7 - c.before.before.before.args.bit) % 18446744073709551616) refl).2 in omega arith
 
 returns : tie.Need-returns
 returns c =
-    let at-octet = c.before.before.before in
-    let at-start = at-octet.before.before in
-    length-short at-start.args.bit at-start.requires.0 at-start.requires.1 _ _ _ _ _ _ at-octet.octet.ensures c.before.before.bits.ensures refl _ c.before.if1.true c.method-behind.ensures
+    let at_octet = c.before.before.before in
+    let at-start = at_octet.before.before in
+    length_short at-start.args.bit at-start.requires.0 at-start.requires.1 _ _ _ _ _ _ at_octet.octet.ensures c.before.before.bits.ensures refl _ c.before.if1.true c.method-behind.ensures
 
 returns-2 : tie.Need-returns-2
 returns-2 c =
     let at_bits = c.before.before.before in
-    let at-octet = at_bits.before in
-    let at-start = at-octet.before.before in
-    length-middle at-start.args.bit at-start.requires.0 at-start.requires.1 _ _ _ _ _ _ at-octet.octet.ensures at_bits.bits.ensures refl _ (omega arith) c.before.if2.true c.method-behind2.ensures
+    let at_octet = at_bits.before in
+    let at-start = at_octet.before.before in
+    length_middle at-start.args.bit at-start.requires.0 at-start.requires.1 _ _ _ _ _ _ at_octet.octet.ensures at_bits.bits.ensures refl _ (omega arith) c.before.if2.true c.method-behind2.ensures
 
 returns-3 : tie.Need-returns-3
 returns-3 c =
     let at_bits = c.before.before.before in
-    let at-octet = at_bits.before in
-    let at-start = at-octet.before.before in
-    length-long at-start.args.bit at-start.requires.0 at-start.requires.1 _ _ _ _ _ _ at-octet.octet.ensures at_bits.bits.ensures refl _ (omega arith) c.method-behind3.ensures
+    let at_octet = at_bits.before in
+    let at-start = at_octet.before.before in
+    length_long at-start.args.bit at-start.requires.0 at-start.requires.1 _ _ _ _ _ _ at_octet.octet.ensures at_bits.bits.ensures refl _ (omega arith) c.method-behind3.ensures
 
 pub method-length-spec : {M : Type 1} → statement M
 method-length-spec =

@@ -2,7 +2,7 @@
 -- Assumes nothing.
 use native.Mathlib.Omega.{arith}
 use borrow.Author.Rules.{rules}
-use Rattle.read_names.proofs.StringLaws.{said-number, said-not, said-entry}
+use Rattle.read_names.proofs.StringLaws.{said-number, said_not, said_entry}
 use Rattle.read_names.proofs.strings.said.Statement.{statement}
 use Rattle.read_names.proofs.strings.said.Tie as tie
 
@@ -16,10 +16,10 @@ other-string-of-requires c κs =
     (at-start.requires.0, at-start.requires.1, at-start.requires.2, omega arith)
 
 returns : tie.Need-returns
-returns c = said-not _ _ _ _ _ c.before.r.given.1
+returns c = said_not _ _ _ _ _ c.before.r.given.1
 
 returns-2 : tie.Need-returns-2
-returns-2 c = said-entry _ _ _ _ _ _ c.before.before.r2.given.1 c.other-string-of.ensures
+returns-2 c = said_entry _ _ _ _ _ _ c.before.before.r2.given.1 c.other-string-of.ensures
 
 pub said-spec : {M : Type 1} → statement M
 said-spec =

@@ -3,7 +3,7 @@
 use mathlib.Core.Path.{◌∙◌}
 use native.Mathlib.Omega.{arith}
 use borrow.Author.Rules.{rules}
-use Rattle.read_names.proofs.StringLaws.{length-read, spelled-utf8}
+use Rattle.read_names.proofs.StringLaws.{length-read, spelled_utf8}
 use Rattle.read_names.proofs.strings.spelled.Statement.{statement}
 use Rattle.read_names.proofs.strings.spelled.Tie as tie
 
@@ -25,7 +25,7 @@ returns-2 c =
     let at-if1 = at_length.before in
     let at_bits = at-if1.before in
     let at-start = at_bits.before.before.before.before in
-    λ x tidy l. spelled-utf8 _ _ _ x _ _ tidy at-start.requires.4 5 _ (omega arith) _ _ at-start.requires.5 at_bits.bits.ensures _ at-formed.formed.result _ _ at-if1.if1.false at_length.length.ensures (at-formed.formed.ensures x tidy l)
+    λ x tidy l. spelled_utf8 _ _ _ x _ _ tidy at-start.requires.4 5 _ (omega arith) _ _ at-start.requires.5 at_bits.bits.ensures _ at-formed.formed.result _ _ at-if1.if1.false at_length.length.ensures (at-formed.formed.ensures x tidy l)
 
 pub spelled-spec : {M : Type 1} → statement M
 spelled-spec =

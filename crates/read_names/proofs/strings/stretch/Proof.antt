@@ -2,12 +2,12 @@
 -- Assumes nothing.
 use native.Mathlib.Omega.{arith}
 use borrow.Author.Rules.{rules}
-use Rattle.read_names.proofs.StringLaws.{begins, stretch-not, stretch-past, stretch-bad, stretch-text}
+use Rattle.read_names.proofs.StringLaws.{begins, stretch_not, stretch_past, stretch_bad, stretch_text}
 use Rattle.read_names.proofs.strings.stretch.Statement.{statement}
 use Rattle.read_names.proofs.strings.stretch.Tie as tie
 
 returns : tie.Need-returns
-returns c = stretch-not _ _ _ _ _ _ c.enum_told.given.1
+returns c = stretch_not _ _ _ _ _ _ c.enum_told.given.1
 
 sub-if1 : tie.Need-overflow-sub-if1
 sub-if1 c = (begins _ _ _ _ c.before.r.given.1 c.before.before.before.before.requires).1
@@ -15,7 +15,7 @@ sub-if1 c = (begins _ _ _ _ c.before.r.given.1 c.before.before.before.before.req
 returns-2 : tie.Need-returns-2
 returns-2 c =
     let w = begins _ _ _ _ c.before.before.r.given.1 c.before.before.before.before.before.requires in
-    stretch-past _ _ _ _ _ _ c.before.before.r.given.1 (omega arith)
+    stretch_past _ _ _ _ _ _ c.before.before.r.given.1 (omega arith)
 
 is-text-requires : tie.Need-is-text-requires
 is-text-requires c κs =
@@ -25,12 +25,12 @@ is-text-requires c κs =
 returns-3 : tie.Need-returns-3
 returns-3 c =
     let w = begins _ _ _ _ c.before.before.before.before.r.given.1 c.before.before.before.before.before.before.before.requires in
-    stretch-text _ _ _ _ _ _ c.before.before.before.before.r.given.1 _ _ (omega arith) (omega arith) c.before.is-text.ensures.0 c.if2.true
+    stretch_text _ _ _ _ _ _ c.before.before.before.before.r.given.1 _ _ (omega arith) (omega arith) c.before.is_text_lem.ensures.0 c.if2.true
 
 returns-4 : tie.Need-returns-4
 returns-4 c =
     let w = begins _ _ _ _ c.before.before.before.before.r.given.1 c.before.before.before.before.before.before.before.requires in
-    stretch-bad _ _ _ _ _ _ c.before.before.before.before.r.given.1 _ _ (omega arith) (omega arith) c.before.is-text.ensures.0 c.if2.false
+    stretch_bad _ _ _ _ _ _ c.before.before.before.before.r.given.1 _ _ (omega arith) (omega arith) c.before.is_text_lem.ensures.0 c.if2.false
 
 pub stretch-spec : {M : Type 1} → statement M
 stretch-spec =

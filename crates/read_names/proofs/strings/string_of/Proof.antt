@@ -2,21 +2,21 @@
 -- Assumes nothing.
 use native.Mathlib.Omega.{arith}
 use borrow.Author.Rules.{rules}
-use Rattle.read_names.proofs.StringLaws.{entry-octets, entry-built-in, built-in-prefix, built-in-namespace, built-in-none}
+use Rattle.read_names.proofs.StringLaws.{entry_octets, entry_built_in, built_in_prefix_lem, built_in_namespace_lem, built_in_none}
 use Rattle.read_names.proofs.strings.string_of.Statement.{statement}
 use Rattle.read_names.proofs.strings.string_of.Tie as tie
 
 returns : tie.Need-returns
-returns c = entry-octets _ _ _ _ c.before.before.entry.ensures (omega arith) (omega arith)
+returns c = entry_octets _ _ _ _ c.before.before.entry.ensures (omega arith) (omega arith)
 
 returns-2 : tie.Need-returns-2
-returns-2 c = entry-built-in _ _ _ _ c.before.before.before.entry.ensures _ (omega arith) (built-in-prefix _ (omega arith))
+returns-2 c = entry_built_in _ _ _ _ c.before.before.before.entry.ensures _ (omega arith) (built_in_prefix_lem _ (omega arith))
 
 returns-3 : tie.Need-returns-3
-returns-3 c = entry-built-in _ _ _ _ c.before.before.before.entry.ensures _ (omega arith) (built-in-namespace _ (omega arith))
+returns-3 c = entry_built_in _ _ _ _ c.before.before.before.entry.ensures _ (omega arith) (built_in_namespace_lem _ (omega arith))
 
 returns-4 : tie.Need-returns-4
-returns-4 c = entry-built-in _ _ _ _ c.before.before.before.entry.ensures _ (omega arith) (built-in-none _ (omega arith) (omega arith) (omega arith))
+returns-4 c = entry_built_in _ _ _ _ c.before.before.before.entry.ensures _ (omega arith) (built_in_none _ (omega arith) (omega arith) (omega arith))
 
 pub string-of-spec : {M : Type 1} → statement M
 string-of-spec =

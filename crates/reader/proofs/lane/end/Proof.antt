@@ -2,7 +2,7 @@
 -- Assumes nothing.
 use borrow.Author.Rules.{rules}
 use native.Mathlib.Omega.{arith}
-use Rattle.reader.proofs.LaneLaws.{takes_none, takes-end}
+use Rattle.reader.proofs.LaneLaws.{takes_none, takes_end}
 use Rattle.reader.proofs.lane.end.Statement.{statement}
 use Rattle.reader.proofs.lane.end.Tie as tie
 
@@ -17,7 +17,7 @@ returns-2 c =
 returns-3 : tie.Need-returns-3
 returns-3 c =
     let at-start = c.before.before.before.before.before.before.before.before.before.before.before.before.before.before.before.before in
-    takes-end at-start.requires.0 (omega arith) at-start.requires.1 (omega arith) (omega arith) c.before.before.before.before.keep.ensures c.before.before.before.before.before.before.end.ensures
+    takes_end at-start.requires.0 (omega arith) at-start.requires.1 (omega arith) (omega arith) c.before.before.before.before.keep.ensures c.before.before.before.before.before.before.end.ensures
 
 pub end-spec : {M : Type 1} → statement M
 end-spec =

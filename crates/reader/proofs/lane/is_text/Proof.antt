@@ -4,18 +4,18 @@ use borrow.Author.Rules.{rules}
 use native.Mathlib.Omega.{arith}
 use mathlib.Core.Path.{sym, ◌∙◌}
 use mathlib.Core.Bool.{true≢false}
-use Rattle.reader.proofs.LaneLaws.{few-text}
+use Rattle.reader.proofs.LaneLaws.{few_text}
 use Rattle.reader.proofs.lane.is_text.Statement.{statement}
 use Rattle.reader.proofs.lane.is_text.Tie as tie
 
 returns : tie.Need-returns
-returns c = λ e. sym e ∙ c.is-text.ensures
+returns c = λ e. sym e ∙ c.is_text_lem.ensures
 
 returns-2 : tie.Need-returns-2
 returns-2 c = λ e.
     let a = c.before.before.before.before.before.before.before.args in
     let first = sym c.before.before.before.is_plain.ensures ∙ c.before.before.if2.true in
-    few-text a.s.now a.from a.to (omega arith) (omega arith) (omega arith) first (sym c.is-plain2.ensures ∙ e)
+    few_text a.s.now a.from a.to (omega arith) (omega arith) (omega arith) first (sym c.is-plain2.ensures ∙ e)
 
 returns-3 : tie.Need-returns-3
 returns-3 c = λ e. absurd (true≢false (sym e ∙ c.if2.false))

@@ -6,7 +6,7 @@ use borrow.Author.Tests.{ltb-true}
 use Prim.Native.Nat.{◌-◌, ◌<◌}
 use lib.ListN.{length}
 use Rattle.reader.specs.LaneContracts.{Skims}
-use Rattle.reader.proofs.LaneLaws.{onward-same, skims-then}
+use Rattle.reader.proofs.LaneLaws.{onward-same, skims_then}
 use Rattle.reader.proofs.lane.items.Statement.{statement}
 use Rattle.reader.proofs.lane.items.Tie as tie
 
@@ -38,7 +38,7 @@ returns : tie.Need-returns invariant-loop decreases-loop
 returns c =
     let at-if2 = c.before.before.before.before.before.before.before.before.before.before.before.before in
     let at-loop = at-if2.before.before.before.before in
-    skims-then at-loop.loop.invariant.3 (ltb-true _ _ at-if2.if2.true) c.before.before.before.before.before.before.before.before.item.ensures
+    skims_then at-loop.loop.invariant.3 (ltb-true _ _ at-if2.if2.true) c.before.before.before.before.before.before.before.before.item.ensures
 
 loop-less : tie.Need-loop-smaller invariant-loop decreases-loop
 loop-less c =
@@ -55,7 +55,7 @@ loop-again : tie.Need-loop-preserved invariant-loop decreases-loop
 loop-again c =
     let at-if2 = c.before.before.before.before.before.before.before.before.before.before.before.before in
     let at-loop = at-if2.before.before.before.before in
-    (omega arith, omega arith, omega arith, skims-then at-loop.loop.invariant.3 (ltb-true _ _ at-if2.if2.true) c.before.before.before.before.before.before.before.before.item.ensures)
+    (omega arith, omega arith, omega arith, skims_then at-loop.loop.invariant.3 (ltb-true _ _ at-if2.if2.true) c.before.before.before.before.before.before.before.before.item.ensures)
 
 returns-2 : tie.Need-returns-2 invariant-loop decreases-loop
 returns-2 c = c.before.before.before.before.loop.invariant.3

@@ -2,14 +2,14 @@
 -- Assumes nothing.
 use mathlib.Core.Path.{sym, ◌∙◌}
 use borrow.Author.Rules.{rules}
-use borrow.Author.Tests.{not-true, ltb-false}
-use Rattle.events.proofs.Kept.{kept-not}
-use Rattle.reader.proofs.LaneLaws.{chunk-plain}
+use borrow.Author.Tests.{not_true, ltb-false}
+use Rattle.events.proofs.Kept.{kept_not}
+use Rattle.reader.proofs.LaneLaws.{chunk_plain}
 use Rattle.reader.proofs.lane.keep_chunk.Statement.{statement}
 use Rattle.reader.proofs.lane.keep_chunk.Tie as tie
 
 returns : tie.Need-returns
-returns c = kept-not _ _ _ _ (ltb-false _ _ (sym c.before.has-record.ensures ∙ not-true _ c.if1.true))
+returns c = kept_not _ _ _ _ (ltb-false _ _ (sym c.before.has-record.ensures ∙ not_true _ c.if1.true))
 
 returns-4 : tie.Need-returns-4
 returns-4 c =
@@ -17,7 +17,7 @@ returns-4 c =
     let at-if3 = at-chunk.before in
     let at-if2 = at-if3.before.before in
     let at_entry_lem = at-if2.before.before in
-    rw (← chunk-plain _ _ _ at_entry_lem.entry.ensures at-if2.if2.false at-if3.if3.false, ← at-chunk.chunk.ensures) c.before.before.keep.ensures
+    rw (← chunk_plain _ _ _ at_entry_lem.entry.ensures at-if2.if2.false at-if3.if3.false, ← at-chunk.chunk.ensures) c.before.before.keep.ensures
 
 pub keep-chunk-spec : {M : Type 1} → statement M
 keep-chunk-spec =

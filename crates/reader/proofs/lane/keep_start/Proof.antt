@@ -3,25 +3,25 @@
 use borrow.Author.Rules.{rules}
 use native.Mathlib.Omega.{arith}
 use mathlib.Core.Path.{sym, ◌∙◌}
-use borrow.Author.Tests.{not-true, ltb-false, eqb-true}
-use Rattle.events.proofs.Kept.{kept-not}
-use Rattle.reader.proofs.LaneLaws.{local-there, local-alone}
+use borrow.Author.Tests.{not_true, ltb-false, eqb-true}
+use Rattle.events.proofs.Kept.{kept_not}
+use Rattle.reader.proofs.LaneLaws.{local_there, local-alone}
 use Rattle.reader.proofs.lane.keep_start.Statement.{statement}
 use Rattle.reader.proofs.lane.keep_start.Tie as tie
 
 returns : tie.Need-returns
-returns c = kept-not _ _ _ _ (ltb-false _ _ (sym c.before.has-record.ensures ∙ not-true _ c.if1.true))
+returns c = kept_not _ _ _ _ (ltb-false _ _ (sym c.before.has-record.ensures ∙ not_true _ c.if1.true))
 
 sub-entry : tie.Need-overflow-sub-entry
 sub-entry c =
     let at-start = c.before.before.before.before.before.before.before.before.before.before.before in
-    let l = local-there _ _ _ c.before.before.before.before.before.entry.ensures at-start.requires.1 at-start.requires.2 in
+    let l = local_there _ _ _ c.before.before.before.before.before.entry.ensures at-start.requires.1 at-start.requires.2 in
     omega arith
 
 entry-requires-2 : tie.Need-entry-requires-2
 entry-requires-2 c κs =
     let at-start = c.before.before.before.before.before.before.before.before.before.before.before in
-    let l = local-there _ _ _ c.before.before.before.before.before.entry.ensures at-start.requires.1 at-start.requires.2 in
+    let l = local_there _ _ _ c.before.before.before.before.before.entry.ensures at-start.requires.1 at-start.requires.2 in
     (at-start.requires.1.0, omega arith, omega arith)
 
 keep-requires : tie.Need-keep-requires
@@ -33,7 +33,7 @@ returns-2 c =
     let at-if2 = at-if3.before.before in
     let at_entry_lem = at-if2.before.before in
     let at-start = at_entry_lem.before.before.before.before.before.before in
-    let l = local-there _ _ _ at_entry_lem.entry.ensures at-start.requires.1 at-start.requires.2 in
+    let l = local_there _ _ _ at_entry_lem.entry.ensures at-start.requires.1 at-start.requires.2 in
     rw (← c.before.before.before.before.start.ensures ∙ local-alone _ _ _ at_entry_lem.entry.ensures _ at-if2.if2.true (eqb-true _ _ at-if3.if3.true) l.0 c.before.before.before.before.before.before.before.entry2.ensures c.before.before.before.before.before.if4.true) c.before.before.keep.ensures
 
 returns-3 : tie.Need-returns-3

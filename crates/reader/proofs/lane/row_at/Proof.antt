@@ -3,7 +3,7 @@
 use borrow.Author.Rules.{rules}
 use native.Mathlib.Omega.{arith}
 use mathlib.Core.Path.{refl}
-use Rattle.reader.proofs.LaneLaws.{row_one, row-two}
+use Rattle.reader.proofs.LaneLaws.{row_one, row_two}
 use Rattle.reader.proofs.lane.row_at.Statement.{statement}
 use Rattle.reader.proofs.lane.row_at.Tie as tie
 
@@ -15,7 +15,7 @@ returns c =
 returns-2 : tie.Need-returns-2
 returns-2 c =
     let at-start = c.before.before.before.before.before.before in
-    row-two _ _ _ _ at-start.requires.0 at-start.requires.1 (omega arith) at-start.requires.2 (omega arith) (omega arith) refl
+    row_two _ _ _ _ at-start.requires.0 at-start.requires.1 (omega arith) at-start.requires.2 (omega arith) (omega arith) refl
 
 pub row-at-spec : {M : Type 1} → statement M
 row-at-spec =

@@ -4,12 +4,12 @@ use borrow.Author.Rules.{rules}
 use native.Mathlib.Omega.{arith}
 use mathlib.Core.Path.{sym, ◌∙◌}
 use borrow.Author.Tests.{not-false}
-use Rattle.reader.proofs.LaneLaws.{enters_is, advances-none, advances-lane}
+use Rattle.reader.proofs.LaneLaws.{enters_is, advances_none, advances_lane}
 use Rattle.reader.proofs.lane.skim.Statement.{statement}
 use Rattle.reader.proofs.lane.skim.Tie as tie
 
 returns : tie.Need-returns
-returns c = advances-none _ _ c.before.before.before.before.before.before.requires.1
+returns c = advances_none _ _ c.before.before.before.before.before.before.requires.1
 
 items-requires : tie.Need-items-requires
 items-requires c κs =
@@ -29,7 +29,7 @@ returns-2 c =
     let at-start = at-enters.before.before.before.before.before in
     let h = at-start.requires.1 in
     let l = at_least_lem.least.ensures.1 in
-    advances-lane _ _ (sym (not-false _ at-if1.if1.false) ∙ at-enters.enters.ensures) at_least_lem.least.ensures.0 (omega arith) c.before.before.before.before.before.before.before.items.ensures
+    advances_lane _ _ (sym (not-false _ at-if1.if1.false) ∙ at-enters.enters.ensures) at_least_lem.least.ensures.0 (omega arith) c.before.before.before.before.before.before.before.items.ensures
 
 pub skim-spec : {M : Type 1} → statement M
 skim-spec =

@@ -3,9 +3,9 @@
 use borrow.Author.Rules.{rules}
 use native.Mathlib.Omega.{arith}
 use mathlib.Core.Path.{sym, ◌∙◌}
-use borrow.Author.Tests.{not-true, not-false}
-use Rattle.fields.proofs.Bounds.{field-got}
-use Rattle.reader.proofs.LaneLaws.{takes_none, takes-full, takes-spelled, place-fits}
+use borrow.Author.Tests.{not_true, not-false}
+use Rattle.fields.proofs.Bounds.{field_got}
+use Rattle.reader.proofs.LaneLaws.{takes_none, takes_full, takes_spelled, place-fits}
 use Rattle.reader.proofs.lane.spelled.Statement.{statement}
 use Rattle.reader.proofs.lane.spelled.Tie as tie
 
@@ -23,7 +23,7 @@ returns-3 c =
 sub-if3 : tie.Need-overflow-sub-if3
 sub-if3 c =
     let at-start = c.before.before.before.before.before.before.before.before.before.before.before in
-    let g = field-got _ _ _ _ _ (sym c.before.before.before.length.ensures ∙ c.before.length2.given.1) in
+    let g = field_got _ _ _ _ _ (sym c.before.before.before.length.ensures ∙ c.before.length2.given.1) in
     let z = at-start.requires.0.tidied.tidy.size in
     omega arith
 
@@ -35,7 +35,7 @@ returns-4 c =
 is-text-requires : tie.Need-is-text-requires
 is-text-requires c κs =
     let at-start = c.before.before.before.before.before.before.before.before.before.before.before.before in
-    let g = field-got _ _ _ _ _ (sym c.before.before.before.before.length.ensures ∙ c.before.before.length2.given.1) in
+    let g = field_got _ _ _ _ _ (sym c.before.before.before.before.length.ensures ∙ c.before.before.length2.given.1) in
     let z = at-start.requires.0.tidied.tidy.size in
     omega arith
 
@@ -47,7 +47,7 @@ returns-5 c =
 cast-added : tie.Need-overflow-cast-added
 cast-added c =
     let at-start = c.before.before.before.before.before.before.before.before.before.before.before.before.before.before.before.before in
-    let g = field-got _ _ _ _ _ (sym c.before.before.before.before.before.before.before.before.length.ensures ∙ c.before.before.before.before.before.before.length2.given.1) in
+    let g = field_got _ _ _ _ _ (sym c.before.before.before.before.before.before.before.before.length.ensures ∙ c.before.before.before.before.before.before.length2.given.1) in
     let z = at-start.requires.0.tidied.tidy.size in
     omega arith
 
@@ -55,14 +55,14 @@ returns-6 : tie.Need-returns-6
 returns-6 c =
     let at_Added = c.before.before.before.before.before in
     let at-start = at_Added.before.before.before.before.before.before.before.before.before.before.before.before.before.before.before.before.before.before in
-    takes-full at-start.requires.0 (rw (not-true at_Added.added.result c.if5.true) at at_Added.added.ensures)
+    takes_full at-start.requires.0 (rw (not_true at_Added.added.result c.if5.true) at at_Added.added.ensures)
 
 cast-t23 : tie.Need-overflow-cast-t23
 cast-t23 c =
     let at-length2 = c.before.before.before.before.before.before.before.before.before.before.before.before.before in
     let at_length = at-length2.before.before in
     let at-start = at_length.before.before.before.before.before.before.before.before in
-    let g = field-got _ _ _ _ _ (sym at_length.length.ensures ∙ at-length2.length2.given.1) in
+    let g = field_got _ _ _ _ _ (sym at_length.length.ensures ∙ at-length2.length2.given.1) in
     let z = at-start.requires.0.tidied.tidy.size in
     omega arith
 
@@ -74,7 +74,7 @@ add-t16 c =
     let at-length2 = c.before.before.before.before.before.before.before.before.before.before.before.before.before.before.before.before.before.before in
     let at_length = at-length2.before.before in
     let at-start = at_length.before.before.before.before.before.before.before.before in
-    let g = field-got _ _ _ _ _ (sym at_length.length.ensures ∙ at-length2.length2.given.1) in
+    let g = field_got _ _ _ _ _ (sym at_length.length.ensures ∙ at-length2.length2.given.1) in
     let z = at-start.requires.0.tidied.tidy.size in
     omega arith
 
@@ -98,9 +98,9 @@ returns-7 c =
     let at_bits = at-if2.before in
     let at-if1 = at_bits.before in
     let at-start = at-if1.before.before.before.before.before in
-    let g = field-got _ _ _ _ _ (sym at_length.length.ensures ∙ at-length2.length2.given.1) in
+    let g = field_got _ _ _ _ _ (sym at_length.length.ensures ∙ at-length2.length2.given.1) in
     let z = at-start.requires.0.tidied.tidy.size in
-    takes-spelled at-start.requires.0 (omega (arith, at-keep.keep.auto)) _ at-start.requires.1 (omega (arith, at-if1.if1.false)) at-start.requires.2 at_bits.bits.ensures at-if2.if2.false at_length.length.ensures at-length2.length2.given.1 (omega (arith, at-if3.if3.false)) (at-is-text.is-text.ensures (not-false _ at-if4.if4.false)) at-bits2.bits2.ensures (rw (not-false at_Added.added.result c.before.before.before.before.before.before.if5.false) at at_Added.added.ensures) at-keep.keep.ensures c.before.before.before.before.before.chunk.ensures
+    takes_spelled at-start.requires.0 (omega (arith, at-keep.keep.auto)) _ at-start.requires.1 (omega (arith, at-if1.if1.false)) at-start.requires.2 at_bits.bits.ensures at-if2.if2.false at_length.length.ensures at-length2.length2.given.1 (omega (arith, at-if3.if3.false)) (at-is-text.is_text_lem.ensures (not-false _ at-if4.if4.false)) at-bits2.bits2.ensures (rw (not-false at_Added.added.result c.before.before.before.before.before.before.if5.false) at at_Added.added.ensures) at-keep.keep.ensures c.before.before.before.before.before.chunk.ensures
 
 pub spelled-spec : {M : Type 1} → statement M
 spelled-spec =

@@ -1,7 +1,7 @@
 -- `check` meets its contract: the number of a run with 32,768 records.
 -- Assumes nothing.
 use mathlib.Core.Path.{◌∙◌}
-use Rattle.reader.proofs.RunLaws.{check-is}
+use Rattle.reader.proofs.RunLaws.{check_is}
 use borrow.Author.Rules.{rules}
 use Rattle.reader.proofs.run.check.Statement.{statement}
 use Rattle.reader.proofs.run.check.Tie as tie
@@ -10,7 +10,7 @@ number-requires : tie.Need-number-requires
 number-requires c κs = c.before.before.before.reading.ensures.small
 
 returns : tie.Need-returns
-returns c = c.number.ensures ∙ check-is _ c.before.before.before.before.reading.ensures
+returns c = c.number.ensures ∙ check_is _ c.before.before.before.before.reading.ensures
 
 pub check-spec : {M : Type 1} → statement M
 check-spec =

@@ -5,12 +5,12 @@ use Prim.Native.Nat.{◌-◌, ◌≤◌}
 use native.Mathlib.Omega.{arith}
 use lib.ListN.{length, take}
 use Rattle.format.specs.Tables.{same, link}
-use Rattle.reader.proofs.RunLaws.{headedFrom, headed-start, headed-differs, headed-next, headed-end}
+use Rattle.reader.proofs.RunLaws.{headed_from, headed-start, headed_differs, headed_next, headed_end}
 use Rattle.reader.proofs.run.headed.Statement.{statement}
 use Rattle.reader.proofs.run.headed.Tie as tie
 
 abbrev invariant-loop : tie.invariant-loop
-invariant-loop s i₀ i = (4 ≤ length s) × (i ≤ 4) × (headedFrom s i ≡ same (take 4 s) link.identification)
+invariant-loop s i₀ i = (4 ≤ length s) × (i ≤ 4) × (headed_from s i ≡ same (take 4 s) link.identification)
 
 abbrev decreases-loop : tie.decreases-loop
 decreases-loop s i₀ i = 4 - i
@@ -19,13 +19,13 @@ loop-holds : tie.Need-loop-init invariant-loop decreases-loop
 loop-holds c = (omega arith, omega arith, headed-start c.args.s.now)
 
 returns : tie.Need-returns invariant-loop decreases-loop
-returns c = headed-differs c.before.before.before.before.args.s.now c.before.before.before.loop.i _ (omega arith) (omega arith) c.before.before.before.loop.invariant.2 c.if1.true
+returns c = headed_differs c.before.before.before.before.args.s.now c.before.before.before.loop.i _ (omega arith) (omega arith) c.before.before.before.loop.invariant.2 c.if1.true
 
 loop-again : tie.Need-loop-preserved invariant-loop decreases-loop
-loop-again c = (omega arith, omega arith, headed-next c.before.before.before.before.args.s.now c.before.before.before.loop.i _ (omega arith) (omega arith) c.before.before.before.loop.invariant.2 c.if1.false)
+loop-again c = (omega arith, omega arith, headed_next c.before.before.before.before.args.s.now c.before.before.before.loop.i _ (omega arith) (omega arith) c.before.before.before.loop.invariant.2 c.if1.false)
 
 returns-2 : tie.Need-returns-2 invariant-loop decreases-loop
-returns-2 c = headed-end c.before.before.args.s.now c.before.loop.i _ (omega arith) (omega arith) c.before.loop.invariant.2
+returns-2 c = headed_end c.before.before.args.s.now c.before.loop.i _ (omega arith) (omega arith) c.before.loop.invariant.2
 
 pub headed-spec : {M : Type 1} → statement M
 headed-spec =

@@ -2,7 +2,7 @@
 -- Assumes nothing.
 use mathlib.Core.Path.{refl}
 use borrow.Author.Rules.{rules}
-use Rattle.reader.proofs.RunLaws.{halt-place, body-start, ran-halt, ran-onward}
+use Rattle.reader.proofs.RunLaws.{halt_place, body_start, ran_halt, ran_onward}
 use Rattle.reader.proofs.run.reading.Statement.{statement}
 use Rattle.reader.proofs.run.reading.Tie as tie
 
@@ -13,21 +13,21 @@ begun-requires c κs =
 
 refused-requires : tie.Need-refused-requires
 refused-requires c κs =
-    (halt-place c.before.before.before.before.before.before.before.before.begun.ensures c.before.k.given.1).1
+    (halt_place c.before.before.before.before.before.before.before.before.begun.ensures c.before.k.given.1).1
 
 steps-requires : tie.Need-steps-requires
 steps-requires c κs =
-    body-start c.before.before.before.before.before.before.before.before.before.before.before.before.begun.ensures c.before.before.before.before.before.body.given.1
+    body_start c.before.before.before.before.before.before.before.before.before.before.before.before.begun.ensures c.before.before.before.before.before.body.given.1
 
 returns : tie.Need-returns
 returns c =
-    ran-halt c.before.before.before.before.before.before.before.before.before.begun.ensures c.before.before.k.given.1 c.refused.ensures
+    ran_halt c.before.before.before.before.before.before.before.before.before.begun.ensures c.before.before.k.given.1 c.refused.ensures
 
 returns-2 : tie.Need-returns-2
 returns-2 c =
     let begun = c.before.before.before.before.before.before.before.before.before.before.before.before.before.before.before.before.before.before.before.before.begun in
     let body = c.before.before.before.before.before.before.before.before.before.before.before.before.before.body in
-    ran-onward begun.ensures body.given.1 c.before.before.before.before.before.before.before.steps.ensures
+    ran_onward begun.ensures body.given.1 c.before.before.before.before.before.before.before.steps.ensures
 
 pub reading-spec : {M : Type 1} → statement M
 reading-spec =

@@ -6,8 +6,8 @@ use mathlib.Core.Path.{◌≡◌, refl}
 use lib.ListN.{length}
 use Rattle.tables.specs.Rows.{vocabulary}
 use Rattle.tables.specs.Kept.{unlisted}
-use Rattle.read_items.specs.Contracts.{lent}
-use Rattle.reader.proofs.RunLaws.{underway-start, underway-quiet, underway-more, more-place, ran-full, ran-done, stop-place, ran-stop, ran-spent}
+use Rattle.read_items.specs.Promises.{lent}
+use Rattle.reader.proofs.RunLaws.{underway_start, underway_quiet, underway_more, more-place, ran_full, ran_done, stop_place, ran_stop, ran_spent}
 use Rattle.reader.specs.Reading.{origin}
 use Rattle.reader.specs.LaneContracts.{Underway}
 use Rattle.reader.proofs.run.steps.Statement.{statement}
@@ -41,7 +41,7 @@ add_left c =
 loop-holds : tie.Need-loop-init invariant-loop decreases-loop
 loop-holds c =
     let at-start = c.before.before.before.before.before.before in
-    (refl, refl, refl, underway-start at-start.requires.0 at-start.requires.1 _ _ c.begin.ensures)
+    (refl, refl, refl, underway_start at-start.requires.0 at-start.requires.1 _ _ c.begin.ensures)
 
 skim-requires : tie.Need-skim-requires invariant-loop decreases-loop
 skim-requires c κs =
@@ -133,7 +133,7 @@ returns c =
     let at-loop = at-skim.before.before.before.before.before in
     let u = at-skim.skim.ensures.goes at-loop.loop.invariant.3 in
     let h = at-skim.skim.ensures.short in
-    rw c.refused.ensures (ran-full u (omega arith) at-step.step.ensures c.before.before.before.next.given.1 c.before.if1.true)
+    rw c.refused.ensures (ran_full u (omega arith) at-step.step.ensures c.before.before.before.next.given.1 c.before.if1.true)
 
 add-n : tie.Need-overflow-add-n invariant-loop decreases-loop
 add-n c =
@@ -162,7 +162,7 @@ loop-again c =
     let i = at-loop.loop.invariant in
     let k = at-skim.skim.auto in
     let q = at-step.step.auto in
-    (omega arith, omega arith, omega arith, underway-more u (omega arith) at-step.step.ensures c.before.before.next.given.1 c.if1.false (omega arith))
+    (omega arith, omega arith, omega arith, underway_more u (omega arith) at-step.step.ensures c.before.before.next.given.1 c.if1.false (omega arith))
 
 loop-less-2 : tie.Need-loop-smaller-2 invariant-loop decreases-loop
 loop-less-2 c =
@@ -181,7 +181,7 @@ loop-again-2 c =
     let i = at-loop.loop.invariant in
     let k = at-skim.skim.auto in
     let q = at-step.step.auto in
-    (omega arith, omega arith, omega arith, underway-quiet u (omega arith) at-step.step.ensures c.before.next2.given.1 (omega arith))
+    (omega arith, omega arith, omega arith, underway_quiet u (omega arith) at-step.step.ensures c.before.next2.given.1 (omega arith))
 
 cast-t38 : tie.Need-overflow-cast-t38 invariant-loop decreases-loop
 cast-t38 c =
@@ -241,7 +241,7 @@ returns-2 c =
     let at-loop = at-skim.before.before.before.before.before in
     let u = at-skim.skim.ensures.goes at-loop.loop.invariant.3 in
     let h = at-skim.skim.ensures.short in
-    ran-done u (omega arith) at-step.step.ensures c.enum_told.given.1
+    ran_done u (omega arith) at-step.step.ensures c.enum_told.given.1
 
 cast-refused : tie.Need-overflow-cast-refused invariant-loop decreases-loop
 cast-refused c =
@@ -250,7 +250,7 @@ cast-refused c =
     let at-loop = at-skim.before.before.before.before.before in
     let u = at-skim.skim.ensures.goes at-loop.loop.invariant.3 in
     let h = at-skim.skim.ensures.short in
-    let k = stop-place u (omega arith) at-step.step.ensures c.before.stopped.given.1 in
+    let k = stop_place u (omega arith) at-step.step.ensures c.before.stopped.given.1 in
     omega arith
 
 refused-requires-2 : tie.Need-refused-requires-2 invariant-loop decreases-loop
@@ -260,7 +260,7 @@ refused-requires-2 c κs =
     let at-loop = at-skim.before.before.before.before.before in
     let u = at-skim.skim.ensures.goes at-loop.loop.invariant.3 in
     let h = at-skim.skim.ensures.short in
-    (stop-place u (omega arith) at-step.step.ensures c.before.stopped.given.1).1
+    (stop_place u (omega arith) at-step.step.ensures c.before.stopped.given.1).1
 
 same-length-9 : tie.Need-same-length-9 invariant-loop decreases-loop
 same-length-9 c =
@@ -310,7 +310,7 @@ returns-3 c =
     let at-loop = at-skim.before.before.before.before.before in
     let u = at-skim.skim.ensures.goes at-loop.loop.invariant.3 in
     let h = at-skim.skim.ensures.short in
-    rw c.refused2.ensures (ran-stop u (omega arith) at-step.step.ensures c.before.before.stopped.given.1)
+    rw c.refused2.ensures (ran_stop u (omega arith) at-step.step.ensures c.before.before.stopped.given.1)
 
 refused-requires-3 : tie.Need-refused-requires-3 invariant-loop decreases-loop
 refused-requires-3 c κs =
@@ -339,7 +339,7 @@ same-length-16 c =
     omega arith
 
 returns-4 : tie.Need-returns-4 invariant-loop decreases-loop
-returns-4 c = rw c.refused3.ensures (ran-spent c.before.before.before.loop.invariant.3 (omega arith))
+returns-4 c = rw c.refused3.ensures (ran_spent c.before.before.before.loop.invariant.3 (omega arith))
 
 pub steps-spec : {M : Type 1} → statement M
 steps-spec =

@@ -1,9 +1,9 @@
 -- `add_name` meets its contract: the index says where it is.
 -- Assumes nothing.
 use borrow.Author.Rules.{rules}
-use Rattle.tables.specs.Rows.{tripleAt}
-use Rattle.write_names.proofs.Order.{counted-at}
-use Rattle.write_head.proofs.AddLaws.{names-indexed, grown-name, name-told}
+use Rattle.tables.specs.Rows.{triple_at}
+use Rattle.write_names.proofs.Order.{counted_at}
+use Rattle.write_head.proofs.AddLaws.{names_indexed, grown_name, name_told}
 use Rattle.write_head.proofs.adding.add_name.Statement.{statement}
 use Rattle.write_head.proofs.adding.add_name.Tie as tie
 use Rattle.write_head.proofs.adding.add_name.Reads as reads
@@ -42,7 +42,7 @@ slice-read-n : tie.Need-slice-read-n
 slice-read-n c = search rules
 
 find-name-requires : tie.Need-find-name-requires
-find-name-requires c κs = let s = c.before.before.before.before.before.before.before.before.before.before.before in let o = s.requires.0 in (o.room, o.indexed.size, s.requires.2, counted-at _ _ _ _ s.args.table o, names-indexed _ _ _ _ _ o s.requires.1 s.requires.2)
+find-name-requires c κs = let s = c.before.before.before.before.before.before.before.before.before.before.before in let o = s.requires.0 in (o.room, o.indexed.size, s.requires.2, counted_at _ _ _ _ s.args.table o, names_indexed _ _ _ _ _ o s.requires.1 s.requires.2)
 
 enter-name-requires : tie.Need-enter-name-requires
 enter-name-requires c κs = search rules
@@ -66,8 +66,8 @@ same-length-3 : tie.Need-same-length-3
 same-length-3 c = search rules
 
 returns : tie.Need-returns
-unfolding tripleAt
-returns c = let s = c.before.before.before.before.before.before.before.before.before.before.before.before.before.before.before.before.before.before.before in (grown-name _ _ _ _ _ s.requires.0 s.requires.3 s.requires.1 s.requires.2 _ _ _ (c.before.before.before.before.enter-name.ensures s.args.text.now), name-told _ _ _ _ _ _ _ s.requires.0 _ s.requires.1 s.requires.2 c.before.before.before.before.before.before.before.find-name.ensures)
+unfolding triple_at
+returns c = let s = c.before.before.before.before.before.before.before.before.before.before.before.before.before.before.before.before.before.before.before in (grown_name _ _ _ _ _ s.requires.0 s.requires.3 s.requires.1 s.requires.2 _ _ _ (c.before.before.before.before.enter-name.ensures s.args.text.now), name_told _ _ _ _ _ _ _ s.requires.0 _ s.requires.1 s.requires.2 c.before.before.before.before.before.before.before.find-name.ensures)
 
 pub add-name-spec : {M : Type 1} → statement M
 add-name-spec =

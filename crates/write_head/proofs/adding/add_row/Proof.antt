@@ -2,7 +2,7 @@
 -- Assumes nothing.
 use borrow.Author.Rules.{rules}
 use native.Mathlib.Omega.{arith}
-use Rattle.write_head.proofs.AddLaws.{row-string, row-name}
+use Rattle.write_head.proofs.AddLaws.{row_string, row_name}
 use Rattle.write_head.proofs.adding.add_row.Statement.{statement}
 use Rattle.write_head.proofs.adding.add_row.Tie as tie
 use Rattle.write_head.proofs.adding.add_row.Reads as reads
@@ -23,7 +23,7 @@ same-length-3 : tie.Need-same-length-3
 same-length-3 c = search rules
 
 returns : tie.Need-returns
-returns c = let e = c.before.before.before.before.before.before.add-string.ensures in (row-string _ _ _ _ _ _ (omega arith) e.0, e.1)
+returns c = let e = c.before.before.before.before.before.before.add-string.ensures in (row_string _ _ _ _ _ _ (omega arith) e.0, e.1)
 
 add-name-requires : tie.Need-add-name-requires
 add-name-requires c κs = search rules
@@ -38,7 +38,7 @@ same-length-6 : tie.Need-same-length-6
 same-length-6 c = search rules
 
 returns-2 : tie.Need-returns-2
-returns-2 c = let e = c.before.before.before.before.before.before.add-name.ensures in (row-name _ _ _ _ _ _ (omega arith) e.0, e.1)
+returns-2 c = let e = c.before.before.before.before.before.before.add-name.ensures in (row_name _ _ _ _ _ _ (omega arith) e.0, e.1)
 
 pub add-row-spec : {M : Type 1} → statement M
 add-row-spec =

@@ -1,14 +1,14 @@
 -- `add_tables` meets its contract: the tables before are added.
 -- Assumes nothing.
 use borrow.Author.Rules.{rules}
-use borrow.Author.Tests.{not-true, not-false}
+use borrow.Author.Tests.{not_true, not-false}
 use native.Mathlib.Omega.{arith}
 use mathlib.Core.Path.{◌≡◌, sym, ◌∙◌}
 use mathlib.Core.Bool.{true}
 use Prim.Native.Nat.{◌-◌, ◌≤◌}
 use Rattle.tables.proofs.Found.{clash}
-use Rattle.write_head.specs.RowContracts.{below, keepsTable}
-use Rattle.write_head.proofs.RowLaws.{few-at, below_none, below_more, all_keep, one-breaks}
+use Rattle.write_head.specs.RowContracts.{below, keeps_table}
+use Rattle.write_head.proofs.RowLaws.{few_at, below_none, below_more, all_keep, one_breaks}
 use Rattle.write_head.proofs.AddLaws.{Added, tables_more}
 use Rattle.write_head.proofs.adding.add_tables.Statement.{statement}
 use Rattle.write_head.proofs.adding.add_tables.Tie as tie
@@ -17,7 +17,7 @@ use Rattle.write_head.proofs.adding.add_tables.Lts as lts
 use Rattle.write_head.proofs.adding.add_rows.Reads as add-rows-reads
 
 abbrev invariant-loop : tie.invariant-loop
-invariant-loop text given t₀ counts₀ index₀ table₀ t counts index table = Added text given table counts t index × (table ≤ 10) × (below (keepsTable 11 text given) table ≡ true)
+invariant-loop text given t₀ counts₀ index₀ table₀ t counts index table = Added text given table counts t index × (table ≤ 10) × (below (keeps_table 11 text given) table ≡ true)
 
 abbrev decreases-loop : tie.decreases-loop
 decreases-loop text given t₀ counts₀ index₀ table₀ t counts index table = 10 - table
@@ -26,7 +26,7 @@ loop-holds : tie.Need-loop-init invariant-loop decreases-loop
 loop-holds c = let s = c.before.before.before.before.before in (record { order = s.requires.0; tables = s.requires.4; fresh = λ j h. s.requires.5 j }, omega arith, below_none _)
 
 add-rows-requires : tie.Need-add-rows-requires invariant-loop decreases-loop
-add-rows-requires c κs = let s = c.before.before.before.before.before.before.before.before.before.before in let l = c.before.before.before.before.loop in let f = l.invariant.0.fresh l.table (omega arith) in let k = few-at s.args.given.now l.table s.requires.3 (omega arith) in (l.invariant.0.order, omega arith, s.requires.1, s.requires.2, omega arith, l.invariant.0.tables, s.requires.6)
+add-rows-requires c κs = let s = c.before.before.before.before.before.before.before.before.before.before in let l = c.before.before.before.before.loop in let f = l.invariant.0.fresh l.table (omega arith) in let k = few_at s.args.given.now l.table s.requires.3 (omega arith) in (l.invariant.0.order, omega arith, s.requires.1, s.requires.2, omega arith, l.invariant.0.tables, s.requires.6)
 
 same_length : tie.Need-same-length invariant-loop decreases-loop
 same_length c = search rules
@@ -38,7 +38,7 @@ same-length-3 : tie.Need-same-length-3 invariant-loop decreases-loop
 same-length-3 c = search rules
 
 returns : tie.Need-returns invariant-loop decreases-loop
-returns c = (one-breaks _ _ _ _ (omega arith) (sym (not-true _ c.if1.true) ∙ c.before.before.before.before.before.before.before.add-rows.ensures.0), λ e. clash e)
+returns c = (one_breaks _ _ _ _ (omega arith) (sym (not_true _ c.if1.true) ∙ c.before.before.before.before.before.before.before.add-rows.ensures.0), λ e. clash e)
 
 add-table : tie.Need-overflow-add-table invariant-loop decreases-loop
 add-table c = search rules

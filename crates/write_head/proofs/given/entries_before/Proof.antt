@@ -4,8 +4,8 @@ use borrow.Author.Rules.{rules}
 use native.Mathlib.Omega.{arith}
 use Prim.Native.Nat.{◌-◌, ◌*◌, ◌≤◌}
 use mathlib.Core.Path.{◌≡◌}
-use Rattle.write_head.specs.Given.{entriesBefore}
-use Rattle.write_head.proofs.RowLaws.{before-none, before_more}
+use Rattle.write_head.specs.Given.{entries_before}
+use Rattle.write_head.proofs.RowLaws.{before_none, before_more}
 use Rattle.write_head.proofs.given.entries_before.Statement.{statement}
 use Rattle.write_head.proofs.given.entries_before.Tie as tie
 use Rattle.write_head.proofs.given.entries_before.Reads as reads
@@ -13,13 +13,13 @@ use Rattle.write_head.proofs.given.entries_before.Lts as lts
 use Rattle.write_head.proofs.given.wide.Reads as wide-reads
 
 abbrev invariant-loop : tie.invariant-loop
-invariant-loop given table n₀ i₀ n i = (n ≡ entriesBefore given i) × (n ≤ i * 0x1_0000_0000) × (i ≤ table)
+invariant-loop given table n₀ i₀ n i = (n ≡ entries_before given i) × (n ≤ i * 0x1_0000_0000) × (i ≤ table)
 
 abbrev decreases-loop : tie.decreases-loop
 decreases-loop given table n₀ i₀ n i = table - i
 
 loop-holds : tie.Need-loop-init invariant-loop decreases-loop
-loop-holds c = (before-none _, omega arith, omega arith)
+loop-holds c = (before_none _, omega arith, omega arith)
 
 mul_wide : tie.Need-overflow-mul-wide invariant-loop decreases-loop
 mul_wide c = search rules

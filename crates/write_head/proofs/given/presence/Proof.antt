@@ -2,7 +2,7 @@
 -- Assumes nothing.
 use borrow.Author.Rules.{rules}
 use native.Mathlib.Omega.{arith}
-use Rattle.write_head.specs.RowContracts.{presenceOf}
+use Rattle.write_head.specs.RowContracts.{presence_of}
 use Rattle.write_head.proofs.given.presence.Statement.{statement}
 use Rattle.write_head.proofs.given.presence.Tie as tie
 use Rattle.write_head.proofs.given.presence.Reads as reads
@@ -124,7 +124,7 @@ add-result-2 : tie.Need-overflow-add-result-2
 add-result-2 c = search rules
 
 returns : tie.Need-returns
-unfolding presenceOf
+unfolding presence_of
 returns c = (omega arith, omega arith)
 
 pub presence-spec : {M : Type 1} → statement M

@@ -6,8 +6,8 @@ use mathlib.Core.Path.{◌≡◌}
 use mathlib.Core.Bool.{true}
 use mathlib.Core.Path.{sym}
 use Prim.Native.Nat.{◌-◌, ◌≤◌}
-use Rattle.write_head.specs.RowContracts.{below, fewTable}
-use Rattle.write_head.proofs.RowLaws.{below_none, few-more, few-not, below_end}
+use Rattle.write_head.specs.RowContracts.{below, few_table}
+use Rattle.write_head.proofs.RowLaws.{below_none, few_more, few_not, below_end}
 use Rattle.write_head.proofs.judge.are_few.Statement.{statement}
 use Rattle.write_head.proofs.judge.are_few.Tie as tie
 use Rattle.write_head.proofs.judge.are_few.Reads as reads
@@ -16,7 +16,7 @@ use Rattle.write_head.proofs.given.wide.Reads as wide-reads
 use Rattle.write_head.proofs.judge.built_in.Reads as built-in-reads
 
 abbrev invariant-loop : tie.invariant-loop
-invariant-loop given table₀ table = (below (fewTable given) table ≡ true) × (table ≤ 10)
+invariant-loop given table₀ table = (below (few_table given) table ≡ true) × (table ≤ 10)
 
 abbrev decreases-loop : tie.decreases-loop
 decreases-loop given table₀ table = 10 - table
@@ -43,7 +43,7 @@ add-if1 : tie.Need-overflow-add-if1 invariant-loop decreases-loop
 add-if1 c = search rules
 
 returns : tie.Need-returns invariant-loop decreases-loop
-returns c = few-not _ _ _ _ (omega arith) c.before.before.before.built_in.ensures.0 c.before.wide2.ensures.0 (omega arith)
+returns c = few_not _ _ _ _ (omega arith) c.before.before.before.built_in.ensures.0 c.before.wide2.ensures.0 (omega arith)
 
 add-table : tie.Need-overflow-add-table invariant-loop decreases-loop
 add-table c = search rules
@@ -52,7 +52,7 @@ loop-less : tie.Need-loop-smaller invariant-loop decreases-loop
 loop-less c = search rules
 
 loop-again : tie.Need-loop-preserved invariant-loop decreases-loop
-loop-again c = (few-more _ _ _ _ c.before.before.before.before.before.before.loop.invariant.0 c.before.before.before.built_in.ensures.0 c.before.wide2.ensures.0 (omega arith), omega arith)
+loop-again c = (few_more _ _ _ _ c.before.before.before.before.before.before.loop.invariant.0 c.before.before.before.built_in.ensures.0 c.before.wide2.ensures.0 (omega arith), omega arith)
 
 returns-2 : tie.Need-returns-2 invariant-loop decreases-loop
 returns-2 c = sym (below_end _ _ _ c.before.loop.invariant.0 (omega arith) (omega arith))

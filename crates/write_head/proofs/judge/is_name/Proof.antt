@@ -1,8 +1,8 @@
--- `is_name` meets its contract: a law for each way out.
+-- `is_name_lem` meets its contract: a law for each way out.
 -- Assumes nothing.
 use borrow.Author.Rules.{rules}
 use native.Mathlib.Omega.{arith}
-use Rattle.write_head.proofs.RowLaws.{name-prefix, name-namespace, name-local, name-over, name-alone, name-both}
+use Rattle.write_head.proofs.RowLaws.{name_prefix, name_namespace, name_local, name_over, name_alone, name_both}
 use Rattle.write_head.proofs.judge.is_name.Statement.{statement}
 use Rattle.write_head.proofs.judge.is_name.Tie as tie
 use Rattle.write_head.proofs.judge.is_name.Reads as reads
@@ -46,7 +46,7 @@ wide-requires-2 : tie.Need-wide-requires-2
 wide-requires-2 c κs = search rules
 
 returns : tie.Need-returns
-returns c = name-prefix _ _ (omega arith)
+returns c = name_prefix _ _ (omega arith)
 
 shared-slice-read-wide-2 : tie.Need-shared-slice-read-wide-2
 shared-slice-read-wide-2 c = search rules
@@ -61,22 +61,22 @@ wide-requires-4 : tie.Need-wide-requires-4
 wide-requires-4 c κs = search rules
 
 returns-2 : tie.Need-returns-2
-returns-2 c = name-namespace _ _ (omega arith)
+returns-2 c = name_namespace _ _ (omega arith)
 
 returns-3 : tie.Need-returns-3
-returns-3 c = name-local _ _ (omega arith) (omega arith) (omega arith)
+returns-3 c = name_local _ _ (omega arith) (omega arith) (omega arith)
 
 shared-slice-read-if4 : tie.Need-shared-slice-read-if4
 shared-slice-read-if4 c = search rules
 
 returns-4 : tie.Need-returns-4
-returns-4 c = name-over _ _ (omega arith) (omega arith) (omega arith)
+returns-4 c = name_over _ _ (omega arith) (omega arith) (omega arith)
 
 returns-5 : tie.Need-returns-5
-returns-5 c = name-alone _ _ (omega arith) (omega arith) (omega arith) (omega arith) (omega arith)
+returns-5 c = name_alone _ _ (omega arith) (omega arith) (omega arith) (omega arith) (omega arith)
 
 returns-6 : tie.Need-returns-6
-returns-6 c = name-both _ _ (omega arith) (omega arith) (omega arith) (omega arith) (omega arith)
+returns-6 c = name_both _ _ (omega arith) (omega arith) (omega arith) (omega arith) (omega arith)
 
 pub is-name-spec : {M : Type 1} → statement M
 is-name-spec =

@@ -2,18 +2,18 @@
 -- Assumes nothing.
 use borrow.Author.Rules.{rules}
 use native.Mathlib.Omega.{arith}
-use Rattle.write_head.proofs.RowLaws.{right-identifying, right-string, right-name}
+use Rattle.write_head.proofs.RowLaws.{right_identifying, right_string, right_name}
 use Rattle.write_head.proofs.judge.is_right.Tie as tie
 use Rattle.write_head.proofs.judge.is_right.Statement.{statement}
 
 returns : tie.Need-returns
-returns c = right-identifying _ _ _ _ (omega arith) _ c.is-stretch.ensures
+returns c = right_identifying _ _ _ _ (omega arith) _ c.is_stretch_lem.ensures
 
 returns-2 : tie.Need-returns-2
-returns-2 c = right-string _ _ _ _ (omega arith) (omega arith) _ c.is-string.ensures
+returns-2 c = right_string _ _ _ _ (omega arith) (omega arith) _ c.is_string_lem.ensures
 
 returns-3 : tie.Need-returns-3
-returns-3 c = right-name _ _ _ _ (omega arith) _ c.is_name.ensures
+returns-3 c = right_name _ _ _ _ (omega arith) _ c.is_name.ensures
 
 pub is-right-spec : {M : Type 1} → statement M
 is-right-spec =

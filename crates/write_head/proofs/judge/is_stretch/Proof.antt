@@ -3,7 +3,7 @@
 use borrow.Author.Rules.{rules}
 use native.Mathlib.Omega.{arith}
 use mathlib.Core.Path.{◌∙◌}
-use Rattle.write_head.proofs.RowLaws.{other_tag, stretch-tag}
+use Rattle.write_head.proofs.RowLaws.{other_tag, stretch_tag}
 use Rattle.write_head.proofs.judge.is_stretch.Statement.{statement}
 use Rattle.write_head.proofs.judge.is_stretch.Tie as tie
 use Rattle.write_head.proofs.judge.is_stretch.Reads as reads
@@ -41,7 +41,7 @@ lies-in-requires : tie.Need-lies-in-requires
 lies-in-requires c κs = search rules
 
 returns-2 : tie.Need-returns-2
-returns-2 c = c.lies_in.ensures ∙ stretch-tag _ _ _ (omega arith)
+returns-2 c = c.lies_in.ensures ∙ stretch_tag _ _ _ (omega arith)
 
 pub is-stretch-spec : {M : Type 1} → statement M
 is-stretch-spec =

@@ -1,7 +1,7 @@
 -- `put_name` meets its contract: the parts one behind the other.
 -- Assumes nothing.
 use borrow.Author.Rules.{rules}
-use Rattle.write_head.proofs.OctetLaws.{puts-name}
+use Rattle.write_head.proofs.OctetLaws.{puts_name}
 use Rattle.write_head.proofs.octets.put_name.Statement.{statement}
 use Rattle.write_head.proofs.octets.put_name.Tie as tie
 use Rattle.write_head.proofs.octets.put_name.Reads as reads
@@ -32,7 +32,7 @@ same_length : tie.Need-same-length
 same_length c = search rules
 
 returns : tie.Need-returns
-returns c = puts-name _ _ _ _ c.before.before.before.before.before.before.before.before.before.before.before.before.before.before.before.parts.ensures c.before.before.before.before.before.before.before.before.before.before.before.before.before.before.put.ensures c.before.before.before.before.before.before.before.before.before.before.put-number.ensures c.before.before.before.before.before.before.put-number2.ensures c.before.before.put-number3.ensures
+returns c = puts_name _ _ _ _ c.before.before.before.before.before.before.before.before.before.before.before.before.before.before.before.parts.ensures c.before.before.before.before.before.before.before.before.before.before.before.before.before.before.put.ensures c.before.before.before.before.before.before.before.before.before.before.put-number.ensures c.before.before.before.before.before.before.put-number2.ensures c.before.before.put-number3.ensures
 
 pub put-name-spec : {M : Type 1} → statement M
 put-name-spec =

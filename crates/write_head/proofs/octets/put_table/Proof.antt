@@ -3,8 +3,8 @@
 use borrow.Author.Rules.{rules}
 use native.Mathlib.Omega.{arith}
 use mathlib.Core.Path.{refl}
-use Rattle.write_head.proofs.RowLaws.{few-at}
-use Rattle.write_head.proofs.OctetLaws.{table_none, table-some}
+use Rattle.write_head.proofs.RowLaws.{few_at}
+use Rattle.write_head.proofs.OctetLaws.{table_none, table_some}
 use Rattle.write_head.proofs.octets.put_table.Statement.{statement}
 use Rattle.write_head.proofs.octets.put_table.Tie as tie
 use Rattle.write_head.proofs.octets.put_table.Reads as reads
@@ -22,7 +22,7 @@ returns : tie.Need-returns
 returns c = table_none _ _ _ (omega arith) refl
 
 put-count-requires : tie.Need-put-count-requires
-put-count-requires c κs = let s = c.before.before.before.before.before.before in let f = few-at s.args.given.now s.args.table s.requires.4 s.requires.1 in omega arith
+put-count-requires c κs = let s = c.before.before.before.before.before.before in let f = few_at s.args.given.now s.args.table s.requires.4 s.requires.1 in omega arith
 
 put-rows-requires : tie.Need-put-rows-requires
 put-rows-requires c κs = search rules
@@ -31,7 +31,7 @@ same_length : tie.Need-same-length
 same_length c = search rules
 
 returns-2 : tie.Need-returns-2
-returns-2 c = table-some _ _ _ _ refl (omega arith) c.before.before.before.before.before.before.put_count.ensures c.before.before.put-rows.ensures
+returns-2 c = table_some _ _ _ _ refl (omega arith) c.before.before.before.before.before.before.put_count.ensures c.before.before.put-rows.ensures
 
 pub put-table-spec : {M : Type 1} → statement M
 put-table-spec =

@@ -2,7 +2,7 @@
 -- Assumes nothing.
 use borrow.Author.Rules.{rules}
 use native.Mathlib.Omega.{arith}
-use Rattle.write_head.proofs.RowLaws.{starts-name, starts-string}
+use Rattle.write_head.proofs.RowLaws.{starts_name, starts_string}
 use Rattle.write_head.proofs.repeats.is_built_in.Statement.{statement}
 use Rattle.write_head.proofs.repeats.is_built_in.Tie as tie
 use Rattle.write_head.proofs.repeats.is_built_in.Reads as reads
@@ -11,7 +11,7 @@ use Rattle.tables.proofs.is_built_in.Reads as is-built-in-reads
 use Rattle.write_head.proofs.given.wide.Reads as wide-reads
 
 returns : tie.Need-returns
-returns c = starts-name _ _ _ _ (omega arith)
+returns c = starts_name _ _ _ _ (omega arith)
 
 add_wide : tie.Need-overflow-add-wide
 add_wide c = search rules
@@ -41,7 +41,7 @@ is-built-in-requires : tie.Need-is-built-in-requires
 is-built-in-requires c κs = let p = c.before.before.before.before.before.before.before.requires.1 (omega arith) in omega arith
 
 returns-2 : tie.Need-returns-2
-returns-2 c = starts-string _ _ _ _ _ _ (omega arith) (c.before.before.before.before.before.before.before.before.requires.1 (omega arith)).0 c.before.before.before.wide.ensures.0 c.before.wide2.ensures.0 _ c.is-built-in.ensures
+returns-2 c = starts_string _ _ _ _ _ _ (omega arith) (c.before.before.before.before.before.before.before.before.requires.1 (omega arith)).0 c.before.before.before.wide.ensures.0 c.before.wide2.ensures.0 _ c.is_built_in.ensures
 
 pub is-built-in-spec : {M : Type 1} → statement M
 is-built-in-spec =

@@ -5,9 +5,9 @@ use native.Mathlib.Omega.{arith}
 use mathlib.Core.Path.{◌≡◌, sym, ◌∙◌}
 use mathlib.Core.Bool.{false}
 use Prim.Native.Nat.{ℕ, ◌+◌, ◌-◌, ◌*◌, ◌≤◌}
-use Rattle.write_head.specs.RowContracts.{someBelow, sameRow, startsRow}
+use Rattle.write_head.specs.RowContracts.{some_below, same_row, starts_row}
 use Rattle.write_head.specs.Given.{rows_of}
-use Rattle.write_head.proofs.RowLaws.{some-none, some_more, held_start, held-before, held-not, right-tag, right-lies}
+use Rattle.write_head.proofs.RowLaws.{some_none, some_more, held_start, held_before, held_not, right_tag, right_lies}
 use Rattle.write_head.proofs.repeats.is_held.Statement.{statement}
 use Rattle.write_head.proofs.repeats.is_held.Tie as tie
 use Rattle.write_head.proofs.repeats.is_held.Reads as reads
@@ -17,7 +17,7 @@ use Rattle.write_head.proofs.repeats.is_built_in.Reads as is-built-in-reads
 use Rattle.write_head.proofs.repeats.is_same.Reads as is-same-reads
 
 abbrev invariant-loop : tie.invariant-loop
-invariant-loop given text table i rows j₀ j = (someBelow (λ (k : ℕ). sameRow text given table (rows_of given table + 3 * k) (rows_of given table + 3 * i)) j ≡ false) × (j ≤ i) × (false ≡ startsRow text given table (rows_of given table + 3 * i))
+invariant-loop given text table i rows j₀ j = (some_below (λ (k : ℕ). same_row text given table (rows_of given table + 3 * k) (rows_of given table + 3 * i)) j ≡ false) × (j ≤ i) × (false ≡ starts_row text given table (rows_of given table + 3 * i))
 
 abbrev decreases-loop : tie.decreases-loop
 decreases-loop given text table i rows j₀ j = i - j
@@ -32,13 +32,13 @@ add-is-built-in : tie.Need-overflow-add-is-built-in invariant-loop decreases-loo
 add-is-built-in c = search rules
 
 is-built-in-requires : tie.Need-is-built-in-requires invariant-loop decreases-loop
-is-built-in-requires c κs = let s = c.before.before.before in let e = c.rows_of_lem.ensures.0 in (omega arith, λ k. rw e (right-tag _ _ s.requires.3 _ _ s.requires.1 s.requires.2 (s.requires.4 k), (right-lies _ _ s.requires.3 _ _ s.requires.1 s.requires.2 k).1))
+is-built-in-requires c κs = let s = c.before.before.before in let e = c.rows_of_lem.ensures.0 in (omega arith, λ k. rw e (right_tag _ _ s.requires.3 _ _ s.requires.1 s.requires.2 (s.requires.4 k), (right_lies _ _ s.requires.3 _ _ s.requires.1 s.requires.2 k).1))
 
 returns : tie.Need-returns invariant-loop decreases-loop
-returns c = let e = c.before.before.rows_of_lem.ensures.0 in held_start _ _ _ _ (rw (← e) (sym c.if1.true ∙ c.before.is-built-in.ensures))
+returns c = let e = c.before.before.rows_of_lem.ensures.0 in held_start _ _ _ _ (rw (← e) (sym c.if1.true ∙ c.before.is_built_in.ensures))
 
 loop-holds : tie.Need-loop-init invariant-loop decreases-loop
-loop-holds c = let e = c.before.before.rows_of_lem.ensures.0 in (some-none _, omega arith, rw (← e) (sym c.if1.false ∙ c.before.is-built-in.ensures))
+loop-holds c = let e = c.before.before.rows_of_lem.ensures.0 in (some_none _, omega arith, rw (← e) (sym c.if1.false ∙ c.before.is_built_in.ensures))
 
 mul-is-same : tie.Need-overflow-mul-is-same invariant-loop decreases-loop
 mul-is-same c = search rules
@@ -53,10 +53,10 @@ add-is-same-2 : tie.Need-overflow-add-is-same-2 invariant-loop decreases-loop
 add-is-same-2 c = search rules
 
 is-same-requires : tie.Need-is-same-requires invariant-loop decreases-loop
-is-same-requires c κs = let s = c.before.before.before.before.before.before.before in let l = c.before.loop in let e = c.before.before.before.before.rows_of_lem.ensures.0 in (omega arith, omega arith, λ k. rw e (right-tag _ _ s.requires.3 _ l.j s.requires.1 (omega arith) (s.requires.4 k), (right-lies _ _ s.requires.3 _ l.j s.requires.1 (omega arith) k).1, right-tag _ _ s.requires.3 _ _ s.requires.1 s.requires.2 (s.requires.4 k), (right-lies _ _ s.requires.3 _ _ s.requires.1 s.requires.2 k).1))
+is-same-requires c κs = let s = c.before.before.before.before.before.before.before in let l = c.before.loop in let e = c.before.before.before.before.rows_of_lem.ensures.0 in (omega arith, omega arith, λ k. rw e (right_tag _ _ s.requires.3 _ l.j s.requires.1 (omega arith) (s.requires.4 k), (right_lies _ _ s.requires.3 _ l.j s.requires.1 (omega arith) k).1, right_tag _ _ s.requires.3 _ _ s.requires.1 s.requires.2 (s.requires.4 k), (right_lies _ _ s.requires.3 _ _ s.requires.1 s.requires.2 k).1))
 
 returns-2 : tie.Need-returns-2 invariant-loop decreases-loop
-returns-2 c = let e = c.before.before.before.before.before.before.rows_of_lem.ensures.0 in held-before _ _ _ _ c.before.before.before.loop.j (omega arith) (rw (← e) (sym c.if2.true ∙ c.before.is_same.ensures))
+returns-2 c = let e = c.before.before.before.before.before.before.rows_of_lem.ensures.0 in held_before _ _ _ _ c.before.before.before.loop.j (omega arith) (rw (← e) (sym c.if2.true ∙ c.before.is_same.ensures))
 
 add-j : tie.Need-overflow-add-j invariant-loop decreases-loop
 add-j c = search rules
@@ -68,7 +68,7 @@ loop-again : tie.Need-loop-preserved invariant-loop decreases-loop
 loop-again c = let e = c.before.before.before.before.before.before.rows_of_lem.ensures.0 in let l = c.before.before.before.loop in (some_more _ _ l.invariant.0 (rw (← e) (sym c.before.is_same.ensures ∙ c.if2.false)), omega arith, l.invariant.2)
 
 returns-3 : tie.Need-returns-3 invariant-loop decreases-loop
-returns-3 c = let l = c.before.loop in held-not _ _ _ _ l.invariant.2 _ (omega arith) (omega arith) l.invariant.0
+returns-3 c = let l = c.before.loop in held_not _ _ _ _ l.invariant.2 _ (omega arith) (omega arith) l.invariant.0
 
 pub is-held-spec : {M : Type 1} → statement M
 is-held-spec =

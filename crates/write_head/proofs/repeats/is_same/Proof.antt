@@ -2,7 +2,7 @@
 -- Assumes nothing.
 use borrow.Author.Rules.{rules}
 use native.Mathlib.Omega.{arith}
-use Rattle.write_head.proofs.RowLaws.{same-string, same-prefix, same-namespace, same-local}
+use Rattle.write_head.proofs.RowLaws.{same_string, same_prefix, same_namespace, same-local}
 use Rattle.write_head.proofs.repeats.is_same.Statement.{statement}
 use Rattle.write_head.proofs.repeats.is_same.Tie as tie
 use Rattle.write_head.proofs.repeats.is_same.Reads as reads
@@ -62,7 +62,7 @@ same-octets-requires : tie.Need-same-octets-requires
 same-octets-requires c κs = let p = c.before.before.before.before.before.before.before.before.before.before.before.requires.2 (omega arith) in omega arith
 
 returns : tie.Need-returns
-returns c = let p = c.before.before.before.before.before.before.before.before.before.before.before.before.requires.2 (omega arith) in same-string _ _ _ _ _ (omega arith) p.0 p.2 _ _ _ _ c.before.before.before.before.before.before.before.wide.ensures.0 c.before.before.before.before.before.wide2.ensures.0 c.before.before.before.wide3.ensures.0 c.before.wide4.ensures.0 _ c.same-octets.ensures
+returns c = let p = c.before.before.before.before.before.before.before.before.before.before.before.before.requires.2 (omega arith) in same_string _ _ _ _ _ (omega arith) p.0 p.2 _ _ _ _ c.before.before.before.before.before.before.before.wide.ensures.0 c.before.before.before.before.before.wide2.ensures.0 c.before.before.before.wide3.ensures.0 c.before.wide4.ensures.0 _ c.same-octets.ensures
 
 mul-if2 : tie.Need-overflow-mul-if2
 mul-if2 c = search rules
@@ -116,10 +116,10 @@ returns-2 : tie.Need-returns-2
 returns-2 c = same-local _ _ _ _ _ (omega arith) (omega arith) (omega arith)
 
 returns-3 : tie.Need-returns-3
-returns-3 c = same-namespace _ _ _ _ _ (omega arith) (omega arith) (omega arith)
+returns-3 c = same_namespace _ _ _ _ _ (omega arith) (omega arith) (omega arith)
 
 returns-4 : tie.Need-returns-4
-returns-4 c = same-prefix _ _ _ _ _ (omega arith) (omega arith)
+returns-4 c = same_prefix _ _ _ _ _ (omega arith) (omega arith)
 
 pub is-same-spec : {M : Type 1} → statement M
 is-same-spec =

@@ -5,40 +5,40 @@ use native.Mathlib.Omega.{arith}
 use mathlib.Core.Path.{refl}
 use Rattle.events.specs.declared.Kind.TheVariants.{Instruction}
 use Rattle.write_items.proofs.WellMade.{by_kind}
-use Rattle.write_items.proofs.Strings.{stretch-suits, instruction-fills}
-use Rattle.write_items.proofs.ItemLaws.{instruction-full, instruction-lands}
+use Rattle.write_items.proofs.Strings.{stretch_suits, instruction_fills}
+use Rattle.write_items.proofs.ItemLaws.{instruction_full, instruction_lands}
 use Rattle.write_items.proofs.items.instruction.Statement.{statement}
 use Rattle.write_items.proofs.items.instruction.Tie as tie
 
 identified-requires : tie.Need-identified-requires
 identified-requires c κs =
     let at-start = c.before.before.before.before.before.before.before.before.before.before.before.before.before.before in
-    let s = stretch-suits at-start.args.text.now 3 at-start.args.e.name (by_kind at-start.args.text.now at-start.args.e Instruction at-start.requires.made).1 in
+    let s = stretch_suits at-start.args.text.now 3 at-start.args.e.name (by_kind at-start.args.text.now at-start.args.e Instruction at-start.requires.made).1 in
     (at-start.requires.order, omega arith, s.1, omega arith, s.0)
 
 returns : tie.Need-returns
 returns c =
     let at-identified = c.before.before.before.before.before.before.before.before.before.before in
     let at-start = at-identified.before.before.before.before.before.before.before.before.before.before.before.before.before.before.before in
-    (refl, instruction-full _ _ at-start.args.st at-start.args.counts.now _ at-start.args.e (rw c.enum_told.given.1 at at-identified.identified.ensures))
+    (refl, instruction_full _ _ at-start.args.st at-start.args.counts.now _ at-start.args.e (rw c.enum_told.given.1 at at-identified.identified.ensures))
 
 value-requires : tie.Need-value-requires
 value-requires c κs =
     let at-identified = c.before.before.before.before.before.before.before.before.before.before.before.before.before.before.before in
-    let at-octet = at-identified.before.before.before.before.before.before.before.before.before in
-    let at-start = at-octet.before.before.before.before.before.before in
+    let at_octet = at-identified.before.before.before.before.before.before.before.before.before in
+    let at-start = at_octet.before.before.before.before.before.before in
     let stands = rw c.before.before.before.before.before.behind.given.1 at at-identified.identified.ensures in
-    let low = at-octet.octet.ensures.1 in
+    let low = at_octet.octet.ensures.1 in
     let few = stands.few in
-    (stands.order, omega arith, omega arith, omega arith, instruction-fills at-start.args.text.now at-start.args.e at-start.requires.made at-start.requires.texts)
+    (stands.order, omega arith, omega arith, omega arith, instruction_fills at-start.args.text.now at-start.args.e at-start.requires.made at-start.requires.texts)
 
 landed-requires : tie.Need-landed-requires
 landed-requires c κs =
     let at-behind = c.before.before.before.before.before.before.before.before.before.before.before.before.before.before in
     let at-identified = at-behind.before.before.before.before.before.before.before.before.before.before in
-    let at-octet = at-identified.before.before.before.before.before.before.before.before.before in
+    let at_octet = at-identified.before.before.before.before.before.before.before.before.before in
     let stands = rw at-behind.behind.given.1 at at-identified.identified.ensures in
-    let low = at-octet.octet.ensures.1 in
+    let low = at_octet.octet.ensures.1 in
     let few = stands.few in
     let most = c.before.before.before.before.before.before.before.before.value.ensures.few in
     omega arith
@@ -74,10 +74,10 @@ returns-2 c =
     let at-behind = at_value.before.before.before.before.before.before in
     let at-identified = at-behind.before.before.before.before.before.before.before.before.before.before in
     let at-put = at-identified.before.before.before.before.before.before.before in
-    let at-octet = at-put.before.before in
-    let at-start = at-octet.before.before.before.before.before.before in
+    let at_octet = at-put.before.before in
+    let at-start = at_octet.before.before.before.before.before.before in
     let stands = rw at-behind.behind.given.1 at at-identified.identified.ensures in
-    rw c.landed.ensures (instruction-lands _ _ _ _ _ _ at-start.requires at-octet.octet.ensures at-put.put.ensures stands at_value.value.ensures)
+    rw c.landed.ensures (instruction_lands _ _ _ _ _ _ at-start.requires at_octet.octet.ensures at-put.put.ensures stands at_value.value.ensures)
 
 pub instruction-spec : {M : Type 1} → statement M
 instruction-spec =

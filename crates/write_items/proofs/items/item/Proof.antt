@@ -3,7 +3,7 @@
 use borrow.Author.Rules.{rules}
 use native.Mathlib.Omega.{arith}
 use Rattle.events.specs.declared.Kind.TheVariants.{Blank}
-use Rattle.write_items.specs.Events.{eventOf}
+use Rattle.write_items.specs.Events.{event_of}
 use Rattle.write_items.proofs.WellMade.{by_kind}
 use Rattle.write_items.proofs.ItemLaws.{kind_fits}
 use Rattle.write_items.proofs.items.item.Statement.{statement}
@@ -43,56 +43,56 @@ instruction-requires c κs =
     kind_fits c.before.before.before.before.enum-told7.given.1 at-start.requires
 
 close-requires-2 : tie.Need-close-requires-2
-unfolding eventOf
+unfolding event_of
 close-requires-2 c κs =
     let at-start = c.before.before.before.before.before.before.before.before in
     let shallow = at-start.requires.shallow in
     (at-start.requires.at, at-start.requires.inside (rw c.before.enum-told8.given.1), omega arith)
 
 returns : tie.Need-returns
-unfolding eventOf
+unfolding event_of
 returns c =
     let at-start = c.before.before.before.before.before.before.before.before.before.before.before in
     absurd (by_kind _ _ Blank (rw c.before.before.before.before.enum_told.given.1 at at-start.requires.made))
 
 returns-2 : tie.Need-returns-2
-unfolding eventOf
+unfolding event_of
 returns-2 c =
     let at-enum-told2 = c.before.before.before.before.before.before.before.before.before.before.before.before.before in
     rw at-enum-told2.enum-told2.given.1 c.before.before.before.before.before.before.before.before.declare.ensures
 
 returns-3 : tie.Need-returns-3
-unfolding eventOf
+unfolding event_of
 returns-3 c =
     let at-enum-told3 = c.before.before.before.before.before.before.before.before.before.before.before.before.before in
     rw at-enum-told3.enum-told3.given.1 c.before.before.before.before.before.before.before.before.start.ensures
 
 returns-4 : tie.Need-returns-4
-unfolding eventOf
+unfolding event_of
 returns-4 c =
     let at-enum-told4 = c.before.before.before.before.before.before.before.before.before.before.before.before.before in
     rw at-enum-told4.enum-told4.given.1 c.before.before.before.before.before.before.before.before.attribute.ensures
 
 returns-5 : tie.Need-returns-5
-unfolding eventOf
+unfolding event_of
 returns-5 c =
     let at-enum-told5 = c.before.before.before.before.before.before.before.before.before.before.before.before.before in
     rw at-enum-told5.enum-told5.given.1 c.before.before.before.before.before.before.before.before.chunk.ensures
 
 returns-6 : tie.Need-returns-6
-unfolding eventOf
+unfolding event_of
 returns-6 c =
     let at-enum-told6 = c.before.before.before.before.before.before.before.before.before.before.before.before.before in
     rw at-enum-told6.enum-told6.given.1 c.before.before.before.before.before.before.before.before.comment.ensures
 
 returns-7 : tie.Need-returns-7
-unfolding eventOf
+unfolding event_of
 returns-7 c =
     let at-enum-told7 = c.before.before.before.before.before.before.before.before.before.before.before.before.before in
     rw at-enum-told7.enum-told7.given.1 c.before.before.before.before.before.before.before.before.instruction.ensures
 
 returns-8 : tie.Need-returns-8
-unfolding eventOf
+unfolding event_of
 returns-8 c =
     let at-start = c.before.before.before.before.before.before.before.before.before.before.before in
     rw c.before.before.before.before.enum-told8.given.1 (c.before.before.close2.ensures at-start.args.text.now at-start.args.a at-start.args.counts.now at-start.args.t.now at-start.args.index.now at-start.requires.order)

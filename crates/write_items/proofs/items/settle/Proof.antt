@@ -2,16 +2,16 @@
 -- Assumes nothing.
 use borrow.Author.Rules.{rules}
 use mathlib.Core.Path.{sym, ◌∙◌}
-use Rattle.write_items.proofs.ItemLaws.{settled-elsewhere, settled-member, settled-behind}
+use Rattle.write_items.proofs.ItemLaws.{settled_elsewhere, settled_member, settled-behind}
 use Rattle.write_items.proofs.Faults.{passes, fails}
 use Rattle.write_items.proofs.items.settle.Statement.{statement}
 use Rattle.write_items.proofs.items.settle.Tie as tie
 
 returns : tie.Need-returns
-returns c = settled-elsewhere _ _ _ (fails c.before.is-listing.ensures c.if1.true)
+returns c = settled_elsewhere _ _ _ (fails c.before.is-listing.ensures c.if1.true)
 
 returns-2 : tie.Need-returns-2
-returns-2 c = settled-member _ _ _ (passes c.before.before.before.is-listing.ensures c.before.before.if1.false) (sym (c.before.is-attribute.ensures _) ∙ c.if2.true)
+returns-2 c = settled_member _ _ _ (passes c.before.before.before.is-listing.ensures c.before.before.if1.false) (sym (c.before.is-attribute.ensures _) ∙ c.if2.true)
 
 returns-3 : tie.Need-returns-3
 returns-3 c =

@@ -4,7 +4,7 @@ use borrow.Author.Rules.{rules}
 use native.Mathlib.Omega.{arith}
 use mathlib.Core.Path.{refl}
 use Rattle.tables.specs.Rows.{table_of}
-use Rattle.write_names.proofs.NameLaws.{declared-is}
+use Rattle.write_names.proofs.NameLaws.{declared_is}
 use Rattle.write_names.proofs.naming.declared.Statement.{statement}
 use Rattle.write_names.proofs.naming.declared.Tie as tie
 
@@ -21,7 +21,7 @@ returns : tie.Need-returns
 returns c =
     let at-has2 = c.before.before.before.before.before.before.before.before.before.before.before.before.before in
     let at_has = at-has2.before in
-    rw (declared-is _ _ _ _ at_has.has.ensures.0 at-has2.has2.ensures.0) c.before.before.before.before.before.before.before.before.pair.ensures
+    rw (declared_is _ _ _ _ at_has.has.ensures.0 at-has2.has2.ensures.0) c.before.before.before.before.before.before.before.before.pair.ensures
 
 pub declared-spec : {M : Type 1} → statement M
 declared-spec =

@@ -2,27 +2,27 @@
 -- Assumes nothing.
 use borrow.Author.Rules.{rules}
 use native.Mathlib.Omega.{arith}
-use Rattle.write_names.proofs.Order.{counted-at}
-use Rattle.write_names.proofs.NameLaws.{names-ready, name-found, name-few, name_new, name-numbered}
+use Rattle.write_names.proofs.Order.{counted_at}
+use Rattle.write_names.proofs.NameLaws.{names_ready, name_found, name_few, name_new, name_numbered}
 use Rattle.write_names.proofs.naming.name.Statement.{statement}
 use Rattle.write_names.proofs.naming.name.Tie as tie
 
 number-then-requires : tie.Need-number-then-requires
 number-then-requires c κs =
     let at-start = c.before.before.before.before.before.before.before.before.before.before.before.before.before.before.before.before.before.before in
-    let few = counted-at _ _ _ _ 0 at-start.requires.0 in
+    let few = counted_at _ _ _ _ 0 at-start.requires.0 in
     omega arith
 
 number-then-requires-2 : tie.Need-number-then-requires-2
 number-then-requires-2 c κs =
     let at-start = c.before.before.before.before.before.before.before.before.before.before.before.before.before.before.before.before.before.before.before.before in
-    let few = counted-at _ _ _ _ 1 at-start.requires.0 in
+    let few = counted_at _ _ _ _ 1 at-start.requires.0 in
     omega arith
 
 number-then-requires-3 : tie.Need-number-then-requires-3
 number-then-requires-3 c κs =
     let at-start = c.before.before.before.before.before.before.before.before.before.before.before.before.before.before.before.before.before.before.before.before.before.before in
-    let few = counted-at _ _ _ _ 2 at-start.requires.0 in
+    let few = counted_at _ _ _ _ 2 at-start.requires.0 in
     omega arith
 
 mul-find-name : tie.Need-overflow-mul-find-name
@@ -38,7 +38,7 @@ slice-read-find-name c =
 find-name-requires : tie.Need-find-name-requires
 find-name-requires c κs =
     let at-start = c.before.before.before.before.before.before.before.before.before.before.before.before.before.before.before.before.before.before.before.before.before.before.before.before.before.before in
-    names-ready _ _ _ _ _ at-start.requires.0 at-start.requires.2.0 at-start.requires.2.1
+    names_ready _ _ _ _ _ at-start.requires.0 at-start.requires.2.0 at-start.requires.2.1
 
 put-name-number-requires : tie.Need-put-name-number-requires
 put-name-number-requires c κs =
@@ -48,7 +48,7 @@ put-name-number-requires c κs =
     let at-number-of = at-number-of2.before.before.before.before in
     let at-start = at-number-of.before.before.before.before.before.before.before.before.before in
     let proper = at-start.requires.2 in
-    let few = name-few _ _ _ _ at-start.requires.0 at-start.args.name proper at-number-of.number_of_lem.ensures at-number-of2.number-of2.ensures at-number-of3.number-of3.ensures at-number-then.number-then.ensures c.before.before.before.before.before.before.before.before.number-then2.ensures c.before.before.before.before.before.before.number-then3.ensures c.before.before.find-name.ensures in
+    let few = name_few _ _ _ _ at-start.requires.0 at-start.args.name proper at-number-of.number_of_lem.ensures at-number-of2.number-of2.ensures at-number-of3.number-of3.ensures at-number-then.number-then.ensures c.before.before.before.before.before.before.before.before.number-then2.ensures c.before.before.before.before.before.before.number-then3.ensures c.before.before.find-name.ensures in
     omega arith
 
 returns : tie.Need-returns
@@ -61,7 +61,7 @@ returns c =
     let at-number-of = at-number-of2.before.before.before.before in
     let at-start = at-number-of.before.before.before.before.before.before.before.before.before in
     let proper = at-start.requires.2 in
-    name-numbered _ _ _ _ at-start.requires.0 at-start.args.name _ (name-found _ _ _ _ at-start.requires.0 at-start.args.name proper at-number-of.number_of_lem.ensures at-number-of2.number-of2.ensures at-number-of3.number-of3.ensures at-number-then.number-then.ensures at-number-then2.number-then2.ensures at-number-then3.number-then3.ensures c.before.before.before.before.before.find-name.ensures) c.before.before.before.before.if1.true c.before.before.put-name-number.ensures
+    name_numbered _ _ _ _ at-start.requires.0 at-start.args.name _ (name_found _ _ _ _ at-start.requires.0 at-start.args.name proper at-number-of.number_of_lem.ensures at-number-of2.number-of2.ensures at-number-of3.number-of3.ensures at-number-then.number-then.ensures at-number-then2.number-then2.ensures at-number-then3.number-then3.ensures c.before.before.before.before.before.find-name.ensures) c.before.before.before.before.if1.true c.before.before.put-name-number.ensures
 
 parts-requires : tie.Need-parts-requires
 parts-requires c κs =

@@ -4,15 +4,15 @@ use borrow.Author.Rules.{rules}
 use native.Mathlib.Omega.{arith}
 use borrow.Author.Tests.{eqb-true, eqb-false}
 use mathlib.Core.Path.{sym, ◌∙◌}
-use Rattle.write_names.proofs.NameLaws.{then-held, then-absent, then_next}
+use Rattle.write_names.proofs.NameLaws.{then_held, then_absent, then_next}
 use Rattle.write_names.proofs.naming.number_then.Statement.{statement}
 use Rattle.write_names.proofs.naming.number_then.Tie as tie
 
 returns : tie.Need-returns
-returns c = then-held _ _ _ (omega arith)
+returns c = then_held _ _ _ (omega arith)
 
 returns-2 : tie.Need-returns-2
-returns-2 c = then-absent _ _ _ (omega arith) (eqb-true _ _ (sym c.before.is-absent.ensures ∙ c.if2.true))
+returns-2 c = then_absent _ _ _ (omega arith) (eqb-true _ _ (sym c.before.is-absent.ensures ∙ c.if2.true))
 
 returns-3 : tie.Need-returns-3
 returns-3 c = then_next _ _ _ (omega arith) (eqb-false _ _ (sym c.before.is-absent.ensures ∙ c.if2.false))

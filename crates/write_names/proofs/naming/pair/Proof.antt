@@ -2,7 +2,7 @@
 -- Assumes nothing.
 use borrow.Author.Rules.{rules}
 use native.Mathlib.Omega.{arith}
-use Rattle.write_names.proofs.NameLaws.{pair-full, pair-looked, pair-behind}
+use Rattle.write_names.proofs.NameLaws.{pair_full, pair_looked, pair-behind}
 use Rattle.write_names.proofs.naming.pair.Statement.{statement}
 use Rattle.write_names.proofs.naming.pair.Tie as tie
 
@@ -16,7 +16,7 @@ returns c =
     let at-optional = c.before.before.before.before.before.before.before.before.before.before in
     let at-start = at-optional.before.before.before.before.before.before.before.before.before.before.before.before.before.before.before.before in
     let full = rw (c.enum_told.given.1, at-start.requires.2) at at-optional.optional.ensures in
-    pair-full _ _ _ _ _ full
+    pair_full _ _ _ _ _ full
 
 optional-requires-2 : tie.Need-optional-requires-2
 optional-requires-2 c κs =
@@ -24,7 +24,7 @@ optional-requires-2 c κs =
     let at-start = at-optional.before.before.before.before.before.before.before.before.before.before.before.before.before.before.before.before in
     let stands = rw (c.before.before.before.before.before.behind.given.1, at-start.requires.2) at at-optional.optional.ensures in
     let few = stands.few in
-    let looked = pair-looked _ _ _ _ at-start.requires.0 _ _ _ stands.order _ at-start.args.x.namespace at-start.requires.3 stands.tables at-start.requires.5 in
+    let looked = pair_looked _ _ _ _ at-start.requires.0 _ _ _ stands.order _ at-start.args.x.namespace at-start.requires.3 stands.tables at-start.requires.5 in
     (stands.order, omega arith, looked)
 
 returns-2 : tie.Need-returns-2

@@ -4,7 +4,7 @@ use borrow.Author.Rules.{rules}
 use native.Mathlib.Omega.{arith}
 use mathlib.Core.Path.{refl}
 use Rattle.tables.specs.Rows.{table_of}
-use Rattle.write_names.proofs.NameLaws.{triple-new, local-held, parts-full, local-full, parts-behind}
+use Rattle.write_names.proofs.NameLaws.{triple_new, local_held, parts_full, local_full, parts-behind}
 use Rattle.write_names.proofs.naming.parts.Statement.{statement}
 use Rattle.write_names.proofs.naming.parts.Tie as tie
 
@@ -20,7 +20,7 @@ returns c =
     let at_pair = c.before.before.before.before.before.before.before.before.before.before in
     let at-start = at_pair.before.before.before.before.before.before.before.before.before.before.before.before.before.before.before.before in
     let full = rw c.enum_told.given.1 at at_pair.pair.ensures in
-    parts-full _ _ _ at-start.args.name at-start.args.k at-start.requires.2 full
+    parts_full _ _ _ at-start.args.name at-start.args.k at-start.requires.2 full
 
 id-requires : tie.Need-id-requires
 id-requires c κs =
@@ -29,7 +29,7 @@ id-requires c κs =
     let stands = rw c.before.before.before.before.before.behind.given.1 at at_pair.pair.ensures in
     let few = stands.few in
     let held = at-start.requires.2.held in
-    (stands.order, omega arith, at-start.requires.3.6, (omega arith, at-start.requires.3.5, local-held _ _ _ _ stands.order _ _ _ _ _ _ stands.tables held.local, held.few.2))
+    (stands.order, omega arith, at-start.requires.3.6, (omega arith, at-start.requires.3.5, local_held _ _ _ _ stands.order _ _ _ _ _ _ stands.tables held.local, held.few.2))
 
 returns-2 : tie.Need-returns-2
 returns-2 c =
@@ -39,7 +39,7 @@ returns-2 c =
     let at-start = at_pair.before.before.before.before.before.before.before.before.before.before.before.before.before.before.before.before in
     let stands = rw at-behind.behind.given.1 at at_pair.pair.ensures in
     let full = rw c.enum-told2.given.1 at at-id.id.ensures in
-    local-full _ _ _ at-start.args.name at-start.args.k at-start.requires.2 stands full
+    local_full _ _ _ at-start.args.name at-start.args.k at-start.requires.2 stands full
 
 triple-requires : tie.Need-triple-requires
 triple-requires c κs =
@@ -50,7 +50,7 @@ triple-requires c κs =
     let stands = rw at-behind.behind.given.1 at at_pair.pair.ensures in
     let then = rw c.before.before.before.before.next.given.1 at at-id.id.ensures in
     let proper = at-start.requires.3 in
-    (then.order.room, then.order.ten, then.order.indexed.size, proper.0, proper.1, triple-new _ _ _ at-start.args.name at-start.args.k at-start.requires.2 stands proper then)
+    (then.order.room, then.order.ten, then.order.indexed.size, proper.0, proper.1, triple_new _ _ _ at-start.args.name at-start.args.k at-start.requires.2 stands proper then)
 
 same-length-9 : tie.Need-same-length-9
 same-length-9 c =

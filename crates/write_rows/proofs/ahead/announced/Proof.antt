@@ -65,7 +65,7 @@ use Rattle.write_items.specs.Steps.{announced}
 use Rattle.write_rows.specs.declared.ahead.Look.{Look}
 use Rattle.write_rows.specs.declared.ahead.Look.TheVariants.{Before}
 use Rattle.write_rows.specs.AheadContracts.{decided, onward}
-use Rattle.write_rows.proofs.LookLaws.{look-inside, look-past, look-over}
+use Rattle.write_rows.proofs.LookLaws.{look_inside, look_past, look_over}
 use Rattle.write_rows.specs.contracts.ahead.Look as K
 use Rattle.write_rows.proofs.ahead.Look.TheLaws as K'
 use Rattle.write_rows.specs.contracts.ahead.Look.goes_on as goes_on
@@ -100,15 +100,15 @@ stayed = (stay_dropped (shr_slice_of (0 ∷ []) tt (plain (λ _. E.the_row))) ye
 abbrev word : Ty
 word = ty_int w64
 
-abbrev rowTy : Ty
-rowTy = slice_ty (ty_ref (named 0) imm (pointee (E.the_row).written))
+abbrev row_ty : Ty
+row_ty = slice_ty (ty_ref (named 0) imm (pointee (E.the_row).written))
 
 -- what is known, in memory
-abbrev valK : Look → Val
-valK = Le.val K.the_type K'.the_laws
+abbrev val_k : Look → Val
+val_k = Le.val K.the_type K'.the_laws
 
 abbrev IsK : Look → Type 0
-IsK k = Is K.the_row k (valK k ∷ [])
+IsK k = Is K.the_row k (val_k k ∷ [])
 
 -- from k the record e leads to k'
 abbrev Passes : Look → Event → Look → Type 0
@@ -129,8 +129,8 @@ module _ {M : Type 1} {𝓤 : Ura M} (𝓛 : Logic 𝓤) (at_mem : Memory → SP
   Answer = triple_of 𝓛 answer.signature (answer.spec 𝓛 at_mem run)
 
   -- what each ensures
-  goes-on-of : (k : Look) (n end : ℕ) (r : Bool) → ent 𝓤 (ensured 𝓛 goes_on.ended (goes_on.clauses 𝓛 at_mem run) tt (k, (n, (end, tt))) tt r) (fact 𝓤 (r ≡ onward k n end))
-  goes-on-of k n end r = ex_e 𝓤 _ (λ ws. snd∗ 𝓤 (sem 𝓛 (lasts goes_on.ended tt (k, (n, (end, tt))) ws)) (fact 𝓤 (r ≡ onward k n end)))
+  goes_on_of : (k : Look) (n end : ℕ) (r : Bool) → ent 𝓤 (ensured 𝓛 goes_on.ended (goes_on.clauses 𝓛 at_mem run) tt (k, (n, (end, tt))) tt r) (fact 𝓤 (r ≡ onward k n end))
+  goes_on_of k n end r = ex_e 𝓤 _ (λ ws. snd∗ 𝓤 (sem 𝓛 (lasts goes_on.ended tt (k, (n, (end, tt))) ws)) (fact 𝓤 (r ≡ onward k n end)))
 
   load_of : (κ : Lft) (x : Bor (List Event)) (n : ℕ) (e : Event) → ent 𝓤 (ensured 𝓛 load'.ended (load'.clauses 𝓛 at_mem run) (κ, tt) (x, (n, tt)) tt e) (fact 𝓤 (e ≡ get_or x.now n blank))
   load_of κ x n e = ex_e 𝓤 _ (λ ws. snd∗ 𝓤 (sem 𝓛 (lasts load'.ended (κ, tt) (x, (n, tt)) ws)) (fact 𝓤 (e ≡ get_or x.now n blank)))
@@ -138,8 +138,8 @@ module _ {M : Type 1} {𝓤 : Ura M} (𝓛 : Logic 𝓤) (at_mem : Memory → SP
   past_of : (k : Look) (e : Event) (k' : Look) → ent 𝓤 (ensured 𝓛 past.ended (past.clauses 𝓛 at_mem run) tt (k, (e, tt)) tt k') (fact 𝓤 (Passes k e k'))
   past_of k e k' = ex_e 𝓤 _ (λ ws. snd∗ 𝓤 (sem 𝓛 (lasts past.ended tt (k, (e, tt)) ws)) (fact 𝓤 (Passes k e k')))
 
-  answer-of : (k : Look) (r : Bool) → ent 𝓤 (ensured 𝓛 answer.ended (answer.clauses 𝓛 at_mem run) tt (k, tt) tt r) (fact 𝓤 (r ≡ decided k []))
-  answer-of k r = ex_e 𝓤 _ (λ ws. snd∗ 𝓤 (sem 𝓛 (lasts answer.ended tt (k, tt) ws)) (fact 𝓤 (r ≡ decided k [])))
+  answer_of : (k : Look) (r : Bool) → ent 𝓤 (ensured 𝓛 answer.ended (answer.clauses 𝓛 at_mem run) tt (k, tt) tt r) (fact 𝓤 (r ≡ decided k []))
+  answer_of k r = ex_e 𝓤 _ (λ ws. snd∗ 𝓤 (sem 𝓛 (lasts answer.ended tt (k, tt) ws)) (fact 𝓤 (r ≡ decided k [])))
 
 module _ {M : Type 1} {𝓤 : Ura M} (𝓛 : Logic 𝓤) (at_mem : Memory → SProp 𝓤) (run : Routine → Fun 𝓤) (κ : Lft) (q : Share) (b o : ℕ) (γ : GName) (ys : List Event) (i : ℕ)
     (room : Room E.the_row (length ys)) (i-fits : i < 2 ^ 64) where
@@ -176,56 +176,56 @@ module _ {M : Type 1} {𝓤 : Ura M} (𝓛 : Logic 𝓤) (at_mem : Memory → SP
       nothing ! $ move ! (1 ∷ 0 ∷ []) $ join ! $ frame ! $ nothing ! $ nothing ! $ fjoin ! $ nothing ! $ fjoin ! $ frame ! $ owned ! bool (Is bool) (bool_Makes 𝓛) r _ refl $ done !
 
   -- ---- what the calls take
-  abbrev to-goes-on : Look → ℕ → (GoesOn 𝓛 at_mem run).Ghost
-  to-goes-on k n = ((tt, tt, tt, (k, (n, (length ys, tt))), (valK k ∷ [], (vint w64 n ∷ [], (vint w64 (length ys) ∷ [], tt)))), tt)
+  abbrev to_goes_on : Look → ℕ → (GoesOn 𝓛 at_mem run).Ghost
+  to_goes_on k n = ((tt, tt, tt, (k, (n, (length ys, tt))), (val_k k ∷ [], (vint w64 n ∷ [], (vint w64 (length ys) ∷ [], tt)))), tt)
 
-  goes-goes-on : (k : Look) (n : ℕ) → IsK k → n < 2 ^ 64 → ent 𝓤 (emp 𝓤) ((GoesOn 𝓛 at_mem run).pre (to-goes-on k n))
-  goes-goes-on k n is n-fits =
-      qed 𝓛 [] ∵ nothing ! $ owned ! usize (Is usize) (uint_Makes 𝓛 w64) (length ys) _ (refl, room.0) $ fjoin ! $ owned ! usize (Is usize) (uint_Makes 𝓛 w64) n _ (refl, n-fits) $ fjoin ! $
+  goes_goes_on : (k : Look) (n : ℕ) → IsK k → n < 2 ^ 64 → ent 𝓤 (emp 𝓤) ((GoesOn 𝓛 at_mem run).pre (to_goes_on k n))
+  goes_goes_on k n is n_fits =
+      qed 𝓛 [] ∵ nothing ! $ owned ! usize (Is usize) (uint_Makes 𝓛 w64) (length ys) _ (refl, room.0) $ fjoin ! $ owned ! usize (Is usize) (uint_Makes 𝓛 w64) n _ (refl, n_fits) $ fjoin ! $
       owned ! K.the_row (Is K.the_row) (Le.makes K.the_type K'.the_plain 𝓛) k _ is $ fjoin ! $ nothing ! $ join ! $ frame ! $ done !
 
-  abbrev to-load : ℕ → (Load 𝓛 at_mem run).Ghost
-  to-load n = (((κ, tt), (q, tt), tt, (x, (n, tt)), (s ∷ [], (vint w64 n ∷ [], tt))), tt)
+  abbrev to_load : ℕ → (Load 𝓛 at_mem run).Ghost
+  to_load n = (((κ, tt), (q, tt), tt, (x, (n, tt)), (s ∷ [], (vint w64 n ∷ [], tt))), tt)
 
-  goes_load : (n : ℕ) → n < 2 ^ 64 → n < length ys → ent 𝓤 (sep 𝓤 (A.lft κ q) (sem 𝓛 own_row)) ((Load 𝓛 at_mem run).pre (to-load n))
-  goes_load n n-fits l =
-      qed 𝓛 (‵ (flft κ q) ∷ ‵ own_row ∷ []) ∵ says ! l $ nothing ! $ owned ! usize (Is usize) (uint_Makes 𝓛 w64) n _ (refl, n-fits) $ fjoin ! $ move ! (2 ∷ 0 ∷ []) $ fjoin ! $
+  goes_load : (n : ℕ) → n < 2 ^ 64 → n < length ys → ent 𝓤 (sep 𝓤 (A.lft κ q) (sem 𝓛 own_row)) ((Load 𝓛 at_mem run).pre (to_load n))
+  goes_load n n_fits l =
+      qed 𝓛 (‵ (flft κ q) ∷ ‵ own_row ∷ []) ∵ says ! l $ nothing ! $ owned ! usize (Is usize) (uint_Makes 𝓛 w64) n _ (refl, n_fits) $ fjoin ! $ move ! (2 ∷ 0 ∷ []) $ fjoin ! $
       nothing ! $ move ! (2 ∷ 0 ∷ []) $ join ! $ join ! $ done !
 
-  abbrev to-past : Look → Event → (Past 𝓛 at_mem run).Ghost
-  to-past k e = ((tt, tt, tt, (k, (e, tt)), (valK k ∷ [], (val e ∷ [], tt))), tt)
+  abbrev to_past : Look → Event → (Past 𝓛 at_mem run).Ghost
+  to_past k e = ((tt, tt, tt, (k, (e, tt)), (val_k k ∷ [], (val e ∷ [], tt))), tt)
 
-  goes-past : (k : Look) (e : Event) → IsK k → Told e → ent 𝓤 (emp 𝓤) ((Past 𝓛 at_mem run).pre (to-past k e))
-  goes-past k e is told =
+  goes_past : (k : Look) (e : Event) → IsK k → Told e → ent 𝓤 (emp 𝓤) ((Past 𝓛 at_mem run).pre (to_past k e))
+  goes_past k e is told =
       qed 𝓛 [] ∵ nothing ! $ owned ! E.the_row (Is E.the_row) (LL.makes E.the_type E'.the_plain 𝓛) e _ told $ fjoin ! $ owned ! K.the_row (Is K.the_row) (Le.makes K.the_type K'.the_plain 𝓛) k _ is $ fjoin ! $
       nothing ! $ join ! $ frame ! $ done !
 
-  abbrev to-answer : Look → (Answer 𝓛 at_mem run).Ghost
-  to-answer k = ((tt, tt, tt, (k, tt), (valK k ∷ [], tt)), tt)
+  abbrev to_answer : Look → (Answer 𝓛 at_mem run).Ghost
+  to_answer k = ((tt, tt, tt, (k, tt), (val_k k ∷ [], tt)), tt)
 
-  goes-answer : (k : Look) → IsK k → ent 𝓤 (emp 𝓤) ((Answer 𝓛 at_mem run).pre (to-answer k))
-  goes-answer k is = qed 𝓛 [] ∵ nothing ! $ owned ! K.the_row (Is K.the_row) (Le.makes K.the_type K'.the_plain 𝓛) k _ is $ fjoin ! $ nothing ! $ join ! $ frame ! $ done !
+  goes_answer : (k : Look) → IsK k → ent 𝓤 (emp 𝓤) ((Answer 𝓛 at_mem run).pre (to_answer k))
+  goes_answer k is = qed 𝓛 [] ∵ nothing ! $ owned ! K.the_row (Is K.the_row) (Le.makes K.the_type K'.the_plain 𝓛) k _ is $ fjoin ! $ nothing ! $ join ! $ frame ! $ done !
 
   -- ---- where the loop's turn begins
   record State : Type 0 where
     n : ℕ
     known : Look
     is : IsK known
-    n-fits : n < 2 ^ 64
+    n_fits : n < 2 ^ 64
     leads : decided known (dropN n ys) ≡ announced (dropN i ys)
 
   abbrev Nearer : State → State → Type 0
   Nearer t' t = length ys - t'.n < length ys - t.n
 
-  Nearer-wf : WellFounded Nearer
-  Nearer-wf = InvImage.wf (λ (t : State). length ys - t.n) lt-wf_rel.wf
+  NearerWf : WellFounded Nearer
+  NearerWf = InvImage.wf (λ (t : State). length ys - t.n) lt-wf_rel.wf
 
   starting : decided Before (dropN i ys) ≡ announced (dropN i ys)
   unfolding decided
   starting = refl
 
   abbrev begins : IsK Before → State
-  begins is = record { n = i; known = Before; is = is; n-fits = i-fits; leads = starting }
+  begins is = record { n = i; known = Before; is = is; n_fits = i-fits; leads = starting }
 
   -- the turn passes record n, e, and knows k'
   abbrev next : (t : State) → t.n < length ys → (e : Event) → e ≡ get_or ys t.n blank → (k' : Look) → IsK k' → Passes t.known e k' → State
@@ -233,17 +233,17 @@ module _ {M : Type 1} {𝓤 : Ura M} (𝓛 : Logic 𝓤) (at_mem : Memory → SP
     n = t.n + 1;
     known = k';
     is = is;
-    n-fits = next_fits t.n (length ys) l room.0;
-    leads = look-past t.known k' e ys t.n t.leads passed (rw same (drop-cons ys t.n blank l));
+    n_fits = next_fits t.n (length ys) l room.0;
+    leads = look_past t.known k' e ys t.n t.leads passed (rw same (drop-cons ys t.n blank l));
   }
 
   module _ (𝓣 : Tables 𝓤 H) (known-goes-on : Triple 𝓤 (𝓣.C #write-rows·ahead·Look·goes-on) (GoesOn 𝓛 at_mem run)) (known-load : Triple 𝓤 (𝓣.C #events·load) (Load 𝓛 at_mem run)) (known_past : Triple 𝓤 (𝓣.C #write-rows·ahead·Look·past) (Past 𝓛 at_mem run)) (known-answer : Triple 𝓤 (𝓣.C #write-rows·ahead·Look·answer) (Answer 𝓛 at_mem run)) (l₀ l₁ l₂ l₃ l₄ l₅ l₆ l₇ : ℕ) where
     abbrev En : Env 𝓤 H
-    En = (ty_bool, l₀) ∷ (rowTy, l₁) ∷ (word, l₂) ∷ (K'.mir, l₃) ∷ (word, l₄) ∷ (ty_bool, l₅) ∷ (word, l₆) ∷ (E'.mir, l₇) ∷ []
+    En = (ty_bool, l₀) ∷ (row_ty, l₁) ∷ (word, l₂) ∷ (K'.mir, l₃) ∷ (word, l₄) ∷ (ty_bool, l₅) ∷ (word, l₆) ∷ (E'.mir, l₇) ∷ []
 
     -- the context in a turn, over the locals of its test. Positions: the row 0, _7 1, _6 3, _5 5, _4 7, _3 9, _2 11, _1 13, _0 15
     abbrev Cx : State → List (Item 𝓤) → List (Item 𝓤)
-    Cx t test = (Row ∷ []) ++ free E'.mir l₇ ++ test ++ full word l₄ (vint w64 t.n) ++ full K'.mir l₃ (valK t.known) ++ full word l₂ (vint w64 i) ++ full rowTy l₁ s ++ free ty_bool l₀
+    Cx t test = (Row ∷ []) ++ free E'.mir l₇ ++ test ++ full word l₄ (vint w64 t.n) ++ full K'.mir l₃ (val_k t.known) ++ full word l₂ (vint w64 i) ++ full row_ty l₁ s ++ free ty_bool l₀
 
     abbrev At : State → List (Item 𝓤)
     At t = Cx t (free word l₆ ++ free ty_bool l₅)
@@ -257,31 +257,31 @@ module _ {M : Type 1} {𝓤 : Ura M} (𝓛 : Logic 𝓤) (at_mem : Memory → SP
 
     leaves : (t : State) (r : Bool) → onward t.known t.n (length ys) ≡ false → Sq 𝓛 (Tested t r) (runs 𝓣.C 𝓣.Λ En mir.t-4 (at_ret En Post))
     leaves t r over =
-        use0 𝓛 (raw ((Answer 𝓛 at_mem run).pre (to-answer t.known))) (goes-answer t.known t.is) $
-        calls_at ! (fm_of 𝓤 H 𝓛.laws 𝓣) (Answer 𝓛 at_mem run) known-answer (to-answer t.known) (and_then ! (load ! (from ! (stop !)) (look ! 10 refl)) (no_more !)) (λ v.
+        use0 𝓛 (raw ((Answer 𝓛 at_mem run).pre (to_answer t.known))) (goes_answer t.known t.is) $
+        calls_at ! (fm_of 𝓤 H 𝓛.laws 𝓣) (Answer 𝓛 at_mem run) known-answer (to_answer t.known) (and_then ! (load ! (from ! (stop !)) (look ! 10 refl)) (no_more !)) (λ v.
         use1 𝓛 (later (some (λ (y : Bool). (‵ ftrue ⊛ ‵ (bool.own_val y (v ∷ []))) ⊛ raw (ensured 𝓛 answer.ended (answer.clauses 𝓛 at_mem run) tt (t.known, tt) tt y)))) (id⊢ 𝓤 _) $ await ! tt $ pick ! (λ y.
-        split ! $ move ! (1 ∷ []) $ use1 𝓛 (raw (fact 𝓤 (y ≡ decided t.known []))) (answer-of 𝓛 at_mem run t.known y) $ heard ! (y ≡ decided t.known []) (λ e. split ! $ drop ! $
+        split ! $ move ! (1 ∷ []) $ use1 𝓛 (raw (fact 𝓤 (y ≡ decided t.known []))) (answer_of 𝓛 at_mem run t.known y) $ heard ! (y ≡ decided t.known []) (λ e. split ! $ drop ! $
         facts ! bool (Is bool) (shows 𝓛 bool) y (v ∷ []) (λ isy.
         land ! (from ! (stop !)) (init ! 15 refl ((bool_Lawful 𝓛).typed y _ isy).0) $ rewrite ! 15 (λ (u : Val). ‵ (fat full_share ty_bool l₀ 0 u)) (ap only (bool_Tells y _ isy)) refl $
         returns ! (look ! 15 refl) $ move ! (15 ∷ 16 ∷ 13 ∷ 14 ∷ 11 ∷ 12 ∷ 9 ∷ 10 ∷ 7 ∷ 8 ∷ 5 ∷ 6 ∷ 3 ∷ 4 ∷ 1 ∷ 2 ∷ []) $
         forget ! 0 refl $ free1 ! $ forget ! 0 refl $ free1 ! $ forget ! 0 refl $ free1 ! $ forget ! 0 refl $ free1 ! $ forget ! 0 refl $ free1 ! $ forget ! 0 refl $ free1 ! $ forget ! 0 refl $ free1 ! $ free1 ! $ free0 ! $
-        by ! (exits y (e ∙ look-over t.known ys t.n t.leads over))))))
+        by ! (exits y (e ∙ look_over t.known ys t.n t.leads over))))))
 
     passes : (t : State) (r : Bool) → t.n < length ys → Sq 𝓛 (Tested t r) (runs 𝓣.C 𝓣.Λ En (skipping 3 mir.turn-1) (any_q (Turned t)))
     unfolding after_turn
     passes t r l =
         split ! $ use1 𝓛 (‵ own_row ⊛ ‵ own_row) ((shr_slice_copy 𝓛 (named 0) κ E.the_row).twice x (s ∷ [])) $ split ! $
         -- [the row; the row; its token; _7 3; …]
-        move ! (2 ∷ 0 ∷ []) $ use2 𝓛 (raw ((Load 𝓛 at_mem run).pre (to-load t.n))) (goes_load t.n t.n-fits l) $
+        move ! (2 ∷ 0 ∷ []) $ use2 𝓛 (raw ((Load 𝓛 at_mem run).pre (to_load t.n))) (goes_load t.n t.n-fits l) $
         -- [the `pre`; the row; _7 2; _6 4; _5 6; _4 8; _3 10; _2 12; _1 14; _0 16]
-        calls_at ! (fm_of 𝓤 H 𝓛.laws 𝓣) (Load 𝓛 at_mem run) known-load (to-load t.n) (and_then ! (load ! (from ! (stop !)) (look ! 14 refl)) (and_then ! (load ! (from ! (stop !)) (look ! 8 refl)) (no_more !))) (λ v.
+        calls_at ! (fm_of 𝓤 H 𝓛.laws 𝓣) (Load 𝓛 at_mem run) known-load (to_load t.n) (and_then ! (load ! (from ! (stop !)) (look ! 14 refl)) (and_then ! (load ! (from ! (stop !)) (look ! 8 refl)) (no_more !))) (λ v.
         use1 𝓛 (later (some (λ (e : Event). ((‵ (flft κ q) ⊛ ‵ ftrue) ⊛ ‵ ((E.the_row).own_val e (v ∷ []))) ⊛ raw (ensured 𝓛 load'.ended (load'.clauses 𝓛 at_mem run) (κ, tt) (x, (t.n, tt)) tt e)))) (id⊢ 𝓤 _) $ await ! tt $ pick ! (λ e.
         split ! $ move ! (1 ∷ []) $ use1 𝓛 (raw (fact 𝓤 (e ≡ get_or ys t.n blank))) (load_of 𝓛 at_mem run κ x t.n e) $ heard ! (e ≡ get_or ys t.n blank) (λ same. split ! $ move ! (1 ∷ []) $
         facts ! E.the_row (Is E.the_row) (shows 𝓛 E.the_row) e (v ∷ []) (λ ise. split ! $ move ! (1 ∷ []) $ drop ! $ move ! (1 ∷ 0 ∷ []) $ join ! $
         -- [the row; _7 1; …]
         land ! (from ! (stop !)) (init ! 1 refl ((LL.lawful E.the_type E'.the_laws 𝓛).typed e _ ise).0) $ rewrite ! 1 (λ (u : Val). ‵ (fat full_share E'.mir l₇ 0 u)) (ap only (LL.tells E.the_type E'.the_laws e _ ise)) refl $
-        use0 𝓛 (raw ((Past 𝓛 at_mem run).pre (to-past t.known e))) (goes-past t.known e t.is (subst (Is E.the_row e) (LL.tells E.the_type E'.the_laws e _ ise) ise)) $
-        calls_at ! (fm_of 𝓤 H 𝓛.laws 𝓣) (Past 𝓛 at_mem run) known_past (to-past t.known e) (and_then ! (load ! (from ! (stop !)) (look ! 10 refl)) (and_then ! (load ! (from ! (stop !)) (look ! 2 refl)) (no_more !))) (λ v'.
+        use0 𝓛 (raw ((Past 𝓛 at_mem run).pre (to_past t.known e))) (goes_past t.known e t.is (subst (Is E.the_row e) (LL.tells E.the_type E'.the_laws e _ ise) ise)) $
+        calls_at ! (fm_of 𝓤 H 𝓛.laws 𝓣) (Past 𝓛 at_mem run) known_past (to_past t.known e) (and_then ! (load ! (from ! (stop !)) (look ! 10 refl)) (and_then ! (load ! (from ! (stop !)) (look ! 2 refl)) (no_more !))) (λ v'.
         use1 𝓛 (later (some (λ (k : Look). (‵ ftrue ⊛ ‵ ((K.the_row).own_val k (v' ∷ []))) ⊛ raw (ensured 𝓛 past.ended (past.clauses 𝓛 at_mem run) tt (t.known, (e, tt)) tt k)))) (id⊢ 𝓤 _) $ await ! tt $ pick ! (λ k.
         split ! $ move ! (1 ∷ []) $ use1 𝓛 (raw (fact 𝓤 (Passes t.known e k))) (past_of 𝓛 at_mem run t.known e k) $ heard ! (Passes t.known e k) (λ passed. split ! $ drop ! $
         facts ! K.the_row (Is K.the_row) (shows 𝓛 K.the_row) k (v' ∷ []) (λ isk.
@@ -293,19 +293,19 @@ module _ {M : Type 1} {𝓤 : Ura M} (𝓛 : Logic 𝓤) (at_mem : Memory → SP
     unfolding after_turn
     turns t =
         assigns ! (of_opd ! (load ! (from ! (fld ! refl (stop !))) (look_in ! 13 (sub ! 1 refl (whole !))))) (from ! (stop !)) (init ! 3 refl (tt, record { fits = room.0 })) $
-        use0 𝓛 (raw ((GoesOn 𝓛 at_mem run).pre (to-goes-on t.known t.n))) (goes-goes-on t.known t.n t.is t.n-fits) $
-        calls_at ! (fm_of 𝓤 H 𝓛.laws 𝓣) (GoesOn 𝓛 at_mem run) known-goes-on (to-goes-on t.known t.n) (and_then ! (load ! (from ! (stop !)) (look ! 10 refl)) (and_then ! (load ! (from ! (stop !)) (look ! 8 refl)) (and_then ! (load ! (from ! (stop !)) (look ! 4 refl)) (no_more !)))) (λ v.
+        use0 𝓛 (raw ((GoesOn 𝓛 at_mem run).pre (to_goes_on t.known t.n))) (goes_goes_on t.known t.n t.is t.n-fits) $
+        calls_at ! (fm_of 𝓤 H 𝓛.laws 𝓣) (GoesOn 𝓛 at_mem run) known-goes-on (to_goes_on t.known t.n) (and_then ! (load ! (from ! (stop !)) (look ! 10 refl)) (and_then ! (load ! (from ! (stop !)) (look ! 8 refl)) (and_then ! (load ! (from ! (stop !)) (look ! 4 refl)) (no_more !)))) (λ v.
         use1 𝓛 (later (some (λ (r : Bool). (‵ ftrue ⊛ ‵ (bool.own_val r (v ∷ []))) ⊛ raw (ensured 𝓛 goes_on.ended (goes_on.clauses 𝓛 at_mem run) tt (t.known, (t.n, (length ys, tt))) tt r)))) (id⊢ 𝓤 _) $ await ! tt $ pick ! (λ r.
-        split ! $ move ! (1 ∷ []) $ use1 𝓛 (raw (fact 𝓤 (r ≡ onward t.known t.n (length ys)))) (goes-on-of 𝓛 at_mem run t.known t.n (length ys) r) $ heard ! (r ≡ onward t.known t.n (length ys)) (λ e. split ! $ drop ! $
+        split ! $ move ! (1 ∷ []) $ use1 𝓛 (raw (fact 𝓤 (r ≡ onward t.known t.n (length ys)))) (goes_on_of 𝓛 at_mem run t.known t.n (length ys) r) $ heard ! (r ≡ onward t.known t.n (length ys)) (λ e. split ! $ drop ! $
         facts ! bool (Is bool) (shows 𝓛 bool) r (v ∷ []) (λ isr.
         land ! (from ! (stop !)) (init ! 5 refl ((bool_Lawful 𝓛).typed r _ isr).0) $ rewrite ! 5 (λ (u : Val). ‵ (fat full_share ty_bool l₅ 0 u)) (ap only (bool_Tells r _ isr)) refl $
         whiles ! (load ! (from ! (stop !)) (look ! 5 refl))
-        (λ more. passes t r (look-inside t.known t.n (length ys) (sym e ∙ is_true r more)))
+        (λ more. passes t r (look_inside t.known t.n (length ys) (sym e ∙ is_true r more)))
         (λ over. exec ! 𝓣.C 𝓣.Λ En mir.t-4 (at_ret En Post) $ leaves t r (sym e ∙ is_false r over))))))
 
     -- the loop, and what follows it
     looped : (is : IsK Before) → Sq 𝓛 (At (begins is)) (runs 𝓣.C 𝓣.Λ En mir.t-3 (at_ret En Post))
-    looped is = first ! $ blocks ! $ loops ! 𝓣 Nearer Nearer-wf At turns (begins is)
+    looped is = first ! $ blocks ! $ loops ! 𝓣 Nearer NearerWf At turns (begins is)
 
   module _ (𝓣 : Tables 𝓤 H) (known-goes-on : Triple 𝓤 (𝓣.C #write-rows·ahead·Look·goes-on) (GoesOn 𝓛 at_mem run)) (known-load : Triple 𝓤 (𝓣.C #events·load) (Load 𝓛 at_mem run)) (known_past : Triple 𝓤 (𝓣.C #write-rows·ahead·Look·past) (Past 𝓛 at_mem run)) (known-answer : Triple 𝓤 (𝓣.C #write-rows·ahead·Look·answer) (Answer 𝓛 at_mem run)) where
     walk : ent 𝓤 (on_entry 𝓛 announced'.signature (κ, tt) (q, tt) a at) (WpFn 𝓤 H 𝓣.C 𝓣.Λ code.function (s ∷ vint w64 i ∷ []) Post)

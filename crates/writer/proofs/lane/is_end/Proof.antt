@@ -2,7 +2,7 @@
 -- Assumes nothing.
 use borrow.Author.Rules.{rules}
 use native.Mathlib.Omega.{arith}
-use Rattle.writer.proofs.LaneLaws.{end-words}
+use Rattle.writer.proofs.LaneLaws.{end_words}
 use mathlib.Core.Path.{sym, ◌∙◌}
 use Rattle.tables.proofs.Found.{clash}
 use borrow.Author.Tests.{eqb-true}
@@ -13,7 +13,7 @@ use Rattle.writer.proofs.lane.is_end.Tie as tie
 returns : tie.Need-returns
 returns c =
     let a = c.before.before.before.before.before.before.before.before.before.before.args in
-    λ q. end-words a.w.now (14 * a.i) (omega arith) (c.before.before.before.before.before.before.no-string.ensures c.before.before.before.before.before.if2.true) (c.before.before.before.before.no-string2.ensures c.before.before.before.if3.true) (c.before.before.no-string3.ensures c.before.if4.true) (c.no-string4.ensures q)
+    λ q. end_words a.w.now (14 * a.i) (omega arith) (c.before.before.before.before.before.before.no_string.ensures c.before.before.before.before.before.if2.true) (c.before.before.before.before.no-string2.ensures c.before.before.before.if3.true) (c.before.before.no-string3.ensures c.before.if4.true) (c.no-string4.ensures q)
 
 returns-2 : tie.Need-returns-2
 returns-2 c = λ q. clash (sym c.if4.false ∙ q)

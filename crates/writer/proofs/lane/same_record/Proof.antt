@@ -13,7 +13,7 @@ use Rattle.writer.proofs.lane.same_record.Tie as tie
 returns : tie.Need-returns
 returns c =
     let a = c.before.before.before.before.before.before.before.before.before.before.before.args in
-    λ q. same-words a.w.now (14 * a.i) (14 * a.j) (omega arith) (c.before.before.before.before.same-string2.ensures c.before.before.before.if3.true) (c.before.before.same-string3.ensures c.before.if4.true) (c.before.before.before.before.before.before.same-string.ensures c.before.before.before.before.before.if2.true) (c.same-string4.ensures q)
+    λ q. same-words a.w.now (14 * a.i) (14 * a.j) (omega arith) (c.before.before.before.before.same-string2.ensures c.before.before.before.if3.true) (c.before.before.same-string3.ensures c.before.if4.true) (c.before.before.before.before.before.before.same_string.ensures c.before.before.before.before.before.if2.true) (c.same-string4.ensures q)
 
 returns-2 : tie.Need-returns-2
 returns-2 c = λ q. clash (sym c.if4.false ∙ q)

@@ -3,7 +3,7 @@
 use borrow.Author.Rules.{rules}
 use native.Mathlib.Omega.{arith}
 use lib.ListN.{length}
-use Rattle.writer.proofs.PhaseLaws.{readied-whole}
+use Rattle.writer.proofs.PhaseLaws.{readied_whole}
 use Rattle.writer.proofs.run.prepared.Statement.{statement}
 use Rattle.writer.proofs.run.prepared.Tie as tie
 
@@ -11,7 +11,7 @@ returns : tie.Need-returns
 returns c =
     let a = c.before.before.before.before.before.before.before.before.before.before.before.before.before.before.before.args in
     let prepared = c.before.before.before.before.before.before.prepared-for in
-    readied-whole a.given.now a.text.now (length a.out.now) (length a.t.now) prepared.result prepared.new.1.1.0 prepared.new.1.1.1.1.0 prepared.new.1.1.1.1.1.0 prepared.ensures (omega (arith, prepared.auto))
+    readied_whole a.given.now a.text.now (length a.out.now) (length a.t.now) prepared.result prepared.new.1.1.0 prepared.new.1.1.1.1.0 prepared.new.1.1.1.1.1.0 prepared.ensures (omega (arith, prepared.auto))
 
 pub prepared-spec : {M : Type 1} → statement M
 prepared-spec = tie.close (tie.spec (λ c κs. search rules) (λ c. search rules) (λ c. search rules) (λ c. search rules) returns)

@@ -4,15 +4,15 @@ use borrow.Author.Rules.{rules}
 use native.Mathlib.Omega.{arith}
 use lib.ListN.{length}
 use Rattle.tables.proofs.Zeros.{zeroed}
-use Rattle.writer.proofs.PhaseLaws.{going-size, going-room, going-refused, going_start}
+use Rattle.writer.proofs.PhaseLaws.{going_size, going_room, going_refused, going_start}
 use Rattle.writer.proofs.run.prepared_for.Statement.{statement}
 use Rattle.writer.proofs.run.prepared_for.Tie as tie
 
 returns : tie.Need-returns
-returns c = λ es. going-size _ es _ _ _ _ (omega arith)
+returns c = λ es. going_size _ es _ _ _ _ (omega arith)
 
 returns-2 : tie.Need-returns-2
-returns-2 c = λ es. going-room _ es _ _ _ _ (omega arith) (omega arith)
+returns-2 c = λ es. going_room _ es _ _ _ _ (omega arith) (omega arith)
 
 begin-requires : tie.Need-begin-requires
 begin-requires c κs =
@@ -36,7 +36,7 @@ returns-3 c =
 returns-4 : tie.Need-returns-4
 returns-4 c =
     let refused = rw c.before.number.given.1 at c.before.before.before.before.before.before.before.before.before.before.begin.ensures in
-    λ es. going-refused _ es _ _ _ _ (omega arith) (omega arith) refused.0 refused.1
+    λ es. going_refused _ es _ _ _ _ (omega arith) (omega arith) refused.0 refused.1
 
 pub prepared-for-spec : {M : Type 1} → statement M
 prepared-for-spec =

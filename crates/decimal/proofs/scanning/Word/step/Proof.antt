@@ -3,7 +3,7 @@
 use native.Mathlib.Omega.{arith}
 use borrow.Author.Rules.{rules}
 use Rattle.decimal.specs.Machine.{stepped}
-use Rattle.decimal.proofs.Steps.{step-minus, step-zero, step-first, step-no-zero, step-behind-minus, step-digit}
+use Rattle.decimal.proofs.Steps.{step_minus, step_zero, step_first, step_no_zero, step_behind_minus, step_digit}
 use Rattle.decimal.proofs.scanning.Word.step.Statement.{statement}
 use Rattle.decimal.proofs.scanning.Word.step.Tie as tie
 
@@ -32,22 +32,22 @@ enum-told-4 : tie.Need-enum-told-4
 enum-told-4 c = search rules
 
 returns : tie.Need-returns
-returns c = step-digit _ _ c.before.before.self.given.1 c.grown.ensures
+returns c = step_digit _ _ c.before.before.self.given.1 c.grown.ensures
 
 returns-2 : tie.Need-returns-2
-returns-2 c = step-minus _ _ c.before.enum_told.given.1 (omega arith)
+returns-2 c = step_minus _ _ c.before.enum_told.given.1 (omega arith)
 
 returns-3 : tie.Need-returns-3
-returns-3 c = step-zero _ _ c.before.enum_told.given.1 (omega arith)
+returns-3 c = step_zero _ _ c.before.enum_told.given.1 (omega arith)
 
 returns-4 : tie.Need-returns-4
-returns-4 c = let r = c.before.match2.rest in step-first _ _ c.before.before.enum_told.given.1 r.0.1 r.1 c.grown2.ensures
+returns-4 c = let r = c.before.match2.rest in step_first _ _ c.before.before.enum_told.given.1 r.0.1 r.1 c.grown2.ensures
 
 returns-5 : tie.Need-returns-5
-returns-5 c = step-no-zero _ _ c.before.enum-told2.given.1 (omega arith)
+returns-5 c = step_no_zero _ _ c.before.enum-told2.given.1 (omega arith)
 
 returns-6 : tie.Need-returns-6
-returns-6 c = step-behind-minus _ _ c.before.before.enum-told2.given.1 c.before.match3.rest.1 c.grown3.ensures
+returns-6 c = step_behind_minus _ _ c.before.before.enum-told2.given.1 c.before.match3.rest.1 c.grown3.ensures
 
 returns-7 : tie.Need-returns-7
 unfolding stepped

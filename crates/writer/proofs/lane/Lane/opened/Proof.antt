@@ -9,7 +9,7 @@ use Rattle.writer.proofs.lane.Lane.opened.Tie as tie
 returns : tie.Need-returns
 returns c =
     let a = c.before.before.before.before.before.before.before.before.before.before.before.before.args in
-    started a.w.now a.k c.before.before.before.before.before.before.before.before.is-kind.ensures c.before.before.before.before.before.attribute-bit.ensures.0 c.before.before.before.before.put-number.ensures.0 c.before.before.before.before.put-number.ensures.1 refl
+    started a.w.now a.k c.before.before.before.before.before.before.before.before.is-kind.ensures c.before.before.before.before.before.attribute_bit.ensures.0 c.before.before.before.before.put-number.ensures.0 c.before.before.before.before.put-number.ensures.1 refl
 
 pub opened-spec : {M : Type 1} → statement M
 opened-spec =

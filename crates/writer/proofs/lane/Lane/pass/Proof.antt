@@ -2,7 +2,7 @@
 -- Assumes nothing.
 use borrow.Author.Rules.{rules}
 use native.Mathlib.Omega.{arith}
-use Rattle.writer.proofs.LaneLaws.{passed-end, passed_start}
+use Rattle.writer.proofs.LaneLaws.{passed_end, passed_start}
 use Rattle.writer.proofs.lane.Lane.pass.Statement.{statement}
 use Rattle.writer.proofs.lane.Lane.pass.Tie as tie
 
@@ -10,7 +10,7 @@ closed-requires : tie.Need-closed-requires
 closed-requires c κs = (omega arith, omega arith, omega arith)
 
 returns : tie.Need-returns
-returns c = passed-end c.before.before.before.before.before.before.before.args.w.now c.before.before.before.before.before.before.before.args.k c.before.before.before.before.before.before.before.requires (omega arith) c.before.before.closed.ensures
+returns c = passed_end c.before.before.before.before.before.before.before.args.w.now c.before.before.before.before.before.before.before.args.k c.before.before.before.before.before.before.before.requires (omega arith) c.before.before.closed.ensures
 
 opened-requires : tie.Need-opened-requires
 opened-requires c κs = let n = c.before.before.before.before.requires.name (λ q. omega arith) in (omega arith, omega arith, omega arith, omega arith, omega arith)

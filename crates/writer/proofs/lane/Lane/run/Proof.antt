@@ -1,7 +1,7 @@
 -- `Lane::run` meets its contract: each record that is passed is an event of the run.
 -- Assumes nothing.
 use native.Mathlib.Omega.{arith}
-use Rattle.writer.proofs.LaneLaws.{ahead-passable, passes_on}
+use Rattle.writer.proofs.LaneLaws.{ahead_passable, passes_on}
 use Rattle.writer.specs.LaneContracts.{Safe, Passes, Onward, Ahead}
 use lib.ListN.{length}
 use Prim.Native.Nat.{◌-◌, ◌/◌}
@@ -23,7 +23,7 @@ loop-holds : tie.Need-loop-init invariant-loop decreases-loop
 loop-holds c = (refl, c.before.before.before.requires, c.next.ensures, λ to text v t r o. o, record { on = omega arith; inside = λ h. h })
 
 pass-requires : tie.Need-pass-requires invariant-loop decreases-loop
-pass-requires c κs = ahead-passable c.before.before.loop.invariant.1 (c.before.before.loop.invariant.2 c.before.loop-test.true) c.before.loop-test.true
+pass-requires c κs = ahead_passable c.before.before.loop.invariant.1 (c.before.before.loop.invariant.2 c.before.loop-test.true) c.before.loop-test.true
 
 next-requires-2 : tie.Need-next-requires-2 invariant-loop decreases-loop
 next-requires-2 c κs = record { at = c.before.before.pass.ensures.at; level = c.before.before.pass.ensures.level; filed = c.before.before.before.before.before.loop.invariant.1.filed }

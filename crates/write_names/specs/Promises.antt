@@ -3,8 +3,8 @@ use Rattle.std.specs.Prelude.{ℕ, suc, ◌+◌, ◌-◌, ◌*◌, ◌/◌, ◌^
 use Rattle.std.proofs.Math.Option.{Option}
 use Rattle.format.specs.Octets.{Octets, Words}
 use Rattle.format.specs.Numbers.{pick}
-use Rattle.format.specs.Events.{Name, How, spelled, Choice, forNamespace}
-use Rattle.format.specs.Tables.{StringTable, PREFIX, NAMESPACE-NAME, LOCAL-NAME, Triple, Vocabulary, strings, names, link}
+use Rattle.format.specs.Events.{Name, How, spelled, Choice, for_namespace}
+use Rattle.format.specs.Tables.{StringTable, PREFIX, NAMESPACE_NAME, LOCAL_NAME, Triple, Vocabulary, strings, names, link}
 use Rattle.format.specs.Strings.{bit, keeping}
 use Rattle.format.specs.Names.{has, NameLayout}
 use Rattle.format.specs.declared.StringForm.{StringForm}
@@ -14,19 +14,19 @@ use Rattle.fields.specs.PutContracts.{Puts}
 use Rattle.decimal.specs.declared.scanning.Found.{Found}
 use Rattle.decimal.specs.declared.scanning.Found.TheVariants.{Integers, NoIntegers}
 use Rattle.decimal.specs.Words.{shape}
-use Rattle.forms.specs.Packing.{allLetters, inForm}
+use Rattle.forms.specs.Packing.{all_letters, in_form}
 use Rattle.tables.specs.declared.Row.{Row}
-use Rattle.tables.specs.Located.{Located, stretch, builtInPrefix, builtInNamespace, octetsOf}
-use Rattle.tables.specs.Search.{number_in, numberOfTriple}
-use Rattle.tables.specs.Rows.{table_of, stringAt, entries, vocabulary}
+use Rattle.tables.specs.Located.{Located, stretch, built_in_prefix, built_in_namespace, octets_of}
+use Rattle.tables.specs.Search.{number_in, number_of_triple}
+use Rattle.tables.specs.Rows.{table_of, string_at, entries, vocabulary}
 use Rattle.tables.specs.Kept.{unlisted, triple_of, layout_of, IsSound, AllSound}
 use Rattle.index.specs.Hash.{bucket}
 use Rattle.index.specs.Indexed.{slots, StringEntered, NameEntered}
 use Rattle.index.specs.Ordered.{Ordered}
 use Rattle.events.specs.declared.EventString.{EventString}
 use Rattle.events.specs.declared.EventString.TheVariants.{Absent, Empty, Stretch, XmlPrefix, XmlNamespace}
-use Rattle.events.specs.Records.{locatedOf, optionalOf}
-use Rattle.events.specs.Words.{stringTag}
+use Rattle.events.specs.Records.{located_of, optional_of}
+use Rattle.events.specs.Words.{string_tag}
 use Rattle.write_names.specs.declared.Wrote as W
 use Rattle.write_names.specs.declared.Wrote.TheVariants.{Put, Full}
 use Rattle.write_names.specs.declared.Sought.{Sought}
@@ -34,34 +34,34 @@ use Rattle.write_names.specs.declared.Spelling.{Spelling}
 use Rattle.write_names.specs.declared.Formed.{Formed}
 use Rattle.write_names.specs.declared.QualifiedName.{QualifiedName}
 use Rattle.write_names.specs.declared.naming.Numbers.{Numbers}
-use Rattle.write_names.specs.Choices.{Wrote, writeId, writeOptional, fieldIn, formFor, worthAdding, within}
+use Rattle.write_names.specs.Choices.{Wrote, write_id, write_optional, field_in, form_for, worth_adding, within}
 
 -- ---- how many octets
 -- A spelled string has at most 5 octets of length and the 16,384 of a text area; a prefix and a namespace follow an octet, and a name's third string follows these.
-abbrev pub stringMost : ℕ
-stringMost = 16389
+abbrev pub string_most : ℕ
+string_most = 16389
 
 -- Another string than an identifying one may be given in a form that takes fewer octets than its UTF-8, but no fewer than a quarter. A spelled one has an octet more where its format has a number.
-abbrev pub saidMost : ℕ
-saidMost = 4 * 16384
+abbrev pub said_most : ℕ
+said_most = 4 * 16384
 
-abbrev pub valueMost : ℕ
-valueMost = 6 + saidMost
+abbrev pub value_most : ℕ
+value_most = 6 + said_most
 
-abbrev pub pairMost : ℕ
-pairMost = 1 + 2 * stringMost
+abbrev pub pair_most : ℕ
+pair_most = 1 + 2 * string_most
 
-abbrev pub nameMost : ℕ
-nameMost = pairMost + stringMost
+abbrev pub name_most : ℕ
+name_most = pair_most + string_most
 
 -- The last place where a string begins, so that no sum wraps. A writer begins an event at most two octets behind the 16,384 of a document, and its last string behind a name.
-abbrev pub lastPlace : ℕ
-lastPlace = 100000
+abbrev pub last_place : ℕ
+last_place = 100000
 
 -- ---- tables in lent words
 -- The vocabulary of the words of the counts and those of the tables.
-abbrev pub tablesIn : (c w : Words) → Vocabulary Located
-tablesIn c w = vocabulary (unlisted c) w
+abbrev pub tables_in : (c w : Words) → Vocabulary Located
+tables_in c w = vocabulary (unlisted c) w
 
 -- A list begins with x.
 abbrev pub Begins : Located → List Located → Type 0
@@ -74,7 +74,7 @@ every table = true
 
 -- The tables of a text area in lent words are in order, all of them indexed, two begin with their built-in entry, and each string is one in its form: c are the words of the counts, w those of the tables.
 abbrev pub InOrder : Octets → (c w : Words) → Octets → Type 0
-InOrder text c w index = Ordered every text c w index (Begins builtInPrefix (tablesIn c w).prefixes × Begins builtInNamespace (tablesIn c w).namespaces × AllSound text (tablesIn c w))
+InOrder text c w index = Ordered every text c w index (Begins built_in_prefix (tables_in c w).prefixes × Begins built_in_namespace (tables_in c w).namespaces × AllSound text (tables_in c w))
 
 -- ---- strings
 -- The string of an event is one that a table of identifying strings may hold: a stretch in utf-8 that is not empty and lies in the text area, or the table's built-in one.
@@ -102,28 +102,28 @@ Spells text XmlPrefix = ⊥
 Spells text XmlNamespace = ⊥
 
 -- A string's number in its table; 0 where it has none, or there is no string.
-unfoldable pub heldAs : Octets → StringTable → Vocabulary Located → EventString → ℕ
-heldAs text t v Absent = 0
-heldAs text t v Empty = number_in (map (octetsOf text) (strings v t)) []
-heldAs text t v (Stretch form p n) = number_in (map (octetsOf text) (strings v t)) (octetsOf text (stretch form p n))
-heldAs text t v XmlPrefix = number_in (map (octetsOf text) (strings v t)) (octetsOf text builtInPrefix)
-heldAs text t v XmlNamespace = number_in (map (octetsOf text) (strings v t)) (octetsOf text builtInNamespace)
+unfoldable pub held_as : Octets → StringTable → Vocabulary Located → EventString → ℕ
+held_as text t v Absent = 0
+held_as text t v Empty = number_in (map (octets_of text) (strings v t)) []
+held_as text t v (Stretch form p n) = number_in (map (octets_of text) (strings v t)) (octets_of text (stretch form p n))
+held_as text t v XmlPrefix = number_in (map (octets_of text) (strings v t)) (octets_of text built_in_prefix)
+held_as text t v XmlNamespace = number_in (map (octets_of text) (strings v t)) (octets_of text built_in_namespace)
 
 -- The bit where a length may start behind a format: that of C.23, or of C.24.
 pub data LayoutBit : ℕ → Type 0 where
-  at-bit-5 : LayoutBit 5
-  at-bit-7 : LayoutBit 7
+  at_bit_5 : LayoutBit 5
+  at_bit_7 : LayoutBit 7
 
 -- A string was looked up in one of the tables of identifying strings, that of its number.
 abbrev pub Looked : Octets → (c w : Words) → Sought → Type 0
-Looked text c w x = (x.table < 4) × Suits text x.table x.string × (x.number ≡ heldAs text (table_of x.table) (tablesIn c w) x.string) × (x.number ≤ 256)
+Looked text c w x = (x.table < 4) × Suits text x.table x.string × (x.number ≡ held_as text (table_of x.table) (tables_in c w) x.string) × (x.number ≤ 256)
 
 -- The string of a row's words may become an entry of its table, which has room and does not hold it, and h is its bucket; and it became one.
 abbrev pub Enters : Octets → (c w : Words) (index : Octets) (table : ℕ) → Row → (h : ℕ) → Type 0
 Enters text c w index table x h =
     (length w ≡ 7680) × (length index ≡ slots) × (table < 8) × (get_or c table 0 < 256) × (1 ≤ x.b) × (x.a + x.b ≤ length text) × (table < 5 → x.c ≡ 0)
-    × (0 ≡ number_in (map (octetsOf text) (entries (stringAt (table_of table) w) (768 * table) (get_or c table 0))) (octetsOf text (stretch (form_of x.c) x.a x.b)))
-    × (h ≡ bucket (octetsOf text (stretch (form_of x.c) x.a x.b)))
+    × (0 ≡ number_in (map (octets_of text) (entries (string_at (table_of table) w) (768 * table) (get_or c table 0))) (octets_of text (stretch (form_of x.c) x.a x.b)))
+    × (h ≡ bucket (octets_of text (stretch (form_of x.c) x.a x.b)))
     × (h < 128)
 
 abbrev pub Added : Octets → (table : ℕ) → Row → (c w : Words) (index : Octets) (c' w' : Words) (index' : Octets) → Type 0
@@ -134,18 +134,18 @@ abbrev pub Fitting : Spelling → Type 0
 Fitting q = (5 ≤ q.table) × (q.table < 8) × LayoutBit q.bit × (q.lead + q.add + 4 * 2 ^ (9 - q.bit) ≤ 256)
 
 -- How many octets of a string no other form saves: one octet names an alphabet or an algorithm, an octet of an alphabet has two characters at most, and integers have two octets at least. (Where a length starts at bit 7, one of 3 takes two octets.)
-abbrev pub plainMost : (lengthBit : ℕ) → ℕ
-plainMost bit = pick (eqb bit 7) 2 3
+abbrev pub plain_most : (length_bit : ℕ) → ℕ
+plain_most bit = pick (eqb bit 7) 2 3
 
--- A format's two bits, and the number less 1 of an alphabet or an algorithm, as `inFormat` has them.
-abbrev pub formatBits : StringForm → ℕ
-formatBits Utf8 = 0
-formatBits Utf16 = 1
-formatBits Numeric = 2
-formatBits Dates = 2
-formatBits Short = 3
-formatBits Int = 3
-formatBits Long = 3
+-- A format's two bits, and the number less 1 of an alphabet or an algorithm, as `in_format` has them.
+abbrev pub format_bits : StringForm → ℕ
+format_bits Utf8 = 0
+format_bits Utf16 = 1
+format_bits Numeric = 2
+format_bits Dates = 2
+format_bits Short = 3
+format_bits Int = 3
+format_bits Long = 3
 
 abbrev pub less_one : StringForm → ℕ
 less_one Utf8 = 0
@@ -157,12 +157,12 @@ less_one Int = 3
 less_one Long = 4
 
 -- The form of integers of w octets. For n characters of an alphabet: the integers that were found, where they have fewer octets.
-unfoldable pub withWidth : (w : ℕ) → StringForm
-withWidth w = pick (eqb w 2) Short (pick (eqb w 4) Int Long)
+unfoldable pub with_width : (w : ℕ) → StringForm
+with_width w = pick (eqb w 2) Short (pick (eqb w 4) Int Long)
 
-unfoldable pub orIntegers : (n : ℕ) → Found → Formed
-orIntegers n (Integers k w) = pick (ltb (k * w) ((n + 1) / 2)) (record { form = withWidth w; size = k * w }) (record { form = Numeric; size = (n + 1) / 2 })
-orIntegers n NoIntegers = record { form = Numeric; size = (n + 1) / 2 }
+unfoldable pub or_integers : (n : ℕ) → Found → Formed
+or_integers n (Integers k w) = pick (ltb (k * w) ((n + 1) / 2)) (record { form = with_width w; size = k * w }) (record { form = Numeric; size = (n + 1) / 2 })
+or_integers n NoIntegers = record { form = Numeric; size = (n + 1) / 2 }
 
 -- So few that their octets can be counted.
 abbrev pub FewIntegers : (n : ℕ) → Found → Type 0
@@ -173,70 +173,70 @@ FewIntegers n NoIntegers = Unit {0}
 abbrev pub Fits : StringForm → Octets → Type 0
 Fits Utf8 x = ⊥
 Fits Utf16 x = ⊥
-Fits Numeric x = allLetters numeric x ≡ true
-Fits Dates x = allLetters dates x ≡ true
+Fits Numeric x = all_letters numeric x ≡ true
+Fits Dates x = all_letters dates x ≡ true
 Fits Short x = shape (width Short) x ≡ true
 Fits Int x = shape (width Int) x ≡ true
 Fits Long x = shape (width Long) x ≡ true
 
 -- The octets that a string x has in a form were counted; the form is the one that the writer chooses, or one that x fits.
 pub record Counted (x : Octets) (f : Formed) : Type 0 where
-  pub size : f.size ≡ length (inForm f.form x)
+  pub size : f.size ≡ length (in_form f.form x)
   pub some : 1 ≤ f.size
-  pub few : f.size ≤ saidMost
+  pub few : f.size ≤ said_most
 
-abbrev pub Chosen : (lengthBit : ℕ) → Octets → Formed → Type 0
-Chosen bit x f = (f.form ≡ formFor bit x) × Counted x f
+abbrev pub Chosen : (length_bit : ℕ) → Octets → Formed → Type 0
+Chosen bit x f = (f.form ≡ form_for bit x) × Counted x f
 
 abbrev pub HasForm : Octets → Formed → Type 0
 HasForm x f = Fits f.form x × Counted x f
 
 -- What a string's field is in the form that the writer chooses.
-unfoldable pub chosenField : (lengthBit : ℕ) → (lead : ℕ) → Octets → Octets
-chosenField bit lead x = fieldIn bit (formFor bit x) lead x
+unfoldable pub chosen_field : (length_bit : ℕ) → (lead : ℕ) → Octets → Octets
+chosen_field bit lead x = field_in bit (form_for bit x) lead x
 
 -- A string of C.14 or C.15, spelled so.
-unfoldable pub spelledAs : Spelling → Octets → Vocabulary Located → Located → Wrote How
-spelledAs q text v x =
-    let added : Bool = worthAdding link (strings v (table_of q.table)) (octetsOf text x) in
-    record { octets = chosenField q.bit (q.lead + q.add * bit added) (octetsOf text x); how = spelled (formFor q.bit (octetsOf text x)) added; number = 0; tables = keeping added v (table_of q.table) x }
+unfoldable pub spelled_as : Spelling → Octets → Vocabulary Located → Located → Wrote How
+spelled_as q text v x =
+    let added : Bool = worth_adding link (strings v (table_of q.table)) (octets_of text x) in
+    record { octets = chosen_field q.bit (q.lead + q.add * bit added) (octets_of text x); how = spelled (form_for q.bit (octets_of text x)) added; number = 0; tables = keeping added v (table_of q.table) x }
 
 -- ---- names
 -- The name of three strings.
 abbrev pub named_of : QualifiedName → Name Located
-named_of x = record { prefix = optionalOf x.prefix; namespace = optionalOf x.namespace; local = locatedOf x.local }
+named_of x = record { prefix = optional_of x.prefix; namespace = optional_of x.namespace; local = located_of x.local }
 
 -- k are the numbers that a name's strings have.
 pub record Held (text : Octets) (v : Vocabulary Located) (x : QualifiedName) (k : Row) : Type 0 where
-  pub prefix : k.a ≡ heldAs text PREFIX v x.prefix
-  pub namespace : k.b ≡ heldAs text NAMESPACE-NAME v x.namespace
-  pub local : k.c ≡ heldAs text LOCAL-NAME v x.local
+  pub prefix : k.a ≡ held_as text PREFIX v x.prefix
+  pub namespace : k.b ≡ held_as text NAMESPACE_NAME v x.namespace
+  pub local : k.c ≡ held_as text LOCAL_NAME v x.local
   pub few : (k.a ≤ 256) × (k.b ≤ 256) × (k.c ≤ 256)
 
 -- A string's number once it is written, from the number that it has and its table's n entries.
-unfoldable pub numberThen : (n : ℕ) → EventString → (k : ℕ) → ℕ
-numberThen n x k = pick (eqb k 0) (pick (eqb (stringTag x) 0) 0 (suc n)) k
+unfoldable pub number_then : (n : ℕ) → EventString → (k : ℕ) → ℕ
+number_then n x k = pick (eqb k 0) (pick (eqb (string_tag x) 0) 0 (suc n)) k
 
 -- The numbers that a name's strings have once they are written; and the name's own number, 0 if it has none.
-unfoldable pub tripleFor : Octets → Vocabulary Located → Name Located → Triple
-tripleFor text v x =
-    let p = writeOptional text PREFIX v x.prefix in
-    let n = writeOptional text NAMESPACE-NAME p.tables x.namespace in
-    record { prefix = p.number; namespace = n.number; local = (writeId text LOCAL-NAME n.tables x.local).number }
+unfoldable pub triple_for : Octets → Vocabulary Located → Name Located → Triple
+triple_for text v x =
+    let p = write_optional text PREFIX v x.prefix in
+    let n = write_optional text NAMESPACE_NAME p.tables x.namespace in
+    record { prefix = p.number; namespace = n.number; local = (write_id text LOCAL_NAME n.tables x.local).number }
 
-unfoldable pub nameHeldAs : NameLayout → Octets → Vocabulary Located → Name Located → ℕ
-nameHeldAs q text v x = numberOfTriple (names v q.table) (tripleFor text v x)
+unfoldable pub name_held_as : NameLayout → Octets → Vocabulary Located → Name Located → ℕ
+name_held_as q text v x = number_of_triple (names v q.table) (triple_for text v x)
 
 -- What a name is written from: its table and its lead, and its strings, of which the local name is there.
 abbrev pub Proper : Octets → QualifiedName → Type 0
 Proper text x =
-    (8 ≤ x.table) × (x.table < 10) × (x.lead ≤ 0x80) × Suits text 0 x.prefix × Suits text 1 x.namespace × Suits text 2 x.local × (1 ≤ stringTag x.local)
+    (8 ≤ x.table) × (x.table < 10) × (x.lead ≤ 0x80) × Suits text 0 x.prefix × Suits text 1 x.namespace × Suits text 2 x.local × (1 ≤ string_tag x.local)
 
 -- Its table does not hold it, and k are its strings' numbers.
 pub record New (text : Octets) (v : Vocabulary Located) (x : QualifiedName) (k : Numbers) : Type 0 where
   pub held : Held text v x k.found
-  pub is : triple_of k.then ≡ tripleFor text v (named_of x)
-  pub new : 0 ≡ nameHeldAs (layout_of x.table) text v (named_of x)
+  pub is : triple_of k.then ≡ triple_for text v (named_of x)
+  pub new : 0 ≡ name_held_as (layout_of x.table) text v (named_of x)
 
 -- A row became an entry of its table; or the table is full.
 abbrev pub Tripled : (at : ℕ) (c w : Words) (index : Octets) (table : ℕ) → Row → W.Wrote → (c' w' : Words) (index' : Octets) → Type 0
@@ -245,21 +245,21 @@ Tripled at c w index table x (Put r) c' w' index' =
 Tripled at c w index table x Full c' w' index' = 256 ≤ get_or c table 0
 
 -- A prefix and a namespace behind the octet `first`; a namespace declaration (C.12) begins with 110011pn.
-unfoldable pub pairBehind : (first : ℕ) → Octets → Vocabulary Located → (prefix namespace : Option Located) → Wrote Choice
-pairBehind first text v p n =
-    let x : Wrote (Option How) = writeOptional text PREFIX v p in
-    let y : Wrote (Option How) = writeOptional text NAMESPACE-NAME x.tables n in
-    record { octets = first ∷ (x.octets ++ y.octets); how = forNamespace x.how y.how; number = 0; tables = y.tables }
+unfoldable pub pair_behind : (first : ℕ) → Octets → Vocabulary Located → (prefix namespace : Option Located) → Wrote Choice
+pair_behind first text v p n =
+    let x : Wrote (Option How) = write_optional text PREFIX v p in
+    let y : Wrote (Option How) = write_optional text NAMESPACE_NAME x.tables n in
+    record { octets = first ∷ (x.octets ++ y.octets); how = for_namespace x.how y.how; number = 0; tables = y.tables }
 
 unfoldable pub declared_by : Octets → Vocabulary Located → (prefix namespace : Option Located) → Wrote Choice
-declared_by text v p n = pairBehind (0xCC + 2 * has p + has n) text v p n
+declared_by text v p n = pair_behind (0xCC + 2 * has p + has n) text v p n
 
 -- ---- what was put
 -- What was put from `at` to r stands for the definition's octets, and the tables are the definition's; at most `most` octets were put.
 pub record Stands {H : Type 0} (text out : Octets) (at most r : ℕ) (out' : Octets) (c w : Words) (index : Octets) (d : Wrote H) : Type 0 where
   pub puts : Puts out at r out' d.octets
   pub few : r ≤ at + most
-  pub tables : tablesIn c w ≡ d.tables
+  pub tables : tables_in c w ≡ d.tables
   pub order : InOrder text c w index
 
 -- Or a table is full, and the definition's has an entry too many.

@@ -4,13 +4,13 @@ use Rattle.format.specs.Octets.{Octets, Words}
 use Rattle.format.specs.Tables.{NameTable, Triple, Vocabulary, names}
 use Rattle.tables.specs.declared.Counts.{Counts}
 use Rattle.tables.specs.Located.{Located}
-use Rattle.tables.specs.Counts.{tableWords}
-use Rattle.tables.specs.Rows.{table_of, stringAt, tripleAt, vocabulary}
+use Rattle.tables.specs.Counts.{table_words}
+use Rattle.tables.specs.Rows.{table_of, string_at, triple_at, vocabulary}
 use Rattle.tables.specs.Kept.{count_of, unlisted, row_at}
 use Rattle.index.specs.Ordered.{Ordered}
 use Rattle.events.specs.declared.EventString.{EventString}
 use Rattle.events.specs.declared.EventString.TheVariants.{Absent}
-use Rattle.events.specs.Records.{eventString, optionalEventString}
+use Rattle.events.specs.Records.{event_string, optional_event_string}
 use Rattle.read_names.specs.declared.Entry.{Entry}
 use Rattle.read_names.specs.declared.Entry.TheVariants.{Got as Numbered, Refused as NotNumbered}
 use Rattle.read_names.specs.declared.Field.{Field}
@@ -47,27 +47,27 @@ pub record Left (s : Octets) (c w : Words) (at : ℕ) (d v : Words) (x : Octets)
   pub grown : Grown c w d v
 
 abbrev pub Rooms : (d v : Words) → Type 0
-Rooms d v = (length d ≡ 10) × (length v ≡ tableWords)
+Rooms d v = (length d ≡ 10) × (length v ≡ table_words)
 
 -- ---- the string behind a number of a table; 0 is none. The strings behind a name's number
-unfoldable pub eventStringAt : Words → (table number : ℕ) → EventString
-eventStringAt w table zero = Absent
-eventStringAt w table (suc k) = eventString (stringAt (table_of table) w (768 * table + 3 * k))
+unfoldable pub event_string_at : Words → (table number : ℕ) → EventString
+event_string_at w table zero = Absent
+event_string_at w table (suc k) = event_string (string_at (table_of table) w (768 * table + 3 * k))
 
-unfoldable pub eventStringsAt : Words → Triple → Parts
-eventStringsAt w x = record { prefix = eventStringAt w 0 x.prefix; namespace = eventStringAt w 1 x.namespace; local = eventStringAt w 2 x.local }
+unfoldable pub event_strings_at : Words → Triple → Parts
+event_strings_at w x = record { prefix = event_string_at w 0 x.prefix; namespace = event_string_at w 1 x.namespace; local = event_string_at w 2 x.local }
 
-unfoldable pub nameStringsAt : Words → (table number : ℕ) → Parts
-nameStringsAt w table n = eventStringsAt w (tripleAt w (768 * table + 3 * (n - 1)))
+unfoldable pub name_strings_at : Words → (table number : ℕ) → Parts
+name_strings_at w table n = event_strings_at w (triple_at w (768 * table + 3 * (n - 1)))
 
 -- ---- an identifying string
 pub record Seen : Type 0 where
   pub text : EventString
   pub number : ℕ
 
-abbrev pub seenId : (table : ℕ) → Entry → (d v : Words) → S.Got Seen
-seenId table (Numbered n at) d v = S.got (record { text = eventStringAt v table n; number = n }) at (vocabulary (unlisted d) v)
-seenId table (NotNumbered n p) d v = S.refused n p
+abbrev pub seen_id : (table : ℕ) → Entry → (d v : Words) → S.Got Seen
+seen_id table (Numbered n at) d v = S.got (record { text = event_string_at v table n; number = n }) at (vocabulary (unlisted d) v)
+seen_id table (NotNumbered n p) d v = S.refused n p
 
 abbrev pub IdLeft : Octets → (c w : Words) → (table : ℕ) → Entry → (d v : Words) → Octets → Type 0
 IdLeft s c w table (Numbered n at) d v x = Left s c w at d v x × (n ≤ count_of (unlisted d) table)
@@ -78,70 +78,70 @@ abbrev pub Positive : Entry → Type 0
 Positive (Numbered n at) = 1 ≤ n
 Positive (NotNumbered n p) = Unit {0}
 
-abbrev pub idSeen : S.Got IdRead → S.Got Seen
-idSeen (S.got b next v) = S.got (record { text = eventString b.string; number = b.number }) next v
-idSeen (S.refused n p) = S.refused n p
+abbrev pub id_seen : S.Got IdRead → S.Got Seen
+id_seen (S.got b next v) = S.got (record { text = event_string b.string; number = b.number }) next v
+id_seen (S.refused n p) = S.refused n p
 
-abbrev pub optionalSeen : S.Got OptionalRead → S.Got Seen
-optionalSeen (S.got b next v) = S.got (record { text = optionalEventString b.string; number = b.number }) next v
-optionalSeen (S.refused n p) = S.refused n p
+abbrev pub optional_seen : S.Got OptionalRead → S.Got Seen
+optional_seen (S.got b next v) = S.got (record { text = optional_event_string b.string; number = b.number }) next v
+optional_seen (S.refused n p) = S.refused n p
 
 -- ---- a string that has no number of its own
-abbrev pub seenField : Field → (d v : Words) → S.Got EventString
-seenField (Got y at) d v = S.got y at (vocabulary (unlisted d) v)
-seenField (Refused n p) d v = S.refused n p
+abbrev pub seen_field : Field → (d v : Words) → S.Got EventString
+seen_field (Got y at) d v = S.got y at (vocabulary (unlisted d) v)
+seen_field (Refused n p) d v = S.refused n p
 
 abbrev pub FieldLeft : Octets → (c w : Words) → Field → (d v : Words) → Octets → Type 0
 FieldLeft s c w (Got y at) d v x = Left s c w at d v x
 FieldLeft s c w (Refused n p) d v x = Rooms d v
 
-abbrev pub stringSeen : S.Got StringRead → S.Got EventString
-stringSeen (S.got b next v) = S.got (eventString b.string) next v
-stringSeen (S.refused n p) = S.refused n p
+abbrev pub string_seen : S.Got StringRead → S.Got EventString
+string_seen (S.got b next v) = S.got (event_string b.string) next v
+string_seen (S.refused n p) = S.refused n p
 
 -- ---- a name, by its number
-abbrev pub seenName : (table : ℕ) → Entry → (d v : Words) → S.Got Parts
-seenName table (Numbered n at) d v = S.got (nameStringsAt v table n) at (vocabulary (unlisted d) v)
-seenName table (NotNumbered n p) d v = S.refused n p
+abbrev pub seen_name : (table : ℕ) → Entry → (d v : Words) → S.Got Parts
+seen_name table (Numbered n at) d v = S.got (name_strings_at v table n) at (vocabulary (unlisted d) v)
+seen_name table (NotNumbered n p) d v = S.refused n p
 
-abbrev pub nameSeen : S.Got NameRead → S.Got Parts
-nameSeen (S.got b next v) = S.got (record { prefix = optionalEventString b.name.prefix; namespace = optionalEventString b.name.namespace; local = eventString b.name.local }) next v
-nameSeen (S.refused n p) = S.refused n p
+abbrev pub name_seen : S.Got NameRead → S.Got Parts
+name_seen (S.got b next v) = S.got (record { prefix = optional_event_string b.name.prefix; namespace = optional_event_string b.name.namespace; local = event_string b.name.local }) next v
+name_seen (S.refused n p) = S.refused n p
 
 -- ---- a declaration, which has no local name
-abbrev pub seenDeclared : Declaration → (d v : Words) → S.Got Parts
-seenDeclared (Declares p n at) d v = S.got (record { prefix = eventStringAt v 0 p; namespace = eventStringAt v 1 n; local = Absent }) at (vocabulary (unlisted d) v)
-seenDeclared (NotDeclares n p) d v = S.refused n p
+abbrev pub seen_declared : Declaration → (d v : Words) → S.Got Parts
+seen_declared (Declares p n at) d v = S.got (record { prefix = event_string_at v 0 p; namespace = event_string_at v 1 n; local = Absent }) at (vocabulary (unlisted d) v)
+seen_declared (NotDeclares n p) d v = S.refused n p
 
 abbrev pub DeclaredLeft : Octets → (c w : Words) → Declaration → (d v : Words) → Octets → Type 0
 DeclaredLeft s c w (Declares p n at) d v x = Left s c w at d v x × (p ≤ 256) × (n ≤ 256)
 DeclaredLeft s c w (NotDeclares n p) d v x = Rooms d v
 
-abbrev pub declaredSeen : S.Got DeclaredRead → S.Got Parts
-declaredSeen (S.got b next v) = S.got (record { prefix = optionalEventString b.prefix; namespace = optionalEventString b.namespace; local = Absent }) next v
-declaredSeen (S.refused n p) = S.refused n p
+abbrev pub declared_seen : S.Got DeclaredRead → S.Got Parts
+declared_seen (S.got b next v) = S.got (record { prefix = optional_event_string b.prefix; namespace = optional_event_string b.namespace; local = Absent }) next v
+declared_seen (S.refused n p) = S.refused n p
 
 -- ---- what a function answers and leaves: r is what f reads from the tables that words c and w of counts and tables hold, these are d and v then, and the index is x
 abbrev pub ReadsId : Octets → (c w : Words) (table : ℕ) → Entry → (d v : Words) → Octets → (Vocabulary Located → S.Got IdRead) → Type 0
-ReadsId s c w table r d v x f = (seenId table r d v ≡ idSeen (f (vocabulary (unlisted c) w))) × IdLeft s c w table r d v x × Positive r
+ReadsId s c w table r d v x f = (seen_id table r d v ≡ id_seen (f (vocabulary (unlisted c) w))) × IdLeft s c w table r d v x × Positive r
 
 abbrev pub ReadsOptional : Octets → (c w : Words) (table : ℕ) → Entry → (d v : Words) → Octets → (Vocabulary Located → S.Got OptionalRead) → Type 0
-ReadsOptional s c w table r d v x f = (seenId table r d v ≡ optionalSeen (f (vocabulary (unlisted c) w))) × IdLeft s c w table r d v x
+ReadsOptional s c w table r d v x f = (seen_id table r d v ≡ optional_seen (f (vocabulary (unlisted c) w))) × IdLeft s c w table r d v x
 
 abbrev pub ReadsName : Octets → (c w : Words) (table : ℕ) → Entry → (d v : Words) → Octets → (Vocabulary Located → S.Got NameRead) → Type 0
-ReadsName s c w table r d v x f = (seenName table r d v ≡ nameSeen (f (vocabulary (unlisted c) w))) × IdLeft s c w table r d v x × Positive r
+ReadsName s c w table r d v x f = (seen_name table r d v ≡ name_seen (f (vocabulary (unlisted c) w))) × IdLeft s c w table r d v x × Positive r
 
 abbrev pub ReadsDeclared : Octets → (c w : Words) → Declaration → (d v : Words) → Octets → (Vocabulary Located → S.Got DeclaredRead) → Type 0
-ReadsDeclared s c w r d v x f = (seenDeclared r d v ≡ declaredSeen (f (vocabulary (unlisted c) w))) × DeclaredLeft s c w r d v x
+ReadsDeclared s c w r d v x f = (seen_declared r d v ≡ declared_seen (f (vocabulary (unlisted c) w))) × DeclaredLeft s c w r d v x
 
 -- Whatever the index is: a string without a number of its own is not looked up in it.
 abbrev pub ReadsField : Octets → (c w : Words) → Field → (d v : Words) → (Vocabulary Located → S.Got StringRead) → Type 0
-ReadsField s c w r d v f = (x : Octets) → Tidy s c w x → (seenField r d v ≡ stringSeen (f (vocabulary (unlisted c) w))) × FieldLeft s c w r d v x
+ReadsField s c w r d v f = (x : Octets) → Tidy s c w x → (seen_field r d v ≡ string_seen (f (vocabulary (unlisted c) w))) × FieldLeft s c w r d v x
 
 -- A name's number is that of a row whose numbers are those of rows.
 abbrev pub NameThere : Words → (table number : ℕ) → Type 0
 NameThere t table n =
-    (length t ≡ tableWords) × (8 ≤ table) × (table < 10) × (1 ≤ n) × (n ≤ 256)
-    × ((tripleAt t (768 * table + 3 * (n - 1))).prefix ≤ 256)
-    × ((tripleAt t (768 * table + 3 * (n - 1))).namespace ≤ 256)
-    × ((tripleAt t (768 * table + 3 * (n - 1))).local ≤ 256)
+    (length t ≡ table_words) × (8 ≤ table) × (table < 10) × (1 ≤ n) × (n ≤ 256)
+    × ((triple_at t (768 * table + 3 * (n - 1))).prefix ≤ 256)
+    × ((triple_at t (768 * table + 3 * (n - 1))).namespace ≤ 256)
+    × ((triple_at t (768 * table + 3 * (n - 1))).local ≤ 256)

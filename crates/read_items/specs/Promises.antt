@@ -7,9 +7,9 @@ use Rattle.tables.specs.Rows.{vocabulary}
 use Rattle.tables.specs.Kept.{unlisted}
 use Rattle.states.specs.declared.State.{State}
 use Rattle.states.specs.States.{state_of, coming}
-use Rattle.events.specs.Records.{recordOf}
+use Rattle.events.specs.Records.{record_of}
 use Rattle.events.specs.Kept.{kept}
-use Rattle.read_names.specs.Contracts.{Tidy, Rooms}
+use Rattle.read_names.specs.Promises.{Tidy, Rooms}
 use Rattle.read_items.specs.declared.Step.{Step}
 use Rattle.read_items.specs.declared.Step.TheVariants.{More, Quiet, Done, Stop}
 use Rattle.read_items.specs.Items as I
@@ -25,8 +25,8 @@ pub record Lent : Type 0 where
 abbrev pub lent : (tables counts : Words) → Octets → (records : Words) → Lent
 lent t c x r = record { tables = t; counts = c; index = x; records = r }
 
-abbrev pub standOf : State → Lent → Stand
-standOf st a = record { at = st.at; state = state_of st (vocabulary (unlisted a.counts) a.tables) }
+abbrev pub stand_of : State → Lent → Stand
+stand_of st a = record { at = st.at; state = state_of st (vocabulary (unlisted a.counts) a.tables) }
 
 -- ---- a step's answer, without the event, which is in its record
 pub data SeenStep : Type 0 where
@@ -35,24 +35,24 @@ pub data SeenStep : Type 0 where
   done : SeenStep
   stop : (number place : ℕ) → SeenStep
 
-abbrev pub seenStep : Step → Lent → SeenStep
-seenStep (More st p) b = more p (standOf st b)
-seenStep (Quiet st k) b = quiet (standOf st b)
-seenStep (Done st k) b = done
-seenStep (Stop st n) b = stop n st.at
+abbrev pub seen_step : Step → Lent → SeenStep
+seen_step (More st p) b = more p (stand_of st b)
+seen_step (Quiet st k) b = quiet (stand_of st b)
+seen_step (Done st k) b = done
+seen_step (Stop st n) b = stop n st.at
 
-abbrev pub stepSeen : I.Step → SeenStep
-stepSeen (I.more p i m) = more p m
-stepSeen (I.quiet m) = quiet m
-stepSeen I.done = done
-stepSeen (I.stop n p) = stop n p
+abbrev pub step_seen : I.Step → SeenStep
+step_seen (I.more p i m) = more p m
+step_seen (I.quiet m) = quiet m
+step_seen I.done = done
+step_seen (I.stop n p) = stop n p
 
 -- The records with the step's event in record n.
-abbrev pub keptBy : Words → ℕ → I.Step → Words
-keptBy r n (I.more p i m) = kept r n p (recordOf i.event)
-keptBy r n (I.quiet m) = r
-keptBy r n I.done = r
-keptBy r n (I.stop k p) = r
+abbrev pub kept_by : Words → ℕ → I.Step → Words
+kept_by r n (I.more p i m) = kept r n p (record_of i.event)
+kept_by r n (I.quiet m) = r
+kept_by r n I.done = r
+kept_by r n (I.stop k p) = r
 
 -- The reader stands in the document, and not too deep.
 pub record Good (s : Octets) (st : State) (a : Lent) : Type 0 where
@@ -68,9 +68,9 @@ StepGood s a (Stop st n) b = Rooms b.counts b.tables × (n < 0x1_0000_0000)
 
 -- What was lent was a and is b: the answer stands for the definition's, what it leaves is in order, and its event is kept.
 pub record Met (s : Octets) (st : State) (n : ℕ) (a : Lent) (r : Step) (b : Lent) (d : Stand → I.Step) : Type 0 where
-  pub is : seenStep r b ≡ stepSeen (d (standOf st a))
+  pub is : seen_step r b ≡ step_seen (d (stand_of st a))
   pub good : StepGood s a r b
-  pub keeps : b.records ≡ keptBy a.records n (d (standOf st a))
+  pub keeps : b.records ≡ kept_by a.records n (d (stand_of st a))
 
 -- The same of a definition that does not ask at which half the reader stands.
 abbrev pub Meets : Octets → State → ℕ → Lent → Step → Lent → (F.State Located → I.Step) → Type 0

@@ -10,8 +10,8 @@ use Rattle.tables.specs.Located.{Located}
 use Rattle.events.specs.declared.EventString.{EventString}
 use Rattle.events.specs.declared.EventString.TheVariants.{Absent, Empty, Stretch, XmlPrefix, XmlNamespace}
 use Rattle.events.specs.declared.Event.{Event}
-use Rattle.events.specs.Words.{stringForm}
-use Rattle.write_items.specs.Events.{wellMade, eventOf, goesOn, allText}
+use Rattle.events.specs.Words.{string_form}
+use Rattle.write_items.specs.Events.{well_made, event_of, goes_on, all_text}
 use Rattle.write_items.specs.Steps.{opens}
 
 -- A string that is a stretch is not empty and lies in the text area; so, and it is in utf-8.
@@ -23,7 +23,7 @@ Lies text XmlPrefix = Unit {0}
 Lies text XmlNamespace = Unit {0}
 
 abbrev pub LiesPlain : Octets → EventString → Type 0
-LiesPlain text x = Lies text x × (stringForm x ≡ Utf8)
+LiesPlain text x = Lies text x × (string_form x ≡ Utf8)
 
 -- Each string of a record is so.
 pub record Placed (text : Octets) (e : Event) : Type 0 where
@@ -33,10 +33,10 @@ pub record Placed (text : Octets) (e : Event) : Type 0 where
   pub value : Lies text e.value
 
 -- What is wrong with an event before anything is written: not well made or not in its place (16), not text (9), too deep (13); 0 if nothing is.
-unfoldable pub faultOf : Octets → F.State Located → Event → ℕ
-faultOf text v e =
-    pick (wellMade text e.kind e && goesOn v (eventOf e.kind e))
-    (pick (allText text (eventOf e.kind e))
-    (pick (opens v.mode (eventOf e.kind e) && leb link.depth v.level) DEPTH 0)
+unfoldable pub fault_of : Octets → F.State Located → Event → ℕ
+fault_of text v e =
+    pick (well_made text e.kind e && goes_on v (event_of e.kind e))
+    (pick (all_text text (event_of e.kind e))
+    (pick (opens v.mode (event_of e.kind e) && leb link.depth v.level) DEPTH 0)
     TEXT)
     EVENT

@@ -3,26 +3,26 @@ use Rattle.std.specs.Prelude.{ℕ, ◌≤◌, ◌≡◌, Bool, true, length, eqb
 use Rattle.format.specs.Octets.{Octets, Words}
 use Rattle.format.specs.Numbers.{pick, c21, top}
 use Rattle.format.specs.Tables.{Vocabulary, link}
-use Rattle.format.specs.Head.{Table, ofStrings, ofNames}
+use Rattle.format.specs.Head.{Table, of_strings, of_names}
 use Rattle.fields.specs.Fields.{field_at}
 use Rattle.tables.specs.Located.{Located}
 use Rattle.tables.specs.Rows.{table_of, vocabulary}
-use Rattle.tables.specs.Kept.{unlisted, count_of, nameTableOf}
+use Rattle.tables.specs.Kept.{unlisted, count_of, name_table_of}
 use Rattle.read_names.specs.declared.Entry.{Entry}
 use Rattle.read_names.specs.declared.Entry.TheVariants.{Got as Numbered, Refused as NotNumbered}
 use Rattle.read_names.specs.declared.Field.{Field}
 use Rattle.read_names.specs.declared.Field.TheVariants.{Got as Said, Refused as NotSaid}
 use Rattle.read_names.specs.Strings as S
-use Rattle.read_names.specs.Contracts.{Tidy, Left}
-use Rattle.read_names.specs.NameContracts.{seenNumber}
+use Rattle.read_names.specs.Promises.{Tidy, Left}
+use Rattle.read_names.specs.NameContracts.{seen_number}
 use Rattle.read_head.specs.declared.Passed as C
 use Rattle.read_head.specs.declared.Passed.TheVariants.{Behind, Refused}
 use Rattle.read_head.specs.Head.{Passed, part_at, entries_at}
 
 -- The words of counts and tables are d and v then.
-abbrev pub seenPassed : C.Passed → (d v : Words) → Passed
-seenPassed (Behind at) d v = S.got tt at (vocabulary (unlisted d) v)
-seenPassed (Refused n p) d v = S.refused n p
+abbrev pub seen_passed : C.Passed → (d v : Words) → Passed
+seen_passed (Behind at) d v = S.got tt at (vocabulary (unlisted d) v)
+seen_passed (Refused n p) d v = S.refused n p
 
 -- What is in order still is; a refusal is a small number at a place of the document.
 abbrev pub PassedLeft : Octets → (c w : Words) → C.Passed → (d v : Words) → Octets → Type 0
@@ -31,20 +31,20 @@ PassedLeft s c w (Refused n p) d v x = (n ≤ 15) × (p ≤ length s)
 
 -- r is what f passes from the tables that words c and w of counts and tables hold; these are d and v then, and the index is x.
 abbrev pub Passes : Octets → (c w : Words) → C.Passed → (d v : Words) → Octets → (Vocabulary Located → Passed) → Type 0
-Passes s c w r d v x f = (seenPassed r d v ≡ f (vocabulary (unlisted c) w)) × PassedLeft s c w r d v x
+Passes s c w r d v x f = (seen_passed r d v ≡ f (vocabulary (unlisted c) w)) × PassedLeft s c w r d v x
 
 -- Whatever the index is: a table that is not searched is not in it.
 abbrev pub PassesBeside : Octets → (c w : Words) → C.Passed → (d v : Words) → (Vocabulary Located → Passed) → Type 0
 PassesBeside s c w r d v f = (x : Octets) → Tidy s c w x → Passes s c w r d v x f
 
 -- Where an entry ended.
-abbrev pub behindEntry : Entry → C.Passed
-behindEntry (Numbered n at) = Behind at
-behindEntry (NotNumbered n p) = Refused n p
+abbrev pub behind_entry : Entry → C.Passed
+behind_entry (Numbered n at) = Behind at
+behind_entry (NotNumbered n p) = Refused n p
 
-abbrev pub behindField : Field → C.Passed
-behindField (Said y at) = Behind at
-behindField (NotSaid n p) = Refused n p
+abbrev pub behind_field : Field → C.Passed
+behind_field (Said y at) = Behind at
+behind_field (NotSaid n p) = Refused n p
 
 -- A part of a name: its number is that of an entry, 0 if it is not there.
 abbrev pub PartThere : Octets → (c : Words) (table : ℕ) (there : Bool) → Entry → Type 0
@@ -53,12 +53,12 @@ PartThere s c table there (NotNumbered n p) = Unit {0}
 
 abbrev pub ReadsPart : Octets → (c : Words) (table at : ℕ) (there : Bool) → Entry → Type 0
 ReadsPart s c table at there r =
-    ((w : Words) → seenNumber r c w ≡ part_at there (count_of (unlisted c) table) s at (vocabulary (unlisted c) w)) × PartThere s c table there r
+    ((w : Words) → seen_number r c w ≡ part_at there (count_of (unlisted c) table) s at (vocabulary (unlisted c) w)) × PartThere s c table there r
 
 -- The ten tables by number, in the required order.
 unfoldable pub table_at : ℕ → Table
-table_at n = pick (ltb n 8) (ofStrings (table_of n)) (ofNames (nameTableOf n))
+table_at n = pick (ltb n 8) (of_strings (table_of n)) (of_names (name_table_of n))
 
 -- One of the tables of the head, by its presence bit.
-unfoldable pub presentAt : Table → (bit : ℕ) → Octets → ℕ → Vocabulary Located → Passed
-presentAt t bit s k v = pick (eqb bit 1) (S.number (field_at c21 top 1 s k) λ n next. entries_at link t s n next v) (S.got tt k v)
+unfoldable pub present_at : Table → (bit : ℕ) → Octets → ℕ → Vocabulary Located → Passed
+present_at t bit s k v = pick (eqb bit 1) (S.number (field_at c21 top 1 s k) λ n next. entries_at link t s n next v) (S.got tt k v)
