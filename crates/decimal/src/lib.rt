@@ -1,5 +1,7 @@
 // Integers of 2, 4 or 8 octets, highest first, two's complement: from octets to integers and back, to decimal text and back.
 // May depend on format and fields.
+#![tactic(auto)]
+
 pub mod printing;
 pub mod scanning;
 

@@ -9,7 +9,7 @@ use crate::{int_at, long_at, magnitude, short_at};
 use format::StringForm;
 
 // What is left of an integer's text: the minus sign, where it is to come, and then the `count` lowest digits of `number`.
-#[derive(Drop)]
+#[derive(Clone, Copy)]
 pub struct Text {
     pub minus: bool,
     pub number: u64,

@@ -9,7 +9,7 @@ use crate::{folded, minus, plus, put_int, put_long, put_short, wide};
 use format::StringForm;
 
 // What was read of a word: nothing, "-", or "0"; the digits of a number that is not 0, behind a minus sign or not; or what no integer of eight octets starts with.
-#[derive(Drop)]
+#[derive(Clone, Copy)]
 pub enum Word {
     Empty,
     Minus,
@@ -19,21 +19,21 @@ pub enum Word {
 }
 
 // The integer that a word is, if eight octets hold it.
-#[derive(Drop)]
+#[derive(Clone, Copy)]
 pub enum Ended {
     Integer(i64),
     NoInteger,
 }
 
 // How many integers, and the least of 2, 4 and 8 octets that holds each; or there is a word that is none.
-#[derive(Drop)]
+#[derive(Clone, Copy)]
 pub enum Found {
     Integers(usize, usize),
     NoIntegers,
 }
 
 // The word that is being read, and what was found before it.
-#[derive(Drop)]
+#[derive(Clone, Copy)]
 pub struct Scan {
     pub word: Word,
     pub before: Found,

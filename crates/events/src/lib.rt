@@ -1,5 +1,7 @@
 // Event records as callers lend them.
 // May depend on format and tables (for specs/ and proofs/) and on walk (for proofs/).
+#![tactic(auto)]
+
 pub mod kinds;
 pub mod strings;
 pub mod tags;
@@ -19,7 +21,7 @@ pub const RECORD: usize = 14;
 pub const PLACE: usize = 13;
 
 // A string of an event: none; the empty one; octets of the document or text area by form, place and length; one of the two built-in strings.
-#[derive(Drop)]
+#[derive(Clone, Copy)]
 pub enum EventString {
     Absent,
     Empty,
@@ -28,7 +30,7 @@ pub enum EventString {
     XmlNamespace,
 }
 
-#[derive(Drop)]
+#[derive(Clone, Copy)]
 pub enum Kind {
     Blank,
     Namespace,
@@ -42,7 +44,7 @@ pub enum Kind {
 
 // `name` is a local name or a target; `value` a value, chunk, comment or content. What a kind does not have is absent. `place` is the octet of the document at which the event was read,
 // and 0 in a record that was not read; it says nothing to a writer.
-#[derive(Drop)]
+#[derive(Clone, Copy)]
 pub struct Event {
     pub kind: Kind,
     pub prefix: EventString,

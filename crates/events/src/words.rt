@@ -9,7 +9,7 @@ use crate::{Event, EventString, Kind, PLACE, RECORD, kinds, strings, tags};
 use format::StringForm;
 
 // What three words say: a string, or none where they are not well formed.
-#[derive(Drop)]
+#[derive(Clone, Copy)]
 enum Told {
     Said(EventString),
     Not,

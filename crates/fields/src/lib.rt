@@ -1,5 +1,7 @@
 // One field of a document at a time: numbers and lengths read by a cursor, with an enum for the answer, or put into an output; text; and eight octets as one number.
 // May depend on format alone.
+#![tactic(auto)]
+
 pub mod put;
 
 ghost use Rattle.std.specs.Prelude.{◌≡◌, ℕ, ◌+◌, ◌-◌, ◌*◌, ◌/◌, ◌^◌, ◌<◌, ◌≤◌, true, ◌&&◌, length, take, drop, ◌≢◌, bit_and, nat_le, slice_index, slice_range};
@@ -25,13 +27,13 @@ pub const TOP: u64 = 1048576;
 pub const NO_TOP: u64 = 0x2_0000_0000;
 
 // Where the next field starts.
-#[derive(Drop)]
+#[derive(Clone, Copy)]
 pub struct Cursor {
     pub at: usize,
 }
 
 // A number or a length and the cursor behind it, or the refusal and its place.
-#[derive(Drop)]
+#[derive(Clone, Copy)]
 pub enum Number {
     Got(u64, Cursor),
     Refused(u32, usize),
@@ -334,7 +336,7 @@ fn lower(a: u8, b: u8) -> u8
 }
 
 // No octet of some is below `low` or above `high`.
-#[derive(Drop)]
+#[derive(Clone, Copy)]
 struct LowHigh {
     low: u8,
     high: u8,

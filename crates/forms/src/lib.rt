@@ -1,6 +1,8 @@
 // Strings in the forms that they come in: whether octets are text in a form, two strings compared by their characters, and a string put in UTF-8, in an alphabet or as integers. A string of any
 // form is given octet by octet in UTF-8.
 // May depend on format, fields and decimal.
+#![tactic(auto)]
+
 mod deciding;
 mod integers;
 mod packing;
@@ -21,7 +23,7 @@ pub use integers::{integers_for, put_integers};
 pub use packing::{alphabet_for, may_begin, put_packed};
 
 // A string of which the octets from `at` to `to` are still to be read. Of what was read, `left` octets wait, the first of a, b, c; and behind them the `count` lowest digits of an integer's number.
-#[derive(Drop)]
+#[derive(Clone, Copy)]
 pub struct Said {
     pub form: StringForm,
     pub at: usize,
@@ -35,7 +37,7 @@ pub struct Said {
 }
 
 // The string's next octet in UTF-8, and what is then left; or its end.
-#[derive(Drop)]
+#[derive(Clone, Copy)]
 pub enum Next {
     Octet(u8, Said),
     Done,

@@ -12,7 +12,7 @@ use fields::put::put;
 use format::StringForm;
 
 // Which of the two alphabets have a character, or all that were looked at.
-#[derive(Drop)]
+#[derive(Clone, Copy)]
 struct Fit {
     numeric: bool,
     dates: bool,

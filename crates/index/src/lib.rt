@@ -1,5 +1,7 @@
 // A hash index over the tables, local to a run: the lowest number of a string or a name, in a few comparisons.
 // May depend on format, fields, forms and tables.
+#![tactic(auto)]
+
 ghost use Rattle.std.specs.Prelude.{◌≡◌, true, List, map, ℕ, ◌+◌, ◌-◌, ◌*◌, ◌/◌, ◌<◌, ◌≤◌, length, get_or};
 ghost use Rattle.format.specs.Tables.{same, OTHER_STRING};
 ghost use Rattle.format.specs.declared.StringForm.TheVariants.{Utf8};
@@ -96,7 +98,7 @@ fn counting(len: usize) -> usize
 }
 
 // What the octets of a string come to: two numbers, of which its bucket is made; and one that tells, as `fields::not_plain` does, whether each is plain.
-#[derive(Drop)]
+#[derive(Clone, Copy)]
 struct Taken {
     number: u64,
     last: u64,
@@ -170,7 +172,7 @@ fn take(s: &[u8], place: usize, len: usize) -> Taken
 }
 
 // What one look at the octets of a string tells: its bucket, and whether it is plain: each octet is. A long one is never said to be plain.
-#[derive(Drop)]
+#[derive(Clone, Copy)]
 struct Seen {
     bucket: usize,
     plain: bool,
@@ -198,7 +200,7 @@ pub fn bucket_of(s: &[u8], place: usize, len: usize) -> usize
 }
 
 // A string's bucket, and whether it is text.
-#[derive(Drop)]
+#[derive(Clone, Copy)]
 pub struct Marked {
     pub bucket: usize,
     pub text: bool,
@@ -465,7 +467,7 @@ fn is_listed(
 }
 
 // What became of a string that was to be a new entry: it is added, or was there, or has no room.
-#[derive(Drop)]
+#[derive(Clone, Copy)]
 pub enum Added {
     Done,
     Known,

@@ -1,6 +1,8 @@
 // Lists one document from standard input: a line for each event and then their number, or the refusal.
 // With the argument --places each event's line starts with the event's place.
 // A program: it prints what the reader found, and decides nothing.
+#![tactic(auto)]
+
 ghost use Rattle.std.specs.Prelude.{◌≤◌};
 ghost use Rattle.forms.specs.Streams.{Fine};
 

@@ -1,5 +1,7 @@
 // The C boundary: any octets, and words that the caller lends. A slice is a pointer and a length.
 // May depend on all crates but read_rows, write_rows, listing, writing and theorems.
+#![tactic(auto)]
+
 ghost use Rattle.std.specs.Prelude.{◌≡◌, length};
 ghost use Rattle.format.specs.Tables.{link};
 ghost use Rattle.reader.specs.Reading.{check_of};

@@ -1,5 +1,7 @@
 // A document's head read: the entries that it lists become the tables' first ones, behind the built-in entries.
 // May depend on format, fields, tables, index, events and read_names.
+#![tactic(auto)]
+
 mod listed;
 
 ghost use Rattle.std.specs.Prelude.{◌≡◌, ◌-◌, ◌/◌, ◌%◌, ◌^◌, ◌<◌, ◌≤◌, length, eqb};
@@ -15,7 +17,7 @@ use format::refusals::{OPTIONAL_PART, PADDING, STRUCTURE, TRUNCATED};
 use tables::Counts;
 
 // Where the next field starts; or the refusal and its place. What was listed is in the tables.
-#[derive(Drop)]
+#[derive(Clone, Copy)]
 pub enum Passed {
     Behind(usize),
     Refused(u32, usize),

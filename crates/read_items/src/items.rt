@@ -312,7 +312,7 @@ fn child_at(
 
 // What an item's first octets say of it, in numbers: where it starts; a refusal's number; a name's table and what of its first octet starts it; an element's
 // attribute bit.
-#[derive(Drop)]
+#[derive(Clone, Copy)]
 pub struct Spot {
     at: usize,
     number: u32,
@@ -323,7 +323,7 @@ pub struct Spot {
 
 // What stands there: a refusal, a name, a declaration, or a child that is no element. One place reads names, so that it is inlined; and all variants
 // have one layout, so that nothing is moved.
-#[derive(Drop)]
+#[derive(Clone, Copy)]
 pub enum Head {
     Stop(Spot),
     Named(Spot),

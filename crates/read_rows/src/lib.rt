@@ -1,6 +1,8 @@
 // Reading into a lent row of records: each event into the next one, the tables into their words, over the same step as the reader for C. What is decided is decided by value, in
 // `advance`, `admitted` and `finish`; the other functions only keep what these answer where the caller lent room for it.
 // May depend on format, fields, tables, index, states, walk, events, read_names, read_head, read_items and reader.
+#![tactic(auto)]
+
 ghost use Rattle.std.specs.Prelude.{◌≡◌, ◌≤◌, length, replicate};
 ghost use Rattle.format.specs.Tables.{link};
 ghost use Rattle.tables.specs.Counts.{table_words};
@@ -19,7 +21,7 @@ use states::State;
 use tables::Counts;
 
 // Where the reader stands, how many steps it may still take, and whether the next one is to read a head.
-#[derive(Drop)]
+#[derive(Clone, Copy)]
 pub struct Place {
     pub state: State,
     pub left: usize,
@@ -27,7 +29,7 @@ pub struct Place {
 }
 
 // Behind a step: an event, its place and where the reader stands; where it stands behind an end that is no event; the document's end; a refusal and its place.
-#[derive(Drop)]
+#[derive(Clone, Copy)]
 pub enum Next {
     Found(usize, Event, Place),
     Passed(Place),
@@ -35,7 +37,7 @@ pub enum Next {
     Refused(u32, usize),
 }
 
-#[derive(Drop)]
+#[derive(Clone, Copy)]
 pub struct Turn {
     pub counts: Counts,
     pub next: Next,

@@ -19,7 +19,7 @@ use states::State;
 use tables::Counts;
 
 // Where the lane stands: at an octet among children, inside the root, behind n events.
-#[derive(Drop)]
+#[derive(Clone, Copy)]
 struct Lane {
     at: usize,
     level: usize,
@@ -27,14 +27,14 @@ struct Lane {
 }
 
 // Where the reader stands behind the lane, and the number of events.
-#[derive(Drop)]
+#[derive(Clone, Copy)]
 pub struct Ahead {
     pub state: State,
     pub n: usize,
 }
 
 // A row of a table, and the octet behind the number that names it.
-#[derive(Drop)]
+#[derive(Clone, Copy)]
 struct Named {
     row: u32,
     next: usize,

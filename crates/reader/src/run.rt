@@ -27,21 +27,21 @@ const CHECKED: usize = 2 * fields::OCTETS;
 const FIRST: usize = fields::BODY - 1;
 
 // How a run ended: accepted, with the number of events; or the refusal's number and place.
-#[derive(Drop)]
+#[derive(Clone, Copy)]
 enum Ended {
     Accepted(u32),
     Refused(u32, u32),
 }
 
 // The octet behind the header, and whether a head starts there; else it is the body.
-#[derive(Drop)]
+#[derive(Clone, Copy)]
 pub struct Front {
     pub at: usize,
     pub head: bool,
 }
 
 // What the header says: what stands behind it, or the refusal and its place.
-#[derive(Drop)]
+#[derive(Clone, Copy)]
 pub enum Opening {
     Onward(Front),
     Halt(u32, usize),

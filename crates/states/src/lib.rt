@@ -1,10 +1,12 @@
 // Where a reader or a writer stands in a document, and what it knows beside the tables.
 // May depend on format and tables (for specs/).
+#![tactic(auto)]
+
 ghost use Rattle.std.specs.Prelude.{◌≡◌, not, ◌||◌, ◌*◌, ◌≤◌, ◌<◌, ltb};
 ghost use Rattle.states.specs.States.{farthest, fresh, moved_to, opened_at, after_end, after_start, declaring_mode, root_of};
 
 // `at` is in halves of an octet; `root` is not 0 once there was a root. Four words without a gap: a struct with gaps is moved in pieces, at every step.
-#[derive(Drop)]
+#[derive(Clone, Copy)]
 pub struct State {
     pub at: usize,
     pub level: usize,

@@ -1,5 +1,7 @@
 // The ten tables in lent room: how many entries each has, and what is found and added there.
 // May depend on format, fields and forms.
+#![tactic(auto)]
+
 ghost use Rattle.std.specs.Prelude.{◌≡◌, map, ◌+◌, ◌-◌, ◌*◌, ◌<◌, ◌≤◌, length, get_or, replicate};
 ghost use Rattle.format.specs.Tables.{OTHER_STRING, link, same, same_triple};
 ghost use Rattle.format.specs.declared.StringForm.TheVariants.{Utf8};
@@ -14,7 +16,7 @@ use format::StringForm;
 use format::table::ELEMENT_NAME;
 
 // How many entries each table has, in the required order.
-#[derive(Drop)]
+#[derive(Clone, Copy)]
 pub struct Counts {
     pub prefix: u32,
     pub namespace: u32,
@@ -127,7 +129,7 @@ pub fn counts_in(w: &[u32]) -> Counts
 }
 
 // A row's words: a string's place, its length and its form, or the numbers of a name's prefix, namespace and local name.
-#[derive(Drop)]
+#[derive(Clone, Copy)]
 pub struct Row {
     pub a: u32,
     pub b: u32,

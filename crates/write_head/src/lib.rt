@@ -1,5 +1,7 @@
 // A document's head written: tables that a caller gives are judged as one thing, become the tables' first entries, and go into the output.
 // May depend on format, fields, forms, tables, index, events and write_names.
+#![tactic(auto)]
+
 mod adding;
 mod given;
 mod judge;
@@ -25,7 +27,7 @@ use octets::put_head;
 use tables::{Counts, put_counts};
 
 // Where the body starts; or the refusal's number.
-#[derive(Drop)]
+#[derive(Clone, Copy)]
 pub enum Begun {
     Body(usize),
     Refused(u32),

@@ -1,5 +1,7 @@
 // One event written: its record judged, then its item into the output behind the end that an attribute list owes.
 // May depend on format, fields, forms, tables, index, states, events and write_names.
+#![tactic(auto)]
+
 pub mod items;
 pub mod output;
 mod records;
@@ -7,7 +9,7 @@ mod records;
 use states::State;
 
 // Behind an event that was written: where the writer stands; or its refusal.
-#[derive(Drop)]
+#[derive(Clone, Copy)]
 pub enum Step {
     On(State),
     Stop(u32),

@@ -1,5 +1,7 @@
 // Strings and names as octets, by the choices that the requirements fix: by number where the table holds them, else spelled.
 // May depend on format, fields, decimal, forms, tables, index and events.
+#![tactic(auto)]
+
 mod naming;
 
 ghost use Rattle.std.specs.Prelude.{◌≡◌, ◌+◌, ◌*◌, ◌^◌, ◌-◌, ◌<◌, ◌≤◌, length};
@@ -31,14 +33,14 @@ use tables::{Counts, Row};
 const SHORT: usize = 5;
 
 // The place behind what was put; or a table is full that must take an entry more.
-#[derive(Drop)]
+#[derive(Clone, Copy)]
 pub enum Wrote {
     Put(usize),
     Full,
 }
 
 // A string that was looked up in its table, and its number there; 0 where it has none.
-#[derive(Drop)]
+#[derive(Clone, Copy)]
 pub struct Sought {
     pub table: usize,
     pub string: EventString,
@@ -46,7 +48,7 @@ pub struct Sought {
 }
 
 // How a string of a table is spelled: its length from bit `bit` behind the bits `lead` and the format, and `add` more where it is added to the table.
-#[derive(Drop)]
+#[derive(Clone, Copy)]
 pub struct Spelling {
     pub table: usize,
     pub bit: u32,
@@ -55,21 +57,21 @@ pub struct Spelling {
 }
 
 // The two bits of a form's format (C.19, C.20), and the number less 1 of its alphabet or algorithm (C.29).
-#[derive(Drop)]
+#[derive(Clone, Copy)]
 struct Format {
     bits: u8,
     number: u8,
 }
 
 // The form in which a string is spelled, and how many octets it has there.
-#[derive(Drop)]
+#[derive(Clone, Copy)]
 struct Formed {
     form: StringForm,
     size: usize,
 }
 
 // A name of table 8 or 9: the bits before it, and its strings.
-#[derive(Drop)]
+#[derive(Clone, Copy)]
 pub struct QualifiedName {
     pub table: usize,
     pub lead: u8,

@@ -16,7 +16,7 @@ use format::table::{LOCAL_NAME, NAMESPACE_NAME, PREFIX};
 use tables::{Counts, Row};
 
 // An octet, and the prefix and the namespace behind it.
-#[derive(Drop)]
+#[derive(Clone, Copy)]
 pub struct Opening {
     pub first: u8,
     pub prefix: Sought,
@@ -24,7 +24,7 @@ pub struct Opening {
 }
 
 // The numbers that a name's strings have in their tables, 0 where they have none; and those that they have once they are written.
-#[derive(Drop)]
+#[derive(Clone, Copy)]
 pub struct Numbers {
     pub found: Row,
     pub then: Row,

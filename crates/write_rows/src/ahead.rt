@@ -7,7 +7,7 @@ ghost use Rattle.write_rows.specs.AheadContracts.{decided, onward};
 use events::{Event, Kind, kinds};
 
 // How far the look at an element's records got: before its Start, right behind it, or to the answer.
-#[derive(Drop)]
+#[derive(Clone, Copy)]
 enum Look {
     Before,
     Behind,

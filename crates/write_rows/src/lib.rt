@@ -1,6 +1,8 @@
 // Writing from a lent row of records: its records one by one, into lent output and tables, over the same phases as the writer for C. What is decided is decided by value, in
 // `writer` and by a `Look`; the functions here only take the records out of the row.
 // May depend on format, fields, forms, tables, index, states, walk, events, write_names, write_head, write_items and writer.
+#![tactic(auto)]
+
 mod ahead;
 
 ghost use Rattle.std.specs.Prelude.{◌≡◌, length, replicate};

@@ -32,7 +32,7 @@ const NOTHING: u32 = 0;
 const AN_END: u32 = NAMES;
 
 // Where the writer stands inside the root, behind a Start or among children: the place in halves, the open elements, the next record, and whether attributes follow.
-#[derive(Drop)]
+#[derive(Clone, Copy)]
 pub struct Lane {
     pub at: usize,
     pub level: usize,

@@ -23,7 +23,7 @@ use write_items::items::step;
 use write_items::{Step, output};
 
 // Between two records: where the writer stands and the tables' counts there, or the refusal and the event's number.
-#[derive(Drop)]
+#[derive(Clone, Copy)]
 pub enum Phase {
     Onward(State, Counts),
     Halted(u32, u32),

@@ -5,7 +5,7 @@ use crate::sums::{low, next, plus};
 use events::{PLACE, RECORD, kinds, strings, tags};
 
 // What is wrong with a line.
-#[derive(Drop)]
+#[derive(Clone, Copy)]
 pub enum Fault {
     Letter,
     Space,
@@ -25,7 +25,7 @@ pub enum Fault {
 }
 
 // What the next octet belongs to.
-#[derive(Drop)]
+#[derive(Clone, Copy)]
 pub enum Phase {
     Start,
     Gap,
@@ -46,7 +46,7 @@ pub enum Phase {
 }
 
 // The line at hand, and what the lines before it filled.
-#[derive(Drop)]
+#[derive(Clone, Copy)]
 pub struct Line {
     // From 1.
     pub number: u64,
@@ -68,7 +68,7 @@ pub struct Line {
     pub hash: u32,
 }
 
-#[derive(Drop)]
+#[derive(Clone, Copy)]
 pub struct State {
     pub line: Line,
     pub phase: Phase,

@@ -1,5 +1,7 @@
 // Writes the document of the event lines in standard input, which are as the program `listing` prints them, with a last line "end n" or without, and with head lines before them or without;
 // or the writer's refusal, or which line is not so. A program: it puts lines into words and strings into a text area, and decides nothing about documents.
+#![tactic(auto)]
+
 mod answers;
 mod area;
 mod event_lines;
