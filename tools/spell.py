@@ -106,9 +106,11 @@ def respell(root, new, fields, exts=('.antt', '.rt')):
         for o in words & set(new):
             if new[o] in words and new[o] not in new and path.endswith('.antt'):
                 print('look:', path, o, new[o])
+        # a name that the file takes from the library is the library's
+        taken = {w for m, ws in re.findall(r'(?m)^(?:pub )?use ([\w.·]+)\.\{([^}]*)\}', text) if m.split('.')[1:2] == ['std'] or m.split('.')[0] != 'Rattle' for w in re.split(r',\s*', ws)}
         def one(m):
             word = m.group(0)
-            if word not in new or path.endswith('.rt') and '_' in word:
+            if word not in new or word in taken or path.endswith('.rt') and '_' in word:
                 return word
             before = text[:m.start()]
             if before.endswith('.'):

@@ -1,7 +1,7 @@
 -- The machine on a text: what it finds is the least width whose shape the text has, and the octets that it writes are those of the text's integers.
 -- Assumes nothing.
 use mathlib.Core.Path.{◌≡◌, refl, sym, ap, ◌∙◌}
-use mathlib.Core.Bool.{Bool, true, false, ◌&&◌, and_true, and_false}
+use mathlib.Core.Bool.{Bool, true, false, ◌&&◌, and-true, and-false}
 use mathlib.Core.List.{List, [], ◌∷◌, ◌++◌, append-nil}
 use mathlib.Core.Option.{Option, none, some}
 use Prim.Native.Nat.{ℕ, suc, ◌+◌, ◌≤◌, ◌<◌, max}
@@ -162,7 +162,7 @@ held_more w y ys = of (parse y) (parse_all ys)
   where
     of : (r : Option ℤ) (rs : Option (List ℤ)) → held_in w (both r rs) ≡ (holds w r && held_in w rs)
     of none rs = unfold both held_in holds in refl
-    of (some z) none = unfold both held_in holds in sym (and_false (ltb (mag z) (half w)))
+    of (some z) none = unfold both held_in holds in sym (and-false (ltb (mag z) (half w)))
     of (some z) (some zs) = unfold both held_in holds all_held in refl
 
 leb_both : (a b w : ℕ) → leb (max a b) w ≡ (leb a w && leb b w)
@@ -280,7 +280,7 @@ module _ (w : ℕ) (most : w ≤ 8) where
   fitting_all : (ys : List Octets) → 0 < length ys → over_words ◌&&◌ (held_by w) Empty ys ≡ held_in w (parse_all ys)
   unfolding over_words
   fitting_all [] h = absurd (omega arith)
-  fitting_all (y ∷ []) h = held_word y ∙ sym (held_more w y [] ∙ (unfold parse_all held_in all_held in and_true (holds w (parse y))))
+  fitting_all (y ∷ []) h = held_word y ∙ sym (held_more w y [] ∙ (unfold parse_all held_in all_held in and-true (holds w (parse y))))
   fitting_all (y ∷ z ∷ ys) h = rw (held_word y, fitting_all (z ∷ ys) (omega arith)) (sym (held_more w y (z ∷ ys)))
 
   pub fitting_is : (x : Octets) → fitting w Empty x ≡ shape w x

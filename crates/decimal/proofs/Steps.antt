@@ -1,7 +1,7 @@
 -- One step of the code that reads a text: a law for each of its answers.
 -- Assumes nothing.
 use mathlib.Core.Path.{◌≡◌, refl, ap, ◌∙◌}
-use mathlib.Core.Bool.{Bool, true, false, and_false}
+use mathlib.Core.Bool.{Bool, true, false, and-false}
 use mathlib.Core.List.{[], ◌∷◌}
 use mathlib.Core.Logic.{⊎_elim}
 use Prim.Native.Nat.{ℕ, zero, suc, ◌+◌, ◌-◌, ◌*◌, ◌≤◌, ◌<◌, max}
@@ -35,11 +35,11 @@ module _ (minus : Bool) (n o : ℕ) where
 
   pub grown_high : 0x39 < o → NoWord ≡ grown minus n o
   unfolding grown is_digit
-  grown_high h = rw (lt-leb o 0x39 h, and_false)
+  grown_high h = rw (lt-leb o 0x39 h, and-false)
 
   pub grown_over : most < n → NoWord ≡ grown minus n o
   unfolding grown
-  grown_over h = rw (lt-leb n most h, and_false)
+  grown_over h = rw (lt-leb n most h, and-false)
 
   pub grown-more : {d : ℕ} → 0x30 ≤ o → o ≤ 0x39 → n ≤ most → d ≡ o - 0x30 → Digits minus (n * 10 + d) ≡ grown minus n o
   unfolding grown is_digit

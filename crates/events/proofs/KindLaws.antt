@@ -1,7 +1,7 @@
 -- A record of words is of a kind where it has the kind's number and all four strings.
 -- Assumes nothing.
 use mathlib.Core.Path.{◌≡◌, refl, sym, ◌∙◌}
-use mathlib.Core.Bool.{Bool, true, false, true≢false, ◌&&◌, and_true, and_false}
+use mathlib.Core.Bool.{Bool, true, false, true≢false, ◌&&◌, and-true, and-false}
 use mathlib.Core.List.{List}
 use Prim.Native.Nat.{ℕ, ◌+◌, ◌*◌, ◌/◌, ◌≤◌, ◌<◌}
 use native.Mathlib.Omega.{arith}
@@ -65,7 +65,7 @@ module _ (w : List ℕ) (n number : ℕ) (low : 1 ≤ number) where
     pub same_begins : number ≤ 7 → get_or w (14 * n) 0 ≡ number
         → (is_said (told_at w (14 * n + 1)) && (is_said (told_at w (14 * n + 4)) && (is_said (told_at w (14 * n + 7)) && is_said (told_at w (14 * n + 10))))) ≡ begins_with number (drop n (records_of w))
     same_begins high e =
-        rw (begins_is, kind_is (omega arith) (omega arith), picked _ (kind_of (get_or w (14 * n) 0)) number low, eq-eqb _ _ (kind_number_lem _ (omega arith) ∙ e), and_true)
+        rw (begins_is, kind_is (omega arith) (omega arith), picked _ (kind_of (get_or w (14 * n) 0)) number low, eq-eqb _ _ (kind_number_lem _ (omega arith) ∙ e), and-true)
 
     blank_other : blank ≡ record_at w (14 * n) → false ≡ eqb (kind_number (record_at w (14 * n)).kind) number
     blank_other e = rw (← e, ne_eqb 0 number (omega arith))
@@ -77,6 +77,6 @@ module _ (w : List ℕ) (n number : ℕ) (low : 1 ≤ number) where
           | yes l ↦ (blank_other (record_low w (14 * n) l))
           | no l ↦ (elim (dec_lt 7 (get_or w (14 * n) 0)) [
             | yes h ↦ (blank_other (record_high w (14 * n) (omega arith) h))
-            | no h ↦ (rw (kind_is (omega arith) (omega arith), picked _ (kind_of (get_or w (14 * n) 0)) number low, ne_eqb _ _ (λ z. e (sym (kind_number_lem _ (omega arith)) ∙ z)), and_false))
+            | no h ↦ (rw (kind_is (omega arith) (omega arith), picked _ (kind_of (get_or w (14 * n) 0)) number low, ne_eqb _ _ (λ z. e (sym (kind_number_lem _ (omega arith)) ∙ z)), and-false))
           ])
         ])

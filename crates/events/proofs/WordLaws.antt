@@ -2,7 +2,7 @@
 -- Assumes nothing.
 use mathlib.Core.Path.{◌≡◌, refl, sym, ap, ◌∙◌}
 use mathlib.Core.Logic.{inl, inr}
-use mathlib.Core.Bool.{Bool, true, false, ◌&&◌, and_false}
+use mathlib.Core.Bool.{Bool, true, false, ◌&&◌, and-false}
 use mathlib.Core.List.{List}
 use Prim.Native.Nat.{ℕ, ◌+◌, ◌-◌, ◌≤◌, ◌<◌}
 use native.Mathlib.Omega.{arith}
@@ -65,7 +65,7 @@ module _ (tag place size : ℕ) where
   -- a tag that no string has, whatever stands beside it
   pub told_none : 10 < tag → Not ≡ told_by tag place size
   unfolding told_by
-  told_none h = rw (ne_eqb tag 2 (omega arith), lt-leb tag 10 h, and_false (leb 5 tag), ← tag_none tag (omega arith), none_picked (eqb place 0 && eqb size 0))
+  told_none h = rw (ne_eqb tag 2 (omega arith), lt-leb tag 10 h, and-false (leb 5 tag), ← tag_none tag (omega arith), none_picked (eqb place 0 && eqb size 0))
 
   -- no stretch
   module _ (t : tag ≡ 2 → ⊥) (l : tag < 5) where

@@ -1,7 +1,7 @@
 -- The rows of the table that an octet starts; the octets of one character; and those of a part, octet by octet and character by character.
 -- Assumes nothing.
 use Rattle.std.proofs.Common.{◌≡◌, ℕ, zero, suc, ◌+◌, ◌-◌, ◌*◌, ◌<◌, ◌≤◌, Bool, true, false, ◌&&◌, ◌||◌, ltb, leb, List, [], ◌∷◌, ◌++◌, length, get_or, take, drop, sym, refl, ap, ◌∙◌, true≢false, append-nil, add-one, arith, length-drop, take-append-drop, length-take, drop-cons, drop-drop, ltb-true, le-ltb, ne_eqb, le-leb}
-use mathlib.Core.Bool.{and_false, or_true}
+use mathlib.Core.Bool.{and-false, or-true}
 use borrow.Author.Tests.{lt-leb}
 use lib.Seq.{take-nil}
 use Rattle.format.specs.Numbers.{pick}
@@ -119,7 +119,7 @@ module _ (b lo hi : ℕ) (l : lo ≤ b) (h : b ≤ hi) where
   outside : (a z : ℕ) → (ltb z lo || ltb hi a) ≡ true → (leb a b && leb b z) ≡ false
   outside a z e =
       case z lo
-      (λ k. rw (lt-leb b z (omega arith), and_false (leb a b)))
+      (λ k. rw (lt-leb b z (omega arith), and-false (leb a b)))
       (λ k. let m = ltb-true hi a (rw (le-ltb z lo k) at e) in rw (lt-leb a b (omega arith)))
 
   skipped : (rs qs : List (List Range)) → apart lo hi rs ≡ true → started_by b (rs ++ qs) ≡ started_by b qs
@@ -186,7 +186,7 @@ pub plain-alone : (b : ℕ) → 0x20 ≤ b → b ≤ 0x7F → alone b ≡ true
 unfolding single
 plain-alone b l h =
     let t : (leb 0x20 b && leb b 0x7F) ≡ true = rw (le-leb 0x20 b l, le-leb b 0x7F h) in
-    sym (alone_single b) ∙ rw (t, or_true (leb 0x0D b && leb b 0x0D)) (or_true (leb 0x09 b && leb b 0x0A))
+    sym (alone_single b) ∙ rw (t, or-true (leb 0x0D b && leb b 0x0D)) (or-true (leb 0x09 b && leb b 0x0A))
 
 alone-character : (b : ℕ) (x : List ℕ) → alone b ≡ true → 1 ≡ character (b ∷ x)
 alone-character b x e = let s = alone_single b ∙ e in sym (by_single b x ∙ rw s)

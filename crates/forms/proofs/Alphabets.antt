@@ -1,7 +1,7 @@
 -- Alphabets of 15 characters: the halves of octets are exact, and the two alphabets have 15 different characters, each of one octet.
 -- Assumes nothing.
 use mathlib.Core.Path.{◌≡◌, refl, sym, ap, ◌∙◌, subst}
-use mathlib.Core.Bool.{Bool, true, ◌&&◌, or_true}
+use mathlib.Core.Bool.{Bool, true, ◌&&◌, or-true}
 use mathlib.Core.List.{List, [], ◌∷◌, ◌++◌}
 use Prim.Native.Nat.{ℕ, zero, suc, ◌+◌, ◌*◌, ◌/◌, ◌%◌, ◌≤◌, ◌<◌}
 use native.Mathlib.Omega.{arith}
@@ -80,7 +80,7 @@ place_letter : (as' : List ℕ) (k : ℕ) → k < length as' → is_letter as' (
 unfolding is_letter
 place_letter [] k h = absurd (omega arith)
 place_letter (a ∷ as') zero h = rw (eq-eqb a a refl)
-place_letter (a ∷ as') (suc k) h = rw (place_letter as' k (omega arith)) (or_true (eqb a (get_or as' k 0)))
+place_letter (a ∷ as') (suc k) h = rw (place_letter as' k (omega arith)) (or-true (eqb a (get_or as' k 0)))
 
 -- ---- the two alphabets
 

@@ -1,7 +1,7 @@
 -- Items: a law for each way out of the functions below `step`.
 -- Assumes nothing.
 use mathlib.Core.Path.{◌≡◌, refl, sym, ap, ◌∙◌}
-use mathlib.Core.Bool.{Bool, true, false, not, ◌&&◌, ◌||◌, and_false, or_false, true≢false}
+use mathlib.Core.Bool.{Bool, true, false, not, ◌&&◌, ◌||◌, and-false, or-false, true≢false}
 use Prim.Native.Nat.{ℕ, suc, ◌+◌, ◌-◌, ◌/◌, ◌%◌, ◌≤◌, ◌<◌}
 use native.Mathlib.Numerals.{add-one}
 use native.Mathlib.Omega.{arith}
@@ -132,7 +132,7 @@ module _ (b : ℕ) (l : b < 64) where
         let x : b / 8 ≡ 6 = omega arith in
         let y : b / 4 ≡ 14 → ⊥ = λ z. omega arith in
         let z : r ≡ b % 8 = omega arith in
-        rw (eq-eqb _ _ x, ne_eqb _ _ y, z, or_false)
+        rw (eq-eqb _ _ x, ne_eqb _ _ y, z, or-false)
 
   module _ (n : b / 8 % 8 ≡ 6 → ⊥) where
     below : b / 8 ≡ 6 → ⊥
@@ -231,17 +231,17 @@ module _ (s : Octets) (k b : ℕ) (l : Bool) (v : F.State Located) where
 
           pub element_deep : 32 ≤ v.level → element_at link s k b l v ≡ I.stop 13 k
           unfolding element_at may_start link
-          element_deep o = rw (← u, ← m, le-ltb _ _ h, whole, and_false, le-ltb _ _ o)
+          element_deep o = rw (← u, ← m, le-ltb _ _ h, whole, and-false, le-ltb _ _ o)
 
           module _ (o : v.level < 32) where
             pub element_declaring : b ≡ 0x38 → element_at link s k b l v ≡ namespace_at link s (k + 1) v l
             unfolding element_at may_start link
-            element_declaring e = rw (← u, ← m, le-ltb _ _ h, whole, and_false, lt-ltb _ _ o, eq-eqb _ _ e, add-one)
+            element_declaring e = rw (← u, ← m, le-ltb _ _ h, whole, and-false, lt-ltb _ _ o, eq-eqb _ _ e, add-one)
 
             pub element_parts : (b ≡ 0x38 → ⊥) → element_at link s k b l v ≡ start_by k l v (parts_at link of_element s b k v.tables)
             unfolding element_at may_start link
             element_parts e =
-                let q : element_at link s k b l v ≡ start_of link k l v (parts_at link of_element s b k v.tables) = rw (← u, ← m, le-ltb _ _ h, whole, and_false, lt-ltb _ _ o, ne_eqb _ _ e) in
+                let q : element_at link s k b l v ≡ start_of link k l v (parts_at link of_element s b k v.tables) = rw (← u, ← m, le-ltb _ _ h, whole, and-false, lt-ltb _ _ o, ne_eqb _ _ e) in
                 q ∙ start_shallow k l v (parts_at link of_element s b k v.tables) o
 
 -- ---- the name behind declarations

@@ -1,7 +1,7 @@
 -- Names and declarations on plain values: a law for each way out of each function, and that the tables stay in order.
 -- Assumes nothing.
 use mathlib.Core.Path.{◌≡◌, refl, sym, ap, ◌∙◌}
-use mathlib.Core.Bool.{Bool, true, false, not, and_false}
+use mathlib.Core.Bool.{Bool, true, false, not, and-false}
 use mathlib.Core.List.{List, [], ◌∷◌, ◌++◌, map}
 use Prim.Native.Nat.{ℕ, zero, suc, ◌+◌, ◌-◌, ◌*◌, ◌%◌, ◌≤◌, ◌<◌}
 use native.Mathlib.Omega.{arith}
@@ -273,7 +273,7 @@ same_names_lem s t k v =
 unnamed : (c : Counts) (x : Triple) → c.local < x.local → (l : List Triple) (k : ℕ) → Ranged c l → 0 ≡ lowest (λ (y : Triple). same_triple y x) k l
 unfolding lowest same_triple
 unnamed c x h [] k r = refl
-unnamed c x h (y ∷ l) k r = rw (ne_eqb y.local x.local (omega arith), and_false, and_false) (unnamed c x h l (suc k) r.4)
+unnamed c x h (y ∷ l) k r = rw (ne_eqb y.local x.local (omega arith), and-false, and-false) (unnamed c x h l (suc k) r.4)
 
 pub local_new : (s c w i d v : List ℕ) (k k₁ : ℕ) (x : Seen) → Tidy s c w i → S.got x k₁ (vocabulary (unlisted d) v) ≡ id_seen (id_at link s (table_of 2) k (vocabulary (unlisted c) w))
     → (t : NameTable) (p n : ℕ) → get_or c 2 0 < x.number → 0 ≡ number_of_triple (names (vocabulary (unlisted d) v) t) (record { prefix = p; namespace = n; local = x.number })

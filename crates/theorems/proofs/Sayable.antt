@@ -1,7 +1,7 @@
 -- The records that the writer takes are those that are well made; their strings, if they are text, can be spelled; and its test of an event is the requirements' five tests.
 use mathlib.Core.Path.{◌≡◌, refl, sym, ap₂, subst}
 use mathlib.Core.Logic.{◌↔◌}
-use mathlib.Core.Bool.{Bool, true, not, ◌&&◌, ◌||◌, or_true}
+use mathlib.Core.Bool.{Bool, true, not, ◌&&◌, ◌||◌, or-true}
 use mathlib.Core.Option.{Option, none, some, map}
 use mathlib.Core.List.{List, [], ◌∷◌, ◌++◌, append_assoc}
 use Prim.Native.Nat.{◌+◌, ◌*◌, ◌≤◌}
@@ -132,10 +132,10 @@ module _ (s : Octets) where
 
   is_alone : (p n : EventString) → (n ≡ Absent → p ≡ Absent) → (is_absent p || not (is_absent n)) ≡ true
   is_alone p Absent f = rw (f refl)
-  is_alone p Empty f = or_true (is_absent p)
-  is_alone p (Stretch form a b) f = or_true (is_absent p)
-  is_alone p XmlPrefix f = or_true (is_absent p)
-  is_alone p XmlNamespace f = or_true (is_absent p)
+  is_alone p Empty f = or-true (is_absent p)
+  is_alone p (Stretch form a b) f = or-true (is_absent p)
+  is_alone p XmlPrefix f = or-true (is_absent p)
+  is_alone p XmlNamespace f = or-true (is_absent p)
 
   name_is : (e : Event) → is_name s e ≡ true → IsName s e.prefix e.namespace e.name
   unfolding is_name

@@ -2,7 +2,7 @@
 use Prim.Native.Nat.{ℕ, zero, suc, ◌-◌, ◌≤◌, ◌<◌}
 use mathlib.Core.Path.{◌≡◌, refl, sym}
 use mathlib.Core.Logic.{◌↔◌}
-use mathlib.Core.Bool.{Bool, true, false, not, ◌&&◌, ◌||◌, or_true, or_false}
+use mathlib.Core.Bool.{Bool, true, false, not, ◌&&◌, ◌||◌, or-true, or-false}
 use mathlib.Core.Option.{Option}
 use mathlib.Core.List.{List, [], ◌∷◌}
 use native.Mathlib.Omega.{arith}
@@ -109,7 +109,7 @@ module _ {S : Type 0} where
   lists : (m : Mode) (n : ℕ) (root : Bool) (x : Name S) (y : S) (es : List (Event S)) → is_listing m ≡ true → WithAttributes true n root es → Left m n root (Attribute x y ∷ es)
   lists content n root x y es t k = clash t
   lists (declaring a) n root x y es t k = clash t
-  lists (listing any) n root x y es t (rest, at, k, some) = (rest, an_attribute at, k, or_true any)
+  lists (listing any) n root x y es t (rest, at, k, some) = (rest, an_attribute at, k, or-true any)
 
   pub back : (a : Bool) (v : State S) (e : Event S) (tail : List (Event S)) → goes_on v e ≡ true → Rest (stepped a v e) tail → Rest v (e ∷ tail)
   unfolding goes_on may_start
@@ -173,13 +173,13 @@ module _ {S : Type 0} where
   -- a list of attributes that has a member, or gets one, and children behind it
   still : (w : Vocabulary S) (any : Bool) (n : ℕ) (e : Event S) → (any || is_attribute e) ≡ true → goes_on (place w content n true) e ≡ true → goes_on (place w (listing any) n true) e ≡ true
   unfolding goes_on may_start
-  still w any n (Namespace p u) t go = rw (rw or_false at t) go
-  still w any n (Start x) t go = rw (rw or_false at t) go
+  still w any n (Namespace p u) t go = rw (rw or-false at t) go
+  still w any n (Start x) t go = rw (rw or-false at t) go
   still w any n (Attribute x y) t go = refl
-  still w any n (Text y) t go = rw (rw or_false at t) go
-  still w any n (Comment y) t go = rw or_false at t
-  still w any n (Instruction x y) t go = rw or_false at t
-  still w any n End t go = rw (rw or_false at t) go
+  still w any n (Text y) t go = rw (rw or-false at t) go
+  still w any n (Comment y) t go = rw or-false at t
+  still w any n (Instruction x y) t go = rw or-false at t
+  still w any n End t go = rw (rw or-false at t) go
 
   behind_list : (w : Vocabulary S) (any : Bool) (n : ℕ) (es : List (Event S)) → (any || attribute_first es) ≡ true → Follows (place w content (suc n) true) es → Follows (place w (listing any) (suc n) true) es
   behind_list w any n [] t f = absurd (omega arith)
@@ -261,7 +261,7 @@ module _ {S : Type 0} where
   completed : Name S → (m : Mode) (n : ℕ) (root : Bool) → (tail : List (Event S)) × Left m n root tail
   completed x content n root = closing x n root
   completed x (declaring a) n root = let c = closing x n true in (Start x ∷ End ∷ c.0, (c.0, element no_namespace no_attribute no_child, c.1))
-  completed x (listing any) n root = let c = closing x n root in (Attribute x x.local ∷ c.0, (c.0, an_attribute no_attribute, c.1, or_true any))
+  completed x (listing any) n root = let c = closing x n root in (Attribute x x.local ∷ c.0, (c.0, an_attribute no_attribute, c.1, or-true any))
 
   pub completes : Name S → (v : State S) → (tail : List (Event S)) × Rest v tail
   completes x v = completed x v.mode v.level v.root

@@ -5,7 +5,7 @@ use mathlib.Core.Bool.{Bool, true, false, not, ◌&&◌}
 use mathlib.Core.List.{List}
 use Prim.Native.Nat.{ℕ, suc, ◌+◌, ◌≤◌}
 use native.Mathlib.Omega.{arith}
-use borrow.Author.Tests.{not_true, not-false}
+use borrow.Author.Tests.{not-true, not-false}
 use lib.Dec.{leb}
 use lib.ListN.{length}
 use Rattle.format.specs.Numbers.{pick}
@@ -101,4 +101,4 @@ pub passes : {r t : Bool} → r ≡ t → not r ≡ false → t ≡ true
 passes {r} p q = sym p ∙ not-false r q
 
 pub fails : {r t : Bool} → r ≡ t → not r ≡ true → t ≡ false
-fails {r} p q = sym p ∙ not_true r q
+fails {r} p q = sym p ∙ not-true r q

@@ -2,7 +2,7 @@
 -- Assumes nothing.
 use mathlib.Core.Path.{◌≡◌, refl}
 use mathlib.Core.Logic.{⊎_elim}
-use mathlib.Core.Bool.{false, ◌&&◌, and_false}
+use mathlib.Core.Bool.{false, ◌&&◌, and-false}
 use mathlib.Core.List.{List}
 use Prim.Native.Nat.{ℕ}
 use Rattle.format.specs.declared.StringForm.TheVariants.{Utf8, Utf16, Numeric, Dates, Short, Int, Long}
@@ -48,24 +48,24 @@ module _ (text : List ℕ) (e : Event) where
   by_namespace : (k : Kind) → (string_form e.namespace ≡ Utf8 → ⊥) → well_made text k e ≡ false
   unfolding well_made is_name no_name
   by_namespace Blank h = refl
-  by_namespace Namespace h = rw ((other text e.namespace h).1, and_false (is_prefix text e.prefix))
-  by_namespace Start h = rw ((other text e.namespace h).1, and_false (is_prefix text e.prefix))
-  by_namespace Attribute h = rw ((other text e.namespace h).1, and_false (is_prefix text e.prefix))
-  by_namespace Chunk h = rw ((other text e.namespace h).3, and_false (is_absent e.prefix))
-  by_namespace Comment h = rw ((other text e.namespace h).3, and_false (is_absent e.prefix))
-  by_namespace Instruction h = rw ((other text e.namespace h).3, and_false (is_absent e.prefix))
-  by_namespace End h = rw ((other text e.namespace h).3, and_false (is_absent e.prefix))
+  by_namespace Namespace h = rw ((other text e.namespace h).1, and-false (is_prefix text e.prefix))
+  by_namespace Start h = rw ((other text e.namespace h).1, and-false (is_prefix text e.prefix))
+  by_namespace Attribute h = rw ((other text e.namespace h).1, and-false (is_prefix text e.prefix))
+  by_namespace Chunk h = rw ((other text e.namespace h).3, and-false (is_absent e.prefix))
+  by_namespace Comment h = rw ((other text e.namespace h).3, and-false (is_absent e.prefix))
+  by_namespace Instruction h = rw ((other text e.namespace h).3, and-false (is_absent e.prefix))
+  by_namespace End h = rw ((other text e.namespace h).3, and-false (is_absent e.prefix))
 
   by_name : (k : Kind) → (string_form e.name ≡ Utf8 → ⊥) → well_made text k e ≡ false
   unfolding well_made is_name no_name
   by_name Blank h = refl
-  by_name Namespace h = rw ((other text e.name h).3, and_false (is_namespace text e.namespace), and_false (is_prefix text e.prefix))
-  by_name Start h = rw ((other text e.name h).2, and_false (is_namespace text e.namespace), and_false (is_prefix text e.prefix))
-  by_name Attribute h = rw ((other text e.name h).2, and_false (is_namespace text e.namespace), and_false (is_prefix text e.prefix))
-  by_name Chunk h = rw ((other text e.name h).3, and_false (is_absent e.prefix && is_absent e.namespace))
-  by_name Comment h = rw ((other text e.name h).3, and_false (is_absent e.prefix && is_absent e.namespace))
-  by_name Instruction h = rw ((other text e.name h).2, and_false (is_absent e.prefix && is_absent e.namespace))
-  by_name End h = rw ((other text e.name h).3, and_false (is_absent e.prefix && is_absent e.namespace))
+  by_name Namespace h = rw ((other text e.name h).3, and-false (is_namespace text e.namespace), and-false (is_prefix text e.prefix))
+  by_name Start h = rw ((other text e.name h).2, and-false (is_namespace text e.namespace), and-false (is_prefix text e.prefix))
+  by_name Attribute h = rw ((other text e.name h).2, and-false (is_namespace text e.namespace), and-false (is_prefix text e.prefix))
+  by_name Chunk h = rw ((other text e.name h).3, and-false (is_absent e.prefix && is_absent e.namespace))
+  by_name Comment h = rw ((other text e.name h).3, and-false (is_absent e.prefix && is_absent e.namespace))
+  by_name Instruction h = rw ((other text e.name h).2, and-false (is_absent e.prefix && is_absent e.namespace))
+  by_name End h = rw ((other text e.name h).3, and-false (is_absent e.prefix && is_absent e.namespace))
 
   blank_unmade : (k : Kind) → k ≡ Blank → well_made text k e ≡ false
   unfolding well_made

@@ -3,7 +3,7 @@
 use mathlib.Core.Path.{◌≡◌, refl, sym, ap, ◌∙◌}
 use mathlib.Core.Bool.{Bool, true, false}
 use mathlib.Core.Option.{Option, none, some}
-use mathlib.Core.List.{List, [], ◌∷◌, ◌++◌, map, map_append, append_assoc, append-nil}
+use mathlib.Core.List.{List, [], ◌∷◌, ◌++◌, map, map-append, append_assoc, append-nil}
 use Prim.Native.Nat.{ℕ, suc, ◌+◌, ◌≤◌, ◌<◌}
 use native.Mathlib.Omega.{arith}
 use borrow.Author.Tests.{eq-eqb, ne_eqb, eqb-true, eqb-false}
@@ -155,7 +155,7 @@ module _ (text : List ℕ) (t : StringTable) (u v : Vocabulary Located) (g : Lon
   unfolding number_in
   has_kept none k h = h
   has_kept (some x) k h =
-      (rw (g.is, map_append (octets_of text) (strings u t) g.rest) (lowest-more _ 0 (map (octets_of text) (strings u t)) (map (octets_of text) g.rest) (rw h.0 h.1) ∙ h.0), h.1)
+      (rw (g.is, map-append (octets_of text) (strings u t) g.rest) (lowest-more _ 0 (map (octets_of text) (strings u t)) (map (octets_of text) g.rest) (rw h.0 h.1) ∙ h.0), h.1)
 
 pub known_kept : {text : List ℕ} {u v : Vocabulary Located} {x : E.Name Located} {k : ℕ} → Extends u v → Known text u x k → Known text v x k
 unfolding number_of_triple
@@ -206,7 +206,7 @@ module _ (text : List ℕ) (t : StringTable) (v : Vocabulary Located) where
   unfolding write_id
   has_by x true e =
       let l = number_last (map (octets_of text) (strings v t)) (octets_of text x) (eqb-true _ 0 e) ∙ ap suc (length-map (strings v t) (octets_of text)) in
-      rw e (rw (strings-adding v t x t, eq-eqb (place t) (place t) refl, map_append (octets_of text) (strings v t) (x ∷ [])) l, omega arith)
+      rw e (rw (strings-adding v t x t, eq-eqb (place t) (place t) refl, map-append (octets_of text) (strings v t) (x ∷ [])) l, omega arith)
   has_by x false e = let z = eqb-false (number_in (map (octets_of text) (strings v t)) (octets_of text x)) 0 e in rw e (refl, omega arith)
 
   has_id : (x : Located) → HasNumber text t (write_id text t v x).tables (some x) (write_id text t v x).number

@@ -1,7 +1,7 @@
 -- `fits` meets its contract: range by range, the octets from here on fit where all do.
 -- Assumes nothing.
 use Rattle.std.proofs.Common.{◌≡◌, ◌+◌, ◌-◌, ◌≤◌, drop, sym, refl, ◌∙◌, arith, rules}
-use borrow.Author.Tests.{not_true, not-false}
+use borrow.Author.Tests.{not-true, not-false}
 use Rattle.fields.specs.Utf8.{fits, ranges}
 use Rattle.fields.proofs.Utf8.{range_next, no_ranges}
 use Rattle.fields.proofs.fits.Statement.{statement}
@@ -25,7 +25,7 @@ returns c =
     let a = c.before.before.before.before.before.before.args in
     let l = c.before.before.before.before.loop in
     sym (l.invariant.1 ∙ range_next a.t1 a.s.now l.k a.n (a.i + l.k) _ _ (omega arith) (omega arith) refl
-    (sym (not_true _ c.if1.true) ∙ c.before.among.ensures))
+    (sym (not-true _ c.if1.true) ∙ c.before.among.ensures))
 
 loop-again : tie.Need-loop-preserved invariant-loop decreases-loop
 loop-again c =

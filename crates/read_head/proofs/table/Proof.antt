@@ -1,7 +1,7 @@
 -- `table` meets its contract: absent, or how many entries it lists, and these.
 -- Assumes nothing.
 use borrow.Author.Rules.{rules}
-use borrow.Author.Tests.{not_true, not-false}
+use borrow.Author.Tests.{not-true, not-false}
 use Rattle.read_head.proofs.HeadLaws.{count_within, table_absent, table_refused, table_read}
 use Rattle.read_head.proofs.table.Statement.{statement}
 use Rattle.read_head.proofs.table.Tie as tie
@@ -9,7 +9,7 @@ use Rattle.read_head.proofs.table.Tie as tie
 returns : tie.Need-returns
 returns c =
     let at-start = c.before.before.before.before.before.before in
-    table_absent at-start.args.s.now at-start.args.counts.now at-start.args.t.now _ _ _ _ c.before.present.ensures at-start.args.index.now at-start.requires.0 at-start.requires.1 (not_true _ c.if1.true)
+    table_absent at-start.args.s.now at-start.args.counts.now at-start.args.t.now _ _ _ _ c.before.present.ensures at-start.args.index.now at-start.requires.0 at-start.requires.1 (not-true _ c.if1.true)
 
 entries-requires : tie.Need-entries-requires
 entries-requires c κs =

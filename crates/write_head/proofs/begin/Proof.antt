@@ -1,7 +1,7 @@
 -- `begin` meets its contract: a law for each way out.
 -- Assumes nothing.
 use borrow.Author.Rules.{rules}
-use borrow.Author.Tests.{not_true, not-false}
+use borrow.Author.Tests.{not-true, not-false}
 use native.Mathlib.Omega.{arith}
 use mathlib.Core.Path.{sym, ◌∙◌}
 use Rattle.write_head.proofs.BeginLaws.{no_tables, given-words, no_words, no_bits, opened_none}
@@ -18,7 +18,7 @@ is-given-requires : tie.Need-is-given-requires
 is-given-requires c κs = search rules
 
 returns : tie.Need-returns
-returns c = no_tables _ _ _ (sym (not_true _ c.if1.true) ∙ c.before.is-given.ensures)
+returns c = no_tables _ _ _ (sym (not-true _ c.if1.true) ∙ c.before.is-given.ensures)
 
 put-header-requires : tie.Need-put-header-requires
 put-header-requires c κs = search rules

@@ -1,7 +1,7 @@
 -- `begin_head` meets its contract: a law for each way out.
 -- Assumes nothing.
 use borrow.Author.Rules.{rules}
-use borrow.Author.Tests.{not_true, not-false}
+use borrow.Author.Tests.{not-true, not-false}
 use native.Mathlib.Omega.{arith}
 use mathlib.Core.Path.{sym, ap, ◌∙◌}
 use Rattle.tables.specs.Kept.{listed}
@@ -43,7 +43,7 @@ same-length-3 : tie.Need-same-length-3
 same-length-3 c = search rules
 
 returns-2 : tie.Need-returns-2
-returns-2 c = entry_repeats _ _ _ _ c.before.before.before.before.before.before.before.before.before.before.before.before.before.before.before.before.before.before.before.before.before.before.before.before.requires.5 c.before.before.before.before.before.before.before.before.before.before.before.before.before.before.before.before.before.fault.ensures (omega arith) (sym (not_true _ c.if2.true) ∙ c.before.before.before.before.before.before.before.add-tables.ensures.0)
+returns-2 c = entry_repeats _ _ _ _ c.before.before.before.before.before.before.before.before.before.before.before.before.before.before.before.before.before.before.before.before.before.before.before.before.requires.5 c.before.before.before.before.before.before.before.before.before.before.before.before.before.before.before.before.before.fault.ensures (omega arith) (sym (not-true _ c.if2.true) ∙ c.before.before.before.before.before.before.before.add-tables.ensures.0)
 
 put-head-requires : tie.Need-put-head-requires
 put-head-requires c κs = let s = c.before.before.before.before.before.before.before.before.before.before.before.before.before.before.before.before.before.before.before.before.before.before.before.before.before in let j = c.before.before.before.before.before.before.before.before.before.before.before.before.before.before.before.before.before.before.fault.ensures in (s.requires.5, j.right (omega arith), j.few (omega arith), s.requires.0, j.texts (omega arith))

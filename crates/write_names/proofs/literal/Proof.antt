@@ -1,7 +1,7 @@
 -- `literal` meets its contract: a string that is spelled is a stretch; whether it is added is told by two tests, and its lead by what they come to.
 -- Assumes nothing.
 use borrow.Author.Rules.{rules}
-use borrow.Author.Tests.{ltb-true, ltb-false, lt-leb, not_true, not-false}
+use borrow.Author.Tests.{ltb-true, ltb-false, lt-leb, not-true, not-false}
 use native.Mathlib.Omega.{arith}
 use mathlib.Core.Path.{◌≡◌, sym, ◌∙◌}
 use mathlib.Core.Bool.{true, false, true≢false}
@@ -64,7 +64,7 @@ returns-2 c =
     let at-adds = at-lead.before in
     let at-start = start at-adds in
     let s = as_given at-start.args.text.now at-start.args.x at-start.pre.2 at-adds.before.before.before.x.given.1 in
-    let e = not_true _ c.if3.true in
+    let e = not-true _ c.if3.true in
     literal_kept _ _ _ _ at-start.pre.0 _ _ _ _ s at-start.args.q at-start.pre.4.0 at-start.pre.4.1 _ at-adds.before.octets-of.ensures.0 (keeps at-adds e) _ (lead_same at-lead e) c.before.before.before.put-string.ensures
 
 bucket-said-requires : tie.Need-bucket-said-requires

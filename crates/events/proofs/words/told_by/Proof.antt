@@ -4,7 +4,7 @@ use mathlib.Core.Path.{◌∙◌}
 use mathlib.Core.Logic.{⊎_elim}
 use native.Mathlib.Omega.{arith}
 use borrow.Author.Rules.{rules}
-use borrow.Author.Tests.{eqb-true, eqb-false, not_true, not-false}
+use borrow.Author.Tests.{eqb-true, eqb-false, not-true, not-false}
 use Rattle.events.proofs.WordLaws.{told_stretch, told_formed, told_none, told-placed, told-sized, told_tagged}
 use Rattle.events.proofs.words.told_by.Statement.{statement}
 use Rattle.events.proofs.words.told_by.Tie as tie
@@ -16,7 +16,7 @@ returns-2 : tie.Need-returns-2
 returns-2 c =
     ⊎_elim
     (λ w. told-placed _ _ _ c.before.before.if1.false (omega arith) w.taken)
-    (λ w. told-sized _ _ _ c.before.before.if1.false (omega arith) w.0.left (eqb-false _ _ (not_true _ w.1.taken)))
+    (λ w. told-sized _ _ _ c.before.before.if1.false (omega arith) w.0.left (eqb-false _ _ (not-true _ w.1.taken)))
     c.if3.branch
 
 returns-3 : tie.Need-returns-3

@@ -4,7 +4,7 @@ use borrow.Author.Rules.{rules}
 use native.Mathlib.Omega.{arith}
 use mathlib.Core.Path.{sym, ◌∙◌}
 use Rattle.forms.proofs.Sizes.{fits_end, fits_not, fits_next}
-use borrow.Author.Tests.{not_true, not-false}
+use borrow.Author.Tests.{not-true, not-false}
 use Rattle.forms.proofs.deciding.fits2.Statement.{statement}
 use Rattle.forms.proofs.deciding.fits2.Tie as tie
 
@@ -16,7 +16,7 @@ returns c =
 returns-2 : tie.Need-returns-2
 returns-2 c =
     let a = c.before.before.before.before.before.args in
-    fits_not a.s.now a.at a.to _ _ _ (omega arith) (omega arith) (sym c.before.among.ensures ∙ not_true _ c.if2.true)
+    fits_not a.s.now a.at a.to _ _ _ (omega arith) (omega arith) (sym c.before.among.ensures ∙ not-true _ c.if2.true)
 
 returns-3 : tie.Need-returns-3
 returns-3 c =

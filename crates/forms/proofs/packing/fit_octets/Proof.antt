@@ -5,7 +5,7 @@ use native.Mathlib.Omega.{arith}
 use mathlib.Core.Path.{◌≡◌, refl}
 use mathlib.Core.Bool.{◌&&◌}
 use mathlib.Core.Logic.{⊎_elim}
-use borrow.Author.Tests.{not_true}
+use borrow.Author.Tests.{not-true}
 use Prim.Native.Nat.{◌+◌, ◌-◌, ◌≤◌}
 use Rattle.format.specs.Forms.{numeric, dates}
 use Rattle.forms.specs.Streams.{part}
@@ -35,7 +35,7 @@ returns c =
     let n = seen_next numeric l.n _ _ l.invariant.1 _ _ _ _ e f.ensures.0 m in
     let d = seen_next dates l.d _ _ l.invariant.2 _ _ _ _ e f.ensures.1 k in
     let q = part a.s.now (l.i + 1) a.to in
-    (seen_not numeric c.before.before.before.if1.n q _ n (not_true _ c.before.if3.true), seen_not dates c.before.before.if2.d q _ d (not_true _ c.if4.true))
+    (seen_not numeric c.before.before.before.if1.n q _ n (not-true _ c.before.if3.true), seen_not dates c.before.before.if2.d q _ d (not-true _ c.if4.true))
 
 loop-again : tie.Need-loop-preserved invariant-loop decreases-loop
 loop-again c =

@@ -2,14 +2,14 @@
 -- Assumes nothing.
 use borrow.Author.Rules.{rules}
 use native.Mathlib.Omega.{arith}
-use borrow.Author.Tests.{not_true, not-false}
+use borrow.Author.Tests.{not-true, not-false}
 use Rattle.read_head.proofs.EntryLaws.{part_absent, part_code, part_padded, part-read}
 use Rattle.read_head.proofs.listed.part.Statement.{statement}
 use Rattle.read_head.proofs.listed.part.Tie as tie
 
 returns : tie.Need-returns
 returns c =
-    part_absent c.before.before.before.args.s.now c.before.before.before.args.counts.now c.before.before.before.args.table c.before.before.before.args.at c.before.before.before.args.there c.before.before.before.requires.3 (not_true _ c.if1.true)
+    part_absent c.before.before.before.args.s.now c.before.before.before.args.counts.now c.before.before.before.args.table c.before.before.before.args.at c.before.before.before.args.there c.before.before.before.requires.3 (not-true _ c.if1.true)
 
 returns-2 : tie.Need-returns-2
 returns-2 c =

@@ -3,7 +3,7 @@
 use native.Mathlib.Omega.{arith}
 use borrow.Author.Rules.{rules}
 use mathlib.Core.Path.{sym, ◌∙◌}
-use borrow.Author.Tests.{not_true, not-false}
+use borrow.Author.Tests.{not-true, not-false}
 use Rattle.read_items.proofs.EndLaws.{document_rootless, document_padding, document_done, document_behind}
 use Rattle.read_items.proofs.ends.document_end.Statement.{statement}
 use Rattle.read_items.proofs.ends.document_end.Tie as tie
@@ -12,7 +12,7 @@ returns : tie.Need-returns
 returns c = λ n a g. rw c.stop.ensures.0 (document_rootless g (omega arith))
 
 returns-2 : tie.Need-returns-2
-returns-2 c = λ n a g. rw c.stop2.ensures.0 (document_padding g (omega arith) (sym (not_true _ c.before.if2.true) ∙ c.before.before.pads-at.ensures))
+returns-2 c = λ n a g. rw c.stop2.ensures.0 (document_padding g (omega arith) (sym (not-true _ c.before.if2.true) ∙ c.before.before.pads-at.ensures))
 
 returns-3 : tie.Need-returns-3
 returns-3 c = λ n a g. document_done g (omega arith) (sym (not-false _ c.before.if2.false) ∙ c.before.before.pads-at.ensures) (omega arith)

@@ -3,7 +3,7 @@
 use native.Mathlib.Omega.{arith}
 use borrow.Author.Rules.{rules}
 use mathlib.Core.Path.{sym, ◌∙◌}
-use borrow.Author.Tests.{not_true, not-false}
+use borrow.Author.Tests.{not-true, not-false}
 use Rattle.states.specs.States.{state_of}
 use Rattle.read_items.proofs.ItemLaws.{element_padding, element_second, element_lone, element_deep, element_declaring}
 use Rattle.read_items.proofs.HeadLaws.{tells_stop, tells_declared, tells_numbered, tells_parts}
@@ -18,7 +18,7 @@ returns c =
 returns-2 : tie.Need-returns-2
 returns-2 c =
     let a = c.before.before.before.before.before.args in
-    λ s h. tells_stop 15 _ c.refusal2.ensures (λ w. element_second s a.k a.b a.a (state_of a.st w) (sym c.before.before.before.if1.false ∙ c.before.before.before.before.name-padding.ensures) (sym (not_true _ c.before.if2.true) ∙ c.before.before.may-start.ensures))
+    λ s h. tells_stop 15 _ c.refusal2.ensures (λ w. element_second s a.k a.b a.a (state_of a.st w) (sym c.before.before.before.if1.false ∙ c.before.before.before.before.name-padding.ensures) (sym (not-true _ c.before.if2.true) ∙ c.before.before.may-start.ensures))
 
 returns-3 : tie.Need-returns-3
 returns-3 c =

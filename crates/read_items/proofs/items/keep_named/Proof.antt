@@ -2,13 +2,13 @@
 -- Assumes nothing.
 use borrow.Author.Rules.{rules}
 use mathlib.Core.Path.{sym, ◌∙◌}
-use borrow.Author.Tests.{not_true, ltb-false}
+use borrow.Author.Tests.{not-true, ltb-false}
 use Rattle.events.proofs.Kept.{kept_not}
 use Rattle.read_items.proofs.items.keep_named.Statement.{statement}
 use Rattle.read_items.proofs.items.keep_named.Tie as tie
 
 returns : tie.Need-returns
-returns c = kept_not _ _ _ _ (ltb-false _ _ (sym c.before.has-record.ensures ∙ not_true _ c.if1.true))
+returns c = kept_not _ _ _ _ (ltb-false _ _ (sym c.before.has-record.ensures ∙ not-true _ c.if1.true))
 
 strings-of-requires : tie.Need-strings-of-requires
 strings-of-requires c κs =

@@ -3,7 +3,7 @@
 use native.Mathlib.Omega.{arith}
 use borrow.Author.Rules.{rules}
 use mathlib.Core.Path.{sym, ◌∙◌}
-use borrow.Author.Tests.{not_true, not-false}
+use borrow.Author.Tests.{not-true, not-false}
 use Rattle.read_items.proofs.StepLaws.{met_by, refuse_here}
 use Rattle.read_items.proofs.EndLaws.{ends_low, ends_within}
 use Rattle.read_items.proofs.ItemLaws.{step_end, step_padding, step_item}
@@ -32,7 +32,7 @@ returns-2 c =
     rw c.stop.ensures.0
     (refuse_here at-start.requires c.stop.ensures.1 (step_padding _ _
     (sym c.before.before.before.if1.false ∙ c.before.before.before.before.ends-here.ensures)
-    (sym (not_true _ c.before.if2.true) ∙ c.before.before.pads-at.ensures)))
+    (sym (not-true _ c.before.if2.true) ∙ c.before.before.pads-at.ensures)))
 
 item-at-requires : tie.Need-item-at-requires
 item-at-requires c κs =

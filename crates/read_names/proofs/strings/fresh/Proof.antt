@@ -2,7 +2,7 @@
 -- Assumes nothing.
 use native.Mathlib.Omega.{arith}
 use borrow.Author.Rules.{rules}
-use borrow.Author.Tests.{not_true, not-false}
+use borrow.Author.Tests.{not-true, not-false}
 use Rattle.read_names.proofs.StringLaws.{length-read, begins, table_small, table_inside, table_indexed, fresh_refused, fresh_past, fresh_bad, new_known, new_full, new_done}
 use Rattle.read_names.proofs.strings.fresh.Statement.{statement}
 use Rattle.read_names.proofs.strings.fresh.Tie as tie
@@ -25,7 +25,7 @@ returns-2 : tie.Need-returns-2
 returns-2 c =
     let at-start = c.before.before.before.before.before.before.before.before.before.before.before.before in
     let b = begins _ _ _ _ c.before.before.before.before.before.n.given.1 (length-read _ _ 2 _ c.before.before.before.before.before.before.before.length.ensures) in
-    fresh_bad _ _ _ _ _ _ at-start.requires.0 (let l = at-start.requires.1 in omega arith) at-start.requires.2 _ c.before.before.before.before.before.before.before.length.ensures _ _ c.before.before.before.before.before.n.given.1 _ (omega arith) c.before.before.mark.ensures.2 (not_true _ c.if2.true)
+    fresh_bad _ _ _ _ _ _ at-start.requires.0 (let l = at-start.requires.1 in omega arith) at-start.requires.2 _ c.before.before.before.before.before.before.before.length.ensures _ _ c.before.before.before.before.before.n.given.1 _ (omega arith) c.before.before.mark.ensures.2 (not-true _ c.if2.true)
 
 add-new-requires : tie.Need-add-new-requires
 add-new-requires c κs =

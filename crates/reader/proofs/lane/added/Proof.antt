@@ -3,13 +3,13 @@
 use borrow.Author.Rules.{rules}
 use native.Mathlib.Omega.{arith}
 use mathlib.Core.Path.{refl}
-use borrow.Author.Tests.{not_true, not-false}
+use borrow.Author.Tests.{not-true, not-false}
 use Rattle.read_names.proofs.StringLaws.{added_not, added_more}
 use Rattle.reader.proofs.lane.added.Statement.{statement}
 use Rattle.reader.proofs.lane.added.Tie as tie
 
 returns : tie.Need-returns
-returns c = λ k. added_not _ _ 6 k _ _ _ _ _ _ refl refl (not_true _ c.if1.true)
+returns c = λ k. added_not _ _ 6 k _ _ _ _ _ _ refl refl (not-true _ c.if1.true)
 
 returns-3 : tie.Need-returns-3
 returns-3 c = λ k. added_more _ _ 6 k _ _ _ _ _ _ refl refl (not-false _ c.before.before.before.before.before.before.if1.false) (omega arith) _ refl _ c.before.before.add.ensures

@@ -2,7 +2,7 @@
 -- Assumes nothing.
 use native.Mathlib.Omega.{arith}
 use borrow.Author.Rules.{rules}
-use borrow.Author.Tests.{not_true, not-false}
+use borrow.Author.Tests.{not-true, not-false}
 use Rattle.reader.proofs.LaneLaws.{takes_none, takes_left, takes_chunk, chunk_in_row}
 use Rattle.reader.proofs.lane.chunk.Statement.{statement}
 use Rattle.reader.proofs.lane.chunk.Tie as tie
@@ -17,7 +17,7 @@ returns-2 : tie.Need-returns-2
 returns-2 c =
     let at-keep-chunk = c.before.before.before in
     let at-start = at-keep-chunk.before.before.before.before.before.before.before.before.before.before in
-    takes_left at-start.requires.0 (rw (not_true at-keep-chunk.keep-chunk.result c.if2.true) at at-keep-chunk.keep-chunk.ensures)
+    takes_left at-start.requires.0 (rw (not-true at-keep-chunk.keep-chunk.result c.if2.true) at at-keep-chunk.keep-chunk.ensures)
 
 returns-3 : tie.Need-returns-3
 returns-3 c =

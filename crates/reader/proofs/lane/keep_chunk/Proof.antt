@@ -2,14 +2,14 @@
 -- Assumes nothing.
 use mathlib.Core.Path.{sym, ◌∙◌}
 use borrow.Author.Rules.{rules}
-use borrow.Author.Tests.{not_true, ltb-false}
+use borrow.Author.Tests.{not-true, ltb-false}
 use Rattle.events.proofs.Kept.{kept_not}
 use Rattle.reader.proofs.LaneLaws.{chunk_plain}
 use Rattle.reader.proofs.lane.keep_chunk.Statement.{statement}
 use Rattle.reader.proofs.lane.keep_chunk.Tie as tie
 
 returns : tie.Need-returns
-returns c = kept_not _ _ _ _ (ltb-false _ _ (sym c.before.has-record.ensures ∙ not_true _ c.if1.true))
+returns c = kept_not _ _ _ _ (ltb-false _ _ (sym c.before.has-record.ensures ∙ not-true _ c.if1.true))
 
 returns-4 : tie.Need-returns-4
 returns-4 c =

@@ -3,14 +3,14 @@
 use borrow.Author.Rules.{rules}
 use native.Mathlib.Omega.{arith}
 use mathlib.Core.Path.{sym, ◌∙◌}
-use borrow.Author.Tests.{not_true, ltb-false, eqb-true}
+use borrow.Author.Tests.{not-true, ltb-false, eqb-true}
 use Rattle.events.proofs.Kept.{kept_not}
 use Rattle.reader.proofs.LaneLaws.{local_there, local-alone}
 use Rattle.reader.proofs.lane.keep_start.Statement.{statement}
 use Rattle.reader.proofs.lane.keep_start.Tie as tie
 
 returns : tie.Need-returns
-returns c = kept_not _ _ _ _ (ltb-false _ _ (sym c.before.has-record.ensures ∙ not_true _ c.if1.true))
+returns c = kept_not _ _ _ _ (ltb-false _ _ (sym c.before.has-record.ensures ∙ not-true _ c.if1.true))
 
 sub-entry : tie.Need-overflow-sub-entry
 sub-entry c =

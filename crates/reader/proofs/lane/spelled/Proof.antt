@@ -3,7 +3,7 @@
 use borrow.Author.Rules.{rules}
 use native.Mathlib.Omega.{arith}
 use mathlib.Core.Path.{sym, ◌∙◌}
-use borrow.Author.Tests.{not_true, not-false}
+use borrow.Author.Tests.{not-true, not-false}
 use Rattle.fields.proofs.Bounds.{field_got}
 use Rattle.reader.proofs.LaneLaws.{takes_none, takes_full, takes_spelled, place-fits}
 use Rattle.reader.proofs.lane.spelled.Statement.{statement}
@@ -55,7 +55,7 @@ returns-6 : tie.Need-returns-6
 returns-6 c =
     let at_Added = c.before.before.before.before.before in
     let at-start = at_Added.before.before.before.before.before.before.before.before.before.before.before.before.before.before.before.before.before.before in
-    takes_full at-start.requires.0 (rw (not_true at_Added.added.result c.if5.true) at at_Added.added.ensures)
+    takes_full at-start.requires.0 (rw (not-true at_Added.added.result c.if5.true) at at_Added.added.ensures)
 
 cast-t23 : tie.Need-overflow-cast-t23
 cast-t23 c =

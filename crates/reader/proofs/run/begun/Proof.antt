@@ -2,7 +2,7 @@
 -- Assumes nothing.
 use mathlib.Core.Path.{ap, ◌∙◌}
 use borrow.Author.Rules.{rules}
-use borrow.Author.Tests.{not_true, not-false}
+use borrow.Author.Tests.{not-true, not-false}
 use Rattle.tables.specs.Kept.{listed}
 use Rattle.reader.proofs.RunLaws.{tidy_start, front_within, starts_body, starts_halt, starts_head}
 use Rattle.reader.proofs.run.begun.Statement.{statement}
@@ -17,7 +17,7 @@ returns c =
     let counts = c.before.before.before.before.before.before.before.before.put-counts.ensures ∙ ap listed c.before.before.before.before.before.before.before.before.before.start.ensures in
     let opened = c.before.before.before.before.before.opened.ensures in
     let front = c.before.before.before.front.given.1 in
-    starts_body _ _ _ _ pre.0 counts pre.2 opened front (not_true _ c.if1.true)
+    starts_body _ _ _ _ pre.0 counts pre.2 opened front (not-true _ c.if1.true)
 
 head-requires : tie.Need-head-requires
 head-requires c κs =

@@ -3,13 +3,13 @@
 use mathlib.Core.Path.{sym, ◌∙◌}
 use native.Mathlib.Omega.{arith}
 use borrow.Author.Rules.{rules}
-use borrow.Author.Tests.{not_true, not-false}
+use borrow.Author.Tests.{not-true, not-false}
 use Rattle.reader.proofs.RunLaws.{size-most, open_size, open_short, open_other, open_four, open_padding, open_optional, open_onward, open_headed}
 use Rattle.reader.proofs.run.opened.Statement.{statement}
 use Rattle.reader.proofs.run.opened.Tie as tie
 
 returns : tie.Need-returns
-returns c = record { is = open_size _ (sym (not_true _ c.if1.true) ∙ c.before.sized.ensures); within = omega arith }
+returns c = record { is = open_size _ (sym (not-true _ c.if1.true) ∙ c.before.sized.ensures); within = omega arith }
 
 returns-2 : tie.Need-returns-2
 returns-2 c =
@@ -19,7 +19,7 @@ returns-2 c =
 returns-3 : tie.Need-returns-3
 returns-3 c =
     let size = sym (not-false _ c.before.before.before.if1.false) ∙ c.before.before.before.before.sized.ensures in
-    record { is = open_other _ size (omega arith) (sym (not_true _ c.if3.true) ∙ c.before.headed.ensures); within = omega arith }
+    record { is = open_other _ size (omega arith) (sym (not-true _ c.if3.true) ∙ c.before.headed.ensures); within = omega arith }
 
 returns-4 : tie.Need-returns-4
 returns-4 c =

@@ -1,7 +1,7 @@
 -- `read_words` meets its contract: a law for each way out.
 -- Assumes nothing.
 use mathlib.Core.Path.{sym, ◌∙◌}
-use borrow.Author.Tests.{not_true, not-false}
+use borrow.Author.Tests.{not-true, not-false}
 use lib.ListN.{length}
 use Rattle.tables.proofs.Zeros.{zeroed}
 use Rattle.reader.proofs.WordLaws.{words_size, words-tables, words_counts, words_refused, words_accepted}
@@ -15,7 +15,7 @@ returns c =
     let clear = c.before.before.before.before.before.before.before.before.before.before.before.before.clear in
     let clear2 = c.before.before.before.before.before.before.before.before.clear2 in
     let clear3 = c.before.before.before.before.clear3 in
-    rw (clear.ensures, clear2.ensures, clear3.ensures) (words_size _ _ _ _ (sym (not_true _ c.if1.true) ∙ c.before.sized.ensures))
+    rw (clear.ensures, clear2.ensures, clear3.ensures) (words_size _ _ _ _ (sym (not-true _ c.if1.true) ∙ c.before.sized.ensures))
 
 returns-2 : tie.Need-returns-2
 returns-2 c =

@@ -1,7 +1,7 @@
 -- `add_rows` meets its contract: the rows before are added.
 -- Assumes nothing.
 use borrow.Author.Rules.{rules}
-use borrow.Author.Tests.{not_true, not-false}
+use borrow.Author.Tests.{not-true, not-false}
 use native.Mathlib.Omega.{arith}
 use mathlib.Core.Path.{◌≡◌, sym, ◌∙◌}
 use mathlib.Core.Bool.{true}
@@ -62,7 +62,7 @@ same-length-3 : tie.Need-same-length-3 invariant-loop decreases-loop
 same-length-3 c = search rules
 
 returns : tie.Need-returns invariant-loop decreases-loop
-returns c = let s = c.before.before.before.before.before.before.before.before.before.before.before.before.before.before.before.before.before.before.before.before.before in let l = c.before.before.before.before.before.before.before.before.before.before.before.before.loop in (table_breaks _ _ _ _ _ _ l.invariant.2 (omega arith) (sym (not_true _ c.if1.true) ∙ row_told _ _ s.requires.3 _ _ (omega arith) s.requires.1 _ _ _ _ l.invariant.3 l.invariant.0.tables s.requires.5 c.before.before.before.before.before.before.before.add_row.ensures.1), λ e. clash e)
+returns c = let s = c.before.before.before.before.before.before.before.before.before.before.before.before.before.before.before.before.before.before.before.before.before in let l = c.before.before.before.before.before.before.before.before.before.before.before.before.loop in (table_breaks _ _ _ _ _ _ l.invariant.2 (omega arith) (sym (not-true _ c.if1.true) ∙ row_told _ _ s.requires.3 _ _ (omega arith) s.requires.1 _ _ _ _ l.invariant.3 l.invariant.0.tables s.requires.5 c.before.before.before.before.before.before.before.add_row.ensures.1), λ e. clash e)
 
 add-i : tie.Need-overflow-add-i invariant-loop decreases-loop
 add-i c = search rules

@@ -1,7 +1,7 @@
 -- `add_tables` meets its contract: the tables before are added.
 -- Assumes nothing.
 use borrow.Author.Rules.{rules}
-use borrow.Author.Tests.{not_true, not-false}
+use borrow.Author.Tests.{not-true, not-false}
 use native.Mathlib.Omega.{arith}
 use mathlib.Core.Path.{◌≡◌, sym, ◌∙◌}
 use mathlib.Core.Bool.{true}
@@ -38,7 +38,7 @@ same-length-3 : tie.Need-same-length-3 invariant-loop decreases-loop
 same-length-3 c = search rules
 
 returns : tie.Need-returns invariant-loop decreases-loop
-returns c = (one_breaks _ _ _ _ (omega arith) (sym (not_true _ c.if1.true) ∙ c.before.before.before.before.before.before.before.add-rows.ensures.0), λ e. clash e)
+returns c = (one_breaks _ _ _ _ (omega arith) (sym (not-true _ c.if1.true) ∙ c.before.before.before.before.before.before.before.add-rows.ensures.0), λ e. clash e)
 
 add-table : tie.Need-overflow-add-table invariant-loop decreases-loop
 add-table c = search rules

@@ -1,7 +1,7 @@
 -- `all_keep` meets its contract: the tables before keep to the rule.
 -- Assumes nothing.
 use borrow.Author.Rules.{rules}
-use borrow.Author.Tests.{not_true, not-false}
+use borrow.Author.Tests.{not-true, not-false}
 use native.Mathlib.Omega.{arith}
 use mathlib.Core.Path.{◌≡◌, sym, ◌∙◌}
 use mathlib.Core.Bool.{true}
@@ -27,7 +27,7 @@ table-keeps-requires : tie.Need-table-keeps-requires invariant-loop decreases-lo
 table-keeps-requires c κs = let s = c.before.before.before.before in (s.requires.0, omega arith, s.requires.1)
 
 returns : tie.Need-returns invariant-loop decreases-loop
-returns c = one_breaks _ _ _ _ (omega arith) (sym (not_true _ c.if1.true) ∙ c.before.table_keeps.ensures)
+returns c = one_breaks _ _ _ _ (omega arith) (sym (not-true _ c.if1.true) ∙ c.before.table_keeps.ensures)
 
 add-table : tie.Need-overflow-add-table invariant-loop decreases-loop
 add-table c = search rules

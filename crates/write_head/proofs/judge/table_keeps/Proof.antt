@@ -1,7 +1,7 @@
 -- `table_keeps` meets its contract: the rows before keep to the rule.
 -- Assumes nothing.
 use borrow.Author.Rules.{rules}
-use borrow.Author.Tests.{not_true, not-false}
+use borrow.Author.Tests.{not-true, not-false}
 use native.Mathlib.Omega.{arith}
 use mathlib.Core.Path.{◌≡◌, sym, ◌∙◌}
 use mathlib.Core.Bool.{true}
@@ -38,7 +38,7 @@ row-keeps-requires : tie.Need-row-keeps-requires invariant-loop decreases-loop
 row-keeps-requires c κs = let s = c.before.before.before.before.before.before in (s.requires.0, s.requires.1, omega arith, s.requires.2)
 
 returns : tie.Need-returns invariant-loop decreases-loop
-returns c = let l = c.before.before.before.loop in table_breaks _ _ _ _ _ _ l.invariant.2 (omega arith) (sym (not_true _ c.if1.true) ∙ c.before.row_keeps.ensures)
+returns c = let l = c.before.before.before.loop in table_breaks _ _ _ _ _ _ l.invariant.2 (omega arith) (sym (not-true _ c.if1.true) ∙ c.before.row_keeps.ensures)
 
 add-i : tie.Need-overflow-add-i invariant-loop decreases-loop
 add-i c = search rules

@@ -3,7 +3,7 @@
 use borrow.Author.Rules.{rules}
 use native.Mathlib.Omega.{arith}
 use mathlib.Core.Path.{sym, ◌∙◌}
-use borrow.Author.Tests.{not_true, not-false}
+use borrow.Author.Tests.{not-true, not-false}
 use Rattle.writer.proofs.RunLaws.{finish_owed, finish_full, finish_written}
 use Rattle.writer.proofs.run.finish.Statement.{statement}
 use Rattle.writer.proofs.run.finish.Tie as tie
@@ -11,7 +11,7 @@ use Rattle.writer.proofs.run.finish.Tie as tie
 returns : tie.Need-returns
 returns c =
     let a = c.before.before.before.args in
-    finish_owed a.room a.st a.counts a.out.now a.i (sym (not_true _ c.if1.true) ∙ c.before.complete.ensures)
+    finish_owed a.room a.st a.counts a.out.now a.i (sym (not-true _ c.if1.true) ∙ c.before.complete.ensures)
 
 returns-2 : tie.Need-returns-2
 returns-2 c =

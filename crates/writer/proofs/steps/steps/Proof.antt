@@ -3,7 +3,7 @@
 use borrow.Author.Rules.{rules}
 use native.Mathlib.Omega.{arith}
 use mathlib.Core.Path.{◌≡◌, refl}
-use borrow.Author.Tests.{not_true}
+use borrow.Author.Tests.{not-true}
 use lib.ListN.{length}
 use Prim.Native.Nat.{◌-◌, ◌/◌}
 use Rattle.writer.proofs.RideLaws.{Stepping, Begins, start_moving, stepping_start, stepping_ready, stepping_small, stepped, step_stopped, stepped_few, stepped_safe, stepped_learned, stepped_filed, stepping_on, stepped_through, misnamed_stopped}
@@ -37,7 +37,7 @@ same-length-3 c = omega (arith, c.before.before.before.before.before.loop.invari
 returns : tie.Need-returns invariant-loop decreases-loop
 returns c =
     let a = c.before.before.before.before.before.before.before.before.before.before.before.before.before.before.args in
-    λ o g. misnamed_stopped c.before.before.before.before.before.loop.invariant.4 c.before.before.before.before.loop-test.true c.before.before.before.look-from.ensures c.before.before.announced-words.ensures (c.before.names-in-utf8.ensures (not_true _ c.if1.true)) o (start_moving a.records.now a.text.now a.room (length a.t.now) a.first a.start _ a.out.now a.t.now a.index.now c.before.before.before.before.before.before.before.put-counts.ensures o g)
+    λ o g. misnamed_stopped c.before.before.before.before.before.loop.invariant.4 c.before.before.before.before.loop-test.true c.before.before.before.look-from.ensures c.before.before.announced-words.ensures (c.before.names-in-utf8.ensures (not-true _ c.if1.true)) o (start_moving a.records.now a.text.now a.room (length a.t.now) a.first a.start _ a.out.now a.t.now a.index.now c.before.before.before.before.before.before.before.put-counts.ensures o g)
 
 step-requires : tie.Need-step-requires invariant-loop decreases-loop
 step-requires c κs = stepping_ready c.before.before.before.before.before.before.before.before.before.before.before.loop.invariant.4
