@@ -1,0 +1,48 @@
+-- `more` meets its contract: one more integer, or none any more.
+-- Assumes nothing.
+use mathlib.Core.Path.{◌∙◌, ap}
+use native.Mathlib.Omega.{arith}
+use borrow.Author.Rules.{rules}
+use Rattle.decimal.specs.Machine.{width_of}
+use Rattle.decimal.proofs.Halves.{back}
+use Rattle.decimal.proofs.Steps.{more_none, more-behind_none, more_one, wider, as_wide}
+use Rattle.decimal.proofs.scanning.more.Goals as goal
+
+pub enum_known-before : goal.enum_known-before
+enum_known-before c = search rules
+
+pub enum_told-1 : goal.enum_told-1
+enum_told-1 c = search rules
+
+pub returns-in_default : goal.returns-in_default
+returns-in_default c = more-behind_none _ _ c.enum_told-1.given.1
+
+pub enum_known-e : goal.enum_known-e
+enum_known-e c = search rules
+
+pub enum_told-in_default-e : goal.enum_told-in_default-e
+enum_told-in_default-e c = search rules
+
+pub returns-in_default-e : goal.returns-in_default-e
+returns-in_default-e c = more_none _ _ c.enum_told-in_default-e-1.given.1
+
+pub width_of-v-requires : goal.width_of-v-requires
+width_of-v-requires c = search rules
+
+pub overflow_add-result : goal.overflow_add-result
+overflow_add-result c = let h = rw c.before-1.given.1 at c.requires in omega arith
+
+pub returns-then-w-v : goal.returns-then-w-v
+returns-then-w-v c =
+    let k = c.before-1.given in
+    let e = c.e-1.given in
+    more_one k.1 e.1 (wider _ _ _ (c.width_of-v.ensures ∙ ap width_of (back e.0.0 c.known_told-in-Integer-1.given.0.1)) c.if-w-v.true)
+
+pub overflow_add-result-2 : goal.overflow_add-result-2
+overflow_add-result-2 c = let h = rw c.before-1.given.1 at c.requires in omega arith
+
+pub returns : goal.returns
+returns c =
+    let k = c.before-1.given in
+    let e = c.e-1.given in
+    more_one k.1 e.1 (as_wide k.0.1.0 c.width_of-v.result _ (c.width_of-v.ensures ∙ ap width_of (back e.0.0 c.known_told-in-Integer-1.given.0.1)) c.if-w-v.false)

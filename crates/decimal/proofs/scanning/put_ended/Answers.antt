@@ -1,0 +1,33 @@
+-- `put_ended` meets its contract: the octets of an integer, or none.
+-- Assumes nothing.
+use mathlib.Core.Path.{refl}
+use borrow.Author.Rules.{rules}
+use Rattle.fields.proofs.Puts.{puts_nothing}
+use Rattle.decimal.specs.Machine.{ended_octets}
+use Rattle.decimal.proofs.Halves.{back}
+use Rattle.decimal.proofs.Steps.{held_is}
+use Rattle.decimal.proofs.scanning.put_ended.Goals as goal
+
+pub enum_known-e : goal.enum_known-e
+enum_known-e c = search rules
+
+pub put_held-requires : goal.put_held-requires
+put_held-requires c =
+    let e = c.e-1.given in
+    (c.requires.0, rw (back e.0.0 c.known_told-1.given.0.1) (held_is _ _ (rw e.1 at c.requires.1)))
+
+pub enum_told-1 : goal.enum_told-1
+enum_told-1 c = search rules
+
+pub shape_of-out : goal.shape_of-out
+shape_of-out c = search rules
+
+pub returns-in-Integer : goal.returns-in-Integer
+unfolding ended_octets
+returns-in-Integer c =
+    let e = c.e-1.given in
+    rw e.1 (rw (back e.0.0 c.known_told-1.given.0.1) at c.put_held.ensures)
+
+pub returns-in-NoInteger : goal.returns-in-NoInteger
+unfolding ended_octets
+returns-in-NoInteger c = rw c.enum_told-1.given.1 (puts_nothing refl)

@@ -1,0 +1,34 @@
+-- `EventString::is_absent` meets its contract: the tag of a stretch is 0 in no form.
+-- Assumes nothing.
+use mathlib.Core.Path.{◌≡◌, refl}
+use mathlib.Core.Bool.{false}
+use borrow.Author.Rules.{rules}
+use lib.Dec.{eqb}
+use Rattle.format.specs.declared.StringForm.{StringForm}
+use Rattle.format.specs.declared.StringForm.TheVariants.{Utf8, Utf16, Numeric, Dates, Short, Int, Long}
+use Rattle.events.specs.Words.{form_tag}
+use Rattle.events.proofs.EventString.is_absent.Goals as goal
+
+there : (form : StringForm) → false ≡ eqb (form_tag form) 0
+there Utf8 = refl
+there Utf16 = refl
+there Numeric = refl
+there Dates = refl
+there Short = refl
+there Int = refl
+there Long = refl
+
+pub returns-in-Absent : goal.returns-in-Absent
+returns-in-Absent c = rw c.enum_told-1.given.1
+
+pub returns-in-Empty : goal.returns-in-Empty
+returns-in-Empty c = rw c.enum_told-in-Empty-1.given.1
+
+pub returns-in-Stretch : goal.returns-in-Stretch
+returns-in-Stretch c = rw c.enum_told-in-Stretch-1.given.1 (there c.enum_told-in-Stretch-1.given.0.0)
+
+pub returns-in-XmlPrefix : goal.returns-in-XmlPrefix
+returns-in-XmlPrefix c = rw c.enum_told-in-XmlPrefix-1.given.1
+
+pub returns-in-XmlNamespace : goal.returns-in-XmlNamespace
+returns-in-XmlNamespace c = rw c.enum_told-in-XmlNamespace-1.given.1

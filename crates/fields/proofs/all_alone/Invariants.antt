@@ -1,0 +1,12 @@
+-- `all_alone` meets its contract: of each stretch no octet so far is raised to less than `low`.
+-- Assumes nothing.
+use Rattle.std.proofs.Common.{◌≡◌, ℕ, ◌+◌, ◌-◌, ◌<◌, ◌≤◌, true, List, get_or, arith, rules, leb-true}
+use Rattle.fields.specs.Utf8.{alone}
+use Rattle.fields.proofs.Plain.{one_more_lem, joined}
+use Rattle.fields.proofs.all_alone.Given as goal
+
+abbrev pub invariant-loop-i : goal.invariant-loop-i
+invariant-loop-i l = (l.i ≤ l.half) × Stretch l.s l.low l.from (l.from + l.i) × Stretch l.s l.low l.second (l.second + l.i)
+
+abbrev pub decreases-loop-i : goal.decreases-loop-i
+decreases-loop-i l = l.half - l.i

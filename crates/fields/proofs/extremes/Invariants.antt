@@ -1,0 +1,11 @@
+-- `extremes` meets its contract: of each stretch the octets so far; the second starts where the first has ended, or before.
+-- Assumes nothing.
+use Rattle.std.proofs.Common.{ℕ, ◌+◌, ◌-◌, ◌<◌, ◌≤◌, List, get_or, arith, rules}
+use Rattle.fields.proofs.Plain.{one_more_lem, joined}
+use Rattle.fields.proofs.extremes.Given as goal
+
+abbrev pub invariant-loop-i : goal.invariant-loop-i
+invariant-loop-i l = (l.i ≤ l.half) × Stretch l.s l.low l.high l.from (l.from + l.i) × Stretch l.s l.low l.high l.second (l.second + l.i)
+
+abbrev pub decreases-loop-i : goal.decreases-loop-i
+decreases-loop-i l = l.half - l.i

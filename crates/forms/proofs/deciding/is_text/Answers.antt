@@ -1,0 +1,28 @@
+-- `is_text` meets its contract: each form has its test.
+-- Assumes nothing.
+use borrow.Author.Rules.{rules}
+use Rattle.format.specs.declared.StringForm.TheVariants.{Utf8, Utf16, Numeric, Dates, Short, Int, Long}
+use Rattle.forms.proofs.Forms.{tested}
+use Rattle.forms.proofs.Sizes.{integers_told}
+use Rattle.forms.proofs.deciding.is_text.Goals as goal
+
+pub returns-in-Utf8 : goal.returns-in-Utf8
+returns-in-Utf8 c = tested _ Utf8 _ _ c.enum_told-1.given.1 c.is_text.ensures
+
+pub returns-in-Utf16 : goal.returns-in-Utf16
+returns-in-Utf16 c = tested _ Utf16 _ _ c.enum_told-in-Utf16-1.given.1 c.is_text16.ensures
+
+pub returns-in-Numeric : goal.returns-in-Numeric
+returns-in-Numeric c = tested _ Numeric _ _ c.enum_told-in-Numeric-1.given.1 c.are_places.ensures
+
+pub returns-in-Dates : goal.returns-in-Dates
+returns-in-Dates c = tested _ Dates _ _ c.enum_told-in-Dates-1.given.1 c.are_places-in-Dates.ensures
+
+pub returns-in-Short : goal.returns-in-Short
+returns-in-Short c = tested _ Short _ _ c.enum_told-in-Short-1.given.1 (integers_told c.args.s.now c.args.at c.args.to 2 _ c.requires.1 (λ i. (c.shared_slice_known-1.given i).fits) c.is_whole.ensures)
+
+pub returns-in-Int : goal.returns-in-Int
+returns-in-Int c = tested _ Int _ _ c.enum_told-in-Int-1.given.1 (integers_told c.args.s.now c.args.at c.args.to 4 _ c.requires.1 (λ i. (c.shared_slice_known-1.given i).fits) c.is_whole-in-Int.ensures)
+
+pub returns-in-Long : goal.returns-in-Long
+returns-in-Long c = tested _ Long _ _ c.enum_told-in-Long-1.given.1 (integers_told c.args.s.now c.args.at c.args.to 8 _ c.requires.1 (λ i. (c.shared_slice_known-1.given i).fits) c.is_whole-in-Long.ensures)

@@ -1,0 +1,16 @@
+-- `is_text16` meets its contract: what is left is characters where the whole is.
+-- Assumes nothing.
+use borrow.Author.Rules.{rules}
+use native.Mathlib.Omega.{arith}
+use mathlib.Core.Path.{◌≡◌, refl}
+use Prim.Native.Nat.{◌-◌, ◌≤◌}
+use Rattle.forms.specs.Reading.{is_text16}
+use Rattle.forms.specs.Streams.{part}
+use Rattle.forms.proofs.Sizes.{text_not, text_next, text_end}
+use Rattle.forms.proofs.deciding.is_text16.Given as goal
+
+abbrev pub invariant-loop-i : goal.invariant-loop-i
+invariant-loop-i l = (l.i ≤ l.to) × (is_text16 (part l.s l.i l.to) ≡ is_text16 (part l.s l.from l.to))
+
+abbrev pub decreases-loop-i : goal.decreases-loop-i
+decreases-loop-i l = l.to - l.i

@@ -1,0 +1,28 @@
+-- `letter` meets its contract: the byte strings are the alphabets.
+-- Assumes nothing.
+use borrow.Author.Rules.{rules}
+use Rattle.format.specs.Forms.{numeric, dates}
+use Rattle.forms.proofs.letter.Goals as goal
+
+pub returns-in-Utf8 : goal.returns-in-Utf8
+returns-in-Utf8 c = rw c.enum_told-1.given.1
+
+pub returns-in-Utf16 : goal.returns-in-Utf16
+returns-in-Utf16 c = rw c.enum_told-in-Utf16-1.given.1
+
+pub returns-in-Numeric : goal.returns-in-Numeric
+unfolding numeric
+returns-in-Numeric c = rw c.enum_told-in-Numeric-1.given.1
+
+pub returns-in-Dates : goal.returns-in-Dates
+unfolding dates
+returns-in-Dates c = rw c.enum_told-in-Dates-1.given.1
+
+pub returns-in-Short : goal.returns-in-Short
+returns-in-Short c = rw c.enum_told-in-Short-1.given.1
+
+pub returns-in-Int : goal.returns-in-Int
+returns-in-Int c = rw c.enum_told-in-Int-1.given.1
+
+pub returns-in-Long : goal.returns-in-Long
+returns-in-Long c = rw c.enum_told-in-Long-1.given.1

@@ -1,0 +1,7 @@
+-- `bucket_of` meets its contract: a look tells it.
+-- Assumes nothing.
+use borrow.Author.Rules.{rules}
+use Rattle.index.proofs.bucket_of.Goals as goal
+
+pub returns : goal.returns
+returns c = (c.look-x.ensures.0, c.look-x.ensures.1)

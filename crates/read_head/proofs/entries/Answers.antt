@@ -1,0 +1,54 @@
+-- `entries` meets its contract: one entry behind the other, and those that are left are read from where the loop stands.
+-- Assumes nothing.
+use borrow.Author.Rules.{rules}
+use native.Mathlib.Omega.{arith}
+use mathlib.Core.Path.{◌≡◌, refl, sym, ◌∙◌}
+use lib.ListN.{length}
+use Rattle.format.specs.Tables.{link}
+use Rattle.tables.specs.Rows.{vocabulary}
+use Rattle.tables.specs.Kept.{unlisted}
+use Rattle.read_names.specs.Promises.{Left}
+use Rattle.read_head.specs.Head.{entries_at}
+use Rattle.read_head.specs.Promises.{table_at}
+use Rattle.read_head.proofs.HeadLaws.{left_here, left-then, handed_on, entries_end, entries_next, entries_refused}
+use Rattle.read_head.proofs.entries.Goals as goal
+
+pub loop-left-init : goal.loop-left-init
+loop-left-init c =
+    (refl, refl, refl, left_here _ _ _ _ _ c.requires.0 c.requires.1, refl)
+
+pub entry-r-requires : goal.entry-r-requires
+entry-r-requires c =
+    let l = c.loop-left.invariant.3 in (l.tidy, l.within, c.requires.2)
+
+pub shape_of-t-in_default : goal.shape_of-t-in_default
+shape_of-t-in_default c =
+    let i = c.loop-left.invariant.0 in
+    let k = c.entry-r.auto in
+    omega arith
+
+pub shape_of-counts-in_default : goal.shape_of-counts-in_default
+shape_of-counts-in_default c =
+    let i = c.loop-left.invariant.1 in
+    let k = c.entry-r.auto in
+    omega arith
+
+pub shape_of-index-in_default : goal.shape_of-index-in_default
+shape_of-index-in_default c =
+    let i = c.loop-left.invariant.2 in
+    let k = c.entry-r.auto in
+    omega arith
+
+pub returns-in_default : goal.returns-in_default
+returns-in_default c =
+    handed_on c.args.s.now c.args.counts.now c.args.t.now _ _ _ _ _ _ c.entry-r.result _ _ _ c.enum_told-1.given.1 c.entry-r.ensures λ e. entries_refused _ _ _ _ _ (omega arith) _ _ e ∙ c.loop-left.invariant.4
+
+pub loop-left-preserved : goal.loop-left-preserved
+loop-left-preserved c =
+    let r = rw c.r-1.given.1 at c.entry-r.ensures in
+    let inv = c.loop-left.invariant in
+    let k = c.entry-r.auto in
+    (omega arith, omega arith, omega arith, left-then inv.3 r.1, entries_next _ _ _ _ _ (omega arith) _ _ r.0 ∙ inv.4)
+
+pub returns : goal.returns
+returns c = let inv = c.loop-left.invariant in (sym (entries_end _ _ _ _ _ (omega arith)) ∙ inv.4, inv.3)

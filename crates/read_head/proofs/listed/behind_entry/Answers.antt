@@ -1,0 +1,12 @@
+-- `behind_entry` meets its contract: the number is left out.
+-- Assumes nothing.
+use borrow.Author.Rules.{rules}
+use mathlib.Core.Path.{sym, ap}
+use Rattle.read_head.specs.Promises.{behind_entry}
+use Rattle.read_head.proofs.listed.behind_entry.Goals as goal
+
+pub returns-in-Refused : goal.returns-in-Refused
+returns-in-Refused c = ap behind_entry (sym c.e-1.given.1)
+
+pub returns-in-Got : goal.returns-in-Got
+returns-in-Got c = ap behind_entry (sym c.e-in-Got-1.given.1)

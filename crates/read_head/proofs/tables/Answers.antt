@@ -1,0 +1,55 @@
+-- `tables` meets its contract: one table behind the other, and those from i on are read from where the loop stands.
+-- Assumes nothing.
+use borrow.Author.Rules.{rules}
+use native.Mathlib.Omega.{arith}
+use mathlib.Core.Path.{◌≡◌, refl, sym, ◌∙◌}
+use Prim.Native.Nat.{◌-◌, ◌≤◌}
+use lib.ListN.{length, drop}
+use Rattle.format.specs.Tables.{link}
+use Rattle.format.specs.Head.{ten_tables}
+use Rattle.tables.specs.Rows.{vocabulary}
+use Rattle.tables.specs.Kept.{unlisted}
+use Rattle.read_names.specs.Promises.{Left}
+use Rattle.read_head.specs.Head.{tables_at}
+use Rattle.read_head.proofs.HeadLaws.{left_here, left-then, handed_on, tables_end, tables_next, tables_refused}
+use Rattle.read_head.proofs.tables.Goals as goal
+
+pub loop-i-init : goal.loop-i-init
+loop-i-init c =
+    (refl, refl, refl, left_here _ _ _ _ _ c.requires.0 c.requires.1, omega arith, refl)
+
+pub table-r-requires : goal.table-r-requires
+table-r-requires c =
+    let l = c.loop-i.invariant.3 in (l.tidy, l.within, omega arith)
+
+pub shape_of-t-in_default : goal.shape_of-t-in_default
+shape_of-t-in_default c =
+    let i = c.loop-i.invariant.0 in
+    let k = c.table-r.auto in
+    omega arith
+
+pub shape_of-counts-in_default : goal.shape_of-counts-in_default
+shape_of-counts-in_default c =
+    let i = c.loop-i.invariant.1 in
+    let k = c.table-r.auto in
+    omega arith
+
+pub shape_of-index-in_default : goal.shape_of-index-in_default
+shape_of-index-in_default c =
+    let i = c.loop-i.invariant.2 in
+    let k = c.table-r.auto in
+    omega arith
+
+pub returns-in_default : goal.returns-in_default
+returns-in_default c =
+    handed_on c.args.s.now c.args.counts.now c.args.t.now _ _ _ _ _ _ c.table-r.result _ _ _ c.enum_told-1.given.1 c.table-r.ensures λ e. tables_refused _ _ c.loop-i.i _ _ (omega arith) _ _ e ∙ c.loop-i.invariant.5
+
+pub loop-i-preserved : goal.loop-i-preserved
+loop-i-preserved c =
+    let r = rw c.r-1.given.1 at c.table-r.ensures in
+    let inv = c.loop-i.invariant in
+    let k = c.table-r.auto in
+    (omega arith, omega arith, omega arith, left-then inv.3 r.1, omega arith, tables_next _ _ c.loop-i.i _ _ (omega arith) _ _ r.0 ∙ inv.5)
+
+pub returns : goal.returns
+returns c = let inv = c.loop-i.invariant in (sym (tables_end _ _ c.loop-i.i _ _ (omega arith) (omega arith)) ∙ inv.5, inv.3)

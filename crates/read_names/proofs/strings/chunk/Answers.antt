@@ -1,0 +1,37 @@
+-- `chunk` meets its contract: the first octet's bits pick the case of the definition.
+-- Assumes nothing.
+use mathlib.Core.Path.{◌∙◌}
+use native.Mathlib.Omega.{arith}
+use borrow.Author.Rules.{rules}
+use Rattle.tables.specs.Rows.{table_of}
+use Rattle.read_names.proofs.StringLaws.{length-read, held_positive, spelled_utf8, chunk_held, chunk_spelled}
+use Rattle.read_names.proofs.strings.chunk.Goals as goal
+
+pub said-requires : goal.said-requires
+said-requires c =
+    (c.requires.0, omega arith, omega arith, rw c.held.ensures (held_positive _ _ _ _ _ _ c.requires.4 c.number_at_bit_4.ensures))
+
+pub returns-then-bits-eq1 : goal.returns-then-bits-eq1
+unfolding table_of
+returns-then-bits-eq1 c =
+    λ x tidy. chunk_held _ _ _ x 6 _ tidy (omega arith) _ c.octet-o.ensures (rw c.octet-o.ensures c.requires.5) (rw c.octet-o.ensures c.requires.6) _ c.bits.ensures c.if-bits-eq1.true _ c.number_at_bit_4.ensures _ _ c.held.ensures c.said.ensures
+
+pub in_form-requires : goal.in_form-requires
+in_form-requires c =
+    (c.requires.0, c.requires.1, c.requires.2, c.requires.3, omega arith, omega arith, omega arith, λ z. c.if-bits-ne0.true (c.bits-2.ensures ∙ rw c.octet-o.ensures z))
+
+pub returns-then-bits-ne0 : goal.returns-then-bits-ne0
+unfolding table_of
+returns-then-bits-ne0 c =
+    λ x tidy. chunk_spelled _ _ _ x 6 _ tidy (omega arith) _ c.octet-o.ensures (rw c.octet-o.ensures c.requires.5) (rw c.octet-o.ensures c.requires.6) _ c.bits.ensures c.if-bits-eq1.false _ c.bits-add.ensures c.in_form.result _ _ (c.in_form.ensures x tidy (omega arith))
+
+pub formed-requires : goal.formed-requires
+formed-requires c =
+    (c.requires.0, c.requires.1, c.requires.2, omega arith, length-read _ _ 7 _ c.length-r.ensures)
+
+pub returns : goal.returns
+unfolding table_of
+returns c =
+    let at-start = c.before in
+    λ x tidy. chunk_spelled _ _ _ x 6 _ tidy (omega arith) _ c.octet-o.ensures (rw c.octet-o.ensures at-start.requires.5) (rw c.octet-o.ensures at-start.requires.6) _ c.bits.ensures c.if-bits-eq1.false _ c.bits-add.ensures c.formed.result _ _
+    (spelled_utf8 _ _ _ x 6 _ tidy (omega arith) 7 _ (omega arith) _ _ c.octet-o.ensures c.bits-2.ensures _ c.formed.result _ _ c.if-bits-ne0.false c.length-r.ensures (c.formed.ensures x tidy (omega arith)))

@@ -1,0 +1,19 @@
+-- `spelled` meets its contract: in utf-8 its length is read and its octets judged; the other forms stand apart.
+-- Assumes nothing.
+use mathlib.Core.Path.{◌∙◌}
+use native.Mathlib.Omega.{arith}
+use borrow.Author.Rules.{rules}
+use Rattle.read_names.proofs.StringLaws.{length-read, spelled_utf8}
+use Rattle.read_names.proofs.strings.spelled.Goals as goal
+
+pub in_form-requires : goal.in_form-requires
+in_form-requires c =
+    (c.requires.0, c.requires.1, c.requires.2, c.requires.3, c.requires.4, omega arith, omega arith, λ z. c.if-bits-ne0.true (c.bits.ensures ∙ rw c.requires.5 z))
+
+pub formed-requires : goal.formed-requires
+formed-requires c =
+    (c.requires.0, c.requires.1, c.requires.2, c.requires.4, length-read _ _ 5 _ c.length-r.ensures)
+
+pub returns : goal.returns
+returns c =
+    λ x tidy l. spelled_utf8 _ _ _ x _ _ tidy c.requires.4 5 _ (omega arith) _ _ c.requires.5 c.bits.ensures _ c.formed.result _ _ c.if-bits-ne0.false c.length-r.ensures (c.formed.ensures x tidy l)

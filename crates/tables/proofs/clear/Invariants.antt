@@ -1,0 +1,16 @@
+-- `clear` meets its contract: the words are 0 up to i, and as they were behind it.
+-- Assumes nothing.
+use mathlib.Core.List.{◌++◌}
+use mathlib.Core.Path.{◌≡◌, refl}
+use Prim.Native.Nat.{◌-◌, ◌≤◌}
+use native.Mathlib.Omega.{arith}
+use borrow.Author.Rules.{rules}
+use lib.ListN.{length, drop, replicate, length-set}
+use Rattle.tables.proofs.Zeros.{zeros_next, zeros_all}
+use Rattle.tables.proofs.clear.Given as goal
+
+abbrev pub invariant-loop-i : goal.invariant-loop-i
+invariant-loop-i l = (l.i ≤ length l.initial.t) × (length l.t ≡ length l.initial.t) × (l.t ≡ replicate l.i 0 ++ drop l.i l.initial.t)
+
+abbrev pub decreases-loop-i : goal.decreases-loop-i
+decreases-loop-i l = length l.initial.t - l.i

@@ -1,0 +1,29 @@
+-- `find_any` meets its contract: the lowest number among the entries left is that among all.
+-- Assumes nothing.
+use mathlib.Core.List.{List, map}
+use mathlib.Core.Path.{◌≡◌, sym, ◌∙◌}
+use Prim.Native.Nat.{ℕ, ◌*◌, ◌-◌, ◌≤◌}
+use native.Mathlib.Omega.{arith}
+use borrow.Author.Rules.{rules}
+use Rattle.format.specs.Tables.{same}
+use Rattle.format.specs.declared.StringForm.TheVariants.{Utf8}
+use Rattle.tables.specs.Search.{number_in}
+use Rattle.tables.specs.Rows.{table_of, string_at, entries}
+use Rattle.tables.specs.Located.{stretch, octets_of}
+use Rattle.tables.proofs.Search.{left, left_next, left_here, left_end, strings-left, all_at}
+use Rattle.tables.proofs.find_any.Goals as goal
+
+pub loop-i-init : goal.loop-i-init
+loop-i-init c = (omega arith, strings-left _ _ _ _ _)
+
+pub is_string-requires : goal.is_string-requires
+is_string-requires c = (omega arith, omega arith, omega arith, omega arith, all_at _ _ _ _ _ c.requires.4 (omega arith))
+
+pub returns-then-is_string : goal.returns-then-is_string
+returns-then-is_string c = left_here _ _ _ _ _ _ c.loop-i.invariant.1 (omega arith) (sym c.is_string.ensures ∙ c.if-is_string.true)
+
+pub loop-i-preserved : goal.loop-i-preserved
+loop-i-preserved c = (omega arith, left_next _ _ _ _ _ _ c.loop-i.invariant.1 (omega arith) (sym c.is_string.ensures ∙ c.if-is_string.false))
+
+pub returns : goal.returns
+returns c = left_end _ _ _ _ _ _ c.loop-i.invariant.1 (omega arith)

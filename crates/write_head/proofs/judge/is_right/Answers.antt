@@ -1,0 +1,15 @@
+-- `is_right` meets its contract: by the kind of its table.
+-- Assumes nothing.
+use borrow.Author.Rules.{rules}
+use native.Mathlib.Omega.{arith}
+use Rattle.write_head.proofs.RowLaws.{right_identifying, right_string, right_name}
+use Rattle.write_head.proofs.judge.is_right.Goals as goal
+
+pub returns-then-table-lt-ATTRIBUTE_VALUE : goal.returns-then-table-lt-ATTRIBUTE_VALUE
+returns-then-table-lt-ATTRIBUTE_VALUE c = right_identifying _ _ _ _ (omega arith) _ c.is_stretch.ensures
+
+pub returns-then-table-lt-ELEMENT_NAME : goal.returns-then-table-lt-ELEMENT_NAME
+returns-then-table-lt-ELEMENT_NAME c = right_string _ _ _ _ (omega arith) (omega arith) _ c.is_string.ensures
+
+pub returns : goal.returns
+returns c = right_name _ _ _ _ (omega arith) _ c.is_name.ensures

@@ -1,0 +1,39 @@
+-- `row_keeps` meets its contract: by the rule.
+-- Assumes nothing.
+use borrow.Author.Rules.{rules}
+use native.Mathlib.Omega.{arith}
+use Rattle.write_head.proofs.RowLaws.{right_lies, keeps_right, keeps_text, keeps_new}
+use Rattle.write_head.proofs.judge.row_keeps.Reads as reads
+use Rattle.write_head.proofs.judge.row_keeps.Lts as lts
+use Rattle.write_head.proofs.given.rows_of.Reads as rows-of-reads
+use Rattle.write_head.proofs.judge.is_right.Reads as is-right-reads
+use Rattle.write_head.proofs.judge.is_text.Reads as is-text-reads
+use Rattle.write_head.proofs.repeats.is_new.Reads as is-new-reads
+use Rattle.write_head.proofs.judge.row_keeps.Goals as goal
+
+pub rows_of-requires : goal.rows_of-requires
+rows_of-requires c = search rules
+
+pub overflow_mul-at : goal.overflow_mul-at
+overflow_mul-at c = search rules
+
+pub overflow_add-at : goal.overflow_add-at
+overflow_add-at c = search rules
+
+pub is_right-requires : goal.is_right-requires
+is_right-requires c = search rules
+
+pub returns-then-rule-eq-EVENT : goal.returns-then-rule-eq-EVENT
+returns-then-rule-eq-EVENT c = let e = c.rows_of.ensures.0 in keeps_right _ _ _ _ _ (omega arith) _ (rw (← e) c.is_right.ensures)
+
+pub is_text-requires : goal.is_text-requires
+is_text-requires c = let e = c.rows_of.ensures.0 in (omega arith, λ k. rw e (right_lies _ _ (c.requires.3 (λ q. omega arith)) _ _ c.requires.1 c.requires.2 k).1)
+
+pub returns-then-rule-eq-TEXT : goal.returns-then-rule-eq-TEXT
+returns-then-rule-eq-TEXT c = let e = c.rows_of.ensures.0 in keeps_text _ _ _ _ _ (omega arith) _ (rw (← e) c.is_text.ensures)
+
+pub is_new-requires : goal.is_new-requires
+is_new-requires c = (c.requires.0, c.requires.1, c.requires.2, c.requires.3 (omega arith))
+
+pub returns : goal.returns
+returns c = keeps_new _ _ _ _ _ (omega arith) (omega arith) _ c.is_new.ensures

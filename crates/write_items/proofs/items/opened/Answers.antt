@@ -1,0 +1,16 @@
+-- `opened` meets its contract: a law for each way out.
+-- Assumes nothing.
+use borrow.Author.Rules.{rules}
+use native.Mathlib.Omega.{arith}
+use Rattle.write_items.proofs.items.opened.Goals as goal
+
+pub returns-in_default : goal.returns-in_default
+returns-in_default c = rw c.enum_told-1.given.1
+
+pub opened-requires : goal.opened-requires
+opened-requires c =
+    let near = rw c.w-1.given.1 at c.requires.0 in
+    omega arith
+
+pub returns : goal.returns
+returns c = rw (c.w-1.given.1, c.opened.ensures)

@@ -1,0 +1,20 @@
+-- `is_string` meets its contract: each variant is a case of the definition.
+-- Assumes nothing.
+use mathlib.Core.Path.{◌∙◌}
+use borrow.Author.Rules.{rules}
+use Rattle.write_items.proofs.records.is_string.Goals as goal
+
+pub returns-in-Absent : goal.returns-in-Absent
+returns-in-Absent c = rw c.enum_told-1.given.1
+
+pub returns-in-Empty : goal.returns-in-Empty
+returns-in-Empty c = rw c.enum_told-in-Empty-1.given.1
+
+pub returns-in-Stretch : goal.returns-in-Stretch
+returns-in-Stretch c = c.lies_in.ensures ∙ rw c.x-1.given.1
+
+pub returns-in-XmlPrefix : goal.returns-in-XmlPrefix
+returns-in-XmlPrefix c = rw c.enum_told-in-XmlPrefix-1.given.1
+
+pub returns-in-XmlNamespace : goal.returns-in-XmlNamespace
+returns-in-XmlNamespace c = rw c.enum_told-in-XmlNamespace-1.given.1

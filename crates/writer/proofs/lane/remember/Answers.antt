@@ -1,0 +1,8 @@
+-- `remember` meets its contract: one word is set.
+-- Assumes nothing.
+use borrow.Author.Rules.{rules}
+use mathlib.Core.Path.{refl}
+use Rattle.writer.proofs.lane.remember.Goals as goal
+
+pub returns : goal.returns
+returns c = record { slot = c.slot-s.result; is = refl }

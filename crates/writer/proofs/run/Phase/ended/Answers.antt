@@ -1,0 +1,15 @@
+-- `Phase::ended` meets its contract: a law for each way out.
+-- Assumes nothing.
+use borrow.Author.Rules.{rules}
+use mathlib.Core.Path.{refl}
+use Rattle.writer.proofs.PhaseLaws.{bounded_onward, ends_onward, ends_halted}
+use Rattle.writer.proofs.run.Phase.ended.Goals as goal
+
+pub finish-requires : goal.finish-requires
+finish-requires c = bounded_onward _ c.self-1.given.1 c.requires
+
+pub returns-in-Onward : goal.returns-in-Onward
+returns-in-Onward c = ends_onward _ _ _ c.finish.result c.finish.new.1.1.0 _ _ _ c.self-1.given.1 c.finish.ensures
+
+pub returns-in-Halted : goal.returns-in-Halted
+returns-in-Halted c = ends_halted _ _ _ _ c.args.out.now _ _ _ c.self-in-Halted-1.given.1 refl

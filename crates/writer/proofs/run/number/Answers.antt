@@ -1,0 +1,13 @@
+-- `number` meets its contract: each answer's own number, which fits.
+-- Assumes nothing.
+use mathlib.Core.Path.{ap}
+use native.Mathlib.Omega.{arith}
+use borrow.Author.Rules.{rules}
+use Rattle.writer.specs.Words.{answer_word}
+use Rattle.writer.proofs.run.number.Goals as goal
+
+pub returns-in-Accepted : goal.returns-in-Accepted
+returns-in-Accepted c = let e = ap answer_word c.a-1.given.1 in omega arith
+
+pub returns-in-Refused : goal.returns-in-Refused
+returns-in-Refused c = let e = ap answer_word c.a-in-Refused-1.given.1 in omega arith

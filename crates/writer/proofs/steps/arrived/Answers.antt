@@ -1,0 +1,7 @@
+-- `arrived` meets its contract.
+-- Assumes nothing.
+use borrow.Author.Rules.{rules}
+use Rattle.writer.proofs.steps.arrived.Goals as goal
+
+pub returns : goal.returns
+returns c = rw c.mode_behind.ensures
