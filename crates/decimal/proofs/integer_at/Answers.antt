@@ -16,5 +16,5 @@ pub returns : goal.returns
 unfolding integer_of
 returns c =
     let r = c.signed in
-    let e = back r.result r.type-inv in
+    let e = back r.result r.type_inv in
     (e ∙ r.ensures.0 ∙ ap (signed c.args.w) c.number_at.ensures.0, rw e r.ensures.1)

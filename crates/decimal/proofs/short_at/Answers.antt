@@ -11,7 +11,7 @@ pub integer_at-requires : goal.integer_at-requires
 integer_at-requires c = search rules
 
 pub overflow_cast-result : goal.overflow_cast-result
-overflow_cast-result c = narrows c.integer_at.result c.integer_at.type-inv w16 (unfold half in c.integer_at.ensures.1)
+overflow_cast-result c = narrows c.integer_at.result c.integer_at.type_inv w16 (unfold half in c.integer_at.ensures.1)
 
 pub returns : goal.returns
-returns c = narrowed c.integer_at.result c.integer_at.type-inv w16 (unfold half in c.integer_at.ensures.1) ∙ c.integer_at.ensures.0
+returns c = narrowed c.integer_at.result c.integer_at.type_inv w16 (unfold half in c.integer_at.ensures.1) ∙ c.integer_at.ensures.0

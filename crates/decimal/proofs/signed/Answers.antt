@@ -15,7 +15,7 @@ plus-requires c = search rules
 pub returns-then-v-half : goal.returns-then-v-half
 returns-then-v-half c =
     let a = c.args in
-    low a.w (omega arith) (omega arith) a.v _ c.half_of-half.ensures.0 (omega arith) (back _ c.plus.type-inv ∙ c.plus.ensures) (omega arith)
+    low a.w (omega arith) (omega arith) a.v _ c.half_of-half.ensures.0 (omega arith) (back _ c.plus.type_inv ∙ c.plus.ensures) (omega arith)
 
 pub overflow_sub-half : goal.overflow_sub-half
 overflow_sub-half c = search rules
@@ -29,4 +29,4 @@ minus-requires c = search rules
 pub returns : goal.returns
 returns c =
     let a = c.args in
-    high a.w (omega arith) (omega arith) a.v _ c.half_of-half.ensures.0 (omega arith) (back _ c.minus.type-inv ∙ c.minus.ensures) (omega arith)
+    high a.w (omega arith) (omega arith) a.v _ c.half_of-half.ensures.0 (omega arith) (back _ c.minus.type_inv ∙ c.minus.ensures) (omega arith)

@@ -23,37 +23,37 @@ returns-then-o-k c =
     let l = c.loop-o in
     let x = c.next-x in
     let y = c.next-y in
-    differ c.args.s.now l.p l.q x.result y.result x.ensures y.ensures _ l.invariant.2 _ _ c.x-1.given.1 _ _ c.y-1.given.1 (λ z. omega arith)
+    differ c.args.s.now l.p l.q x.result y.result x.ensures y.ensures _ l.invariant.2 _ _ c.in-Octet.is _ _ c.in-Octet-y.is (λ z. omega arith)
 
 pub loop-o-smaller : goal.loop-o-smaller
 loop-o-smaller c =
     let x = c.next-x in
-    shorter c.args.s.now c.loop-o.p x.result x.ensures _ _ c.x-1.given.1
+    shorter c.args.s.now c.loop-o.p x.result x.ensures _ _ c.in-Octet.is
 
 pub loop-o-preserved : goal.loop-o-preserved
 loop-o-preserved c =
     let l = c.loop-o in
     let x = c.next-x in
     let y = c.next-y in
-    goes_on c.args.s.now l.p l.q x.result y.result x.ensures y.ensures _ l.invariant.2 _ _ c.x-1.given.1 _ _ c.y-1.given.1 (omega arith)
+    goes_on c.args.s.now l.p l.q x.result y.result x.ensures y.ensures _ l.invariant.2 _ _ c.in-Octet.is _ _ c.in-Octet-y.is (omega arith)
 
 pub returns-in-Done-y : goal.returns-in-Done-y
 returns-in-Done-y c =
     let l = c.loop-o in
     let x = c.next-x in
     let y = c.next-y in
-    left-longer c.args.s.now l.p l.q x.result y.result x.ensures y.ensures _ l.invariant.2 _ _ c.x-1.given.1 c.enum_told-1.given.1
+    left-longer c.args.s.now l.p l.q x.result y.result x.ensures y.ensures _ l.invariant.2 _ _ c.in-Octet.is c.in-Done-y.is
 
 pub returns-in-Octet-y-2 : goal.returns-in-Octet-y-2
 returns-in-Octet-y-2 c =
     let l = c.loop-o in
     let x = c.next-x in
     let y = c.next-y in
-    right_longer c.args.s.now l.p l.q x.result y.result x.ensures y.ensures _ l.invariant.2 c.enum_told-in-Done-1.given.1 _ _ c.enum_told-in-Octet-y-2-1.given.1
+    right_longer c.args.s.now l.p l.q x.result y.result x.ensures y.ensures _ l.invariant.2 c.in-Done.is _ _ c.in-Octet-y-2.is
 
 pub returns-in-Done-y-2 : goal.returns-in-Done-y-2
 returns-in-Done-y-2 c =
     let l = c.loop-o in
     let x = c.next-x in
     let y = c.next-y in
-    both_end c.args.s.now l.p l.q x.result y.result x.ensures y.ensures _ l.invariant.2 c.enum_told-in-Done-1.given.1 c.enum_told-in-Done-y-2-1.given.1
+    both_end c.args.s.now l.p l.q x.result y.result x.ensures y.ensures _ l.invariant.2 c.in-Done.is c.in-Done-y-2.is

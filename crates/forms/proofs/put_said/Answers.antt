@@ -22,7 +22,7 @@ returns-in-Done c =
     let a = c.args in
     let p = c.requires in
     let l = c.loop-o in
-    let all = left_done a.out.now a.at _ l.out l.i _ (ended a.s.now l.u c.next.result c.next.ensures c.enum_told-1.given.1) l.invariant.1 in
+    let all = left_done a.out.now a.at _ l.out l.i _ (ended a.s.now l.u c.next.result c.next.ensures c.in-Done.is) l.invariant.1 in
     let e = c.over-u.ensures.1 in
     let b = rw e at (bounded a.s.now a.form a.from a.to p.2 p.4) in
     let i = all.behind in
@@ -38,11 +38,11 @@ overflow_add-i c =
     search rules
 
 pub loop-o-smaller : goal.loop-o-smaller
-loop-o-smaller c = shorter c.args.s.now c.loop-o.u c.next.result c.next.ensures _ _ c.o-1.given.1
+loop-o-smaller c = shorter c.args.s.now c.loop-o.u c.next.result c.next.ensures _ _ c.in-Octet.is
 
 pub loop-o-preserved : goal.loop-o-preserved
 loop-o-preserved c =
     let a = c.args in
     let l = c.loop-o in
-    let g = gave a.s.now l.u c.next.result c.next.ensures _ _ c.o-1.given.1 in
+    let g = gave a.s.now l.u c.next.result c.next.ensures _ _ c.in-Octet.is in
     (g.1, left_next a.out.now a.at _ l.out l.i _ _ _ _ g.0 c.put.ensures l.invariant.1)

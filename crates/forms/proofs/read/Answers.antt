@@ -23,7 +23,7 @@ pub enum_told-in-Utf16 : goal.enum_told-in-Utf16
 enum_told-in-Utf16 c = search rules
 
 pub character16-n-requires : goal.character16-n-requires
-character16-n-requires c = (c.requires.0, c.requires.1, text16 c.args.s.now c.args.form c.args.at c.args.to c.requires.0 c.requires.1 c.requires.2 c.enum_told-in-Utf16-1.given.1)
+character16-n-requires c = (c.requires.0, c.requires.1, text16 c.args.s.now c.args.form c.args.at c.args.to c.requires.0 c.requires.1 c.requires.2 c.in-Utf16.is)
 
 pub overflow_add-at : goal.overflow_add-at
 overflow_add-at c = search rules
@@ -32,13 +32,13 @@ pub given-requires : goal.given-requires
 given-requires c = search rules
 
 pub returns-then-n-lt65536 : goal.returns-then-n-lt65536
-returns-then-n-lt65536 c = gives_short c.args.s.now c.args.form c.args.at c.args.to c.requires.0 c.requires.1 c.requires.2 c.enum_told-in-Utf16-1.given.1 _ c.character16-n.ensures _ (omega arith) c.given.ensures
+returns-then-n-lt65536 c = gives_short c.args.s.now c.args.form c.args.at c.args.to c.requires.0 c.requires.1 c.requires.2 c.in-Utf16.is _ c.character16-n.ensures _ (omega arith) c.given.ensures
 
 pub overflow_add-at-in-Utf16 : goal.overflow_add-at-in-Utf16
 overflow_add-at-in-Utf16 c = search rules
 
 pub given-requires-in-Utf16 : goal.given-requires-in-Utf16
-given-requires-in-Utf16 c = in_range16 c.args.s.now c.args.form c.args.at c.args.to c.requires.0 c.requires.1 c.requires.2 c.enum_told-in-Utf16-1.given.1 _ c.character16-n.ensures
+given-requires-in-Utf16 c = in_range16 c.args.s.now c.args.form c.args.at c.args.to c.requires.0 c.requires.1 c.requires.2 c.in-Utf16.is _ c.character16-n.ensures
 
 pub enum_told-in-Numeric : goal.enum_told-in-Numeric
 enum_told-in-Numeric c = search rules
@@ -50,7 +50,7 @@ pub bounds-s-at-in-Numeric : goal.bounds-s-at-in-Numeric
 bounds-s-at-in-Numeric c = search rules
 
 pub letters-requires : goal.letters-requires
-letters-requires c = letters_there c.args.s.now c.args.form c.args.at c.args.to c.requires.0 c.requires.1 c.requires.2 (subst (λ (g : StringForm). IsAlphabet g) (sym c.enum_told-in-Numeric-1.given.1) tt)
+letters-requires c = letters_there c.args.s.now c.args.form c.args.at c.args.to c.requires.0 c.requires.1 c.requires.2 (subst (λ (g : StringForm). IsAlphabet g) (sym c.in-Numeric.is) tt)
 
 pub enum_told-in-Dates : goal.enum_told-in-Dates
 enum_told-in-Dates c = search rules
@@ -62,7 +62,7 @@ pub bounds-s-at-in-Dates : goal.bounds-s-at-in-Dates
 bounds-s-at-in-Dates c = search rules
 
 pub letters-requires-in-Dates : goal.letters-requires-in-Dates
-letters-requires-in-Dates c = letters_there c.args.s.now c.args.form c.args.at c.args.to c.requires.0 c.requires.1 c.requires.2 (subst (λ (g : StringForm). IsAlphabet g) (sym c.enum_told-in-Dates-1.given.1) tt)
+letters-requires-in-Dates c = letters_there c.args.s.now c.args.form c.args.at c.args.to c.requires.0 c.requires.1 c.requires.2 (subst (λ (g : StringForm). IsAlphabet g) (sym c.in-Dates.is) tt)
 
 pub enum_told-in-Short : goal.enum_told-in-Short
 enum_told-in-Short c = search rules
@@ -71,10 +71,10 @@ pub overflow_add-at-in-Short : goal.overflow_add-at-in-Short
 overflow_add-at-in-Short c = search rules
 
 pub text_at-requires : goal.text_at-requires
-text_at-requires c = let w = (subst (λ (g : StringForm). 0 < width g) (sym c.enum_told-in-Short-1.given.1) (omega arith)) in (w, let h = integer_there c.args.s.now c.args.form c.args.at c.args.to c.requires.0 c.requires.1 c.requires.2 w in omega arith)
+text_at-requires c = let w = (subst (λ (g : StringForm). 0 < width g) (sym c.in-Short.is) (omega arith)) in (w, let h = integer_there c.args.s.now c.args.form c.args.at c.args.to c.requires.0 c.requires.1 c.requires.2 w in omega arith)
 
 pub integer-requires : goal.integer-requires
-integer-requires c = let g = c.text_at.ensures in (text_some c.args.s.now c.args.form c.args.at c.args.to c.requires.0 c.requires.1 c.requires.2 (subst (λ (g : StringForm). 0 < width g) (sym c.enum_told-in-Short-1.given.1) (omega arith)) c.text_at.result g.0 g.1, g.1)
+integer-requires c = let g = c.text_at.ensures in (text_some c.args.s.now c.args.form c.args.at c.args.to c.requires.0 c.requires.1 c.requires.2 (subst (λ (g : StringForm). 0 < width g) (sym c.in-Short.is) (omega arith)) c.text_at.result g.0 g.1, g.1)
 
 pub enum_told-in-Int : goal.enum_told-in-Int
 enum_told-in-Int c = search rules
@@ -83,10 +83,10 @@ pub overflow_add-at-in-Int : goal.overflow_add-at-in-Int
 overflow_add-at-in-Int c = search rules
 
 pub text_at-requires-in-Int : goal.text_at-requires-in-Int
-text_at-requires-in-Int c = let w = (subst (λ (g : StringForm). 0 < width g) (sym c.enum_told-in-Int-1.given.1) (omega arith)) in (w, let h = integer_there c.args.s.now c.args.form c.args.at c.args.to c.requires.0 c.requires.1 c.requires.2 w in omega arith)
+text_at-requires-in-Int c = let w = (subst (λ (g : StringForm). 0 < width g) (sym c.in-Int.is) (omega arith)) in (w, let h = integer_there c.args.s.now c.args.form c.args.at c.args.to c.requires.0 c.requires.1 c.requires.2 w in omega arith)
 
 pub integer-requires-in-Int : goal.integer-requires-in-Int
-integer-requires-in-Int c = let g = c.text_at-in-Int.ensures in (text_some c.args.s.now c.args.form c.args.at c.args.to c.requires.0 c.requires.1 c.requires.2 (subst (λ (g : StringForm). 0 < width g) (sym c.enum_told-in-Int-1.given.1) (omega arith)) c.text_at-in-Int.result g.0 g.1, g.1)
+integer-requires-in-Int c = let g = c.text_at-in-Int.ensures in (text_some c.args.s.now c.args.form c.args.at c.args.to c.requires.0 c.requires.1 c.requires.2 (subst (λ (g : StringForm). 0 < width g) (sym c.in-Int.is) (omega arith)) c.text_at-in-Int.result g.0 g.1, g.1)
 
 pub enum_told-in-Long : goal.enum_told-in-Long
 enum_told-in-Long c = search rules
@@ -95,28 +95,28 @@ pub overflow_add-at-in-Long : goal.overflow_add-at-in-Long
 overflow_add-at-in-Long c = search rules
 
 pub text_at-requires-in-Long : goal.text_at-requires-in-Long
-text_at-requires-in-Long c = let w = (subst (λ (g : StringForm). 0 < width g) (sym c.enum_told-in-Long-1.given.1) (omega arith)) in (w, let h = integer_there c.args.s.now c.args.form c.args.at c.args.to c.requires.0 c.requires.1 c.requires.2 w in omega arith)
+text_at-requires-in-Long c = let w = (subst (λ (g : StringForm). 0 < width g) (sym c.in-Long.is) (omega arith)) in (w, let h = integer_there c.args.s.now c.args.form c.args.at c.args.to c.requires.0 c.requires.1 c.requires.2 w in omega arith)
 
 pub integer-requires-in-Long : goal.integer-requires-in-Long
-integer-requires-in-Long c = let g = c.text_at-in-Long.ensures in (text_some c.args.s.now c.args.form c.args.at c.args.to c.requires.0 c.requires.1 c.requires.2 (subst (λ (g : StringForm). 0 < width g) (sym c.enum_told-in-Long-1.given.1) (omega arith)) c.text_at-in-Long.result g.0 g.1, g.1)
+integer-requires-in-Long c = let g = c.text_at-in-Long.ensures in (text_some c.args.s.now c.args.form c.args.at c.args.to c.requires.0 c.requires.1 c.requires.2 (subst (λ (g : StringForm). 0 < width g) (sym c.in-Long.is) (omega arith)) c.text_at-in-Long.result g.0 g.1, g.1)
 
 pub returns-in-Utf8 : goal.returns-in-Utf8
-returns-in-Utf8 c = gives_utf8 c.args.s.now c.args.form c.args.at c.args.to c.requires.0 c.requires.1 c.requires.2 c.enum_told-1.given.1
+returns-in-Utf8 c = gives_utf8 c.args.s.now c.args.form c.args.at c.args.to c.requires.0 c.requires.1 c.requires.2 c.in-Utf8.is
 
 pub returns-else-n-lt65536 : goal.returns-else-n-lt65536
-returns-else-n-lt65536 c = gives_long c.args.s.now c.args.form c.args.at c.args.to c.requires.0 c.requires.1 c.requires.2 c.enum_told-in-Utf16-1.given.1 _ c.character16-n.ensures _ (omega arith) c.given-in-Utf16.ensures
+returns-else-n-lt65536 c = gives_long c.args.s.now c.args.form c.args.at c.args.to c.requires.0 c.requires.1 c.requires.2 c.in-Utf16.is _ c.character16-n.ensures _ (omega arith) c.given-in-Utf16.ensures
 
 pub returns-in-Numeric : goal.returns-in-Numeric
-returns-in-Numeric c = gives_letters c.args.s.now c.args.form c.args.at c.args.to c.requires.0 c.requires.1 c.requires.2 (subst (λ (g : StringForm). IsAlphabet g) (sym c.enum_told-in-Numeric-1.given.1) tt) _ c.letters.ensures
+returns-in-Numeric c = gives_letters c.args.s.now c.args.form c.args.at c.args.to c.requires.0 c.requires.1 c.requires.2 (subst (λ (g : StringForm). IsAlphabet g) (sym c.in-Numeric.is) tt) _ c.letters.ensures
 
 pub returns-in-Dates : goal.returns-in-Dates
-returns-in-Dates c = gives_letters c.args.s.now c.args.form c.args.at c.args.to c.requires.0 c.requires.1 c.requires.2 (subst (λ (g : StringForm). IsAlphabet g) (sym c.enum_told-in-Dates-1.given.1) tt) _ c.letters-in-Dates.ensures
+returns-in-Dates c = gives_letters c.args.s.now c.args.form c.args.at c.args.to c.requires.0 c.requires.1 c.requires.2 (subst (λ (g : StringForm). IsAlphabet g) (sym c.in-Dates.is) tt) _ c.letters-in-Dates.ensures
 
 pub returns-in-Short : goal.returns-in-Short
-returns-in-Short c = let g = c.text_at.ensures in gives_text c.args.s.now c.args.form c.args.at c.args.to c.requires.0 c.requires.1 c.requires.2 (subst (λ (g : StringForm). 0 < width g) (sym c.enum_told-in-Short-1.given.1) (omega arith)) c.text_at.result g.0 g.1 2 (ap width c.enum_told-in-Short-1.given.1) _ c.integer.ensures
+returns-in-Short c = let g = c.text_at.ensures in gives_text c.args.s.now c.args.form c.args.at c.args.to c.requires.0 c.requires.1 c.requires.2 (subst (λ (g : StringForm). 0 < width g) (sym c.in-Short.is) (omega arith)) c.text_at.result g.0 g.1 2 (ap width c.in-Short.is) _ c.integer.ensures
 
 pub returns-in-Int : goal.returns-in-Int
-returns-in-Int c = let g = c.text_at-in-Int.ensures in gives_text c.args.s.now c.args.form c.args.at c.args.to c.requires.0 c.requires.1 c.requires.2 (subst (λ (g : StringForm). 0 < width g) (sym c.enum_told-in-Int-1.given.1) (omega arith)) c.text_at-in-Int.result g.0 g.1 4 (ap width c.enum_told-in-Int-1.given.1) _ c.integer-in-Int.ensures
+returns-in-Int c = let g = c.text_at-in-Int.ensures in gives_text c.args.s.now c.args.form c.args.at c.args.to c.requires.0 c.requires.1 c.requires.2 (subst (λ (g : StringForm). 0 < width g) (sym c.in-Int.is) (omega arith)) c.text_at-in-Int.result g.0 g.1 4 (ap width c.in-Int.is) _ c.integer-in-Int.ensures
 
 pub returns-in-Long : goal.returns-in-Long
-returns-in-Long c = let g = c.text_at-in-Long.ensures in gives_text c.args.s.now c.args.form c.args.at c.args.to c.requires.0 c.requires.1 c.requires.2 (subst (λ (g : StringForm). 0 < width g) (sym c.enum_told-in-Long-1.given.1) (omega arith)) c.text_at-in-Long.result g.0 g.1 8 (ap width c.enum_told-in-Long-1.given.1) _ c.integer-in-Long.ensures
+returns-in-Long c = let g = c.text_at-in-Long.ensures in gives_text c.args.s.now c.args.form c.args.at c.args.to c.requires.0 c.requires.1 c.requires.2 (subst (λ (g : StringForm). 0 < width g) (sym c.in-Long.is) (omega arith)) c.text_at-in-Long.result g.0 g.1 8 (ap width c.in-Long.is) _ c.integer-in-Long.ensures

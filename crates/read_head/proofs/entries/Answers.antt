@@ -41,11 +41,11 @@ shape_of-index-in_default c =
 
 pub returns-in_default : goal.returns-in_default
 returns-in_default c =
-    handed_on c.args.s.now c.args.counts.now c.args.t.now _ _ _ _ _ _ c.entry-r.result _ _ _ c.enum_told-1.given.1 c.entry-r.ensures λ e. entries_refused _ _ _ _ _ (omega arith) _ _ e ∙ c.loop-left.invariant.4
+    handed_on c.args.s.now c.args.counts.now c.args.t.now _ _ _ _ _ _ c.entry-r.result _ _ _ c.in_default.is c.entry-r.ensures λ e. entries_refused _ _ _ _ _ (omega arith) _ _ e ∙ c.loop-left.invariant.4
 
 pub loop-left-preserved : goal.loop-left-preserved
 loop-left-preserved c =
-    let r = rw c.r-1.given.1 at c.entry-r.ensures in
+    let r = rw c.in-Behind.is at c.entry-r.ensures in
     let inv = c.loop-left.invariant in
     let k = c.entry-r.auto in
     (omega arith, omega arith, omega arith, left-then inv.3 r.1, entries_next _ _ _ _ _ (omega arith) _ _ r.0 ∙ inv.4)

@@ -11,12 +11,12 @@ returns-then-not-present c =
 
 pub entries-requires : goal.entries-requires
 entries-requires c =
-    (c.requires.0, count_within _ _ _ c.count.ensures _ _ c.n-1.given.1, c.requires.2)
+    (c.requires.0, count_within _ _ _ c.count.ensures _ _ c.in-Got.is, c.requires.2)
 
 pub returns-in-Refused : goal.returns-in-Refused
 returns-in-Refused c =
-    table_refused c.args.s.now c.args.counts.now c.args.t.now _ _ _ _ c.present.ensures (not-false _ c.if-not-present.false) _ c.count.ensures c.args.index.now _ _ c.requires.1 c.k-1.given.1
+    table_refused c.args.s.now c.args.counts.now c.args.t.now _ _ _ _ c.present.ensures (not-false _ c.if-not-present.false) _ c.count.ensures c.args.index.now _ _ c.requires.1 c.in-Refused.is
 
 pub returns-in-Got : goal.returns-in-Got
 returns-in-Got c =
-    (table_read c.args.s.now c.args.counts.now c.args.t.now _ _ _ _ c.present.ensures (not-false _ c.if-not-present.false) _ c.count.ensures _ _ c.n-1.given.1 _ c.entries.ensures.0, c.entries.ensures.1)
+    (table_read c.args.s.now c.args.counts.now c.args.t.now _ _ _ _ c.present.ensures (not-false _ c.if-not-present.false) _ c.count.ensures _ _ c.in-Got.is _ c.entries.ensures.0, c.entries.ensures.1)

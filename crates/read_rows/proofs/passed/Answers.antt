@@ -8,10 +8,10 @@ use Rattle.read_rows.specs.Promises.{placed}
 use Rattle.read_rows.proofs.passed.Goals as goal
 
 pub begin-requires : goal.begin-requires
-begin-requires c = rw c.r-1.given.1 at c.requires
+begin-requires c = rw c.in-Behind.is at c.requires
 
 pub returns-in-Behind : goal.returns-in-Behind
-returns-in-Behind c = rw c.r-1.given.1 (ap Passed (c.at_item.ensures ∙ ap (λ (st : State). placed st c.args.left) c.begin.ensures))
+returns-in-Behind c = rw c.in-Behind.is (ap Passed (c.at_item.ensures ∙ ap (λ (st : State). placed st c.args.left) c.begin.ensures))
 
 pub returns-in-Refused : goal.returns-in-Refused
-returns-in-Refused c = rw c.r-in-Refused-1.given.1
+returns-in-Refused c = rw c.in-Refused.is

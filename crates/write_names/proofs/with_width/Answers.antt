@@ -4,10 +4,10 @@ use Rattle.write_names.proofs.FormLaws.{width_two, width_four, width_other}
 use Rattle.write_names.proofs.with_width.Goals as goal
 
 pub returns-in-2 : goal.returns-in-2
-returns-in-2 c = width_two _ c.in-2.keys1
+returns-in-2 c = width_two _ c.in-2.is
 
 pub returns-in-4 : goal.returns-in-4
-returns-in-4 c = width_four _ c.in-4.keys2
+returns-in-4 c = width_four _ c.in-4.is
 
 pub returns-in_default : goal.returns-in_default
-returns-in_default c = let r = c.in_default.rest in width_other _ r.0.1 r.1
+returns-in_default c = let r = c.in_default.in_default-own.rest in width_other _ r.0.1 r.1

@@ -13,10 +13,10 @@ pub enum_told-1 : goal.enum_told-1
 enum_told-1 c = search rules
 
 pub short_at-requires : goal.short_at-requires
-short_at-requires c = rw c.enum_told-1.given.1 at c.requires.1
+short_at-requires c = rw c.in-Short.is at c.requires.1
 
 pub overflow_cast-short_at : goal.overflow_cast-short_at
-overflow_cast-short_at c = widens c.short_at.result w16 (omega arith) (record { sfits = c.short_at.type-inv })
+overflow_cast-short_at c = widens c.short_at.result w16 (omega arith) (record { sfits = c.short_at.type_inv })
 
 pub of-requires : goal.of-requires
 of-requires c = search rules
@@ -25,10 +25,10 @@ pub enum_told-in-Int : goal.enum_told-in-Int
 enum_told-in-Int c = search rules
 
 pub int_at-requires : goal.int_at-requires
-int_at-requires c = rw c.enum_told-in-Int-1.given.1 at c.requires.1
+int_at-requires c = rw c.in-Int.is at c.requires.1
 
 pub overflow_cast-int_at : goal.overflow_cast-int_at
-overflow_cast-int_at c = widens c.int_at.result w32 (omega arith) (record { sfits = c.int_at.type-inv })
+overflow_cast-int_at c = widens c.int_at.result w32 (omega arith) (record { sfits = c.int_at.type_inv })
 
 pub of-requires-in-Int : goal.of-requires-in-Int
 of-requires-in-Int c = search rules
@@ -37,7 +37,7 @@ pub enum_told-in-Long : goal.enum_told-in-Long
 enum_told-in-Long c = search rules
 
 pub long_at-requires : goal.long_at-requires
-long_at-requires c = rw c.enum_told-in-Long-1.given.1 at c.requires.1
+long_at-requires c = rw c.in-Long.is at c.requires.1
 
 pub of-requires-in-Long : goal.of-requires-in-Long
 of-requires-in-Long c = search rules
@@ -48,19 +48,19 @@ of-requires-in_default c = search rules
 pub returns-in-Short : goal.returns-in-Short
 returns-in-Short c =
     let r = c.short_at in
-    let e = widened r.result w16 (omega arith) (record { sfits = r.type-inv }) in
-    rw c.enum_told-1.given.1 (c.of.ensures.0 ∙ ap decimal (e ∙ r.ensures), c.of.ensures.1)
+    let e = widened r.result w16 (omega arith) (record { sfits = r.type_inv }) in
+    rw c.in-Short.is (c.of.ensures.0 ∙ ap decimal (e ∙ r.ensures), c.of.ensures.1)
 
 pub returns-in-Int : goal.returns-in-Int
 returns-in-Int c =
     let r = c.int_at in
-    let e = widened r.result w32 (omega arith) (record { sfits = r.type-inv }) in
-    rw c.enum_told-in-Int-1.given.1 (c.of-in-Int.ensures.0 ∙ ap decimal (e ∙ r.ensures), c.of-in-Int.ensures.1)
+    let e = widened r.result w32 (omega arith) (record { sfits = r.type_inv }) in
+    rw c.in-Int.is (c.of-in-Int.ensures.0 ∙ ap decimal (e ∙ r.ensures), c.of-in-Int.ensures.1)
 
 pub returns-in-Long : goal.returns-in-Long
 returns-in-Long c =
     let r = c.long_at in
-    rw c.enum_told-in-Long-1.given.1 (c.of-in-Long.ensures.0 ∙ ap decimal (back r.result r.type-inv ∙ r.ensures), c.of-in-Long.ensures.1)
+    rw c.in-Long.is (c.of-in-Long.ensures.0 ∙ ap decimal (back r.result r.type_inv ∙ r.ensures), c.of-in-Long.ensures.1)
 
 pub returns-in_default : goal.returns-in_default
-returns-in_default c = no_integers c.args.form c.in_default.keys4 c.requires.0
+returns-in_default c = no_integers c.args.form c.in_default.is c.requires.0

@@ -15,7 +15,7 @@ pub opposite-requires : goal.opposite-requires
 opposite-requires c = search rules
 
 pub returns-then-minus : goal.returns-then-minus
-returns-then-minus c = let a = c.args in is_negative a.minus a.n c.if-minus.true (unfold half in omega arith) (back _ c.opposite.type-inv ∙ c.opposite.ensures)
+returns-then-minus c = let a = c.args in is_negative a.minus a.n c.if-minus.true (unfold half in omega arith) (back _ c.opposite.type_inv ∙ c.opposite.ensures)
 
 pub returns-then-n-ge-HALF : goal.returns-then-n-ge-HALF
 returns-then-n-ge-HALF c = let a = c.args in above_highest a.minus a.n c.if-minus.false (unfold half in omega arith)
@@ -24,4 +24,4 @@ pub plus-requires : goal.plus-requires
 plus-requires c = search rules
 
 pub returns : goal.returns
-returns c = let a = c.args in is_plain a.minus a.n c.if-minus.false (unfold half in omega arith) (back _ c.plus.type-inv ∙ c.plus.ensures)
+returns c = let a = c.args in is_plain a.minus a.n c.if-minus.false (unfold half in omega arith) (back _ c.plus.type_inv ∙ c.plus.ensures)

@@ -15,7 +15,7 @@ pub enum_told-1 : goal.enum_told-1
 enum_told-1 c = search rules
 
 pub returns-in_default : goal.returns-in_default
-returns-in_default c = more-behind_none _ _ c.enum_told-1.given.1
+returns-in_default c = more-behind_none _ _ c.in_default.is
 
 pub enum_known-e : goal.enum_known-e
 enum_known-e c = search rules
@@ -24,13 +24,13 @@ pub enum_told-in_default-e : goal.enum_told-in_default-e
 enum_told-in_default-e c = search rules
 
 pub returns-in_default-e : goal.returns-in_default-e
-returns-in_default-e c = more_none _ _ c.enum_told-in_default-e-1.given.1
+returns-in_default-e c = more_none _ _ c.in_default-e.is
 
 pub width_of-v-requires : goal.width_of-v-requires
 width_of-v-requires c = search rules
 
 pub overflow_add-result : goal.overflow_add-result
-overflow_add-result c = let h = rw c.before-1.given.1 at c.requires in omega arith
+overflow_add-result c = let h = rw c.in-Integers.is at c.requires in omega arith
 
 pub returns-then-w-v : goal.returns-then-w-v
 returns-then-w-v c =
@@ -39,7 +39,7 @@ returns-then-w-v c =
     more_one k.1 e.1 (wider _ _ _ (c.width_of-v.ensures ∙ ap width_of (back e.0.0 c.known_told-in-Integer-1.given.0.1)) c.if-w-v.true)
 
 pub overflow_add-result-2 : goal.overflow_add-result-2
-overflow_add-result-2 c = let h = rw c.before-1.given.1 at c.requires in omega arith
+overflow_add-result-2 c = let h = rw c.in-Integers.is at c.requires in omega arith
 
 pub returns : goal.returns
 returns c =

@@ -17,4 +17,4 @@ pub minus-requires : goal.minus-requires
 minus-requires c = search rules
 
 pub returns : goal.returns
-returns c = opposite_is _ (λ e. omega arith) (back _ c.minus.type-inv ∙ c.minus.ensures)
+returns c = opposite_is _ (λ e. omega arith) (back _ c.minus.type_inv ∙ c.minus.ensures)

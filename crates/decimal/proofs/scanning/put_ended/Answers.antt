@@ -30,4 +30,4 @@ returns-in-Integer c =
 
 pub returns-in-NoInteger : goal.returns-in-NoInteger
 unfolding ended_octets
-returns-in-NoInteger c = rw c.enum_told-1.given.1 (puts_nothing refl)
+returns-in-NoInteger c = rw c.in-NoInteger.is (puts_nothing refl)

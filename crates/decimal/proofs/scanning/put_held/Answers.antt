@@ -12,7 +12,7 @@ enum_told-1 c = search rules
 
 pub overflow_cast-z : goal.overflow_cast-z
 overflow_cast-z c =
-    narrows c.args.z c.ranges.z.sfits w16 (unfold half in rw c.enum_told-1.given.1 at c.requires.1)
+    narrows c.args.z c.ranges.z.sfits w16 (unfold half in rw c.in-Short.is at c.requires.1)
 
 pub put_short-requires : goal.put_short-requires
 put_short-requires c = search rules
@@ -22,7 +22,7 @@ enum_told-in-Int c = search rules
 
 pub overflow_cast-z-in-Int : goal.overflow_cast-z-in-Int
 overflow_cast-z-in-Int c =
-    narrows c.args.z c.ranges.z.sfits w32 (unfold half in rw c.enum_told-in-Int-1.given.1 at c.requires.1)
+    narrows c.args.z c.ranges.z.sfits w32 (unfold half in rw c.in-Int.is at c.requires.1)
 
 pub put_int-requires : goal.put_int-requires
 put_int-requires c = search rules
@@ -38,7 +38,7 @@ shape_of-out-in-Short c = search rules
 
 pub returns-in-Short : goal.returns-in-Short
 returns-in-Short c =
-    let e = c.enum_told-1.given.1 in
+    let e = c.in-Short.is in
     rw e (rw (narrowed c.args.z c.ranges.z.sfits w16 (unfold half in rw e at c.requires.1)) at c.put_short.ensures)
 
 pub shape_of-out-in-Int : goal.shape_of-out-in-Int
@@ -46,14 +46,14 @@ shape_of-out-in-Int c = search rules
 
 pub returns-in-Int : goal.returns-in-Int
 returns-in-Int c =
-    let e = c.enum_told-in-Int-1.given.1 in
+    let e = c.in-Int.is in
     rw e (rw (narrowed c.args.z c.ranges.z.sfits w32 (unfold half in rw e at c.requires.1)) at c.put_int.ensures)
 
 pub shape_of-out-in-Long : goal.shape_of-out-in-Long
 shape_of-out-in-Long c = search rules
 
 pub returns-in-Long : goal.returns-in-Long
-returns-in-Long c = rw c.enum_told-in-Long-1.given.1 (rw (back _ c.ranges.z.sfits) at c.put_long.ensures)
+returns-in-Long c = rw c.in-Long.is (rw (back _ c.ranges.z.sfits) at c.put_long.ensures)
 
 pub returns-in_default : goal.returns-in_default
-returns-in_default c = no_integers c.args.form c.in_default.keys4 (held_some _ c.args.z c.requires.1)
+returns-in_default c = no_integers c.args.form c.in_default.is (held_some _ c.args.z c.requires.1)

@@ -19,16 +19,16 @@ there Int = refl
 there Long = refl
 
 pub returns-in-Absent : goal.returns-in-Absent
-returns-in-Absent c = rw c.enum_told-1.given.1
+returns-in-Absent c = rw c.in-Absent.is
 
 pub returns-in-Empty : goal.returns-in-Empty
-returns-in-Empty c = rw c.enum_told-in-Empty-1.given.1
+returns-in-Empty c = rw c.in-Empty.is
 
 pub returns-in-Stretch : goal.returns-in-Stretch
-returns-in-Stretch c = rw c.enum_told-in-Stretch-1.given.1 (there c.enum_told-in-Stretch-1.given.0.0)
+returns-in-Stretch c = rw c.in-Stretch.is (there c.enum_told-in-Stretch-1.given.0.0)
 
 pub returns-in-XmlPrefix : goal.returns-in-XmlPrefix
-returns-in-XmlPrefix c = rw c.enum_told-in-XmlPrefix-1.given.1
+returns-in-XmlPrefix c = rw c.in-XmlPrefix.is
 
 pub returns-in-XmlNamespace : goal.returns-in-XmlNamespace
-returns-in-XmlNamespace c = rw c.enum_told-in-XmlNamespace-1.given.1
+returns-in-XmlNamespace c = rw c.in-XmlNamespace.is

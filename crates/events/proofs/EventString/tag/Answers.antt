@@ -42,4 +42,4 @@ pub returns-in-Stretch : goal.returns-in-Stretch
 returns-in-Stretch c =
     let f : form_number (string_form c.args.self) ≡ 0 =
     sym (c.number-other.ensures.0 ∙ ap form_number c.form-form.ensures) ∙ omega arith in
-    rw c.enum_told-in-Stretch-1.given.1 (plain c.enum_told-in-Stretch-1.given.0.0 (rw c.enum_told-in-Stretch-1.given.1 at f))
+    rw c.in-Stretch.is (plain c.enum_told-in-Stretch-1.given.0.0 (rw c.in-Stretch.is at f))

@@ -30,4 +30,4 @@ pub returns-in-7 : goal.returns-in-7
 returns-in-7 c = kind_at _ 7 (omega arith)
 
 pub returns-in_default : goal.returns-in_default
-returns-in_default c = kind_none _ (at_least 8 _ c.in_default.rest)
+returns-in_default c = kind_none _ (at_least 8 _ c.in_default.in_default-own.rest)

@@ -21,4 +21,4 @@ pub returns-in-4 : goal.returns-in-4
 returns-in-4 c = tag_at _ 4 (omega arith)
 
 pub returns-in_default : goal.returns-in_default
-returns-in_default c = tag_none _ (at_least 5 _ c.in_default.rest)
+returns-in_default c = tag_none _ (at_least 5 _ c.in_default.in_default-own.rest)

@@ -7,22 +7,22 @@ use Rattle.forms.proofs.Sizes.{integers_told}
 use Rattle.forms.proofs.deciding.is_text.Goals as goal
 
 pub returns-in-Utf8 : goal.returns-in-Utf8
-returns-in-Utf8 c = tested _ Utf8 _ _ c.enum_told-1.given.1 c.is_text.ensures
+returns-in-Utf8 c = tested _ Utf8 _ _ c.in-Utf8.is c.is_text.ensures
 
 pub returns-in-Utf16 : goal.returns-in-Utf16
-returns-in-Utf16 c = tested _ Utf16 _ _ c.enum_told-in-Utf16-1.given.1 c.is_text16.ensures
+returns-in-Utf16 c = tested _ Utf16 _ _ c.in-Utf16.is c.is_text16.ensures
 
 pub returns-in-Numeric : goal.returns-in-Numeric
-returns-in-Numeric c = tested _ Numeric _ _ c.enum_told-in-Numeric-1.given.1 c.are_places.ensures
+returns-in-Numeric c = tested _ Numeric _ _ c.in-Numeric.is c.are_places.ensures
 
 pub returns-in-Dates : goal.returns-in-Dates
-returns-in-Dates c = tested _ Dates _ _ c.enum_told-in-Dates-1.given.1 c.are_places-in-Dates.ensures
+returns-in-Dates c = tested _ Dates _ _ c.in-Dates.is c.are_places-in-Dates.ensures
 
 pub returns-in-Short : goal.returns-in-Short
-returns-in-Short c = tested _ Short _ _ c.enum_told-in-Short-1.given.1 (integers_told c.args.s.now c.args.at c.args.to 2 _ c.requires.1 (λ i. (c.shared_slice_known-1.given i).fits) c.is_whole.ensures)
+returns-in-Short c = tested _ Short _ _ c.in-Short.is (integers_told c.args.s.now c.args.at c.args.to 2 _ c.requires.1 (λ i. (c.shared_slice_known-1.given i).fits) c.is_whole.ensures)
 
 pub returns-in-Int : goal.returns-in-Int
-returns-in-Int c = tested _ Int _ _ c.enum_told-in-Int-1.given.1 (integers_told c.args.s.now c.args.at c.args.to 4 _ c.requires.1 (λ i. (c.shared_slice_known-1.given i).fits) c.is_whole-in-Int.ensures)
+returns-in-Int c = tested _ Int _ _ c.in-Int.is (integers_told c.args.s.now c.args.at c.args.to 4 _ c.requires.1 (λ i. (c.shared_slice_known-1.given i).fits) c.is_whole-in-Int.ensures)
 
 pub returns-in-Long : goal.returns-in-Long
-returns-in-Long c = tested _ Long _ _ c.enum_told-in-Long-1.given.1 (integers_told c.args.s.now c.args.at c.args.to 8 _ c.requires.1 (λ i. (c.shared_slice_known-1.given i).fits) c.is_whole-in-Long.ensures)
+returns-in-Long c = tested _ Long _ _ c.in-Long.is (integers_told c.args.s.now c.args.at c.args.to 8 _ c.requires.1 (λ i. (c.shared_slice_known-1.given i).fits) c.is_whole-in-Long.ensures)

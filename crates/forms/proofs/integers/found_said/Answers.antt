@@ -23,21 +23,21 @@ pub found-requires : goal.found-requires
 found-requires c = let h = c.requires.1 in let n = c.loop-o.invariant.1 in omega arith
 
 pub returns-in-Done : goal.returns-in-Done
-returns-in-Done c = c.found.ensures ∙ found_end _ _ _ c.loop-o.invariant.2 (ended c.args.s.now c.loop-o.u c.next.result c.next.ensures c.enum_told-1.given.1)
+returns-in-Done c = c.found.ensures ∙ found_end _ _ _ c.loop-o.invariant.2 (ended c.args.s.now c.loop-o.u c.next.result c.next.ensures c.in-Done.is)
 
 pub step-scan-requires : goal.step-scan-requires
 step-scan-requires c = let h = c.requires.1 in let n = c.loop-o.invariant.1 in omega arith
 
 pub returns-then-is_lost : goal.returns-then-is_lost
-returns-then-is_lost c = found_none _ _ _ c.loop-o.invariant.2 _ _ (gave c.args.s.now c.loop-o.u c.next.result c.next.ensures _ _ c.o-1.given.1).0 _ c.step-scan.ensures (c.is_lost.ensures c.if-is_lost.true)
+returns-then-is_lost c = found_none _ _ _ c.loop-o.invariant.2 _ _ (gave c.args.s.now c.loop-o.u c.next.result c.next.ensures _ _ c.in-Octet.is).0 _ c.step-scan.ensures (c.is_lost.ensures c.if-is_lost.true)
 
 pub loop-o-smaller : goal.loop-o-smaller
-loop-o-smaller c = shorter c.args.s.now c.loop-o.u c.next.result c.next.ensures _ _ c.o-1.given.1
+loop-o-smaller c = shorter c.args.s.now c.loop-o.u c.next.result c.next.ensures _ _ c.in-Octet.is
 
 pub loop-o-preserved : goal.loop-o-preserved
 loop-o-preserved c =
-    let g = (gave c.args.s.now c.loop-o.u c.next.result c.next.ensures _ _ c.o-1.given.1) in
+    let g = (gave c.args.s.now c.loop-o.u c.next.result c.next.ensures _ _ c.in-Octet.is) in
     let k = counted_step c.loop-o.scan c.o-1.given.0.0 in
-    let l = shorter c.args.s.now c.loop-o.u c.next.result c.next.ensures _ _ c.o-1.given.1 in
+    let l = shorter c.args.s.now c.loop-o.u c.next.result c.next.ensures _ _ c.in-Octet.is in
     let n = c.loop-o.invariant.1 in
     (g.1, rw c.step-scan.ensures (omega arith), found_next _ _ _ c.loop-o.invariant.2 _ _ g.0 _ c.step-scan.ensures)

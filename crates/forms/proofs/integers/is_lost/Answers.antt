@@ -12,13 +12,13 @@ pub enum_told-in_default : goal.enum_told-in_default
 enum_told-in_default c = search rules
 
 pub returns-in_default : goal.returns-in_default
-returns-in_default c = λ e. inr c.enum_told-in_default-1.given.1
+returns-in_default c = λ e. inr c.in_default.is
 
 pub enum_told-in-NoWord : goal.enum_told-in-NoWord
 enum_told-in-NoWord c = search rules
 
 pub returns-in-NoWord : goal.returns-in-NoWord
-returns-in-NoWord c = λ e. inl c.enum_told-in-NoWord-1.given.1
+returns-in-NoWord c = λ e. inl c.in-NoWord.is
 
 pub returns-in_default-word : goal.returns-in_default-word
 returns-in_default-word c = λ e. never e

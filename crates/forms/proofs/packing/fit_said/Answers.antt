@@ -20,27 +20,27 @@ next-requires c = c.loop-o.invariant.0
 pub returns-in-Done : goal.returns-in-Done
 returns-in-Done c =
     let l = c.loop-o in
-    let e = ended c.args.s.now l.u c.next.result c.next.ensures c.enum_told-1.given.1 in
+    let e = ended c.args.s.now l.u c.next.result c.next.ensures c.in-Done.is in
     (seen_end numeric _ _ _ l.invariant.1 e, seen_end dates _ _ _ l.invariant.2 e)
 
 pub loop-o-smaller-then-d : goal.loop-o-smaller-then-d
-loop-o-smaller-then-d c = shorter c.args.s.now c.loop-o.u c.next.result c.next.ensures _ _ c.o-1.given.1
+loop-o-smaller-then-d c = shorter c.args.s.now c.loop-o.u c.next.result c.next.ensures _ _ c.in-Octet.is
 
 pub loop-o-preserved-then-d : goal.loop-o-preserved-then-d
 loop-o-preserved-then-d c =
     let l = c.loop-o in
     let f = c.fit_octet-f in
-    let g = gave c.args.s.now l.u c.next.result c.next.ensures _ _ c.o-1.given.1 in
+    let g = gave c.args.s.now l.u c.next.result c.next.ensures _ _ c.in-Octet.is in
     let m : c.if-n.n ≡ (l.n && f.result.numeric) = ⊎_elim (λ x. and_then _ _ _ x.0.taken x.1) (λ x. and_else _ _ _ x.0.left x.1) c.if-n.branch in
     (g.1, seen_next numeric l.n _ _ l.invariant.1 _ _ _ _ g.0 f.ensures.0 m, seen_next dates l.d _ _ l.invariant.2 _ _ _ _ g.0 f.ensures.1 (and_then _ _ _ c.if-d.true refl))
 
 pub loop-o-smaller : goal.loop-o-smaller
-loop-o-smaller c = shorter c.args.s.now c.loop-o.u c.next.result c.next.ensures _ _ c.o-1.given.1
+loop-o-smaller c = shorter c.args.s.now c.loop-o.u c.next.result c.next.ensures _ _ c.in-Octet.is
 
 pub loop-o-preserved : goal.loop-o-preserved
 loop-o-preserved c =
     let l = c.loop-o in
     let f = c.fit_octet-f in
-    let g = gave c.args.s.now l.u c.next.result c.next.ensures _ _ c.o-1.given.1 in
+    let g = gave c.args.s.now l.u c.next.result c.next.ensures _ _ c.in-Octet.is in
     let m : c.if-n.n ≡ (l.n && f.result.numeric) = ⊎_elim (λ x. and_then _ _ _ x.0.taken x.1) (λ x. and_else _ _ _ x.0.left x.1) c.if-n.branch in
     (g.1, seen_next numeric l.n _ _ l.invariant.1 _ _ _ _ g.0 f.ensures.0 m, seen_next dates l.d _ _ l.invariant.2 _ _ _ _ g.0 f.ensures.1 (and_else _ _ _ c.if-d.false refl))

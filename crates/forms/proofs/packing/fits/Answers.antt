@@ -5,7 +5,7 @@ use Rattle.forms.proofs.Forms.{said-utf8}
 use Rattle.forms.proofs.packing.fits.Goals as goal
 
 pub returns-in-Utf8 : goal.returns-in-Utf8
-returns-in-Utf8 c = rw (said-utf8 _ _ c.enum_told-1.given.1) c.fit_octets.ensures
+returns-in-Utf8 c = rw (said-utf8 _ _ c.in-Utf8.is) c.fit_octets.ensures
 
 pub returns-in_default : goal.returns-in_default
 returns-in_default c = rw c.over.ensures.1 c.fit_said.ensures

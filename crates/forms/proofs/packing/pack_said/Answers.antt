@@ -26,21 +26,21 @@ pub returns-in_default : goal.returns-in_default
 returns-in_default c =
     let a = c.args in
     let l = c.loop-o in
-    let e = ended a.s.now l.u c.next.result c.next.ensures c.enum_told-1.given.1 in
+    let e = ended a.s.now l.u c.next.result c.next.ensures c.in_default.is in
     left_done _ _ _ _ _ _ (pack_none _ _ e) l.invariant.2
 
 pub place_in-high-requires : goal.place_in-high-requires
 place_in-high-requires c =
     let a = c.args in
     let l = c.loop-o in
-    let g = gave a.s.now l.u c.next.result c.next.ensures _ _ c.o-1.given.1 in
+    let g = gave a.s.now l.u c.next.result c.next.ensures _ _ c.in-Octet.is in
     (letter_first (alphabet a.letters) _ _ _ g.0 l.invariant.1).0
 
 pub next-requires-in-loop-o : goal.next-requires-in-loop-o
 next-requires-in-loop-o c =
     let a = c.args in
     let l = c.loop-o in
-    let g = gave a.s.now l.u c.next.result c.next.ensures _ _ c.o-1.given.1 in
+    let g = gave a.s.now l.u c.next.result c.next.ensures _ _ c.in-Octet.is in
     g.1
 
 pub overflow_add-result : goal.overflow_add-result
@@ -56,8 +56,8 @@ pub shape_of-out-in-Done : goal.shape_of-out-in-Done
 shape_of-out-in-Done c =
     let a = c.args in
     let l = c.loop-o in
-    let g = gave a.s.now l.u c.next.result c.next.ensures _ _ c.o-1.given.1 in
-    let e = ended a.s.now _ c.next-in-loop-o.result c.next-in-loop-o.ensures c.enum_told-in-Done-1.given.1 in
+    let g = gave a.s.now l.u c.next.result c.next.ensures _ _ c.in-Octet.is in
+    let e = ended a.s.now _ c.next-in-loop-o.result c.next-in-loop-o.ensures c.in-Done.is in
     let s = left_next _ _ _ _ _ _ _ _ _ (pack_one (alphabet a.letters) _ _ _ g.0 _ c.IsPlace-in.ensures.0 e) c.put.ensures l.invariant.2 in
     left-kept _ _ _ _ _ _ s
 
@@ -65,8 +65,8 @@ pub returns-in-Done : goal.returns-in-Done
 returns-in-Done c =
     let a = c.args in
     let l = c.loop-o in
-    let g = gave a.s.now l.u c.next.result c.next.ensures _ _ c.o-1.given.1 in
-    let e = ended a.s.now _ c.next-in-loop-o.result c.next-in-loop-o.ensures c.enum_told-in-Done-1.given.1 in
+    let g = gave a.s.now l.u c.next.result c.next.ensures _ _ c.in-Octet.is in
+    let e = ended a.s.now _ c.next-in-loop-o.result c.next-in-loop-o.ensures c.in-Done.is in
     let s = left_next _ _ _ _ _ _ _ _ _ (pack_one (alphabet a.letters) _ _ _ g.0 _ c.IsPlace-in.ensures.0 e) c.put.ensures l.invariant.2 in
     left_done _ _ _ _ _ _ refl s
 
@@ -74,8 +74,8 @@ pub place_in-requires : goal.place_in-requires
 place_in-requires c =
     let a = c.args in
     let l = c.loop-o in
-    let g = gave a.s.now l.u c.next.result c.next.ensures _ _ c.o-1.given.1 in
-    let k = gave a.s.now _ c.next-in-loop-o.result c.next-in-loop-o.ensures _ _ c.p-1.given.1 in
+    let g = gave a.s.now l.u c.next.result c.next.ensures _ _ c.in-Octet.is in
+    let k = gave a.s.now _ c.next-in-loop-o.result c.next-in-loop-o.ensures _ _ c.in-Octet-next.is in
     (letter_first (alphabet a.letters) _ _ _ k.0 (letter_first (alphabet a.letters) _ _ _ g.0 l.invariant.1).1).0
 
 pub overflow_add-i : goal.overflow_add-i
@@ -91,15 +91,15 @@ pub loop-o-smaller : goal.loop-o-smaller
 loop-o-smaller c =
     let a = c.args in
     let l = c.loop-o in
-    let m = shorter a.s.now l.u c.next.result c.next.ensures _ _ c.o-1.given.1 in
-    let n = shorter a.s.now _ c.next-in-loop-o.result c.next-in-loop-o.ensures _ _ c.p-1.given.1 in
+    let m = shorter a.s.now l.u c.next.result c.next.ensures _ _ c.in-Octet.is in
+    let n = shorter a.s.now _ c.next-in-loop-o.result c.next-in-loop-o.ensures _ _ c.in-Octet-next.is in
     omega arith
 
 pub loop-o-preserved : goal.loop-o-preserved
 loop-o-preserved c =
     let a = c.args in
     let l = c.loop-o in
-    let g = gave a.s.now l.u c.next.result c.next.ensures _ _ c.o-1.given.1 in
-    let k = gave a.s.now _ c.next-in-loop-o.result c.next-in-loop-o.ensures _ _ c.p-1.given.1 in
+    let g = gave a.s.now l.u c.next.result c.next.ensures _ _ c.in-Octet.is in
+    let k = gave a.s.now _ c.next-in-loop-o.result c.next-in-loop-o.ensures _ _ c.in-Octet-next.is in
     let ls = alphabet a.letters in
     (k.1, (letter_first ls _ _ _ k.0 (letter_first ls _ _ _ g.0 l.invariant.1).1).1, left_next _ _ _ _ _ _ _ _ _ (pack_two ls _ _ _ g.0 _ c.IsPlace-in.ensures.0 _ _ _ k.0 c.place_in.ensures.0) c.put-in-Octet-next.ensures l.invariant.2)

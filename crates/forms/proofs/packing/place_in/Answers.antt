@@ -8,31 +8,31 @@ use Rattle.forms.proofs.Packs.{known-place, rest_place}
 use Rattle.forms.proofs.packing.place_in.Goals as goal
 
 pub overflow_sub-result : goal.overflow_sub-result
-overflow_sub-result c = let r = c.in_default.rest in (rest_place _ (r.0.0.0.0.0.0.0.1 also r.0.0.0.0.0.0.1 also r.0.0.0.0.0.1 also r.0.0.0.0.1 also r.0.0.0.1 also r.0.0.1 also r.0.1 also r.1 also tt) c.args.form c.requires).0
+overflow_sub-result c = let r = c.in_default.in_default-own.rest in (rest_place _ (r.0.0.0.0.0.0.0.1 also r.0.0.0.0.0.0.1 also r.0.0.0.0.0.1 also r.0.0.0.0.1 also r.0.0.0.1 also r.0.0.1 also r.0.1 also r.1 also tt) c.args.form c.requires).0
 
 pub returns-in-45 : goal.returns-in-45
-returns-in-45 c = known-place 0x2D 10 (unfold numeric dates is_letter place_in in refl) c.args.form _ c.in-45.keys1 c.requires
+returns-in-45 c = known-place 0x2D 10 (unfold numeric dates is_letter place_in in refl) c.args.form _ c.in-45.is c.requires
 
 pub returns-in-43 : goal.returns-in-43
-returns-in-43 c = known-place 0x2B 11 (unfold numeric dates is_letter place_in in refl) c.args.form _ c.in-43.keys2 c.requires
+returns-in-43 c = known-place 0x2B 11 (unfold numeric dates is_letter place_in in refl) c.args.form _ c.in-43.is c.requires
 
 pub returns-in-58 : goal.returns-in-58
-returns-in-58 c = known-place 0x3A 11 (unfold numeric dates is_letter place_in in refl) c.args.form _ c.in-58.keys3 c.requires
+returns-in-58 c = known-place 0x3A 11 (unfold numeric dates is_letter place_in in refl) c.args.form _ c.in-58.is c.requires
 
 pub returns-in-46 : goal.returns-in-46
-returns-in-46 c = known-place 0x2E 12 (unfold numeric dates is_letter place_in in refl) c.args.form _ c.in-46.keys4 c.requires
+returns-in-46 c = known-place 0x2E 12 (unfold numeric dates is_letter place_in in refl) c.args.form _ c.in-46.is c.requires
 
 pub returns-in-84 : goal.returns-in-84
-returns-in-84 c = known-place 0x54 12 (unfold numeric dates is_letter place_in in refl) c.args.form _ c.in-84.keys5 c.requires
+returns-in-84 c = known-place 0x54 12 (unfold numeric dates is_letter place_in in refl) c.args.form _ c.in-84.is c.requires
 
 pub returns-in-101 : goal.returns-in-101
-returns-in-101 c = known-place 0x65 13 (unfold numeric dates is_letter place_in in refl) c.args.form _ c.in-101.keys6 c.requires
+returns-in-101 c = known-place 0x65 13 (unfold numeric dates is_letter place_in in refl) c.args.form _ c.in-101.is c.requires
 
 pub returns-in-90 : goal.returns-in-90
-returns-in-90 c = known-place 0x5A 13 (unfold numeric dates is_letter place_in in refl) c.args.form _ c.in-90.keys7 c.requires
+returns-in-90 c = known-place 0x5A 13 (unfold numeric dates is_letter place_in in refl) c.args.form _ c.in-90.is c.requires
 
 pub returns-in-32 : goal.returns-in-32
-returns-in-32 c = known-place 0x20 14 (unfold numeric dates is_letter place_in in refl) c.args.form _ c.in-32.keys8 c.requires
+returns-in-32 c = known-place 0x20 14 (unfold numeric dates is_letter place_in in refl) c.args.form _ c.in-32.is c.requires
 
 pub returns-in_default : goal.returns-in_default
-returns-in_default c = let r = c.in_default.rest in let p = rest_place _ (r.0.0.0.0.0.0.0.1 also r.0.0.0.0.0.0.1 also r.0.0.0.0.0.1 also r.0.0.0.0.1 also r.0.0.0.1 also r.0.0.1 also r.0.1 also r.1 also tt) c.args.form c.requires in (p.1, p.2)
+returns-in_default c = let r = c.in_default.in_default-own.rest in let p = rest_place _ (r.0.0.0.0.0.0.0.1 also r.0.0.0.0.0.0.1 also r.0.0.0.0.0.1 also r.0.0.0.0.1 also r.0.0.0.1 also r.0.0.1 also r.0.1 also r.1 also tt) c.args.form c.requires in (p.1, p.2)

@@ -10,7 +10,7 @@ use Rattle.forms.proofs.packing.put_packed.Goals as goal
 pub pack_octets-requires : goal.pack_octets-requires
 pack_octets-requires c =
     let p = c.requires in
-    (p.0, p.1, p.2, p.3, rw (said-utf8 _ _ c.enum_told-1.given.1) at p.5)
+    (p.0, p.1, p.2, p.3, rw (said-utf8 _ _ c.in-Utf8.is) at p.5)
 
 pub pack_said-requires : goal.pack_said-requires
 pack_said-requires c =
@@ -24,7 +24,7 @@ pub shape_of-out-in-Utf8 : goal.shape_of-out-in-Utf8
 shape_of-out-in-Utf8 c = puts_kept c.pack_octets.ensures
 
 pub returns-in-Utf8 : goal.returns-in-Utf8
-returns-in-Utf8 c = rw (said-utf8 _ _ c.enum_told-1.given.1) c.pack_octets.ensures
+returns-in-Utf8 c = rw (said-utf8 _ _ c.in-Utf8.is) c.pack_octets.ensures
 
 pub shape_of-out-in_default : goal.shape_of-out-in_default
 shape_of-out-in_default c = puts_kept c.pack_said.ensures

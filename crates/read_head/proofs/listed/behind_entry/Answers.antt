@@ -6,7 +6,7 @@ use Rattle.read_head.specs.Promises.{behind_entry}
 use Rattle.read_head.proofs.listed.behind_entry.Goals as goal
 
 pub returns-in-Refused : goal.returns-in-Refused
-returns-in-Refused c = ap behind_entry (sym c.e-1.given.1)
+returns-in-Refused c = ap behind_entry (sym c.in-Refused.is)
 
 pub returns-in-Got : goal.returns-in-Got
-returns-in-Got c = ap behind_entry (sym c.e-in-Got-1.given.1)
+returns-in-Got c = ap behind_entry (sym c.in-Got.is)

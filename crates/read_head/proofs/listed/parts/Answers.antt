@@ -13,41 +13,41 @@ part-first-requires c =
 
 pub returns-in_default : goal.returns-in_default
 returns-in_default c =
-    name_prefix _ _ _ _ _ c.requires.1 _ c.requires.4 c.requires.5 c.requires.6 _ _ c.part-first.result _ _ c.enum_told-1.given.1 c.behind_entry.ensures (c.part-first.ensures.0 c.args.t.now)
+    name_prefix _ _ _ _ _ c.requires.1 _ c.requires.4 c.requires.5 c.requires.6 _ _ c.part-first.result _ _ c.in_default.is c.behind_entry.ensures (c.part-first.ensures.0 c.args.t.now)
 
 pub part-second-requires : goal.part-second-requires
 part-second-requires c =
-    let first = rw c.first-1.given.1 at c.part-first.ensures in
+    let first = rw c.in-Got.is at c.part-first.ensures in
     (c.requires.0.ten, omega arith, c.requires.0.counted 1, first.1.1)
 
 pub returns-in_default-second : goal.returns-in_default-second
 returns-in_default-second c =
-    let first = rw c.first-1.given.1 at c.part-first.ensures in
-    name_namespace _ _ _ _ _ c.requires.1 _ c.requires.4 c.requires.5 c.requires.6 _ c.bits.ensures _ _ (first.0 c.args.t.now) first.1.1 _ _ c.part-second.result _ _ c.enum_told-in_default-second-1.given.1 c.behind_entry-in_default-second.ensures (c.part-second.ensures.0 c.args.t.now)
+    let first = rw c.in-Got.is at c.part-first.ensures in
+    name_namespace _ _ _ _ _ c.requires.1 _ c.requires.4 c.requires.5 c.requires.6 _ c.bits.ensures _ _ (first.0 c.args.t.now) first.1.1 _ _ c.part-second.result _ _ c.in_default-second.is c.behind_entry-in_default-second.ensures (c.part-second.ensures.0 c.args.t.now)
 
 pub part-third-requires : goal.part-third-requires
 part-third-requires c =
-    let second = rw c.second-1.given.1 at c.part-second.ensures in
+    let second = rw c.in-Got-second.is at c.part-second.ensures in
     (c.requires.0.ten, omega arith, c.requires.0.counted 2, second.1.1)
 
 pub returns-in_default-third : goal.returns-in_default-third
 returns-in_default-third c =
-    let first = rw c.first-1.given.1 at c.part-first.ensures in
-    let second = rw c.second-1.given.1 at c.part-second.ensures in
-    name_local _ _ _ _ _ c.requires.1 _ c.requires.4 c.requires.5 c.requires.6 _ c.bits.ensures _ _ (first.0 c.args.t.now) first.1.1 _ _ (second.0 c.args.t.now) second.1.1 _ _ c.part-third.result _ _ c.enum_told-in_default-third-1.given.1 c.behind_entry-in_default-third.ensures (c.part-third.ensures.0 c.args.t.now)
+    let first = rw c.in-Got.is at c.part-first.ensures in
+    let second = rw c.in-Got-second.is at c.part-second.ensures in
+    name_local _ _ _ _ _ c.requires.1 _ c.requires.4 c.requires.5 c.requires.6 _ c.bits.ensures _ _ (first.0 c.args.t.now) first.1.1 _ _ (second.0 c.args.t.now) second.1.1 _ _ c.part-third.result _ _ c.in_default-third.is c.behind_entry-in_default-third.ensures (c.part-third.ensures.0 c.args.t.now)
 
 pub triple-requires : goal.triple-requires
 triple-requires c =
-    let first = rw c.first-1.given.1 at c.part-first.ensures in
-    let second = rw c.second-1.given.1 at c.part-second.ensures in
-    let third = rw c.third-1.given.1 at c.part-third.ensures in
+    let first = rw c.in-Got.is at c.part-first.ensures in
+    let second = rw c.in-Got-second.is at c.part-second.ensures in
+    let third = rw c.in-Got-third.is at c.part-third.ensures in
     addable _ _ _ _ c.requires.0 _ c.requires.2 c.requires.3 _ (parts_ranged c.args.counts.now _ _ _ first.1.0 second.1.0 (third.1.2 refl) third.1.0)
 
 pub returns : goal.returns
 returns c =
     let at-start = c.before in
-    let first = rw c.first-1.given.1 at c.part-first.ensures in
-    let second = rw c.second-1.given.1 at c.part-second.ensures in
-    let third = rw c.third-1.given.1 at c.part-third.ensures in
+    let first = rw c.in-Got.is at c.part-first.ensures in
+    let second = rw c.in-Got-second.is at c.part-second.ensures in
+    let third = rw c.in-Got-third.is at c.part-third.ensures in
     let t = c.triple.ensures in
     name_added _ _ _ _ _ at-start.requires.1 _ at-start.requires.4 at-start.requires.5 at-start.requires.6 _ c.bits.ensures _ _ (first.0 at-start.args.t.now) first.1.1 _ _ (second.0 at-start.args.t.now) second.1.1 _ _ (third.0 at-start.args.t.now) third.1.1 c.triple.result _ _ _ t.0 (t.1 _ at-start.requires.0 third.1.1) _ c.behind_entry-2.ensures

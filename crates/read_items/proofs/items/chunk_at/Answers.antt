@@ -13,15 +13,15 @@ chunk-requires c =
 
 pub moved-requires : goal.moved-requires
 moved-requires c =
-    let left = rw c.x-1.given.1 at (c.chunk.ensures _ c.requires.0.tidy).1 in near left.tidy left.within
+    let left = rw c.in-Got.is at (c.chunk.ensures _ c.requires.0.tidy).1 in near left.tidy left.within
 
 pub returns-in-Refused : goal.returns-in-Refused
 returns-in-Refused c =
     rw c.stop.ensures.0
-    (chunk_refused _ c.number-1.given.1 c.stop.ensures.1 refl (c.chunk.ensures _ c.requires.0.tidy))
+    (chunk_refused _ c.in-Refused.is c.stop.ensures.1 refl (c.chunk.ensures _ c.requires.0.tidy))
 
 pub returns-in-Got : goal.returns-in-Got
 returns-in-Got c =
     rw c.moved.ensures
-    (chunk_more _ c.x-1.given.1 c.requires.0 c.keep.ensures c.chunk-e.ensures
+    (chunk_more _ c.in-Got.is c.requires.0 c.keep.ensures c.chunk-e.ensures
     (c.chunk.ensures _ c.requires.0.tidy))

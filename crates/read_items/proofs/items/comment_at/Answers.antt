@@ -14,17 +14,17 @@ value-requires c =
 
 pub moved-requires : goal.moved-requires
 moved-requires c =
-    let left = rw c.x-1.given.1 at (c.value.ensures _ c.requires.0.tidy).1 in near left.tidy left.within
+    let left = rw c.in-Got.is at (c.value.ensures _ c.requires.0.tidy).1 in near left.tidy left.within
 
 pub returns-in-Refused : goal.returns-in-Refused
 unfolding table_of
 returns-in-Refused c =
     rw c.stop.ensures.0
-    (comment_refused _ c.number-1.given.1 c.stop.ensures.1 refl (c.value.ensures _ c.requires.0.tidy))
+    (comment_refused _ c.in-Refused.is c.stop.ensures.1 refl (c.value.ensures _ c.requires.0.tidy))
 
 pub returns-in-Got : goal.returns-in-Got
 unfolding table_of
 returns-in-Got c =
     rw c.moved.ensures
-    (comment_more _ c.x-1.given.1 c.requires.0 c.keep.ensures c.comment-e.ensures
+    (comment_more _ c.in-Got.is c.requires.0 c.keep.ensures c.comment-e.ensures
     (c.value.ensures _ c.requires.0.tidy))

@@ -15,15 +15,15 @@ id-requires c =
 
 pub value-requires : goal.value-requires
 value-requires c =
-    let there = rw c.target-1.given.1 at c.id.ensures.1 in
+    let there = rw c.in-Got.is at c.id.ensures.1 in
     let tidy = there.0.tidy in
     (tidy.room, tidy.ten, tidy.size, there.0.within, omega arith, omega arith, tidy.counted 7)
 
 pub string_at-requires : goal.string_at-requires
 string_at-requires c =
-    let there = rw c.target-1.given.1 at c.id.ensures.1 in
+    let there = rw c.in-Got.is at c.id.ensures.1 in
     let said = c.value.ensures _ there.0.tidy in
-    let left = rw c.content-1.given.1 at said.1 in
+    let left = rw c.in-Got-value.is at said.1 in
     let n = there.1 in
     let few = there.0.tidy.counted 3 in
     (left.tidy.room, omega arith, omega arith)
@@ -34,25 +34,25 @@ keep-requires c =
 
 pub moved-requires : goal.moved-requires
 moved-requires c =
-    let there = rw c.target-1.given.1 at c.id.ensures.1 in
+    let there = rw c.in-Got.is at c.id.ensures.1 in
     let said = c.value.ensures _ there.0.tidy in
-    let left = rw c.content-1.given.1 at said.1 in
+    let left = rw c.in-Got-value.is at said.1 in
     near left.tidy left.within
 
 pub returns-in-Refused : goal.returns-in-Refused
 unfolding table_of
 returns-in-Refused c =
     rw c.stop.ensures.0
-    (target_refused _ c.number-1.given.1 c.stop.ensures.1 refl c.id.ensures.0 c.id.ensures.1)
+    (target_refused _ c.in-Refused.is c.stop.ensures.1 refl c.id.ensures.0 c.id.ensures.1)
 
 pub returns-in-Refused-value : goal.returns-in-Refused-value
 unfolding table_of
 returns-in-Refused-value c =
-    let there = rw c.target-1.given.1 at c.id.ensures.1 in
+    let there = rw c.in-Got.is at c.id.ensures.1 in
     let said = c.value.ensures _ there.0.tidy in
     rw c.stop-in-Refused-value.ensures.0
     (instruction_refused _ (lent c.id.new.1.0 c.id.new.1.1.0 c.id.new.1.1.1.0 c.args.records.now)
-    c.target-1.given.1 c.id.ensures.0 c.id.ensures.1 said c.number-in-Refused-value-1.given.1 c.stop-in-Refused-value.ensures.1 refl)
+    c.in-Got.is c.id.ensures.0 c.id.ensures.1 said c.in-Refused-value.is c.stop-in-Refused-value.ensures.1 refl)
 
 pub shape_of-t-in-Got-value : goal.shape_of-t-in-Got-value
 shape_of-t-in-Got-value c =
@@ -69,9 +69,9 @@ shape_of-index-in-Got-value c =
 pub returns-in-Got-value : goal.returns-in-Got-value
 unfolding table_of
 returns-in-Got-value c =
-    let there = rw c.target-1.given.1 at c.id.ensures.1 in
+    let there = rw c.in-Got.is at c.id.ensures.1 in
     let said = c.value.ensures _ there.0.tidy in
     rw c.moved.ensures
     (instruction_more _ (lent c.id.new.1.0 c.id.new.1.1.0 c.id.new.1.1.1.0 c.args.records.now)
-    c.target-1.given.1 c.id.ensures.0 c.id.ensures.1 said c.content-1.given.1 c.requires.0
+    c.in-Got.is c.id.ensures.0 c.id.ensures.1 said c.in-Got-value.is c.requires.0
     c.keep.ensures (rw (← c.string_at.ensures) c.instruction-e.ensures))

@@ -37,7 +37,7 @@ value-requires c =
     let last = c.name-read.new.1 in
     let nine = attribute_table _ _ c.requires.1 c.if-x-eq-ELEMENT_NAME.false in
     let read = name_attribute a.s.now a.counts.now a.t.now _ _ _ c.name-read.result last.1.0 last.0 last.1.1.0 nine (c.requires.1.octet nine) c.name-read.ensures in
-    let there = rw c.read-in-Got-1.given.1 at read.1 in
+    let there = rw c.in-Got.is at read.1 in
     let tidy = there.0.tidy in
     (tidy.room, tidy.ten, tidy.size, there.0.within, omega arith, omega arith, tidy.counted 5)
 
@@ -47,12 +47,12 @@ keep_named-requires c =
     let last = c.name-read.new.1 in
     let nine = attribute_table _ _ c.requires.1 c.if-x-eq-ELEMENT_NAME.false in
     let read = name_attribute a.s.now a.counts.now a.t.now _ _ _ c.name-read.result last.1.0 last.0 last.1.1.0 nine (c.requires.1.octet nine) c.name-read.ensures in
-    let there = rw c.read-in-Got-1.given.1 at read.1 in
+    let there = rw c.in-Got.is at read.1 in
     let said = c.value.ensures _ there.0.tidy in
     let size = c.requires.0.tidy.size in
     let inside = c.requires.1.inside in (
       attribute_there a.s.now (lent a.t.now a.counts.now a.index.now a.records.now) (lent last.0 last.1.0 last.1.1.0 a.records.now)
-          (lent c.value.new.1.0 c.value.new.1.1.0 last.1.1.0 a.records.now) c.read-in-Got-1.given.1 read.1 read.2 c.v-1.given.1 said.1,
+          (lent c.value.new.1.0 c.value.new.1.1.0 last.1.1.0 a.records.now) c.in-Got.is read.1 read.2 c.in-Got-value.is said.1,
       omega arith,
     )
 
@@ -62,9 +62,9 @@ moved-requires c =
     let last = c.name-read.new.1 in
     let nine = attribute_table _ _ c.requires.1 c.if-x-eq-ELEMENT_NAME.false in
     let read = name_attribute a.s.now a.counts.now a.t.now _ _ _ c.name-read.result last.1.0 last.0 last.1.1.0 nine (c.requires.1.octet nine) c.name-read.ensures in
-    let there = rw c.read-in-Got-1.given.1 at read.1 in
+    let there = rw c.in-Got.is at read.1 in
     let said = c.value.ensures _ there.0.tidy in
-    let left = rw c.v-1.given.1 at said.1 in
+    let left = rw c.in-Got-value.is at said.1 in
     near left.tidy left.within
 
 pub returns-in-Refused : goal.returns-in-Refused
@@ -73,7 +73,7 @@ returns-in-Refused c =
     let last = c.name-read.new.1 in
     let nine = attribute_table _ _ c.requires.1 c.if-x-eq-ELEMENT_NAME.false in
     let read = name_attribute a.s.now a.counts.now a.t.now _ _ _ c.name-read.result last.1.0 last.0 last.1.1.0 nine (c.requires.1.octet nine) c.name-read.ensures in
-    rw c.stop.ensures.0 (attribute_refused _ (named_attribute _ a.x _ nine) c.read-1.given.1 c.stop.ensures.1 refl read.0 read.1)
+    rw c.stop.ensures.0 (attribute_refused _ (named_attribute _ a.x _ nine) c.in-Refused.is c.stop.ensures.1 refl read.0 read.1)
 
 pub returns-in-Refused-value : goal.returns-in-Refused-value
 unfolding table_of
@@ -82,9 +82,9 @@ returns-in-Refused-value c =
     let last = c.name-read.new.1 in
     let nine = attribute_table _ _ c.requires.1 c.if-x-eq-ELEMENT_NAME.false in
     let read = name_attribute a.s.now a.counts.now a.t.now _ _ _ c.name-read.result last.1.0 last.0 last.1.1.0 nine (c.requires.1.octet nine) c.name-read.ensures in
-    let there = rw c.read-in-Got-1.given.1 at read.1 in
+    let there = rw c.in-Got.is at read.1 in
     let said = c.value.ensures _ there.0.tidy in
-    rw c.stop-in-Refused-value.ensures.0 (value_refused _ (named_attribute _ a.x _ nine) (lent last.0 last.1.0 last.1.1.0 a.records.now) c.read-in-Got-1.given.1 read.0 read.1 read.2 said c.number-1.given.1 c.stop-in-Refused-value.ensures.1 refl)
+    rw c.stop-in-Refused-value.ensures.0 (value_refused _ (named_attribute _ a.x _ nine) (lent last.0 last.1.0 last.1.1.0 a.records.now) c.in-Got.is read.0 read.1 read.2 said c.in-Refused-value.is c.stop-in-Refused-value.ensures.1 refl)
 
 pub shape_of-t-in-Got-value : goal.shape_of-t-in-Got-value
 shape_of-t-in-Got-value c =
@@ -92,9 +92,9 @@ shape_of-t-in-Got-value c =
     let last = c.name-read.new.1 in
     let nine = attribute_table _ _ c.requires.1 c.if-x-eq-ELEMENT_NAME.false in
     let read = name_attribute a.s.now a.counts.now a.t.now _ _ _ c.name-read.result last.1.0 last.0 last.1.1.0 nine (c.requires.1.octet nine) c.name-read.ensures in
-    let there = rw c.read-in-Got-1.given.1 at read.1 in
+    let there = rw c.in-Got.is at read.1 in
     let said = c.value.ensures _ there.0.tidy in
-    let left = rw c.v-1.given.1 at said.1 in
+    let left = rw c.in-Got-value.is at said.1 in
     omega (arith, left.tidy.room, c.requires.0.tidy.room)
 
 pub returns-in-Got-value : goal.returns-in-Got-value
@@ -104,6 +104,6 @@ returns-in-Got-value c =
     let last = c.name-read.new.1 in
     let nine = attribute_table _ _ c.requires.1 c.if-x-eq-ELEMENT_NAME.false in
     let read = name_attribute a.s.now a.counts.now a.t.now _ _ _ c.name-read.result last.1.0 last.0 last.1.1.0 nine (c.requires.1.octet nine) c.name-read.ensures in
-    let there = rw c.read-in-Got-1.given.1 at read.1 in
+    let there = rw c.in-Got.is at read.1 in
     let said = c.value.ensures _ there.0.tidy in
-    rw c.moved.ensures (attribute_more _ (named_attribute _ a.x _ nine) (lent last.0 last.1.0 last.1.1.0 a.records.now) c.read-in-Got-1.given.1 read.0 read.1 read.2 said c.v-1.given.1 c.requires.0 c.keep_named.ensures)
+    rw c.moved.ensures (attribute_more _ (named_attribute _ a.x _ nine) (lent last.0 last.1.0 last.1.1.0 a.records.now) c.in-Got.is read.0 read.1 read.2 said c.in-Got-value.is c.requires.0 c.keep_named.ensures)

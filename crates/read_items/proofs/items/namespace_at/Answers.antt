@@ -13,12 +13,12 @@ declared-requires c =
 
 pub string_at-requires : goal.string_at-requires
 string_at-requires c =
-    let left = rw c.prefix-1.given.1 at c.declared.ensures.1 in
+    let left = rw c.in-Got.is at c.declared.ensures.1 in
     (left.0.tidy.room, omega arith, left.1)
 
 pub string_at-requires-in-Got : goal.string_at-requires-in-Got
 string_at-requires-in-Got c =
-    let left = rw c.prefix-1.given.1 at c.declared.ensures.1 in
+    let left = rw c.in-Got.is at c.declared.ensures.1 in
     (left.0.tidy.room, omega arith, left.2)
 
 pub keep-requires : goal.keep-requires
@@ -27,13 +27,13 @@ keep-requires c =
 
 pub moved-requires : goal.moved-requires
 moved-requires c =
-    let left = rw c.prefix-1.given.1 at c.declared.ensures.1 in
+    let left = rw c.in-Got.is at c.declared.ensures.1 in
     near left.0.tidy left.0.within
 
 pub returns-in-Refused : goal.returns-in-Refused
 returns-in-Refused c =
     rw c.stop.ensures.0
-    (namespace_refused _ _ c.declared.ensures.0 c.declared.ensures.1 c.number-1.given.1
+    (namespace_refused _ _ c.declared.ensures.0 c.declared.ensures.1 c.in-Refused.is
     c.stop.ensures.1 refl)
 
 pub shape_of-t-in-Got : goal.shape_of-t-in-Got
@@ -42,6 +42,6 @@ shape_of-t-in-Got c = omega (arith, c.declared.auto)
 pub returns-in-Got : goal.returns-in-Got
 returns-in-Got c =
     rw (c.moved.ensures, c.declaring.ensures)
-    (namespace_more _ _ c.declared.ensures.0 c.declared.ensures.1 c.prefix-1.given.1 c.requires.2
+    (namespace_more _ _ c.declared.ensures.0 c.declared.ensures.1 c.in-Got.is c.requires.2
     c.keep.ensures (rw (← c.string_at.ensures, ← c.string_at-in-Got.ensures)
     c.namespace-e.ensures))

@@ -13,29 +13,29 @@ returns-then-pn-eq2 c =
 
 pub returns-in_default : goal.returns-in_default
 returns-in_default c =
-    let f = rw c.enum_told-1.given.1 at c.optional-first.ensures in
-    handed _ _ _ _ _ _ _ _ _ _ (parts_prefix _ _ _ _ _ _ c.bits-pn.ensures c.if-pn-eq2.false _ _ f.0) f.1 _ c.enum_told-1.given.1
+    let f = rw c.in_default.is at c.optional-first.ensures in
+    handed _ _ _ _ _ _ _ _ _ _ (parts_prefix _ _ _ _ _ _ c.bits-pn.ensures c.if-pn-eq2.false _ _ f.0) f.1 _ c.in_default.is
 
 pub optional-second-requires : goal.optional-second-requires
 optional-second-requires c =
-    let first = rw c.first-1.given.1 at c.optional-first.ensures in
+    let first = rw c.in-Got.is at c.optional-first.ensures in
     (first.1.0.tidy, first.1.0.within, omega arith)
 
 pub returns-in_default-second : goal.returns-in_default-second
 returns-in_default-second c =
-    let first = rw c.first-1.given.1 at c.optional-first.ensures in
-    let f = rw c.enum_told-in_default-second-1.given.1 at c.optional-second.ensures in
-    handed _ _ _ _ _ _ _ _ _ _ (parts_namespace _ _ _ _ _ _ c.bits-pn.ensures c.if-pn-eq2.false _ c.bits.ensures _ _ _ first.0 _ _ f.0) f.1 _ c.enum_told-in_default-second-1.given.1
+    let first = rw c.in-Got.is at c.optional-first.ensures in
+    let f = rw c.in_default-second.is at c.optional-second.ensures in
+    handed _ _ _ _ _ _ _ _ _ _ (parts_namespace _ _ _ _ _ _ c.bits-pn.ensures c.if-pn-eq2.false _ c.bits.ensures _ _ _ first.0 _ _ f.0) f.1 _ c.in_default-second.is
 
 pub bounds-counts-2 : goal.bounds-counts-2
 bounds-counts-2 c =
-    let second = rw c.second-1.given.1 at c.optional-second.ensures in
+    let second = rw c.in-Got-second.is at c.optional-second.ensures in
     let ten = second.1.0.tidy.ten in
     omega arith
 
 pub id-third-requires : goal.id-third-requires
 id-third-requires c =
-    let second = rw c.second-1.given.1 at c.optional-second.ensures in
+    let second = rw c.in-Got-second.is at c.optional-second.ensures in
     (second.1.0.tidy, second.1.0.within, omega arith)
 
 pub shape_of-t-in_default-third : goal.shape_of-t-in_default-third
@@ -48,16 +48,16 @@ shape_of-counts-in_default-third c =
 
 pub returns-in_default-third : goal.returns-in_default-third
 returns-in_default-third c =
-    let first = rw c.first-1.given.1 at c.optional-first.ensures in
-    let second = rw c.second-1.given.1 at c.optional-second.ensures in
-    let f = rw c.enum_told-in_default-third-1.given.1 at c.id-third.ensures in
-    handed _ _ _ _ _ _ _ _ _ _ (parts-local _ _ _ _ _ _ c.bits-pn.ensures c.if-pn-eq2.false _ c.bits.ensures _ _ _ first.0 _ _ _ second.0 _ _ f.0) f.1 _ c.enum_told-in_default-third-1.given.1
+    let first = rw c.in-Got.is at c.optional-first.ensures in
+    let second = rw c.in-Got-second.is at c.optional-second.ensures in
+    let f = rw c.in_default-third.is at c.id-third.ensures in
+    handed _ _ _ _ _ _ _ _ _ _ (parts-local _ _ _ _ _ _ c.bits-pn.ensures c.if-pn-eq2.false _ c.bits.ensures _ _ _ first.0 _ _ _ second.0 _ _ f.0) f.1 _ c.in_default-third.is
 
 pub triple-requires : goal.triple-requires
 triple-requires c =
-    let first = rw c.first-1.given.1 at c.optional-first.ensures in
-    let second = rw c.second-1.given.1 at c.optional-second.ensures in
-    let third = rw c.third-1.given.1 at c.id-third.ensures in (
+    let first = rw c.in-Got.is at c.optional-first.ensures in
+    let second = rw c.in-Got-second.is at c.optional-second.ensures in
+    let third = rw c.in-Got-third.is at c.id-third.ensures in (
       addable _ _ _ _ third.1.0.tidy _ c.requires.2 c.requires.3 _ (strings_ranged _ _ _ _ _ _ _ _ _ first.1.1 second.1.1 third.1.1 second.1.0.grown third.1.0.grown third.2),
       λ h. local_new _ _ _ _ c.id-third.new.1.1.0 c.id-third.new.1.0 _ _ _ second.1.0.tidy third.0 (name_table_of c.args.table) c.first-1.given.0.0 c.second-1.given.0.0 h,
     )
@@ -79,9 +79,9 @@ returns c =
     let at-if1 = c.before in
     let at_bits = at-if1.before in
     let at-start = at_bits.before.before.before.before.before in
-    let first = rw c.first-1.given.1 at c.optional-first.ensures in
-    let second = rw c.second-1.given.1 at c.optional-second.ensures in
-    let third = rw c.third-1.given.1 at c.id-third.ensures in
+    let first = rw c.in-Got.is at c.optional-first.ensures in
+    let second = rw c.in-Got-second.is at c.optional-second.ensures in
+    let third = rw c.in-Got-third.is at c.id-third.ensures in
     let t = c.triple.ensures in
     let left = t.1 _ third.1.0.tidy third.1.0.within in (
       parts-read _ _ _ _ _ _ at_bits.bits.ensures at-if1.if1.false _ c.bits.ensures _ _ _ first.0 _ _ _ second.0 _ _ _ third.0 _ (layout_table _ at-start.requires.2 at-start.requires.3) c.triple.result _ _ t.0 (new_says _ _ _ _ _ _ _ _ _ first.1.1 second.1.1 third.1.1 second.1.0.grown third.1.0.grown _ _ _ _ _ c.triple.result left t.2),

@@ -7,26 +7,26 @@ use Rattle.read_names.proofs.StringLaws.{length-read, begins, table_small, table
 use Rattle.read_names.proofs.strings.fresh.Goals as goal
 
 pub overflow_sub-s : goal.overflow_sub-s
-overflow_sub-s c = (begins _ _ _ _ c.n-1.given.1 (length-read _ _ 2 _ c.length.ensures)).1
+overflow_sub-s c = (begins _ _ _ _ c.in-Got.is (length-read _ _ 2 _ c.length.ensures)).1
 
 pub returns-then-s-place : goal.returns-then-s-place
 returns-then-s-place c =
-    let b = begins _ _ _ _ c.n-1.given.1 (length-read _ _ 2 _ c.length.ensures) in
-    fresh_past _ _ _ _ _ _ c.requires.0 (let l = c.requires.1 in omega arith) c.requires.2 _ c.length.ensures _ _ c.n-1.given.1 (omega arith)
+    let b = begins _ _ _ _ c.in-Got.is (length-read _ _ 2 _ c.length.ensures) in
+    fresh_past _ _ _ _ _ _ c.requires.0 (let l = c.requires.1 in omega arith) c.requires.2 _ c.length.ensures _ _ c.in-Got.is (omega arith)
 
 pub mark-m-requires : goal.mark-m-requires
 mark-m-requires c =
-    let b = begins _ _ _ _ c.n-1.given.1 (length-read _ _ 2 _ c.length.ensures) in
+    let b = begins _ _ _ _ c.in-Got.is (length-read _ _ 2 _ c.length.ensures) in
     (b.0, omega arith)
 
 pub returns-then-not-m : goal.returns-then-not-m
 returns-then-not-m c =
-    let b = begins _ _ _ _ c.n-1.given.1 (length-read _ _ 2 _ c.length.ensures) in
-    fresh_bad _ _ _ _ _ _ c.requires.0 (let l = c.requires.1 in omega arith) c.requires.2 _ c.length.ensures _ _ c.n-1.given.1 _ (omega arith) c.mark-m.ensures.2 (not-true _ c.if-not-m.true)
+    let b = begins _ _ _ _ c.in-Got.is (length-read _ _ 2 _ c.length.ensures) in
+    fresh_bad _ _ _ _ _ _ c.requires.0 (let l = c.requires.1 in omega arith) c.requires.2 _ c.length.ensures _ _ c.in-Got.is _ (omega arith) c.mark-m.ensures.2 (not-true _ c.if-not-m.true)
 
 pub add_new-requires : goal.add_new-requires
 add_new-requires c =
-    let b = begins _ _ _ _ c.n-1.given.1 (length-read _ _ 2 _ c.length.ensures) in
+    let b = begins _ _ _ _ c.in-Got.is (length-read _ _ 2 _ c.length.ensures) in
     let z = c.requires.0.size in (
       c.requires.0.room,
       c.requires.0.indexed.size,
@@ -43,29 +43,29 @@ add_new-requires c =
 
 pub overflow_add-counts : goal.overflow_add-counts
 overflow_add-counts c =
-    let new = rw c.enum_told-in-Done-1.given.1 at c.add_new.ensures in
+    let new = rw c.in-Done.is at c.add_new.ensures in
     let l = new.1 in omega arith
 
 pub overflow_add-result : goal.overflow_add-result
 overflow_add-result c =
-    let new = rw c.enum_told-in-Done-1.given.1 at c.add_new.ensures in
+    let new = rw c.in-Done.is at c.add_new.ensures in
     let l = new.1 in omega arith
 
 pub returns-in-Refused : goal.returns-in-Refused
 returns-in-Refused c =
-    fresh_refused _ _ _ _ _ _ c.requires.0 (let l = c.requires.1 in omega arith) c.requires.2 _ c.length.ensures _ _ c.k-1.given.1
+    fresh_refused _ _ _ _ _ _ c.requires.0 (let l = c.requires.1 in omega arith) c.requires.2 _ c.length.ensures _ _ c.in-Refused.is
 
 pub returns-in-Known : goal.returns-in-Known
 returns-in-Known c =
-    let b = begins _ _ _ _ c.n-1.given.1 (length-read _ _ 2 _ c.length.ensures) in
-    new_known _ _ _ _ _ _ c.requires.0 (let l = c.requires.1 in omega arith) c.requires.2 _ c.length.ensures _ _ c.n-1.given.1 _ (omega arith) c.mark-m.ensures.2 (not-false _ c.if-not-m.false) _ _ (rw c.enum_told-1.given.1 at c.add_new.ensures)
+    let b = begins _ _ _ _ c.in-Got.is (length-read _ _ 2 _ c.length.ensures) in
+    new_known _ _ _ _ _ _ c.requires.0 (let l = c.requires.1 in omega arith) c.requires.2 _ c.length.ensures _ _ c.in-Got.is _ (omega arith) c.mark-m.ensures.2 (not-false _ c.if-not-m.false) _ _ (rw c.in-Known.is at c.add_new.ensures)
 
 pub returns-in-Full : goal.returns-in-Full
 returns-in-Full c =
-    let b = begins _ _ _ _ c.n-1.given.1 (length-read _ _ 2 _ c.length.ensures) in
-    new_full _ _ _ _ _ _ c.requires.0 (let l = c.requires.1 in omega arith) c.requires.2 _ c.length.ensures _ _ c.n-1.given.1 _ (omega arith) c.mark-m.ensures.2 (not-false _ c.if-not-m.false) _ _ (rw c.enum_told-in-Full-1.given.1 at c.add_new.ensures)
+    let b = begins _ _ _ _ c.in-Got.is (length-read _ _ 2 _ c.length.ensures) in
+    new_full _ _ _ _ _ _ c.requires.0 (let l = c.requires.1 in omega arith) c.requires.2 _ c.length.ensures _ _ c.in-Got.is _ (omega arith) c.mark-m.ensures.2 (not-false _ c.if-not-m.false) _ _ (rw c.in-Full.is at c.add_new.ensures)
 
 pub returns-in-Done : goal.returns-in-Done
 returns-in-Done c =
-    let b = begins _ _ _ _ c.n-1.given.1 (length-read _ _ 2 _ c.length.ensures) in
-    new_done _ _ _ _ _ _ c.requires.0 (let l = c.requires.1 in omega arith) c.requires.2 _ c.length.ensures _ _ c.n-1.given.1 _ (omega arith) c.mark-m.ensures.2 (not-false _ c.if-not-m.false) _ _ (rw c.enum_told-in-Done-1.given.1 at c.add_new.ensures)
+    let b = begins _ _ _ _ c.in-Got.is (length-read _ _ 2 _ c.length.ensures) in
+    new_done _ _ _ _ _ _ c.requires.0 (let l = c.requires.1 in omega arith) c.requires.2 _ c.length.ensures _ _ c.in-Got.is _ (omega arith) c.mark-m.ensures.2 (not-false _ c.if-not-m.false) _ _ (rw c.in-Done.is at c.add_new.ensures)

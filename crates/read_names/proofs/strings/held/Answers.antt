@@ -13,16 +13,16 @@ overflow_cast-counts c =
 pub returns-then-counts-table : goal.returns-then-counts-table
 returns-then-counts-table c =
     let m = count_at c.args.counts.now c.requires.0 c.args.table in
-    held_beyond _ _ _ _ _ c.r-in-Got-1.given.1 (omega arith)
+    held_beyond _ _ _ _ _ c.in-Got.is (omega arith)
 
 pub overflow_cast-result : goal.overflow_cast-result
 overflow_cast-result c =
     let m = count_at c.args.counts.now c.requires.0 c.args.table in omega arith
 
 pub returns-in-Refused : goal.returns-in-Refused
-returns-in-Refused c = held_not _ _ _ _ _ c.r-1.given.1
+returns-in-Refused c = held_not _ _ _ _ _ c.in-Refused.is
 
 pub returns-else-counts-table : goal.returns-else-counts-table
 returns-else-counts-table c =
     let m = count_at c.args.counts.now c.requires.0 c.args.table in
-    held_entry _ _ _ _ _ c.r-in-Got-1.given.1 (omega arith)
+    held_entry _ _ _ _ _ c.in-Got.is (omega arith)

@@ -6,27 +6,27 @@ use Rattle.read_names.proofs.StringLaws.{begins, stretch_not, stretch_past, stre
 use Rattle.read_names.proofs.strings.stretch.Goals as goal
 
 pub returns-in_default : goal.returns-in_default
-returns-in_default c = stretch_not _ _ _ _ _ _ c.enum_told-1.given.1
+returns-in_default c = stretch_not _ _ _ _ _ _ c.in_default.is
 
 pub overflow_sub-s : goal.overflow_sub-s
-overflow_sub-s c = (begins _ _ _ _ c.r-1.given.1 c.requires).1
+overflow_sub-s c = (begins _ _ _ _ c.in-Got.is c.requires).1
 
 pub returns-then-s-place : goal.returns-then-s-place
 returns-then-s-place c =
-    let w = begins _ _ _ _ c.r-1.given.1 c.requires in
-    stretch_past _ _ _ _ _ _ c.r-1.given.1 (omega arith)
+    let w = begins _ _ _ _ c.in-Got.is c.requires in
+    stretch_past _ _ _ _ _ _ c.in-Got.is (omega arith)
 
 pub is_text-requires : goal.is_text-requires
 is_text-requires c =
-    let w = begins _ _ _ _ c.r-1.given.1 c.requires in
+    let w = begins _ _ _ _ c.in-Got.is c.requires in
     omega arith
 
 pub returns-then-is_text : goal.returns-then-is_text
 returns-then-is_text c =
-    let w = begins _ _ _ _ c.r-1.given.1 c.requires in
-    stretch_text _ _ _ _ _ _ c.r-1.given.1 _ _ (omega arith) (omega arith) c.is_text.ensures.0 c.if-is_text.true
+    let w = begins _ _ _ _ c.in-Got.is c.requires in
+    stretch_text _ _ _ _ _ _ c.in-Got.is _ _ (omega arith) (omega arith) c.is_text.ensures.0 c.if-is_text.true
 
 pub returns : goal.returns
 returns c =
-    let w = begins _ _ _ _ c.r-1.given.1 c.requires in
-    stretch_bad _ _ _ _ _ _ c.r-1.given.1 _ _ (omega arith) (omega arith) c.is_text.ensures.0 c.if-is_text.false
+    let w = begins _ _ _ _ c.in-Got.is c.requires in
+    stretch_bad _ _ _ _ _ _ c.in-Got.is _ _ (omega arith) (omega arith) c.is_text.ensures.0 c.if-is_text.false

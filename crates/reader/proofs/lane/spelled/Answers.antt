@@ -20,7 +20,7 @@ returns-in_default c =
 
 pub overflow_sub-s : goal.overflow_sub-s
 overflow_sub-s c =
-    let g = field_got _ _ _ _ _ (sym c.length.ensures ∙ c.length-1.given.1) in
+    let g = field_got _ _ _ _ _ (sym c.length.ensures ∙ c.in-Got.is) in
     let z = c.requires.0.tidied.tidy.size in
     omega arith
 
@@ -30,7 +30,7 @@ returns-then-s-place c =
 
 pub is_text-requires : goal.is_text-requires
 is_text-requires c =
-    let g = field_got _ _ _ _ _ (sym c.length.ensures ∙ c.length-1.given.1) in
+    let g = field_got _ _ _ _ _ (sym c.length.ensures ∙ c.in-Got.is) in
     let z = c.requires.0.tidied.tidy.size in
     omega arith
 
@@ -40,7 +40,7 @@ returns-then-not-is_text c =
 
 pub overflow_cast-place : goal.overflow_cast-place
 overflow_cast-place c =
-    let g = field_got _ _ _ _ _ (sym c.length.ensures ∙ c.length-1.given.1) in
+    let g = field_got _ _ _ _ _ (sym c.length.ensures ∙ c.in-Got.is) in
     let z = c.requires.0.tidied.tidy.size in
     omega arith
 
@@ -50,7 +50,7 @@ returns-then-not-added c =
 
 pub overflow_cast-place-2 : goal.overflow_cast-place-2
 overflow_cast-place-2 c =
-    let g = field_got _ _ _ _ _ (sym c.length.ensures ∙ c.length-1.given.1) in
+    let g = field_got _ _ _ _ _ (sym c.length.ensures ∙ c.in-Got.is) in
     let z = c.requires.0.tidied.tidy.size in
     omega arith
 
@@ -59,7 +59,7 @@ keep-requires c = place-fits c.requires.0
 
 pub overflow_add-result : goal.overflow_add-result
 overflow_add-result c =
-    let g = field_got _ _ _ _ _ (sym c.length.ensures ∙ c.length-1.given.1) in
+    let g = field_got _ _ _ _ _ (sym c.length.ensures ∙ c.in-Got.is) in
     let z = c.requires.0.tidied.tidy.size in
     omega arith
 
@@ -74,6 +74,6 @@ returns c =
     let at_bits = at-if2.before in
     let at-if1 = at_bits.before in
     let at-start = at-if1.before.before.before.before.before in
-    let g = field_got _ _ _ _ _ (sym c.length.ensures ∙ c.length-1.given.1) in
+    let g = field_got _ _ _ _ _ (sym c.length.ensures ∙ c.in-Got.is) in
     let z = at-start.requires.0.tidied.tidy.size in
-    takes_spelled at-start.requires.0 (omega (arith, c.keep.auto)) _ at-start.requires.1 (omega (arith, at-if1.if1.false)) at-start.requires.2 at_bits.bits.ensures at-if2.if2.false c.length.ensures c.length-1.given.1 (omega (arith, c.if-s-place.false)) (c.is_text.ensures (not-false _ c.if-not-is_text.false)) c.bits-2.ensures (rw (not-false c.added.result c.if-not-added.false) at c.added.ensures) c.keep.ensures c.chunk-e.ensures
+    takes_spelled at-start.requires.0 (omega (arith, c.keep.auto)) _ at-start.requires.1 (omega (arith, at-if1.if1.false)) at-start.requires.2 at_bits.bits.ensures at-if2.if2.false c.length.ensures c.in-Got.is (omega (arith, c.if-s-place.false)) (c.is_text.ensures (not-false _ c.if-not-is_text.false)) c.bits-2.ensures (rw (not-false c.added.result c.if-not-added.false) at c.added.ensures) c.keep.ensures c.chunk-e.ensures

@@ -15,7 +15,7 @@ returns-then-not-front c =
     let pre = c.requires in
     let counts = c.put_counts.ensures ∙ ap listed c.start.ensures in
     let opened = c.opened.ensures in
-    let front = c.front-1.given.1 in
+    let front = c.in-Onward.is in
     starts_body _ _ _ _ pre.0 counts pre.2 opened front (not-true _ c.if-not-front.true)
 
 pub head-requires : goal.head-requires
@@ -23,7 +23,7 @@ head-requires c =
     let pre = c.requires in
     let counts = c.put_counts.ensures ∙ ap listed c.start.ensures in
     let opened = c.opened.ensures in
-    let front = c.front-1.given.1 in
+    let front = c.in-Onward.is in
     let at = front_within opened front in
     (tidy_start _ _ _ _ pre.0 counts pre.2 at.1, at.0)
 
@@ -32,12 +32,12 @@ returns-in-Halt c =
     let pre = c.requires in
     let counts = c.put_counts.ensures ∙ ap listed c.start.ensures in
     let opened = c.opened.ensures in
-    starts_halt _ _ _ _ pre.0 counts pre.2 opened c.k-1.given.1
+    starts_halt _ _ _ _ pre.0 counts pre.2 opened c.in-Halt.is
 
 pub returns-else-not-front : goal.returns-else-not-front
 returns-else-not-front c =
     let pre = c.requires in
     let counts = c.put_counts.ensures ∙ ap listed c.start.ensures in
     let opened = c.opened.ensures in
-    let front = c.front-1.given.1 in
+    let front = c.in-Onward.is in
     starts_head _ _ _ _ pre.0 counts pre.2 opened front (not-false _ c.if-not-front.false) c.head.ensures

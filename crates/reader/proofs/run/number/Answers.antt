@@ -8,13 +8,13 @@ use Rattle.reader.proofs.RunLaws.{small_refused}
 use Rattle.reader.proofs.run.number.Goals as goal
 
 pub overflow_mul-result : goal.overflow_mul-result
-overflow_mul-result c = let z = small_refused c.a-1.given.1 c.requires in omega arith
+overflow_mul-result c = let z = small_refused c.in-Refused.is c.requires in omega arith
 
 pub overflow_add-result : goal.overflow_add-result
-overflow_add-result c = let z = small_refused c.a-1.given.1 c.requires in omega arith
+overflow_add-result c = let z = small_refused c.in-Refused.is c.requires in omega arith
 
 pub returns-in-Accepted : goal.returns-in-Accepted
-returns-in-Accepted c = sym (ap answer_number c.enum_told-1.given.1)
+returns-in-Accepted c = sym (ap answer_number c.in-Accepted.is)
 
 pub returns-in-Refused : goal.returns-in-Refused
-returns-in-Refused c = sym (ap answer_number c.a-1.given.1)
+returns-in-Refused c = sym (ap answer_number c.in-Refused.is)

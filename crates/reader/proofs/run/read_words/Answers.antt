@@ -68,4 +68,4 @@ returns c =
     let sized = c.sized in
     let reading = c.reading-a in
     let clear = c.clear in
-    words_accepted _ _ _ _ (sym (not-false _ if1.false) ∙ sized.ensures) (omega arith) (omega arith) reading.ensures c.a-1.given.1 clear.ensures
+    words_accepted _ _ _ _ (sym (not-false _ if1.false) ∙ sized.ensures) (omega arith) (omega arith) reading.ensures c.in-Accepted.is clear.ensures

@@ -12,15 +12,15 @@ begun-requires c =
 
 pub refused-requires : goal.refused-requires
 refused-requires c =
-    (halt_place c.begun.ensures c.k-1.given.1).1
+    (halt_place c.begun.ensures c.in-Refused.is).1
 
 pub steps-requires : goal.steps-requires
 steps-requires c =
-    body_start c.begun.ensures c.body-1.given.1
+    body_start c.begun.ensures c.in-Behind.is
 
 pub returns-in-Refused : goal.returns-in-Refused
 returns-in-Refused c =
-    ran_halt c.begun.ensures c.k-1.given.1 c.refused.ensures
+    ran_halt c.begun.ensures c.in-Refused.is c.refused.ensures
 
 pub returns-in-Behind : goal.returns-in-Behind
 returns-in-Behind c =

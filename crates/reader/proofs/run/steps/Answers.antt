@@ -64,7 +64,7 @@ pub refused-requires : goal.refused-requires
 refused-requires c =
     let u = c.skim-y.ensures.goes c.loop-left.invariant.3 in
     let h = c.skim-y.ensures.short in
-    more-place u (omega arith) c.step.ensures c.next-1.given.1
+    more-place u (omega arith) c.step.ensures c.in-More.is
 
 pub shape_of-t-then-n-room : goal.shape_of-t-then-n-room
 shape_of-t-then-n-room c =
@@ -99,7 +99,7 @@ pub returns-then-n-room : goal.returns-then-n-room
 returns-then-n-room c =
     let u = c.skim-y.ensures.goes c.loop-left.invariant.3 in
     let h = c.skim-y.ensures.short in
-    rw c.refused.ensures (ran_full u (omega arith) c.step.ensures c.next-1.given.1 c.if-n-room.true)
+    rw c.refused.ensures (ran_full u (omega arith) c.step.ensures c.in-More.is c.if-n-room.true)
 
 pub overflow_add-n : goal.overflow_add-n
 overflow_add-n c =
@@ -122,7 +122,7 @@ loop-left-preserved-in-More c =
     let i = c.loop-left.invariant in
     let k = c.skim-y.auto in
     let q = c.step.auto in
-    (omega arith, omega arith, omega arith, underway_more u (omega arith) c.step.ensures c.next-1.given.1 c.if-n-room.false (omega arith))
+    (omega arith, omega arith, omega arith, underway_more u (omega arith) c.step.ensures c.in-More.is c.if-n-room.false (omega arith))
 
 pub loop-left-smaller : goal.loop-left-smaller
 loop-left-smaller c =
@@ -137,7 +137,7 @@ loop-left-preserved c =
     let i = c.loop-left.invariant in
     let k = c.skim-y.auto in
     let q = c.step.auto in
-    (omega arith, omega arith, omega arith, underway_quiet u (omega arith) c.step.ensures c.next-in-Quiet-1.given.1 (omega arith))
+    (omega arith, omega arith, omega arith, underway_quiet u (omega arith) c.step.ensures c.in-Quiet.is (omega arith))
 
 pub overflow_cast-result : goal.overflow_cast-result
 overflow_cast-result c =
@@ -180,20 +180,20 @@ pub returns-in-Done : goal.returns-in-Done
 returns-in-Done c =
     let u = c.skim-y.ensures.goes c.loop-left.invariant.3 in
     let h = c.skim-y.ensures.short in
-    ran_done u (omega arith) c.step.ensures c.enum_told-1.given.1
+    ran_done u (omega arith) c.step.ensures c.in-Done.is
 
 pub overflow_cast-number : goal.overflow_cast-number
 overflow_cast-number c =
     let u = c.skim-y.ensures.goes c.loop-left.invariant.3 in
     let h = c.skim-y.ensures.short in
-    let k = stop_place u (omega arith) c.step.ensures c.stopped-1.given.1 in
+    let k = stop_place u (omega arith) c.step.ensures c.in-Stop.is in
     omega arith
 
 pub refused-requires-in-Stop : goal.refused-requires-in-Stop
 refused-requires-in-Stop c =
     let u = c.skim-y.ensures.goes c.loop-left.invariant.3 in
     let h = c.skim-y.ensures.short in
-    (stop_place u (omega arith) c.step.ensures c.stopped-1.given.1).1
+    (stop_place u (omega arith) c.step.ensures c.in-Stop.is).1
 
 pub shape_of-t-in-Stop : goal.shape_of-t-in-Stop
 shape_of-t-in-Stop c =
@@ -228,7 +228,7 @@ pub returns-in-Stop : goal.returns-in-Stop
 returns-in-Stop c =
     let u = c.skim-y.ensures.goes c.loop-left.invariant.3 in
     let h = c.skim-y.ensures.short in
-    rw c.refused-in-Stop.ensures (ran_stop u (omega arith) c.step.ensures c.stopped-1.given.1)
+    rw c.refused-in-Stop.ensures (ran_stop u (omega arith) c.step.ensures c.in-Stop.is)
 
 pub refused-requires-2 : goal.refused-requires-2
 refused-requires-2 c =

@@ -15,18 +15,18 @@ name-requires c =
 
 pub returns-in_default : goal.returns-in_default
 returns-in_default c =
-    (refl, attribute_full _ _ c.args.st c.args.counts.now _ c.args.e c.requires _ c.name_of-name.ensures (rw c.enum_told-1.given.1 at c.name.ensures))
+    (refl, attribute_full _ _ c.args.st c.args.counts.now _ c.args.e c.requires _ c.name_of-name.ensures (rw c.in_default.is at c.name.ensures))
 
 pub value-next-requires : goal.value-next-requires
 value-next-requires c =
-    let stands = rw c.behind-1.given.1 at c.name.ensures in
+    let stands = rw c.in-Put.is at c.name.ensures in
     let low = c.octet-at.ensures.1 in
     let few = stands.few in
     (stands.order, omega arith, omega arith, omega arith, attribute_fills c.args.text.now c.args.e c.requires.made c.requires.texts)
 
 pub landed-requires : goal.landed-requires
 landed-requires c =
-    let stands = rw c.behind-1.given.1 at c.name.ensures in
+    let stands = rw c.in-Put.is at c.name.ensures in
     let low = c.octet-at.ensures.1 in
     let few = stands.few in
     let most = c.value-next.ensures.few in
@@ -50,5 +50,5 @@ shape_of-out c =
 
 pub returns : goal.returns
 returns c =
-    let stands = rw c.behind-1.given.1 at c.name.ensures in
+    let stands = rw c.in-Put.is at c.name.ensures in
     rw c.landed.ensures (attribute_lands _ _ _ _ _ _ c.requires _ c.name_of-name.ensures c.octet-at.ensures stands c.value-next.ensures)

@@ -16,18 +16,18 @@ identified-requires c =
 
 pub returns-in_default : goal.returns-in_default
 returns-in_default c =
-    (refl, instruction_full _ _ c.args.st c.args.counts.now _ c.args.e (rw c.enum_told-1.given.1 at c.identified.ensures))
+    (refl, instruction_full _ _ c.args.st c.args.counts.now _ c.args.e (rw c.in_default.is at c.identified.ensures))
 
 pub value-next-requires : goal.value-next-requires
 value-next-requires c =
-    let stands = rw c.behind-1.given.1 at c.identified.ensures in
+    let stands = rw c.in-Put.is at c.identified.ensures in
     let low = c.octet-at.ensures.1 in
     let few = stands.few in
     (stands.order, omega arith, omega arith, omega arith, instruction_fills c.args.text.now c.args.e c.requires.made c.requires.texts)
 
 pub landed-requires : goal.landed-requires
 landed-requires c =
-    let stands = rw c.behind-1.given.1 at c.identified.ensures in
+    let stands = rw c.in-Put.is at c.identified.ensures in
     let low = c.octet-at.ensures.1 in
     let few = stands.few in
     let most = c.value-next.ensures.few in
@@ -51,5 +51,5 @@ shape_of-out c =
 
 pub returns : goal.returns
 returns c =
-    let stands = rw c.behind-1.given.1 at c.identified.ensures in
+    let stands = rw c.in-Put.is at c.identified.ensures in
     rw c.landed.ensures (instruction_lands _ _ _ _ _ _ c.requires c.octet-at.ensures c.put.ensures stands c.value-next.ensures)

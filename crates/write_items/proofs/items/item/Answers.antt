@@ -9,74 +9,74 @@ use Rattle.write_items.proofs.ItemLaws.{kind_fits}
 use Rattle.write_items.proofs.items.item.Goals as goal
 
 pub close-requires : goal.close-requires
-close-requires c = absurd (by_kind _ _ Blank (rw c.enum_told-1.given.1 at c.requires.made))
+close-requires c = absurd (by_kind _ _ Blank (rw c.in-Blank.is at c.requires.made))
 
 pub declare-requires : goal.declare-requires
 declare-requires c =
-    kind_fits c.enum_told-in-Namespace-1.given.1 c.requires
+    kind_fits c.in-Namespace.is c.requires
 
 pub start-requires : goal.start-requires
 start-requires c =
-    kind_fits c.enum_told-in-Start-1.given.1 c.requires
+    kind_fits c.in-Start.is c.requires
 
 pub attribute-requires : goal.attribute-requires
 attribute-requires c =
-    kind_fits c.enum_told-in-Attribute-1.given.1 c.requires
+    kind_fits c.in-Attribute.is c.requires
 
 pub chunk-requires : goal.chunk-requires
 chunk-requires c =
-    kind_fits c.enum_told-in-Chunk-1.given.1 c.requires
+    kind_fits c.in-Chunk.is c.requires
 
 pub comment-requires : goal.comment-requires
 comment-requires c =
-    kind_fits c.enum_told-in-Comment-1.given.1 c.requires
+    kind_fits c.in-Comment.is c.requires
 
 pub instruction-requires : goal.instruction-requires
 instruction-requires c =
-    kind_fits c.enum_told-in-Instruction-1.given.1 c.requires
+    kind_fits c.in-Instruction.is c.requires
 
 pub close-requires-in-End : goal.close-requires-in-End
 unfolding event_of
 close-requires-in-End c =
     let shallow = c.requires.shallow in
-    (c.requires.at, c.requires.inside (rw c.enum_told-in-End-1.given.1), omega arith)
+    (c.requires.at, c.requires.inside (rw c.in-End.is), omega arith)
 
 pub returns-in-Blank : goal.returns-in-Blank
 unfolding event_of
 returns-in-Blank c =
-    absurd (by_kind _ _ Blank (rw c.enum_told-1.given.1 at c.requires.made))
+    absurd (by_kind _ _ Blank (rw c.in-Blank.is at c.requires.made))
 
 pub returns-in-Namespace : goal.returns-in-Namespace
 unfolding event_of
 returns-in-Namespace c =
-    rw c.enum_told-in-Namespace-1.given.1 c.declare.ensures
+    rw c.in-Namespace.is c.declare.ensures
 
 pub returns-in-Start : goal.returns-in-Start
 unfolding event_of
 returns-in-Start c =
-    rw c.enum_told-in-Start-1.given.1 c.start.ensures
+    rw c.in-Start.is c.start.ensures
 
 pub returns-in-Attribute : goal.returns-in-Attribute
 unfolding event_of
 returns-in-Attribute c =
-    rw c.enum_told-in-Attribute-1.given.1 c.attribute.ensures
+    rw c.in-Attribute.is c.attribute.ensures
 
 pub returns-in-Chunk : goal.returns-in-Chunk
 unfolding event_of
 returns-in-Chunk c =
-    rw c.enum_told-in-Chunk-1.given.1 c.chunk.ensures
+    rw c.in-Chunk.is c.chunk.ensures
 
 pub returns-in-Comment : goal.returns-in-Comment
 unfolding event_of
 returns-in-Comment c =
-    rw c.enum_told-in-Comment-1.given.1 c.comment.ensures
+    rw c.in-Comment.is c.comment.ensures
 
 pub returns-in-Instruction : goal.returns-in-Instruction
 unfolding event_of
 returns-in-Instruction c =
-    rw c.enum_told-in-Instruction-1.given.1 c.instruction.ensures
+    rw c.in-Instruction.is c.instruction.ensures
 
 pub returns-in-End : goal.returns-in-End
 unfolding event_of
 returns-in-End c =
-    rw c.enum_told-in-End-1.given.1 (c.close-in-End.ensures c.args.text.now c.args.a c.args.counts.now c.args.t.now c.args.index.now c.requires.order)
+    rw c.in-End.is (c.close-in-End.ensures c.args.text.now c.args.a c.args.counts.now c.args.t.now c.args.index.now c.requires.order)

@@ -5,12 +5,12 @@ use native.Mathlib.Omega.{arith}
 use Rattle.write_items.proofs.items.landed.Goals as goal
 
 pub returns-in_default : goal.returns-in_default
-returns-in_default c = rw c.enum_told-1.given.1
+returns-in_default c = rw c.in_default.is
 
 pub moved-requires : goal.moved-requires
 moved-requires c =
-    let near = rw c.w-1.given.1 at c.requires in
+    let near = rw c.in-Put.is at c.requires in
     omega arith
 
 pub returns : goal.returns
-returns c = rw (c.w-1.given.1, c.moved.ensures)
+returns c = rw (c.in-Put.is, c.moved.ensures)

@@ -16,14 +16,14 @@ item-r-requires c =
 
 pub held-requires : goal.held-requires
 held-requires c =
-    let landed = rw c.r-1.given.1 at c.item-r.ensures in
+    let landed = rw c.in-On.is at c.item-r.ensures in
     landed.near
 
 pub returns-in-On : goal.returns-in-On
 returns-in-On c =
-    let landed = rw c.r-1.given.1 at c.item-r.ensures in
+    let landed = rw c.in-On.is at c.item-r.ensures in
     step_held c.args.text.now c.args.st c.args.counts.now c.args.t.now c.args.e c.args.a (sym (c.fault-fault.ensures _) ∙ omega (arith, c.if-fault-ne0.false)) _ _ c.args.out.now _ c.settle-settled.ensures landed _ (c.held.ensures _)
 
 pub returns-in-Stop : goal.returns-in-Stop
 returns-in-Stop c =
-    step_full c.args.text.now c.args.st c.args.counts.now c.args.t.now c.args.e c.args.a (sym (c.fault-fault.ensures _) ∙ omega (arith, c.if-fault-ne0.false)) _ _ c.args.out.now _ c.settle-settled.ensures _ (rw c.r-in-Stop-1.given.1 at c.item-r.ensures)
+    step_full c.args.text.now c.args.st c.args.counts.now c.args.t.now c.args.e c.args.a (sym (c.fault-fault.ensures _) ∙ omega (arith, c.if-fault-ne0.false)) _ _ c.args.out.now _ c.settle-settled.ensures _ (rw c.in-Stop.is at c.item-r.ensures)

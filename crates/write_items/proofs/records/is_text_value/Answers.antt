@@ -11,21 +11,21 @@ use Rattle.write_items.proofs.records.is_text_value.Goals as goal
 
 pub is_text-requires : goal.is_text-requires
 is_text-requires c =
-    let lies = rw c.x-1.given.1 at c.requires in
+    let lies = rw c.in-Stretch.is at c.requires in
     (omega arith, lies.1)
 
 pub returns-then-number-eq0 : goal.returns-then-number-eq0
 returns-then-number-eq0 c =
     let z = form_zero c.x-1.given.0.0 (sym c.number.ensures.0 ∙ c.if-number-eq0.true) in
-    c.is_text.ensures ∙ rw (c.x-1.given.1, z) (stretch_text _ Utf8 _ _)
+    c.is_text.ensures ∙ rw (c.in-Stretch.is, z) (stretch_text _ Utf8 _ _)
 
 pub is_text-requires-in-Stretch : goal.is_text-requires-in-Stretch
 is_text-requires-in-Stretch c =
-    let lies = rw c.x-1.given.1 at c.requires in
+    let lies = rw c.in-Stretch.is at c.requires in
     (omega arith, lies.1)
 
 pub returns-else-number-eq0 : goal.returns-else-number-eq0
-returns-else-number-eq0 c = c.is_text-in-Stretch.ensures.0 ∙ rw c.x-1.given.1 (stretch_text _ _ _ _)
+returns-else-number-eq0 c = c.is_text-in-Stretch.ensures.0 ∙ rw c.in-Stretch.is (stretch_text _ _ _ _)
 
 pub returns-in_default : goal.returns-in_default
-returns-in_default c = other_text _ c.args.x λ f p n q. ⊎_elim (λ e. omega arith) (⊎_elim (λ e. omega arith) (⊎_elim (λ e. omega arith) (λ e. omega arith))) (rw q at c.in_default.keys2)
+returns-in_default c = other_text _ c.args.x λ f p n q. ⊎_elim (λ e. omega arith) (⊎_elim (λ e. omega arith) (⊎_elim (λ e. omega arith) (λ e. omega arith))) (rw q at c.in_default.is)

@@ -11,19 +11,19 @@ optional-requires c =
 
 pub returns-in_default : goal.returns-in_default
 returns-in_default c =
-    let full = rw (c.enum_told-1.given.1, c.requires.2) at c.optional.ensures in
+    let full = rw (c.in_default.is, c.requires.2) at c.optional.ensures in
     pair_full _ _ _ _ _ full
 
 pub optional-requires-2 : goal.optional-requires-2
 optional-requires-2 c =
-    let stands = rw (c.behind-1.given.1, c.requires.2) at c.optional.ensures in
+    let stands = rw (c.in-Put.is, c.requires.2) at c.optional.ensures in
     let few = stands.few in
     let looked = pair_looked _ _ _ _ c.requires.0 _ _ _ stands.order _ c.args.x.namespace c.requires.3 stands.tables c.requires.5 in
     (stands.order, omega arith, looked)
 
 pub returns : goal.returns
 returns c =
-    let stands = rw (c.behind-1.given.1, c.requires.2) at c.optional.ensures in
+    let stands = rw (c.in-Put.is, c.requires.2) at c.optional.ensures in
     let then = rw c.requires.3 at c.optional-2.ensures in
     let last = c.optional-2.new in
     pair-behind _ _ c.args.x.first _ _ c.args.out.now c.args.at _ c.put.ensures stands c.optional-2.result last.1.1.1.1.0 last.1.1.0 last.1.0 last.1.1.1.0 then

@@ -15,26 +15,26 @@ pair-requires c =
 
 pub returns-in_default : goal.returns-in_default
 returns-in_default c =
-    let full = rw c.enum_told-1.given.1 at c.pair.ensures in
+    let full = rw c.in_default.is at c.pair.ensures in
     parts_full _ _ _ c.args.name c.args.k c.requires.2 full
 
 pub id-requires : goal.id-requires
 id-requires c =
-    let stands = rw c.behind-1.given.1 at c.pair.ensures in
+    let stands = rw c.in-Put.is at c.pair.ensures in
     let few = stands.few in
     let held = c.requires.2.held in
     (stands.order, omega arith, c.requires.3.6, (omega arith, c.requires.3.5, local_held _ _ _ _ stands.order _ _ _ _ _ _ stands.tables held.local, held.few.2))
 
 pub returns-in_default-id : goal.returns-in_default-id
 returns-in_default-id c =
-    let stands = rw c.behind-1.given.1 at c.pair.ensures in
-    let full = rw c.enum_told-in_default-id-1.given.1 at c.id.ensures in
+    let stands = rw c.in-Put.is at c.pair.ensures in
+    let full = rw c.in_default-id.is at c.id.ensures in
     local_full _ _ _ c.args.name c.args.k c.requires.2 stands full
 
 pub triple-requires : goal.triple-requires
 triple-requires c =
-    let stands = rw c.behind-1.given.1 at c.pair.ensures in
-    let then = rw c.next-1.given.1 at c.id.ensures in
+    let stands = rw c.in-Put.is at c.pair.ensures in
+    let then = rw c.in-Put-id.is at c.id.ensures in
     let proper = c.requires.3 in
     (then.order.room, then.order.ten, then.order.indexed.size, proper.0, proper.1, triple_new _ _ _ c.args.name c.args.k c.requires.2 stands proper then)
 
@@ -57,8 +57,8 @@ shape_of-out c =
 pub returns : goal.returns
 returns c =
     let at-start = c.before in
-    let stands = rw c.behind-1.given.1 at c.pair.ensures in
-    let then = rw c.next-1.given.1 at c.id.ensures in
+    let stands = rw c.in-Put.is at c.pair.ensures in
+    let then = rw c.in-Put-id.is at c.id.ensures in
     let proper = at-start.requires.3 in
     let i = c.parts_bits.ensures in
     let a = c.has.ensures in

@@ -23,7 +23,7 @@ pub returns-in_default : goal.returns-in_default
 returns-in_default c =
     let clear = c.clear in
     let written = c.written-a in
-    words_refused _ _ _ _ _ _ _ (omega arith) written.result written.ensures c.number.ensures c.enum_told-1.given.1 clear.ensures
+    words_refused _ _ _ _ _ _ _ (omega arith) written.result written.ensures c.number.ensures c.in_default.is clear.ensures
 
 pub returns : goal.returns
 returns c =

@@ -7,7 +7,7 @@ use Rattle.writer.specs.Words.{answer_word}
 use Rattle.writer.proofs.run.number.Goals as goal
 
 pub returns-in-Accepted : goal.returns-in-Accepted
-returns-in-Accepted c = let e = ap answer_word c.a-1.given.1 in omega arith
+returns-in-Accepted c = let e = ap answer_word c.in-Accepted.is in omega arith
 
 pub returns-in-Refused : goal.returns-in-Refused
-returns-in-Refused c = let e = ap answer_word c.a-in-Refused-1.given.1 in omega arith
+returns-in-Refused c = let e = ap answer_word c.in-Refused.is in omega arith

@@ -20,7 +20,7 @@ begin-requires c =
 
 pub begin-requires-in-Body : goal.begin-requires-in-Body
 begin-requires-in-Body c =
-    let opened = rw c.at-1.given.1 at c.begin.ensures in
+    let opened = rw c.in-Body.is at c.begin.ensures in
     omega (arith, opened.near)
 
 pub shape_of-out-in-Body : goal.shape_of-out-in-Body
@@ -28,10 +28,10 @@ shape_of-out-in-Body c = omega (arith, c.begin.auto, c.clear.auto)
 
 pub returns-in-Body : goal.returns-in-Body
 returns-in-Body c =
-    let opened = rw c.at-1.given.1 at c.begin.ensures in
+    let opened = rw c.in-Body.is at c.begin.ensures in
     λ es. going_start _ es _ _ _ (omega arith) (omega arith) opened c.begin-in-Body.ensures c.counts_in.ensures
 
 pub returns-in-Refused : goal.returns-in-Refused
 returns-in-Refused c =
-    let refused = rw c.number-1.given.1 at c.begin.ensures in
+    let refused = rw c.in-Refused.is at c.begin.ensures in
     λ es. going_refused _ es _ _ _ _ (omega arith) (omega arith) refused.0 refused.1

@@ -42,7 +42,7 @@ step-requires c = stepping_ready c.loop-i.invariant.4
 
 pub learn-requires : goal.learn-requires
 learn-requires c =
-    let s = stepped c.loop-i.invariant.4 c.loop-i-test.true c.look_from.ensures c.announced_words-a.ensures c.from_words-e.ensures c.bit-b.ensures c.step.result c.step.new.1.1.1.1.1.0 c.step.new.1.1.1.0 c.step.new.1.1.0 c.step.new.1.1.1.1.0 c.step.ensures c.next-1.given.1 in
+    let s = stepped c.loop-i.invariant.4 c.loop-i-test.true c.look_from.ensures c.announced_words-a.ensures c.from_words-e.ensures c.bit-b.ensures c.step.result c.step.new.1.1.1.1.1.0 c.step.new.1.1.1.0 c.step.new.1.1.0 c.step.new.1.1.1.1.0 c.step.ensures c.in-On.is in
     (c.loop-i-test.true, stepping_small c.loop-i.invariant.4, stepped_few s)
 
 pub overflow_add-i : goal.overflow_add-i
@@ -50,7 +50,7 @@ overflow_add-i c = omega (arith, stepping_small c.loop-i.invariant.4)
 
 pub ride-l-requires : goal.ride-l-requires
 ride-l-requires c =
-    let s = stepped c.loop-i.invariant.4 c.loop-i-test.true c.look_from.ensures c.announced_words-a.ensures c.from_words-e.ensures c.bit-b.ensures c.step.result c.step.new.1.1.1.1.1.0 c.step.new.1.1.1.0 c.step.new.1.1.0 c.step.new.1.1.1.1.0 c.step.ensures c.next-1.given.1 in
+    let s = stepped c.loop-i.invariant.4 c.loop-i-test.true c.look_from.ensures c.announced_words-a.ensures c.from_words-e.ensures c.bit-b.ensures c.step.result c.step.new.1.1.1.1.1.0 c.step.new.1.1.1.0 c.step.new.1.1.0 c.step.new.1.1.1.1.0 c.step.ensures c.in-On.is in
     let kept = c.learn.new.0 in
     let learned = stepped_learned s kept c.learn.ensures in
     ((stepped_safe s).0, (stepped_safe s).1, stepped_filed s kept learned)
@@ -62,7 +62,7 @@ loop-i-smaller c =
 
 pub loop-i-preserved : goal.loop-i-preserved
 loop-i-preserved c =
-    let s = stepped c.loop-i.invariant.4 c.loop-i-test.true c.look_from.ensures c.announced_words-a.ensures c.from_words-e.ensures c.bit-b.ensures c.step.result c.step.new.1.1.1.1.1.0 c.step.new.1.1.1.0 c.step.new.1.1.0 c.step.new.1.1.1.1.0 c.step.ensures c.next-1.given.1 in
+    let s = stepped c.loop-i.invariant.4 c.loop-i-test.true c.look_from.ensures c.announced_words-a.ensures c.from_words-e.ensures c.bit-b.ensures c.step.result c.step.new.1.1.1.1.1.0 c.step.new.1.1.1.0 c.step.new.1.1.0 c.step.new.1.1.1.1.0 c.step.ensures c.in-On.is in
     let kept = c.learn.new.0 in
     let learned = stepped_learned s kept c.learn.ensures in
     let far = c.ride-l.auto in
@@ -83,7 +83,7 @@ shape_of-index-in-Stop c = omega (arith, c.loop-i.invariant.2, c.step.auto)
 pub returns-in-Stop : goal.returns-in-Stop
 returns-in-Stop c =
     let a = c.args in
-    λ o g. step_stopped c.loop-i.invariant.4 c.loop-i-test.true c.look_from.ensures c.announced_words-a.ensures c.from_words-e.ensures c.bit-b.ensures c.step.result c.step.new.1.1.1.1.1.0 c.step.new.1.1.1.0 c.step.new.1.1.0 c.step.new.1.1.1.1.0 c.step.ensures c.number-1.given.1 (omega (arith, c.step.auto)) o (start_moving a.records.now a.text.now a.room (length a.t.now) a.first a.start _ a.out.now a.t.now a.index.now c.put_counts.ensures o g)
+    λ o g. step_stopped c.loop-i.invariant.4 c.loop-i-test.true c.look_from.ensures c.announced_words-a.ensures c.from_words-e.ensures c.bit-b.ensures c.step.result c.step.new.1.1.1.1.1.0 c.step.new.1.1.1.0 c.step.new.1.1.0 c.step.new.1.1.1.1.0 c.step.ensures c.in-Stop.is (omega (arith, c.step.auto)) o (start_moving a.records.now a.text.now a.room (length a.t.now) a.first a.start _ a.out.now a.t.now a.index.now c.put_counts.ensures o g)
 
 pub shape_of-out : goal.shape_of-out
 shape_of-out c = omega (arith, c.loop-i.invariant.0)

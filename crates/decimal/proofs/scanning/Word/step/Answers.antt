@@ -31,27 +31,27 @@ pub enum_told-in-NoWord : goal.enum_told-in-NoWord
 enum_told-in-NoWord c = search rules
 
 pub returns-in-Digits : goal.returns-in-Digits
-returns-in-Digits c = step_digit _ _ c.self-1.given.1 c.grown.ensures
+returns-in-Digits c = step_digit _ _ c.in-Digits.is c.grown.ensures
 
 pub returns-in-45 : goal.returns-in-45
-returns-in-45 c = step_minus _ _ c.enum_told-1.given.1 (omega arith)
+returns-in-45 c = step_minus _ _ c.in-Empty.is (omega arith)
 
 pub returns-in-48 : goal.returns-in-48
-returns-in-48 c = step_zero _ _ c.enum_told-1.given.1 (omega arith)
+returns-in-48 c = step_zero _ _ c.in-Empty.is (omega arith)
 
 pub returns-in_default : goal.returns-in_default
-returns-in_default c = let r = c.in_default.rest in step_first _ _ c.enum_told-1.given.1 r.0.1 r.1 c.grown-in_default.ensures
+returns-in_default c = let r = c.in_default.in_default-own.rest in step_first _ _ c.in-Empty.is r.0.1 r.1 c.grown-in_default.ensures
 
 pub returns-in-48-o : goal.returns-in-48-o
-returns-in-48-o c = step_no_zero _ _ c.enum_told-in-Minus-1.given.1 (omega arith)
+returns-in-48-o c = step_no_zero _ _ c.in-Minus.is (omega arith)
 
 pub returns-in_default-o : goal.returns-in_default-o
-returns-in_default-o c = step_behind_minus _ _ c.enum_told-in-Minus-1.given.1 c.in_default-o.rest.1 c.grown-in_default-o.ensures
+returns-in_default-o c = step_behind_minus _ _ c.in-Minus.is c.in_default-o.in_default-o-own.rest.1 c.grown-in_default-o.ensures
 
 pub returns-in-Zero : goal.returns-in-Zero
 unfolding stepped
-returns-in-Zero c = rw c.enum_told-in-Zero-1.given.1
+returns-in-Zero c = rw c.in-Zero.is
 
 pub returns-in-NoWord : goal.returns-in-NoWord
 unfolding stepped
-returns-in-NoWord c = rw c.enum_told-in-NoWord-1.given.1
+returns-in-NoWord c = rw c.in-NoWord.is

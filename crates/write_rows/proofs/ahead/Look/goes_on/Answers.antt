@@ -6,12 +6,12 @@ use Rattle.write_rows.proofs.ahead.Look.goes_on.Goals as goal
 
 pub returns-in-Before : goal.returns-in-Before
 unfolding onward
-returns-in-Before c = rw c.enum_told-1.given.1
+returns-in-Before c = rw c.in-Before.is
 
 pub returns-in-Behind : goal.returns-in-Behind
 unfolding onward
-returns-in-Behind c = rw c.enum_told-in-Behind-1.given.1
+returns-in-Behind c = rw c.in-Behind.is
 
 pub returns-in-Known : goal.returns-in-Known
 unfolding onward
-returns-in-Known c = rw c.enum_told-in-Known-1.given.1
+returns-in-Known c = rw c.in-Known.is

@@ -6,12 +6,12 @@ use Rattle.write_rows.proofs.ahead.Look.past.Goals as goal
 
 pub returns-in-Before : goal.returns-in-Before
 unfolding decided
-returns-in-Before c = λ es. rw c.enum_told-1.given.1 (c.before_start.ensures es)
+returns-in-Before c = λ es. rw c.in-Before.is (c.before_start.ensures es)
 
 pub returns-in-Behind : goal.returns-in-Behind
 unfolding decided
-returns-in-Behind c = λ es. rw c.enum_told-in-Behind-1.given.1 (c.is_attribute.ensures es)
+returns-in-Behind c = λ es. rw c.in-Behind.is (c.is_attribute.ensures es)
 
 pub returns-in-Known : goal.returns-in-Known
 unfolding decided
-returns-in-Known c = λ es. rw c.self-1.given.1
+returns-in-Known c = λ es. rw c.in-Known.is

@@ -4,4 +4,4 @@ use borrow.Author.Rules.{rules}
 use Rattle.writer.proofs.run.Phase.goes_on.Goals as goal
 
 pub returns-in-Onward : goal.returns-in-Onward
-returns-in-Onward c = rw c.enum_told-1.given.1
+returns-in-Onward c = rw c.in-Onward.is

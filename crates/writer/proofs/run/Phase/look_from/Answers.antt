@@ -4,4 +4,4 @@ use borrow.Author.Rules.{rules}
 use Rattle.writer.proofs.run.Phase.look_from.Goals as goal
 
 pub returns-in-Onward : goal.returns-in-Onward
-returns-in-Onward c = rw c.self-1.given.1 c.look_from.ensures
+returns-in-Onward c = rw c.in-Onward.is c.look_from.ensures

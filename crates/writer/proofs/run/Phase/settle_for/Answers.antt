@@ -22,4 +22,4 @@ pub returns : goal.returns
 returns c =
     let a = c.args in
     let ended = c.ended-a in
-    settles_accepted a.room a.i a.self a.out.now a.t.now ended.result ended.new.1.0 ended.ensures c.a-1.given.1
+    settles_accepted a.room a.i a.self a.out.now a.t.now ended.result ended.new.1.0 ended.ensures c.in-Accepted.is

@@ -9,15 +9,15 @@ use Rattle.writer.proofs.run.Phase.through.Goals as goal
 pub steps-requires : goal.steps-requires
 steps-requires c =
     let a = c.args in
-    leading_onward (records_of a.records.now) a.text.now a.room (length a.t.now) a.out.now a.t.now a.index.now c.self-1.given.1 c.requires
+    leading_onward (records_of a.records.now) a.text.now a.room (length a.t.now) a.out.now a.t.now a.index.now c.in-Onward.is c.requires
 
 pub returns-in-Onward : goal.returns-in-Onward
 returns-in-Onward c =
     let a = c.args in
     let steps = c.steps in
-    through_onward (records_of a.records.now) a.text.now a.room (length a.t.now) a.out.now a.t.now a.index.now c.self-1.given.1 steps.result steps.new.1.1.0 steps.new.1.1.1.1.0 steps.new.1.1.1.1.1.0 steps.ensures
+    through_onward (records_of a.records.now) a.text.now a.room (length a.t.now) a.out.now a.t.now a.index.now c.in-Onward.is steps.result steps.new.1.1.0 steps.new.1.1.1.1.0 steps.new.1.1.1.1.1.0 steps.ensures
 
 pub returns-in-Halted : goal.returns-in-Halted
 returns-in-Halted c =
     let a = c.args in
-    through_halted (records_of a.records.now) a.text.now a.room (length a.t.now) a.out.now a.t.now a.index.now c.self-in-Halted-1.given.1
+    through_halted (records_of a.records.now) a.text.now a.room (length a.t.now) a.out.now a.t.now a.index.now c.in-Halted.is

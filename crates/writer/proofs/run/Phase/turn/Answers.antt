@@ -8,25 +8,25 @@ use Rattle.writer.proofs.run.Phase.turn.Goals as goal
 
 pub step-requires : goal.step-requires
 step-requires c =
-    let steady = steady_onward c.args.text.now c.args.i c.args.t.now c.args.index.now c.self-1.given.1 c.requires in
+    let steady = steady_onward c.args.text.now c.args.i c.args.t.now c.args.index.now c.in-Onward.is c.requires in
     rw c.put_counts.ensures steady.0
 
 pub overflow_cast-result : goal.overflow_cast-result
 overflow_cast-result c =
-    let steady = steady_onward c.args.text.now c.args.i c.args.t.now c.args.index.now c.self-1.given.1 c.requires in
+    let steady = steady_onward c.args.text.now c.args.i c.args.t.now c.args.index.now c.in-Onward.is c.requires in
     let a = steady.0.at in
     omega arith
 
 pub returns-in-On : goal.returns-in-On
 returns-in-On c =
     let last = c.step.new in
-    turn_on c.args.text.now (length c.args.out.now) (length c.args.t.now) c.args.i c.args.out.now c.args.t.now c.args.index.now c.args.e c.args.a last.1.1.1.1.1.0 last.1.1.0 last.1.1.1.1.0 _ _ c.args.self c.self-1.given.1 c.put_counts.ensures _ c.bit.ensures c.step.result last.1.1.1.0 c.step.ensures _ _ c.next-1.given.1 c.counts_in.ensures
+    turn_on c.args.text.now (length c.args.out.now) (length c.args.t.now) c.args.i c.args.out.now c.args.t.now c.args.index.now c.args.e c.args.a last.1.1.1.1.1.0 last.1.1.0 last.1.1.1.1.0 _ _ c.args.self c.in-Onward.is c.put_counts.ensures _ c.bit.ensures c.step.result last.1.1.1.0 c.step.ensures _ _ c.in-On.is c.counts_in.ensures
 
 pub returns-in-Stop : goal.returns-in-Stop
 returns-in-Stop c =
     let last = c.step.new in
-    turn_stop c.args.text.now (length c.args.out.now) (length c.args.t.now) c.args.i c.args.out.now c.args.t.now c.args.index.now c.args.e c.args.a last.1.1.1.1.1.0 last.1.1.0 last.1.1.1.1.0 _ _ c.args.self c.self-1.given.1 c.put_counts.ensures _ c.bit.ensures c.step.result last.1.1.1.0 c.step.ensures _ c.number-1.given.1 (omega (arith, c.step.auto))
+    turn_stop c.args.text.now (length c.args.out.now) (length c.args.t.now) c.args.i c.args.out.now c.args.t.now c.args.index.now c.args.e c.args.a last.1.1.1.1.1.0 last.1.1.0 last.1.1.1.1.0 _ _ c.args.self c.in-Onward.is c.put_counts.ensures _ c.bit.ensures c.step.result last.1.1.1.0 c.step.ensures _ c.in-Stop.is (omega (arith, c.step.auto))
 
 pub returns-in-Halted : goal.returns-in-Halted
 returns-in-Halted c =
-    turn_halted c.args.text.now (length c.args.out.now) (length c.args.t.now) c.args.i c.args.out.now c.args.t.now c.args.index.now c.args.e c.args.a c.args.out.now c.args.t.now c.args.index.now _ _ _ c.self-in-Halted-1.given.1
+    turn_halted c.args.text.now (length c.args.out.now) (length c.args.t.now) c.args.i c.args.out.now c.args.t.now c.args.index.now c.args.e c.args.a c.args.out.now c.args.t.now c.args.index.now _ _ _ c.in-Halted.is
