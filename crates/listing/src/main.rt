@@ -3,51 +3,55 @@
 // A program: it prints what the reader found, and decides nothing.
 #![tactic(auto)]
 
-ghost use Rattle.std.specs.Prelude.{◌≤◌};
+ghost use Rattle.std.specs.Prelude.{◌≤◌, length, IfOk};
 ghost use Rattle.forms.specs.Streams.{Fine};
 
 use events::{PLACE, RECORD, kinds, strings, tags};
 use format::StringForm;
 use forms::{Next, Said};
-use libc::{STDERR_FILENO, STDIN_FILENO, STDOUT_FILENO};
+use itoa::Buffer;
+use std::env::{Env, FillError};
+use std::io::{self, Read};
 use tables::Counts;
 
+// The octets of a block of output.
+const BLOCK: usize = 4096;
+
 // Output goes through a block, which is written when it is full. Answers where the next octet goes.
-fn put(out: &mut [u8], n: usize, b: u8) -> usize {
+fn put(to: &impl Print, out: &mut [u8], n: usize, b: u8) -> io::Result<usize> {
     let mut at = n;
     if out.len() <= at {
-        io::write_all(STDOUT_FILENO, out);
+        to.write_all(out)?;
         at = 0;
     }
     if at < out.len() {
         out[at] = b;
-        return at + 1;
+        return Ok(at + 1);
     }
-    at
+    Ok(at)
 }
 
 // Writes what of the block is in use. n is never beyond it; the test spares every function here a contract that says so.
-fn flush(out: &[u8], n: usize) {
+fn flush(to: &impl Print, out: &[u8], n: usize) -> io::Result<()> {
     if out.len() < n {
-        return;
+        return Ok(());
     }
-    io::write_all(STDOUT_FILENO, &out[0..n]);
+    to.write_all(&out[0..n])
 }
 
-fn put_text(out: &mut [u8], n: usize, text: &[u8]) -> usize {
+fn put_text(to: &impl Print, out: &mut [u8], n: usize, text: &[u8]) -> io::Result<usize> {
     let mut at = n;
     let mut i = 0;
     while i < text.len() {
-        at = put(out, at, text[i]);
+        at = put(to, out, at, text[i])?;
         i += 1;
     }
-    at
+    Ok(at)
 }
 
-fn put_number(out: &mut [u8], n: usize, x: u64) -> usize {
-    let mut digits = [0u8; 20];
-    let k = io::decimal(x, &mut digits);
-    put_text(out, n, &digits[..k])
+fn put_number(to: &impl Print, out: &mut [u8], n: usize, x: u64) -> io::Result<usize> {
+    let mut digits = Buffer::new();
+    put_text(to, out, n, digits.format(x).as_bytes())
 }
 
 fn digit(x: u8) -> u8 {
@@ -58,23 +62,23 @@ fn digit(x: u8) -> u8 {
     b'a' - 10 + d
 }
 
-fn put_hex(out: &mut [u8], n: usize, b: u8) -> usize {
-    let at = put(out, n, digit(b / 16));
-    put(out, at, digit(b))
+fn put_hex(to: &impl Print, out: &mut [u8], n: usize, b: u8) -> io::Result<usize> {
+    let at = put(to, out, n, digit(b / 16))?;
+    put(to, out, at, digit(b))
 }
 
-fn put_octets(out: &mut [u8], n: usize, text: &[u8]) -> usize {
+fn put_octets(to: &impl Print, out: &mut [u8], n: usize, text: &[u8]) -> io::Result<usize> {
     let mut at = n;
     let mut i = 0;
     while i < text.len() {
-        at = put_hex(out, at, text[i]);
+        at = put_hex(to, out, at, text[i])?;
         i += 1;
     }
-    at
+    Ok(at)
 }
 
 // The octets in UTF-8 of a string in any form, those that are still to come.
-fn put_said(out: &mut [u8], n: usize, s: &[u8], x: Said) -> usize
+fn put_said(to: &impl Print, out: &mut [u8], n: usize, s: &[u8], x: Said) -> io::Result<usize>
     requires { Fine s.now x }
 {
     let mut at = n;
@@ -82,10 +86,10 @@ fn put_said(out: &mut [u8], n: usize, s: &[u8], x: Said) -> usize
     loop {
         match u.next(s) {
             Next::Done => {
-                return at;
+                return Ok(at);
             }
             Next::Octet(o, v) => {
-                at = put_hex(out, at, o);
+                at = put_hex(to, out, at, o)?;
                 u = v;
             }
         }
@@ -94,25 +98,26 @@ fn put_said(out: &mut [u8], n: usize, s: &[u8], x: Said) -> usize
 
 // A stretch by its octets in UTF-8. The reader hands out none that reaches beyond s or is no text in its form; the tests stand in for a contract that says so.
 fn put_stretch(
+    to: &impl Print,
     out: &mut [u8],
     n: usize,
     s: &[u8],
     form: StringForm,
     place: usize,
     size: usize,
-) -> usize {
+) -> io::Result<usize> {
     if s.len() < place {
-        return n;
+        return Ok(n);
     }
     if s.len() - place < size {
-        return n;
+        return Ok(n);
     }
     let end = place + size;
     if !forms::is_text(s, form, place, end) {
-        return n;
+        return Ok(n);
     }
     let x = Said::over(s, form, place, end);
-    put_said(out, n, s, x)
+    put_said(to, out, n, s, x)
 }
 
 // The form of a stretch by its tag.
@@ -129,17 +134,25 @@ fn form_of(tag: u32) -> StringForm {
 }
 
 // One string of an event from its three words: "-" for absent, else "=" and its octets in UTF-8.
-fn put_string(out: &mut [u8], n: usize, s: &[u8], tag: u32, place: u32, size: u32) -> usize {
-    let at = put(out, n, b' ');
+fn put_string(
+    to: &impl Print,
+    out: &mut [u8],
+    n: usize,
+    s: &[u8],
+    tag: u32,
+    place: u32,
+    size: u32,
+) -> io::Result<usize> {
+    let at = put(to, out, n, b' ')?;
     if tag == tags::ABSENT {
-        return put(out, at, b'-');
+        return put(to, out, at, b'-');
     }
-    let at = put(out, at, b'=');
+    let at = put(to, out, at, b'=')?;
     match tag {
-        tags::EMPTY => at,
-        tags::XML_PREFIX => put_octets(out, at, b"xml"),
-        tags::XML_NAMESPACE => put_octets(out, at, b"http://www.w3.org/XML/1998/namespace"),
-        _ => put_stretch(out, at, s, form_of(tag), place as usize, size as usize),
+        tags::EMPTY => Ok(at),
+        tags::XML_PREFIX => put_octets(to, out, at, b"xml"),
+        tags::XML_NAMESPACE => put_octets(to, out, at, b"http://www.w3.org/XML/1998/namespace"),
+        _ => put_stretch(to, out, at, s, form_of(tag), place as usize, size as usize),
     }
 }
 
@@ -187,97 +200,154 @@ fn word(w: &[u32], record: u32, k: usize) -> u32 {
     0
 }
 
-fn put_event(out: &mut [u8], n: usize, s: &[u8], w: &[u32], record: u32) -> usize {
+fn put_event(
+    to: &impl Print,
+    out: &mut [u8],
+    n: usize,
+    s: &[u8],
+    w: &[u32],
+    record: u32,
+) -> io::Result<usize> {
     let kind = word(w, record, 0);
-    let mut at = put(out, n, letter(kind));
+    let mut at = put(to, out, n, letter(kind))?;
     let mut k = first_of(kind);
     let end = behind_last_of(kind);
     while k < end {
         let tag = word(w, record, k);
         let place = word(w, record, k + 1);
         let size = word(w, record, k + 2);
-        at = put_string(out, at, s, tag, place, size);
+        at = put_string(to, out, at, s, tag, place, size)?;
         k += 3;
     }
-    put(out, at, b'\n')
+    put(to, out, at, b'\n')
 }
 
 // The place of an event and a space, in front of its line.
-fn put_place(out: &mut [u8], n: usize, w: &[u32], record: u32) -> usize {
-    let at = put_number(out, n, word(w, record, PLACE) as u64);
-    put(out, at, b' ')
+fn put_place(
+    to: &impl Print,
+    out: &mut [u8],
+    n: usize,
+    w: &[u32],
+    record: u32,
+) -> io::Result<usize> {
+    let at = put_number(to, out, n, word(w, record, PLACE) as u64)?;
+    put(to, out, at, b' ')
 }
 
-fn put_line(out: &mut [u8], n: usize, s: &[u8], w: &[u32], record: u32, places: bool) -> usize {
+fn put_line(
+    to: &impl Print,
+    out: &mut [u8],
+    n: usize,
+    s: &[u8],
+    w: &[u32],
+    record: u32,
+    places: bool,
+) -> io::Result<usize> {
     if places {
-        let at = put_place(out, n, w, record);
-        return put_event(out, at, s, w, record);
+        let at = put_place(to, out, n, w, record)?;
+        return put_event(to, out, at, s, w, record);
     }
-    put_event(out, n, s, w, record)
+    put_event(to, out, n, s, w, record)
 }
 
-fn put_events(out: &mut [u8], n: usize, s: &[u8], w: &[u32], events: u32, places: bool) -> usize {
+fn put_events(
+    to: &impl Print,
+    out: &mut [u8],
+    n: usize,
+    s: &[u8],
+    w: &[u32],
+    events: u32,
+    places: bool,
+) -> io::Result<usize> {
     let mut at = n;
     let mut i = 0;
     while i < events {
-        at = put_line(out, at, s, w, i, places);
+        at = put_line(to, out, at, s, w, i, places)?;
         i += 1;
     }
-    at = put_text(out, at, b"end ");
-    at = put_number(out, at, events as u64);
-    put(out, at, b'\n')
+    at = put_text(to, out, at, b"end ")?;
+    at = put_number(to, out, at, events as u64)?;
+    put(to, out, at, b'\n')
 }
 
-fn put_refusal(out: &mut [u8], n: usize, answer: u64) -> usize {
-    let mut at = put_text(out, n, b"refused ");
-    at = put_number(out, at, answer % 32);
-    at = put_text(out, at, b" at ");
-    at = put_number(out, at, answer / 32);
-    put(out, at, b'\n')
+fn put_refusal(to: &impl Print, out: &mut [u8], n: usize, answer: u64) -> io::Result<usize> {
+    let mut at = put_text(to, out, n, b"refused ")?;
+    at = put_number(to, out, at, answer % 32)?;
+    at = put_text(to, out, at, b" at ")?;
+    at = put_number(to, out, at, answer / 32)?;
+    put(to, out, at, b'\n')
 }
 
 // The reader's answer: the refusal in its low 32 bits, or 0 there and the number of events above them.
-fn put_answer(out: &mut [u8], s: &[u8], w: &[u32], answer: u64, places: bool) -> usize {
+fn put_answer(
+    to: &impl Print,
+    out: &mut [u8],
+    s: &[u8],
+    w: &[u32],
+    answer: u64,
+    places: bool,
+) -> io::Result<usize> {
     let refusal = answer % 0x1_0000_0000;
     if refusal != 0 {
-        return put_refusal(out, 0, refusal);
+        return put_refusal(to, out, 0, refusal);
     }
-    put_events(out, 0, s, w, (answer / 0x1_0000_0000) as u32, places)
+    put_events(to, out, 0, s, w, (answer / 0x1_0000_0000) as u32, places)
 }
 
-fn list(places: bool) {
+// Reads until the slice is full or the input ends, and answers how many octets came.
+fn read_full<R: Read>(from: &mut R, s: &mut [u8]) -> io::Result<usize>
+    ensures { IfOk result (λ n. n ≤ length s.new) }
+{
+    let mut done = 0;
+    while done < s.len() {
+        let n = from.read(&mut s[done..])?;
+        if n == 0 {
+            return Ok(done);
+        }
+        done += n;
+    }
+    Ok(done)
+}
+
+fn list<R: Input + Print>(rt: &R, places: bool) -> io::Result<()> {
     // One octet more than a document may have, so that a longer one is seen to be longer; 512 event records.
     let mut s = [0u8; fields::OCTETS + 1];
     let mut records = [0u32; 512 * RECORD];
     let mut tables = [0u32; Counts::WORDS];
     let mut counts = [0u32; Counts::TABLES];
-    let mut out = io::buffer();
-    let n = io::read_full(STDIN_FILENO, &mut s);
+    let mut out = [0u8; BLOCK];
+    let mut input = rt.reader();
+    let n = read_full(&mut input, &mut s)?;
     let answer = lomphachit::lomphachit_read(&s[..n], &mut records, &mut tables, &mut counts);
-    let at = put_answer(&mut out, &s[..n], &records, answer, places);
-    flush(&out, at);
+    let at = put_answer(rt, &mut out, &s[..n], &records, answer, places)?;
+    flush(rt, &out, at)
 }
 
-// Whether the first argument is --places. One that is longer does not fit, and has the length 0 here.
-fn asks_places() -> bool {
+// Whether there is an argument of this number, the program's own name being number 0.
+fn is_given(rt: &impl Env, i: usize) -> bool {
+    let mut word = [0u8; 1];
+    match rt.arg(i, &mut word) {
+        Err(FillError::NotPresent) => false,
+        _ => true,
+    }
+}
+
+// Whether the first argument is --places.
+fn asks_places(rt: &impl Env) -> bool {
     let mut word = [0u8; 8];
-    let n = os::arg(1, &mut word);
-    check::same(&word[..n], b"--places")
+    match rt.arg(1, &mut word) {
+        Ok(n) => &word[..n] == b"--places".as_slice(),
+        Err(_) => false,
+    }
 }
 
-// The program's own name counts as an argument. Arguments that it does not know are said to be wrong, and nothing is listed: whoever gave them asked for something else.
-fn main() {
-    let arguments = os::arg_count();
-    if arguments <= 1 {
-        list(false);
-        return;
+// Arguments that it does not know are said to be wrong, and nothing is listed: whoever gave them asked for something else.
+fn main(rt: HostRuntime) -> io::Result<()> {
+    if !is_given(&rt, 1) {
+        return list(&rt, false);
     }
-    if arguments == 2 && asks_places() {
-        list(true);
-        return;
+    if !is_given(&rt, 2) && asks_places(&rt) {
+        return list(&rt, true);
     }
-    io::write_all(
-        STDERR_FILENO,
-        b"usage: listing [--places]; the document is standard input\n",
-    );
+    eprintln!(rt; "usage: listing [--places]; the document is standard input")
 }

@@ -3,6 +3,7 @@ use crate::area::{first_same, put_octet, spells};
 use crate::head_lines;
 use crate::sums::{low, next, plus};
 use events::{PLACE, RECORD, kinds, strings, tags};
+use itoa::Buffer;
 
 // What is wrong with a line.
 #[derive(Clone, Copy)]
@@ -144,9 +145,8 @@ fn last_octet(events: u64, i: usize) -> u8 {
     if i < 3 {
         return octet_or_end(b"nd ", i);
     }
-    let mut digits = [0u8; 20];
-    let k = io::decimal(events, &mut digits);
-    octet_or_end(&digits[..k], i - 3)
+    let mut digits = Buffer::new();
+    octet_or_end(digits.format(events).as_bytes(), i - 3)
 }
 
 impl Line {
