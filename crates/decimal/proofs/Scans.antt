@@ -230,11 +230,13 @@ scan_finds x =
 
 -- as many integers as words at most, so that counting them leaves no type
 pub counted_step : (s : Scan) (o : ℕ) → counted (scanned s o).before ≤ counted s.before + 1
-unfolding scanned found
+unfolding scanned found more
 counted_step s o = told (eqb o 0x20) (λ t. rw t (counted-more s.before (ended s.word))) (λ t. rw t (omega arith))
   where
     counted-more : (f : Found) (e : Ended) → counted (more f e) ≤ counted f + 1
-    counted-more f e = unfold more in elim f [ Integers k w ↦ elim e [ Integer z ↦ omega arith | NoInteger ↦ omega arith ] | NoIntegers ↦ omega arith ]
+    counted-more (Integers k w) (Integer z) = omega arith
+    counted-more (Integers k w) NoInteger = omega arith
+    counted-more NoIntegers e = omega arith
 
 -- ---- octets, word by word
 

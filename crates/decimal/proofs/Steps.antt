@@ -2,16 +2,11 @@
 -- Assumes nothing.
 use mathlib.Core.Path.{◌≡◌, refl, ap, ◌∙◌}
 use mathlib.Core.Bool.{Bool, true, false, and-false}
-use mathlib.Core.List.{[], ◌∷◌}
-use mathlib.Core.Logic.{⊎_elim}
 use Prim.Native.Nat.{ℕ, zero, suc, ◌+◌, ◌-◌, ◌*◌, ◌≤◌, ◌<◌, max}
 use native.Mathlib.Omega.{arith}
 use borrow.Author.Tests.{lt-leb, le-leb, lt-ltb, le-ltb, ne_eqb, ltb-true}
 use lib.IntN.{ℤ, pos, negsuc, neg_ℤ}
 use lib.Signed.{mag}
-use types.Run.{OneOf}
-use denote.Enum.Declared.{tag_of}
-use Rattle.format.specs.contracts.StringForm.{the_type}
 use Rattle.format.specs.declared.StringForm.{StringForm}
 use Rattle.format.specs.declared.StringForm.TheVariants.{Utf8, Utf16, Numeric, Dates, Short, Int, Long}
 use Rattle.format.specs.Forms.{width}
@@ -143,17 +138,14 @@ module _ (s : Scan) (o : ℕ) where
 -- ---- a form's width
 
 -- the first four forms are no integers
-beyond : {X : Type 0} {x : ℕ} → 4 ≤ x → OneOf (0 ∷ 1 ∷ 2 ∷ 3 ∷ []) x → X
-beyond h k = ⊎_elim (λ e. absurd (omega arith)) (⊎_elim (λ e. absurd (omega arith)) (⊎_elim (λ e. absurd (omega arith)) (λ e. absurd (omega arith)))) k
-
-pub no_integers : {X : Type 0} (f : StringForm) → OneOf (0 ∷ 1 ∷ 2 ∷ 3 ∷ []) (tag_of the_type f) → 0 < width f → X
-no_integers Utf8 k h = absurd (omega arith)
-no_integers Utf16 k h = absurd (omega arith)
-no_integers Numeric k h = absurd (omega arith)
-no_integers Dates k h = absurd (omega arith)
-no_integers Short k h = beyond (omega arith) k
-no_integers Int k h = beyond (omega arith) k
-no_integers Long k h = beyond (omega arith) k
+pub no_integers : {X : Type 0} (f : StringForm) → (f ≡ Short → ⊥) → (f ≡ Int → ⊥) → (f ≡ Long → ⊥) → 0 < width f → X
+no_integers Utf8 p q r h = absurd (omega arith)
+no_integers Utf16 p q r h = absurd (omega arith)
+no_integers Numeric p q r h = absurd (omega arith)
+no_integers Dates p q r h = absurd (omega arith)
+no_integers Short p q r h = absurd (p refl)
+no_integers Int p q r h = absurd (q refl)
+no_integers Long p q r h = absurd (r refl)
 
 pub held_is : (w : ℕ) (z : ℤ) → held_by w (Integer z) ≡ true → Held w z
 unfolding held_by

@@ -50,12 +50,13 @@ words_text z zs = word_first (decimal z) _ (map decimal zs) (decimal_spaceless z
 -- ---- a text is its words with spaces between
 
 pub words_some : (x : List ℕ) → 0 < length (words x)
-unfolding words
+unfolding words longer
 words_some [] = omega arith
 words_some (b ∷ bs) = told (eqb b 32) (λ t. rw (words, t) (omega arith)) (λ t. rw (words, t) (some_longer b (words bs)))
   where
     some_longer : (b : ℕ) (ys : List (List ℕ)) → 0 < length (longer b ys)
-    some_longer b ys = unfold longer in elim ys [ [] ↦ omega arith | y ∷ ys ↦ omega arith ]
+    some_longer b [] = omega arith
+    some_longer b (y ∷ ys) = omega arith
 
 pub spaced-joined : (ys : List (List ℕ)) → 0 < length ys → spaced ys ≡ 32 ∷ joined ys
 unfolding spaced joined

@@ -3,14 +3,8 @@
 use Rattle.std.proofs.Common.{◌≡◌, ℕ, ◌+◌, ◌-◌, ◌<◌, ◌≤◌, true, List, get_or, arith, rules, leb-true}
 use Rattle.fields.specs.Utf8.{alone}
 use Rattle.fields.proofs.Plain.{one_more_lem, joined}
+use Rattle.fields.proofs.all_alone.Invariants.{Single, Stretch}
 use Rattle.fields.proofs.all_alone.Goals as goal
-
--- where low is a space or more, the octet at j is a character by itself, if it is not high
-abbrev Single : List ℕ → (low j : ℕ) → Type 0
-Single s low j = 0x20 ≤ low → get_or s j 0 ≤ 0x7F → alone (get_or s j 0) ≡ true
-
-abbrev Stretch : List ℕ → (low from to : ℕ) → Type 0
-Stretch s low from to = (j : ℕ) → from ≤ j → j < to → Single s low j
 
 wider : (s : List ℕ) (low from i below : ℕ) → Stretch s low from (from + i) → below ≤ low → Single s below (from + i) → Stretch s below from (from + (i + 1))
 wider s low from i below p l w j m k = one_more_lem (Single s below) from (from + i) (λ j m k h. p j m k (omega arith)) w j m (omega arith)

@@ -2,14 +2,8 @@
 -- Assumes nothing.
 use Rattle.std.proofs.Common.{ℕ, ◌+◌, ◌-◌, ◌<◌, ◌≤◌, List, get_or, arith, rules}
 use Rattle.fields.proofs.Plain.{one_more_lem, joined}
+use Rattle.fields.proofs.extremes.Invariants.{Within, Stretch}
 use Rattle.fields.proofs.extremes.Goals as goal
-
--- the octet at j is neither below nor above
-abbrev Within : List ℕ → (low high j : ℕ) → Type 0
-Within s low high j = (low ≤ get_or s j 0) × (get_or s j 0 ≤ high)
-
-abbrev Stretch : List ℕ → (low high from to : ℕ) → Type 0
-Stretch s low high from to = (j : ℕ) → from ≤ j → j < to → Within s low high j
 
 -- one octet more, of which the new bounds are told too
 wider : (s : List ℕ) (low high from i below above : ℕ) → Stretch s low high from (from + i) → below ≤ low → high ≤ above → Within s below above (from + i)

@@ -4,6 +4,13 @@ use Rattle.std.proofs.Common.{ℕ, ◌+◌, ◌-◌, ◌<◌, ◌≤◌, List, g
 use Rattle.fields.proofs.Plain.{one_more_lem, joined}
 use Rattle.fields.proofs.extremes.Given as goal
 
+-- the octet at j is neither below nor above
+abbrev pub Within : List ℕ → (low high j : ℕ) → Type 0
+Within s low high j = (low ≤ get_or s j 0) × (get_or s j 0 ≤ high)
+
+abbrev pub Stretch : List ℕ → (low high from to : ℕ) → Type 0
+Stretch s low high from to = (j : ℕ) → from ≤ j → j < to → Within s low high j
+
 abbrev pub invariant-loop-i : goal.invariant-loop-i
 invariant-loop-i l = (l.i ≤ l.half) × Stretch l.s l.low l.high l.from (l.from + l.i) × Stretch l.s l.low l.high l.second (l.second + l.i)
 

@@ -17,16 +17,16 @@ pub returns-then-not-among : goal.returns-then-not-among
 returns-then-not-among c =
     let a = c.args in
     let l = c.loop-k in
-    sym (l.invariant.1 ∙ range_next a.t1 a.s.now l.k a.n (a.i + l.k) _ _ (omega arith) (omega arith) refl
-    (sym (not-true _ c.if-not-among.true) ∙ c.among.ensures))
+    sym (l.invariant.1 ∙ range_next a.row a.s.now l.k a.n (a.i + l.k) _ _ (omega arith) (omega arith) refl
+    (sym c.if-not-among.true ∙ c.among.ensures))
 
 pub loop-k-preserved : goal.loop-k-preserved
 loop-k-preserved c =
     let a = c.args in
     let l = c.loop-k in (
       omega arith,
-      l.invariant.1 ∙ range_next a.t1 a.s.now l.k a.n (a.i + l.k) (a.i + (l.k + 1)) _ (omega arith) (omega arith) (omega arith)
-          (sym (not-false _ c.if-not-among.false) ∙ c.among.ensures),
+      l.invariant.1 ∙ range_next a.row a.s.now l.k a.n (a.i + l.k) (a.i + (l.k + 1)) _ (omega arith) (omega arith) (omega arith)
+          (sym c.if-not-among.false ∙ c.among.ensures),
     )
 
 pub returns : goal.returns

@@ -9,7 +9,7 @@ use Rattle.index.proofs.find_name.Given as goal
 
 abbrev pub invariant-loop-j : goal.invariant-loop-j
 invariant-loop-j l =
-    NameWalk l.t l.table l.n (record { l.prefix = l.prefix; l.namespace = l.namespace; l.local = l.local }) l.j × (l.j ≤ l.n)
+    NameWalk l.t l.table l.n (record { prefix = l.prefix; namespace = l.namespace; local = l.local }) l.j × (l.j ≤ l.n)
 
 abbrev pub decreases-loop-j : goal.decreases-loop-j
 decreases-loop-j l = l.j

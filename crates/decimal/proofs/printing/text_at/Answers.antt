@@ -63,4 +63,4 @@ returns-in-Long c =
     rw c.in-Long.is (c.of-in-Long.ensures.0 ∙ ap decimal (back r.result r.type_inv ∙ r.ensures), c.of-in-Long.ensures.1)
 
 pub returns-in_default : goal.returns-in_default
-returns-in_default c = no_integers c.args.form c.in_default.is c.requires.0
+returns-in_default c = let d = c.in_default in no_integers c.args.form d.not-Short d.not-Int d.not-Long c.requires.0

@@ -3,6 +3,8 @@
 use mathlib.Core.Path.{◌∙◌, ap}
 use native.Mathlib.Omega.{arith}
 use borrow.Author.Rules.{rules}
+use mir.Syntax.{w64}
+use mir.Val.{SFits}
 use Rattle.decimal.specs.Machine.{width_of}
 use Rattle.decimal.proofs.Halves.{back}
 use Rattle.decimal.proofs.Steps.{more_none, more-behind_none, more_one, wider, as_wide}
@@ -34,15 +36,15 @@ overflow_add-result c = let h = rw c.in-Integers.is at c.requires in omega arith
 
 pub returns-then-w-v : goal.returns-then-w-v
 returns-then-w-v c =
-    let k = c.before-1.given in
-    let e = c.e-1.given in
-    more_one k.1 e.1 (wider _ _ _ (c.width_of-v.ensures ∙ ap width_of (back e.0.0 c.known_told-in-Integer-1.given.0.1)) c.if-w-v.true)
+    let e = c.in-Integer in
+    let f : SFits w64 e.z = search rules in
+    more_one c.in-Integers.is e.is (wider _ _ _ (c.width_of-v.ensures ∙ ap width_of (back e.z f.sfits)) c.if-w-v.true)
 
 pub overflow_add-result-2 : goal.overflow_add-result-2
 overflow_add-result-2 c = let h = rw c.in-Integers.is at c.requires in omega arith
 
 pub returns : goal.returns
 returns c =
-    let k = c.before-1.given in
-    let e = c.e-1.given in
-    more_one k.1 e.1 (as_wide k.0.1.0 c.width_of-v.result _ (c.width_of-v.ensures ∙ ap width_of (back e.0.0 c.known_told-in-Integer-1.given.0.1)) c.if-w-v.false)
+    let e = c.in-Integer in
+    let f : SFits w64 e.z = search rules in
+    more_one c.in-Integers.is e.is (as_wide c.in-Integers.w c.width_of-v.result _ (c.width_of-v.ensures ∙ ap width_of (back e.z f.sfits)) c.if-w-v.false)

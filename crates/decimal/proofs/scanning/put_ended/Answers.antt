@@ -2,6 +2,8 @@
 -- Assumes nothing.
 use mathlib.Core.Path.{refl}
 use borrow.Author.Rules.{rules}
+use mir.Syntax.{w64}
+use mir.Val.{SFits}
 use Rattle.fields.proofs.Puts.{puts_nothing}
 use Rattle.decimal.specs.Machine.{ended_octets}
 use Rattle.decimal.proofs.Halves.{back}
@@ -13,8 +15,9 @@ enum_known-e c = search rules
 
 pub put_held-requires : goal.put_held-requires
 put_held-requires c =
-    let e = c.e-1.given in
-    (c.requires.0, rw (back e.0.0 c.known_told-1.given.0.1) (held_is _ _ (rw e.1 at c.requires.1)))
+    let e = c.in-Integer in
+    let f : SFits w64 e.z = search rules in
+    (c.requires.0, rw (back e.z f.sfits) (held_is _ _ (rw e.is at c.requires.1)))
 
 pub enum_told-1 : goal.enum_told-1
 enum_told-1 c = search rules
@@ -25,8 +28,9 @@ shape_of-out c = search rules
 pub returns-in-Integer : goal.returns-in-Integer
 unfolding ended_octets
 returns-in-Integer c =
-    let e = c.e-1.given in
-    rw e.1 (rw (back e.0.0 c.known_told-1.given.0.1) at c.put_held.ensures)
+    let e = c.in-Integer in
+    let f : SFits w64 e.z = search rules in
+    rw e.is (rw (back e.z f.sfits) at c.put_held.ensures)
 
 pub returns-in-NoInteger : goal.returns-in-NoInteger
 unfolding ended_octets

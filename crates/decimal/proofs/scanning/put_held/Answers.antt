@@ -56,4 +56,4 @@ pub returns-in-Long : goal.returns-in-Long
 returns-in-Long c = rw c.in-Long.is (rw (back _ c.ranges.z.sfits) at c.put_long.ensures)
 
 pub returns-in_default : goal.returns-in_default
-returns-in_default c = no_integers c.args.form c.in_default.is (held_some _ c.args.z c.requires.1)
+returns-in_default c = let d = c.in_default in no_integers c.args.form d.not-Short d.not-Int d.not-Long (held_some _ c.args.z c.requires.1)
