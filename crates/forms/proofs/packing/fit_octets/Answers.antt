@@ -5,7 +5,6 @@ use native.Mathlib.Omega.{arith}
 use mathlib.Core.Path.{◌≡◌, refl}
 use mathlib.Core.Bool.{◌&&◌}
 use mathlib.Core.Logic.{⊎_elim}
-use borrow.Author.Tests.{not-true}
 use Prim.Native.Nat.{◌+◌, ◌-◌, ◌≤◌}
 use Rattle.format.specs.Forms.{numeric, dates}
 use Rattle.forms.specs.Streams.{part}
@@ -28,7 +27,7 @@ returns-then-not-d c =
     let n = seen_next numeric l.n _ _ l.invariant.1 _ _ _ _ e f.ensures.0 m in
     let d = seen_next dates l.d _ _ l.invariant.2 _ _ _ _ e f.ensures.1 k in
     let q = part a.s.now (l.i + 1) a.to in
-    (seen_not numeric c.if-n.n q _ n (not-true _ c.if-not-n.true), seen_not dates c.if-d.d q _ d (not-true _ c.if-not-d.true))
+    (seen_not numeric c.if-n.n q _ n c.if-not-n.true, seen_not dates c.if-d.d q _ d c.if-not-d.true)
 
 pub loop-i-preserved : goal.loop-i-preserved
 loop-i-preserved c =
