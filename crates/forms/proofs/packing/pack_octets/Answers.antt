@@ -36,7 +36,7 @@ loop-i-preserved c =
     let p = c.requires in
     let l = c.loop-i in
     let m = c.loop-i-test.true in
-    (omega (arith, m), (slice_second _ _ _ _ p.2 m l.invariant.1).1, left_next _ _ _ _ _ _ _ _ _ (slice_two _ _ _ _ p.2 m _ _ c.IsPlace-in.ensures.0 c.place_in.ensures.0) c.put.ensures l.invariant.2)
+    (omega (arith, m), (slice_second _ _ _ _ p.2 m l.invariant.1).1, left_next _ _ _ _ _ _ _ _ _ (slice_two _ _ _ _ p.2 m _ _ c.place_in-high.ensures.0 c.place_in.ensures.0) c.put.ensures l.invariant.2)
 
 pub place_in-requires-then-i-to : goal.place_in-requires-then-i-to
 place_in-requires-then-i-to c = slice_first _ _ _ _ c.requires.2 c.loop-i.invariant.1 c.if-i-to.true

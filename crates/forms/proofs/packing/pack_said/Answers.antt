@@ -58,7 +58,7 @@ shape_of-out-in-Done c =
     let l = c.loop-o in
     let g = gave a.s.now l.u c.next.result c.next.ensures _ _ c.in-Octet.is in
     let e = ended a.s.now _ c.next-in-loop-o.result c.next-in-loop-o.ensures c.in-Done.is in
-    let s = left_next _ _ _ _ _ _ _ _ _ (pack_one (alphabet a.letters) _ _ _ g.0 _ c.IsPlace-in.ensures.0 e) c.put.ensures l.invariant.2 in
+    let s = left_next _ _ _ _ _ _ _ _ _ (pack_one (alphabet a.letters) _ _ _ g.0 _ c.place_in-high.ensures.0 e) c.put.ensures l.invariant.2 in
     left-kept _ _ _ _ _ _ s
 
 pub returns-in-Done : goal.returns-in-Done
@@ -67,7 +67,7 @@ returns-in-Done c =
     let l = c.loop-o in
     let g = gave a.s.now l.u c.next.result c.next.ensures _ _ c.in-Octet.is in
     let e = ended a.s.now _ c.next-in-loop-o.result c.next-in-loop-o.ensures c.in-Done.is in
-    let s = left_next _ _ _ _ _ _ _ _ _ (pack_one (alphabet a.letters) _ _ _ g.0 _ c.IsPlace-in.ensures.0 e) c.put.ensures l.invariant.2 in
+    let s = left_next _ _ _ _ _ _ _ _ _ (pack_one (alphabet a.letters) _ _ _ g.0 _ c.place_in-high.ensures.0 e) c.put.ensures l.invariant.2 in
     left_done _ _ _ _ _ _ refl s
 
 pub place_in-requires : goal.place_in-requires
@@ -102,4 +102,4 @@ loop-o-preserved c =
     let g = gave a.s.now l.u c.next.result c.next.ensures _ _ c.in-Octet.is in
     let k = gave a.s.now _ c.next-in-loop-o.result c.next-in-loop-o.ensures _ _ c.in-Octet-next.is in
     let ls = alphabet a.letters in
-    (k.1, (letter_first ls _ _ _ k.0 (letter_first ls _ _ _ g.0 l.invariant.1).1).1, left_next _ _ _ _ _ _ _ _ _ (pack_two ls _ _ _ g.0 _ c.IsPlace-in.ensures.0 _ _ _ k.0 c.place_in.ensures.0) c.put-in-Octet-next.ensures l.invariant.2)
+    (k.1, (letter_first ls _ _ _ k.0 (letter_first ls _ _ _ g.0 l.invariant.1).1).1, left_next _ _ _ _ _ _ _ _ _ (pack_two ls _ _ _ g.0 _ c.place_in-high.ensures.0 _ _ _ k.0 c.place_in.ensures.0) c.put-in-Octet-next.ensures l.invariant.2)
