@@ -8,9 +8,6 @@ pub returns-then-text : goal.returns-then-text
 unfolding given_text
 returns-then-text c = rw c.if-text.true
 
-pub digit-requires : goal.digit-requires
-digit-requires c = search rules
-
 pub returns : goal.returns
 unfolding given_text
 returns c = rw c.if-text.false c.digit.ensures

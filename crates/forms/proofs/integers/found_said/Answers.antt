@@ -37,7 +37,7 @@ loop-o-smaller c = shorter c.args.s.now c.loop-o.u c.next.result c.next.ensures 
 pub loop-o-preserved : goal.loop-o-preserved
 loop-o-preserved c =
     let g = (gave c.args.s.now c.loop-o.u c.next.result c.next.ensures _ _ c.in-Octet.is) in
-    let k = counted_step c.loop-o.scan c.o-1.given.0.0 in
+    let k = counted_step c.loop-o.scan c.in-Octet.o in
     let l = shorter c.args.s.now c.loop-o.u c.next.result c.next.ensures _ _ c.in-Octet.is in
     let n = c.loop-o.invariant.1 in
     (g.1, rw c.step-scan.ensures (omega arith), found_next _ _ _ c.loop-o.invariant.2 _ _ g.0 _ c.step-scan.ensures)
