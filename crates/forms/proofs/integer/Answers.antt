@@ -1,6 +1,5 @@
 -- `integer` meets its contract: the sign, or the first digit.
 -- Assumes nothing.
-use borrow.Author.Rules.{rules}
 use Rattle.forms.specs.Streams.{given_text}
 use Rattle.forms.proofs.integer.Goals as goal
 

@@ -1,6 +1,5 @@
 -- `read` meets its contract: a law for each answer.
 -- Assumes nothing.
-use borrow.Author.Rules.{rules}
 use native.Mathlib.Omega.{arith}
 use Prim.Native.Nat.{◌<◌}
 use mathlib.Core.Path.{sym, ap, subst}

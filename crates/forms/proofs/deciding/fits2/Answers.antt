@@ -1,6 +1,5 @@
 -- `fits2` meets its contract: one octet, then `fits1`.
 -- Assumes nothing.
-use borrow.Author.Rules.{rules}
 use native.Mathlib.Omega.{arith}
 use mathlib.Core.Path.{sym, ◌∙◌}
 use Rattle.forms.proofs.Sizes.{fits_end, fits_not, fits_next}

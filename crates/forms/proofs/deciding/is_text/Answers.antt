@@ -1,6 +1,5 @@
 -- `is_text` meets its contract: each form has its test.
 -- Assumes nothing.
-use borrow.Author.Rules.{rules}
 use Rattle.format.specs.declared.StringForm.TheVariants.{Utf8, Utf16, Numeric, Dates, Short, Int, Long}
 use Rattle.forms.proofs.Forms.{tested}
 use Rattle.forms.proofs.Sizes.{integers_told}

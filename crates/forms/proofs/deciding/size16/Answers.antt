@@ -1,6 +1,5 @@
 -- `size16` meets its contract: in each range of first octets, the rows that are left of the table.
 -- Assumes nothing.
-use borrow.Author.Rules.{rules}
 use native.Mathlib.Omega.{arith}
 use mathlib.Core.Path.{refl, sym, ◌∙◌}
 use mathlib.Core.List.{[], ◌∷◌}

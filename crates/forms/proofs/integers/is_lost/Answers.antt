@@ -1,6 +1,5 @@
 -- `is_lost` meets its contract.
 -- Assumes nothing.
-use borrow.Author.Rules.{rules}
 use mathlib.Core.Logic.{inl, inr}
 use Rattle.fields.proofs.Utf8.{never}
 use Rattle.forms.proofs.integers.is_lost.Goals as goal

@@ -2,14 +2,12 @@
 -- Assumes nothing.
 use borrow.Author.Rules.{rules}
 use native.Mathlib.Omega.{arith}
-use Prim.Native.Nat.{◌-◌, ◌≤◌}
-use mathlib.Core.Path.{◌≡◌, refl}
-use mathlib.Core.Bool.{true}
-use Rattle.forms.specs.Packing.{alphabet, all_letters, packed_by}
+use mathlib.Core.Path.{refl}
+use Rattle.forms.specs.Packing.{alphabet}
 use Rattle.forms.specs.Streams.{part}
 use Rattle.forms.proofs.Forms.{packed-length}
 use Rattle.forms.proofs.Streams.{part_none, part_length}
-use Rattle.forms.proofs.Puts.{Left, left_done, left_next, left-place, left-kept}
+use Rattle.forms.proofs.Puts.{left_done, left_next, left-place, left-kept}
 use Rattle.forms.proofs.Packs.{pack_none, slice_first, slice_last, slice_second, slice_two}
 use Rattle.forms.proofs.packing.pack_octets.Goals as goal
 

@@ -2,14 +2,12 @@
 -- Assumes nothing.
 use borrow.Author.Rules.{rules}
 use native.Mathlib.Omega.{arith}
-use mathlib.Core.Path.{◌≡◌, refl}
-use mathlib.Core.Bool.{true}
-use lib.ListN.{length}
-use Rattle.forms.specs.Packing.{alphabet, all_letters, packed_by}
-use Rattle.forms.specs.Streams.{ahead, Fine}
+use mathlib.Core.Path.{refl}
+use Rattle.forms.specs.Packing.{alphabet}
+use Rattle.forms.specs.Streams.{ahead}
 use Rattle.forms.proofs.Forms.{packed-length}
 use Rattle.forms.proofs.Streams.{gave, shorter, ended}
-use Rattle.forms.proofs.Puts.{Left, left_done, left_next, left-place, left-kept}
+use Rattle.forms.proofs.Puts.{left_done, left_next, left-place, left-kept}
 use Rattle.forms.proofs.Packs.{pack_none, letter_first, pack_one, pack_two}
 use Rattle.forms.proofs.packing.pack_said.Goals as goal
 
