@@ -13,7 +13,7 @@ use lib.Seq.{drop-cons, drop-drop, take-take}
 use native.Mathlib.Numerals.{add-one}
 use Rattle.format.specs.Numbers.{pick}
 use Rattle.format.specs.Characters.{IsCharacter, utf8, utf8s}
-use Rattle.format.specs.Integers.{figures, digits, decimal, joined, list_text}
+use Rattle.format.specs.Integers.{figures, decimal, joined, list_text}
 use Rattle.format.specs.Forms.{utf16, numeric, dates, at_places, width}
 use Rattle.format.specs.Tables.{same}
 use Rattle.format.specs.declared.StringForm.{StringForm}

@@ -1,11 +1,7 @@
 -- `alike` meets its contract: what is left to compare from here is the same as the whole is.
 -- Assumes nothing.
-use borrow.Author.Rules.{rules}
 use native.Mathlib.Omega.{arith}
-use mathlib.Core.Path.{◌≡◌, refl}
-use lib.ListN.{length}
-use Rattle.format.specs.Tables.{same}
-use Rattle.forms.specs.Streams.{ahead, Fine}
+use mathlib.Core.Path.{refl}
 use Rattle.forms.proofs.Streams.{differ, goes_on, shorter, left-longer, right_longer, both_end}
 use Rattle.forms.proofs.alike.Goals as goal
 

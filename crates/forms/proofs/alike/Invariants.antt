@@ -1,12 +1,9 @@
 -- `alike` meets its contract: what is left to compare from here is the same as the whole is.
 -- Assumes nothing.
-use borrow.Author.Rules.{rules}
-use native.Mathlib.Omega.{arith}
-use mathlib.Core.Path.{◌≡◌, refl}
+use mathlib.Core.Path.{◌≡◌}
 use lib.ListN.{length}
 use Rattle.format.specs.Tables.{same}
 use Rattle.forms.specs.Streams.{ahead, Fine}
-use Rattle.forms.proofs.Streams.{differ, goes_on, shorter, left-longer, right_longer, both_end}
 use Rattle.forms.proofs.alike.Given as goal
 
 abbrev pub invariant-loop-o : goal.invariant-loop-o

@@ -1,6 +1,5 @@
 -- `character16` meets its contract: what its tests on the first unit tell.
 -- Assumes nothing.
-use borrow.Author.Rules.{rules}
 use native.Mathlib.Omega.{arith}
 use Rattle.forms.proofs.Streams.{there16, one16, two16}
 use Rattle.forms.proofs.character16.Goals as goal

@@ -1,6 +1,5 @@
 -- `given` meets its contract: a law for each number of octets.
 -- Assumes nothing.
-use borrow.Author.Rules.{rules}
 use native.Mathlib.Omega.{arith}
 use Rattle.forms.proofs.Streams.{given_1, given_2, given_3, given_4}
 use Rattle.forms.proofs.given.Goals as goal

@@ -1,6 +1,5 @@
 -- `letter` meets its contract: the byte strings are the alphabets.
 -- Assumes nothing.
-use borrow.Author.Rules.{rules}
 use Rattle.format.specs.Forms.{numeric, dates}
 use Rattle.forms.proofs.letter.Goals as goal
 

@@ -1,6 +1,5 @@
 -- `letters` meets its contract: two characters, or one where the lower half fills up.
 -- Assumes nothing.
-use borrow.Author.Rules.{rules}
 use native.Mathlib.Omega.{arith}
 use Rattle.forms.proofs.Streams.{letters_1, letters_2}
 use Rattle.forms.proofs.letters.Goals as goal

@@ -2,10 +2,8 @@
 -- Assumes nothing.
 use borrow.Author.Rules.{rules}
 use native.Mathlib.Omega.{arith}
-use lib.ListN.{length}
-use Rattle.forms.specs.Streams.{ahead, Fine}
 use Rattle.forms.proofs.Streams.{gave, shorter, ended, bounded}
-use Rattle.forms.proofs.Puts.{Left, left_done, left_next, left-place, left-kept}
+use Rattle.forms.proofs.Puts.{left_done, left_next, left-place, left-kept}
 use Rattle.forms.proofs.put_said.Goals as goal
 
 pub loop-o-init : goal.loop-o-init

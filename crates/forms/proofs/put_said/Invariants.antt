@@ -1,11 +1,8 @@
 -- `put_said` meets its contract: each octet that the stream gives is put behind the one before.
 -- Assumes nothing.
-use borrow.Author.Rules.{rules}
-use native.Mathlib.Omega.{arith}
 use lib.ListN.{length}
 use Rattle.forms.specs.Streams.{ahead, Fine}
-use Rattle.forms.proofs.Streams.{gave, shorter, ended, bounded}
-use Rattle.forms.proofs.Puts.{Left, left_done, left_next, left-place, left-kept}
+use Rattle.forms.proofs.Puts.{Left}
 use Rattle.forms.proofs.put_said.Given as goal
 
 abbrev pub invariant-loop-o : goal.invariant-loop-o

@@ -1,6 +1,5 @@
 -- `read` meets its contract: a law for each answer.
 -- Assumes nothing.
-use borrow.Author.Rules.{rules}
 use native.Mathlib.Omega.{arith}
 use Prim.Native.Nat.{◌<◌}
 use mathlib.Core.Path.{sym, ap, subst}
@@ -10,65 +9,20 @@ use Rattle.forms.proofs.Forms.{IsAlphabet}
 use Rattle.forms.proofs.Streams.{text16, in_range16, gives_short, gives_long, letters_there, gives_letters, gives_utf8, integer_there, text_some, gives_text}
 use Rattle.forms.proofs.read.Goals as goal
 
-pub enum_told-1 : goal.enum_told-1
-enum_told-1 c = search rules
-
-pub bounds-s-at : goal.bounds-s-at
-bounds-s-at c = search rules
-
-pub overflow_add-result : goal.overflow_add-result
-overflow_add-result c = search rules
-
-pub enum_told-in-Utf16 : goal.enum_told-in-Utf16
-enum_told-in-Utf16 c = search rules
-
 pub character16-n-requires : goal.character16-n-requires
 character16-n-requires c = (c.requires.0, c.requires.1, text16 c.args.s.now c.args.form c.args.at c.args.to c.requires.0 c.requires.1 c.requires.2 c.in-Utf16.is)
-
-pub overflow_add-at : goal.overflow_add-at
-overflow_add-at c = search rules
-
-pub given-requires : goal.given-requires
-given-requires c = search rules
 
 pub returns-then-n-lt65536 : goal.returns-then-n-lt65536
 returns-then-n-lt65536 c = gives_short c.args.s.now c.args.form c.args.at c.args.to c.requires.0 c.requires.1 c.requires.2 c.in-Utf16.is _ c.character16-n.ensures _ (omega arith) c.given.ensures
 
-pub overflow_add-at-in-Utf16 : goal.overflow_add-at-in-Utf16
-overflow_add-at-in-Utf16 c = search rules
-
 pub given-requires-in-Utf16 : goal.given-requires-in-Utf16
 given-requires-in-Utf16 c = in_range16 c.args.s.now c.args.form c.args.at c.args.to c.requires.0 c.requires.1 c.requires.2 c.in-Utf16.is _ c.character16-n.ensures
-
-pub enum_told-in-Numeric : goal.enum_told-in-Numeric
-enum_told-in-Numeric c = search rules
-
-pub overflow_add-at-in-Numeric : goal.overflow_add-at-in-Numeric
-overflow_add-at-in-Numeric c = search rules
-
-pub bounds-s-at-in-Numeric : goal.bounds-s-at-in-Numeric
-bounds-s-at-in-Numeric c = search rules
 
 pub letters-requires : goal.letters-requires
 letters-requires c = letters_there c.args.s.now c.args.form c.args.at c.args.to c.requires.0 c.requires.1 c.requires.2 (subst (λ (g : StringForm). IsAlphabet g) (sym c.in-Numeric.is) tt)
 
-pub enum_told-in-Dates : goal.enum_told-in-Dates
-enum_told-in-Dates c = search rules
-
-pub overflow_add-at-in-Dates : goal.overflow_add-at-in-Dates
-overflow_add-at-in-Dates c = search rules
-
-pub bounds-s-at-in-Dates : goal.bounds-s-at-in-Dates
-bounds-s-at-in-Dates c = search rules
-
 pub letters-requires-in-Dates : goal.letters-requires-in-Dates
 letters-requires-in-Dates c = letters_there c.args.s.now c.args.form c.args.at c.args.to c.requires.0 c.requires.1 c.requires.2 (subst (λ (g : StringForm). IsAlphabet g) (sym c.in-Dates.is) tt)
-
-pub enum_told-in-Short : goal.enum_told-in-Short
-enum_told-in-Short c = search rules
-
-pub overflow_add-at-in-Short : goal.overflow_add-at-in-Short
-overflow_add-at-in-Short c = search rules
 
 pub text_at-requires : goal.text_at-requires
 text_at-requires c = let w = (subst (λ (g : StringForm). 0 < width g) (sym c.in-Short.is) (omega arith)) in (w, let h = integer_there c.args.s.now c.args.form c.args.at c.args.to c.requires.0 c.requires.1 c.requires.2 w in omega arith)
@@ -76,23 +30,11 @@ text_at-requires c = let w = (subst (λ (g : StringForm). 0 < width g) (sym c.in
 pub integer-requires : goal.integer-requires
 integer-requires c = let g = c.text_at.ensures in (text_some c.args.s.now c.args.form c.args.at c.args.to c.requires.0 c.requires.1 c.requires.2 (subst (λ (g : StringForm). 0 < width g) (sym c.in-Short.is) (omega arith)) c.text_at.result g.0 g.1, g.1)
 
-pub enum_told-in-Int : goal.enum_told-in-Int
-enum_told-in-Int c = search rules
-
-pub overflow_add-at-in-Int : goal.overflow_add-at-in-Int
-overflow_add-at-in-Int c = search rules
-
 pub text_at-requires-in-Int : goal.text_at-requires-in-Int
 text_at-requires-in-Int c = let w = (subst (λ (g : StringForm). 0 < width g) (sym c.in-Int.is) (omega arith)) in (w, let h = integer_there c.args.s.now c.args.form c.args.at c.args.to c.requires.0 c.requires.1 c.requires.2 w in omega arith)
 
 pub integer-requires-in-Int : goal.integer-requires-in-Int
 integer-requires-in-Int c = let g = c.text_at-in-Int.ensures in (text_some c.args.s.now c.args.form c.args.at c.args.to c.requires.0 c.requires.1 c.requires.2 (subst (λ (g : StringForm). 0 < width g) (sym c.in-Int.is) (omega arith)) c.text_at-in-Int.result g.0 g.1, g.1)
-
-pub enum_told-in-Long : goal.enum_told-in-Long
-enum_told-in-Long c = search rules
-
-pub overflow_add-at-in-Long : goal.overflow_add-at-in-Long
-overflow_add-at-in-Long c = search rules
 
 pub text_at-requires-in-Long : goal.text_at-requires-in-Long
 text_at-requires-in-Long c = let w = (subst (λ (g : StringForm). 0 < width g) (sym c.in-Long.is) (omega arith)) in (w, let h = integer_there c.args.s.now c.args.form c.args.at c.args.to c.requires.0 c.requires.1 c.requires.2 w in omega arith)

@@ -1,6 +1,5 @@
 -- `same` meets its contract: both strings are compared from their first octets on.
 -- Assumes nothing.
-use borrow.Author.Rules.{rules}
 use mathlib.Core.Path.{sym, ap₂, ◌∙◌}
 use Rattle.format.specs.Tables.{same}
 use Rattle.forms.proofs.same.Goals as goal

@@ -1,6 +1,5 @@
 -- `next` meets its contract: what waits, a digit, the end, or what is read.
 -- Assumes nothing.
-use borrow.Author.Rules.{rules}
 use native.Mathlib.Omega.{arith}
 use Rattle.forms.proofs.Streams.{gives_waiting, gives_digit, gives_done, gives_read}
 use Rattle.forms.proofs.Said.next.Goals as goal

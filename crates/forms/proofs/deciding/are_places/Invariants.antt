@@ -1,12 +1,9 @@
 -- `are_places` meets its contract: what is left is places where the whole is.
 -- Assumes nothing.
-use borrow.Author.Rules.{rules}
-use native.Mathlib.Omega.{arith}
-use mathlib.Core.Path.{◌≡◌, refl}
+use mathlib.Core.Path.{◌≡◌}
 use Prim.Native.Nat.{◌-◌, ◌≤◌}
 use Rattle.forms.specs.Reading.{are_places}
 use Rattle.forms.specs.Streams.{part}
-use Rattle.forms.proofs.Sizes.{places_high, places_last, places_fill, places_next, places_end}
 use Rattle.forms.proofs.deciding.are_places.Given as goal
 
 abbrev pub invariant-loop-i : goal.invariant-loop-i

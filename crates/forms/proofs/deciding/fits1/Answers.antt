@@ -1,6 +1,5 @@
 -- `fits1` meets its contract.
 -- Assumes nothing.
-use borrow.Author.Rules.{rules}
 use native.Mathlib.Omega.{arith}
 use Rattle.forms.proofs.Sizes.{fits_end, fits_one}
 use Rattle.forms.proofs.deciding.fits1.Goals as goal

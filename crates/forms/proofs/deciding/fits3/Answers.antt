@@ -1,12 +1,10 @@
 -- `fits3` meets its contract: one octet, then `fits2`.
 -- Assumes nothing.
-use borrow.Author.Rules.{rules}
 use native.Mathlib.Omega.{arith}
 use mathlib.Core.Path.{sym, ◌∙◌}
 use mathlib.Core.List.{[], ◌∷◌}
 use Rattle.format.specs.Characters.{◌‥◌}
 use Rattle.forms.proofs.Sizes.{fits_end, fits_not, fits_next}
-use borrow.Author.Tests.{not-true, not-false}
 use Rattle.forms.proofs.deciding.fits3.Goals as goal
 
 pub returns-then-to-at : goal.returns-then-to-at
@@ -17,9 +15,9 @@ returns-then-to-at c =
 pub returns-then-not-among : goal.returns-then-not-among
 returns-then-not-among c =
     let a = c.args in
-    fits_not a.s.now a.at a.to _ _ _ (omega arith) (omega arith) (sym c.among.ensures ∙ not-true _ c.if-not-among.true)
+    fits_not a.s.now a.at a.to _ _ _ (omega arith) (omega arith) (sym c.among.ensures ∙ c.if-not-among.true)
 
 pub returns : goal.returns
 returns c =
     let a = c.args in
-    fits_next a.s.now a.at a.to a.low a.high (a.low2 ‥ a.high2 ∷ a.low3 ‥ a.high3 ∷ []) (omega arith) (omega arith) _ (sym c.among.ensures ∙ not-false _ c.if-not-among.false) c.fits2.ensures
+    fits_next a.s.now a.at a.to a.low a.high (a.low2 ‥ a.high2 ∷ a.low3 ‥ a.high3 ∷ []) (omega arith) (omega arith) _ (sym c.among.ensures ∙ c.if-not-among.false) c.fits2.ensures

@@ -1,6 +1,5 @@
 -- `is_text` meets its contract: each form has its test.
 -- Assumes nothing.
-use borrow.Author.Rules.{rules}
 use Rattle.format.specs.declared.StringForm.TheVariants.{Utf8, Utf16, Numeric, Dates, Short, Int, Long}
 use Rattle.forms.proofs.Forms.{tested}
 use Rattle.forms.proofs.Sizes.{integers_told}
@@ -19,10 +18,10 @@ pub returns-in-Dates : goal.returns-in-Dates
 returns-in-Dates c = tested _ Dates _ _ c.in-Dates.is c.are_places-in-Dates.ensures
 
 pub returns-in-Short : goal.returns-in-Short
-returns-in-Short c = tested _ Short _ _ c.in-Short.is (integers_told c.args.s.now c.args.at c.args.to 2 _ c.requires.1 (λ i. (c.shared_slice_known-1.given i).fits) c.is_whole.ensures)
+returns-in-Short c = tested _ Short _ _ c.in-Short.is (integers_told c.args.s.now c.args.at c.args.to 2 _ c.requires.1 (λ i. (c.type_inv.s i).fits) c.is_whole.ensures)
 
 pub returns-in-Int : goal.returns-in-Int
-returns-in-Int c = tested _ Int _ _ c.in-Int.is (integers_told c.args.s.now c.args.at c.args.to 4 _ c.requires.1 (λ i. (c.shared_slice_known-1.given i).fits) c.is_whole-in-Int.ensures)
+returns-in-Int c = tested _ Int _ _ c.in-Int.is (integers_told c.args.s.now c.args.at c.args.to 4 _ c.requires.1 (λ i. (c.type_inv.s i).fits) c.is_whole-in-Int.ensures)
 
 pub returns-in-Long : goal.returns-in-Long
-returns-in-Long c = tested _ Long _ _ c.in-Long.is (integers_told c.args.s.now c.args.at c.args.to 8 _ c.requires.1 (λ i. (c.shared_slice_known-1.given i).fits) c.is_whole-in-Long.ensures)
+returns-in-Long c = tested _ Long _ _ c.in-Long.is (integers_told c.args.s.now c.args.at c.args.to 8 _ c.requires.1 (λ i. (c.type_inv.s i).fits) c.is_whole-in-Long.ensures)

@@ -2,10 +2,7 @@
 -- Assumes nothing.
 use borrow.Author.Rules.{rules}
 use native.Mathlib.Omega.{arith}
-use mathlib.Core.Path.{◌≡◌, refl}
-use Prim.Native.Nat.{◌-◌, ◌≤◌}
-use Rattle.forms.specs.Reading.{is_text16}
-use Rattle.forms.specs.Streams.{part}
+use mathlib.Core.Path.{refl}
 use Rattle.forms.proofs.Sizes.{text_not, text_next, text_end}
 use Rattle.forms.proofs.deciding.is_text16.Goals as goal
 

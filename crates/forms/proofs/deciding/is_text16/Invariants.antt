@@ -1,12 +1,9 @@
 -- `is_text16` meets its contract: what is left is characters where the whole is.
 -- Assumes nothing.
-use borrow.Author.Rules.{rules}
-use native.Mathlib.Omega.{arith}
-use mathlib.Core.Path.{◌≡◌, refl}
+use mathlib.Core.Path.{◌≡◌}
 use Prim.Native.Nat.{◌-◌, ◌≤◌}
 use Rattle.forms.specs.Reading.{is_text16}
 use Rattle.forms.specs.Streams.{part}
-use Rattle.forms.proofs.Sizes.{text_not, text_next, text_end}
 use Rattle.forms.proofs.deciding.is_text16.Given as goal
 
 abbrev pub invariant-loop-i : goal.invariant-loop-i

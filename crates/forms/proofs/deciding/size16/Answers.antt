@@ -1,6 +1,5 @@
 -- `size16` meets its contract: in each range of first octets, the rows that are left of the table.
 -- Assumes nothing.
-use borrow.Author.Rules.{rules}
 use native.Mathlib.Omega.{arith}
 use mathlib.Core.Path.{refl, sym, ◌∙◌}
 use mathlib.Core.List.{[], ◌∷◌}
@@ -63,4 +62,4 @@ unfolding rows16
 returns c =
     let a = c.args in
     let p = c.requires in
-    some a.s.now a.at a.to p.0 p.1 rows16 5 1 0xFF 0xFF _ refl (omega (arith, c.shared_slice_known-2-1.given a.at)) (last a.s.now a.at a.to p.0 p.1 0xFF 0xFF (0x00 ‥ 0xFD ∷ []) _ _ (omega (arith, c.shared_slice_known-2-1.given a.at)) c.fits1-2.ensures c.sized-2.ensures)
+    some a.s.now a.at a.to p.0 p.1 rows16 5 1 0xFF 0xFF _ refl (omega (arith, c.type_inv.s a.at)) (last a.s.now a.at a.to p.0 p.1 0xFF 0xFF (0x00 ‥ 0xFD ∷ []) _ _ (omega (arith, c.type_inv.s a.at)) c.fits1-2.ensures c.sized-2.ensures)

@@ -1,11 +1,9 @@
 -- `found_octets` meets its contract: what is found from here on is what is found in all.
 -- Assumes nothing.
-use borrow.Author.Rules.{rules}
 use native.Mathlib.Omega.{arith}
-use Prim.Native.Nat.{◌≤◌, ◌-◌}
 use lib.ListN.{get_or}
-use mathlib.Core.Path.{◌≡◌, ◌∙◌}
-use Rattle.decimal.specs.Machine.{starting, found, scanned_by, counted, least_in}
+use mathlib.Core.Path.{◌∙◌}
+use Rattle.decimal.specs.Machine.{starting}
 use Rattle.decimal.proofs.Scans.{scan_finds, counted_step}
 use Rattle.forms.specs.Streams.{part}
 use Rattle.forms.proofs.Streams.{part_none, part_cons}

@@ -1,13 +1,10 @@
 -- `found_said` meets its contract: what is found from here on is what is found in all.
 -- Assumes nothing.
-use borrow.Author.Rules.{rules}
 use native.Mathlib.Omega.{arith}
-use Prim.Native.Nat.{◌≤◌, ◌+◌}
-use mathlib.Core.Path.{◌≡◌, ◌∙◌}
-use lib.ListN.{length}
-use Rattle.decimal.specs.Machine.{starting, found, scanned_by, counted, least_in}
+use mathlib.Core.Path.{◌∙◌}
+use Rattle.decimal.specs.Machine.{starting}
 use Rattle.decimal.proofs.Scans.{scan_finds, counted_step}
-use Rattle.forms.specs.Streams.{ahead, Fine}
+use Rattle.forms.specs.Streams.{ahead}
 use Rattle.forms.proofs.Streams.{gave, shorter, ended}
 use Rattle.forms.proofs.Scanned.{found_end, found_next, found_none}
 use Rattle.forms.proofs.integers.found_said.Goals as goal
@@ -37,7 +34,7 @@ loop-o-smaller c = shorter c.args.s.now c.loop-o.u c.next.result c.next.ensures 
 pub loop-o-preserved : goal.loop-o-preserved
 loop-o-preserved c =
     let g = (gave c.args.s.now c.loop-o.u c.next.result c.next.ensures _ _ c.in-Octet.is) in
-    let k = counted_step c.loop-o.scan c.o-1.given.0.0 in
+    let k = counted_step c.loop-o.scan c.in-Octet.o in
     let l = shorter c.args.s.now c.loop-o.u c.next.result c.next.ensures _ _ c.in-Octet.is in
     let n = c.loop-o.invariant.1 in
     (g.1, rw c.step-scan.ensures (omega arith), found_next _ _ _ c.loop-o.invariant.2 _ _ g.0 _ c.step-scan.ensures)

@@ -1,15 +1,10 @@
 -- `found_said` meets its contract: what is found from here on is what is found in all.
 -- Assumes nothing.
-use borrow.Author.Rules.{rules}
-use native.Mathlib.Omega.{arith}
 use Prim.Native.Nat.{◌≤◌, ◌+◌}
-use mathlib.Core.Path.{◌≡◌, ◌∙◌}
+use mathlib.Core.Path.{◌≡◌}
 use lib.ListN.{length}
-use Rattle.decimal.specs.Machine.{starting, found, scanned_by, counted, least_in}
-use Rattle.decimal.proofs.Scans.{scan_finds, counted_step}
+use Rattle.decimal.specs.Machine.{found, scanned_by, counted, least_in}
 use Rattle.forms.specs.Streams.{ahead, Fine}
-use Rattle.forms.proofs.Streams.{gave, shorter, ended}
-use Rattle.forms.proofs.Scanned.{found_end, found_next, found_none}
 use Rattle.forms.proofs.integers.found_said.Given as goal
 
 abbrev pub invariant-loop-o : goal.invariant-loop-o

@@ -1,6 +1,5 @@
 -- `integers_for` meets its contract: UTF-8 is looked at as it stands, another form as it is given.
 -- Assumes nothing.
-use borrow.Author.Rules.{rules}
 use native.Mathlib.Omega.{arith}
 use Rattle.forms.proofs.Forms.{said-utf8}
 use Rattle.forms.proofs.Streams.{bounded}

@@ -1,17 +1,11 @@
 -- `put_integers` meets its contract: where a word ends, its integer is put behind those before.
 -- Assumes nothing.
-use borrow.Author.Rules.{rules}
 use native.Mathlib.Omega.{arith}
-use mathlib.Core.Path.{◌≡◌}
-use mathlib.Core.Bool.{true}
-use lib.ListN.{length}
 use Rattle.format.specs.Forms.{width}
-use Rattle.decimal.specs.Machine.{written, fitting}
-use Rattle.decimal.specs.declared.scanning.Word.TheVariants.{Empty}
-use Rattle.forms.specs.Streams.{ahead, Fine}
+use Rattle.forms.specs.Streams.{ahead}
 use Rattle.forms.proofs.Streams.{gave, shorter, ended, bounded}
 use Rattle.fields.proofs.Puts.{puts_kept}
-use Rattle.forms.proofs.Puts.{Left, left-place}
+use Rattle.forms.proofs.Puts.{left-place}
 use Rattle.forms.proofs.Scanned.{width-most, all_fit, all_written, written-most, end_held, end_put, space_held, space_behind, space_put, octet-fits, octet-left}
 use Rattle.forms.proofs.integers.put_integers.Goals as goal
 

@@ -1,6 +1,5 @@
 -- `alphabet_for` meets its contract: the first alphabet that has all characters.
 -- Assumes nothing.
-use borrow.Author.Rules.{rules}
 use mathlib.Core.Path.{sym, ◌∙◌}
 use Rattle.forms.proofs.Packs.{first_chosen, second_chosen, none_chosen}
 use Rattle.forms.proofs.packing.alphabet_for.Goals as goal

@@ -1,16 +1,9 @@
 -- `fit_octets` meets its contract: what was seen, with what is to come, is letters where the whole is.
 -- Assumes nothing.
-use borrow.Author.Rules.{rules}
-use native.Mathlib.Omega.{arith}
-use mathlib.Core.Path.{◌≡◌, refl}
-use mathlib.Core.Bool.{◌&&◌}
-use mathlib.Core.Logic.{⊎_elim}
-use borrow.Author.Tests.{not-true}
-use Prim.Native.Nat.{◌+◌, ◌-◌, ◌≤◌}
+use Prim.Native.Nat.{◌-◌, ◌≤◌}
 use Rattle.format.specs.Forms.{numeric, dates}
 use Rattle.forms.specs.Streams.{part}
-use Rattle.forms.proofs.Streams.{part_none, part_cons}
-use Rattle.forms.proofs.Packs.{and_then, and_else, Seen, seen_next, seen_end, seen_not}
+use Rattle.forms.proofs.Packs.{Seen}
 use Rattle.forms.proofs.packing.fit_octets.Given as goal
 
 abbrev pub invariant-loop-i : goal.invariant-loop-i

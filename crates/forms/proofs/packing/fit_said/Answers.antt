@@ -1,15 +1,12 @@
 -- `fit_said` meets its contract: what was seen, with what is to come, is letters where the whole is.
 -- Assumes nothing.
-use borrow.Author.Rules.{rules}
 use mathlib.Core.Path.{◌≡◌, refl}
 use mathlib.Core.Bool.{◌&&◌}
-use mathlib.Core.Logic.{⊎_elim}
-use lib.ListN.{length}
 use Rattle.format.specs.Forms.{numeric, dates}
-use Rattle.forms.specs.Streams.{ahead, Fine}
 use Rattle.forms.proofs.Streams.{gave, shorter, ended}
-use Rattle.forms.proofs.Packs.{and_then, and_else, Seen, seen_next, seen_end}
+use Rattle.forms.proofs.Packs.{and_then, and_else, seen_next, seen_end}
 use Rattle.forms.proofs.packing.fit_said.Goals as goal
+use Rattle.forms.proofs.packing.fit_said.Goals.{then-n, else-n}
 
 pub loop-o-init : goal.loop-o-init
 loop-o-init c = (c.requires, refl, refl)
@@ -31,7 +28,7 @@ loop-o-preserved-then-d c =
     let l = c.loop-o in
     let f = c.fit_octet-f in
     let g = gave c.args.s.now l.u c.next.result c.next.ensures _ _ c.in-Octet.is in
-    let m : c.if-n.n ≡ (l.n && f.result.numeric) = ⊎_elim (λ x. and_then _ _ _ x.0.taken x.1) (λ x. and_else _ _ _ x.0.left x.1) c.if-n.branch in
+    let m : c.if-n.n ≡ (l.n && f.result.numeric) = elim c.if-n.branch [ then-n w ↦ and_then _ _ _ w.if-n.true w.n-is | else-n w ↦ and_else _ _ _ w.if-n.false w.n-is ] in
     (g.1, seen_next numeric l.n _ _ l.invariant.1 _ _ _ _ g.0 f.ensures.0 m, seen_next dates l.d _ _ l.invariant.2 _ _ _ _ g.0 f.ensures.1 (and_then _ _ _ c.if-d.true refl))
 
 pub loop-o-smaller : goal.loop-o-smaller
@@ -42,5 +39,5 @@ loop-o-preserved c =
     let l = c.loop-o in
     let f = c.fit_octet-f in
     let g = gave c.args.s.now l.u c.next.result c.next.ensures _ _ c.in-Octet.is in
-    let m : c.if-n.n ≡ (l.n && f.result.numeric) = ⊎_elim (λ x. and_then _ _ _ x.0.taken x.1) (λ x. and_else _ _ _ x.0.left x.1) c.if-n.branch in
+    let m : c.if-n.n ≡ (l.n && f.result.numeric) = elim c.if-n.branch [ then-n w ↦ and_then _ _ _ w.if-n.true w.n-is | else-n w ↦ and_else _ _ _ w.if-n.false w.n-is ] in
     (g.1, seen_next numeric l.n _ _ l.invariant.1 _ _ _ _ g.0 f.ensures.0 m, seen_next dates l.d _ _ l.invariant.2 _ _ _ _ g.0 f.ensures.1 (and_else _ _ _ c.if-d.false refl))

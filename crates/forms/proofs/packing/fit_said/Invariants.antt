@@ -1,14 +1,9 @@
 -- `fit_said` meets its contract: what was seen, with what is to come, is letters where the whole is.
 -- Assumes nothing.
-use borrow.Author.Rules.{rules}
-use mathlib.Core.Path.{◌≡◌, refl}
-use mathlib.Core.Bool.{◌&&◌}
-use mathlib.Core.Logic.{⊎_elim}
 use lib.ListN.{length}
 use Rattle.format.specs.Forms.{numeric, dates}
 use Rattle.forms.specs.Streams.{ahead, Fine}
-use Rattle.forms.proofs.Streams.{gave, shorter, ended}
-use Rattle.forms.proofs.Packs.{and_then, and_else, Seen, seen_next, seen_end}
+use Rattle.forms.proofs.Packs.{Seen}
 use Rattle.forms.proofs.packing.fit_said.Given as goal
 
 abbrev pub invariant-loop-o : goal.invariant-loop-o

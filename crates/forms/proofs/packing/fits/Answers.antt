@@ -1,6 +1,5 @@
 -- `fits` meets its contract: UTF-8 is looked at as it stands, another form as it is given.
 -- Assumes nothing.
-use borrow.Author.Rules.{rules}
 use Rattle.forms.proofs.Forms.{said-utf8}
 use Rattle.forms.proofs.packing.fits.Goals as goal
 

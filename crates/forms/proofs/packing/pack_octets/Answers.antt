@@ -2,14 +2,12 @@
 -- Assumes nothing.
 use borrow.Author.Rules.{rules}
 use native.Mathlib.Omega.{arith}
-use Prim.Native.Nat.{◌-◌, ◌≤◌}
-use mathlib.Core.Path.{◌≡◌, refl}
-use mathlib.Core.Bool.{true}
-use Rattle.forms.specs.Packing.{alphabet, all_letters, packed_by}
+use mathlib.Core.Path.{refl}
+use Rattle.forms.specs.Packing.{alphabet}
 use Rattle.forms.specs.Streams.{part}
 use Rattle.forms.proofs.Forms.{packed-length}
 use Rattle.forms.proofs.Streams.{part_none, part_length}
-use Rattle.forms.proofs.Puts.{Left, left_done, left_next, left-place, left-kept}
+use Rattle.forms.proofs.Puts.{left_done, left_next, left-place, left-kept}
 use Rattle.forms.proofs.Packs.{pack_none, slice_first, slice_last, slice_second, slice_two}
 use Rattle.forms.proofs.packing.pack_octets.Goals as goal
 
@@ -36,7 +34,7 @@ loop-i-preserved c =
     let p = c.requires in
     let l = c.loop-i in
     let m = c.loop-i-test.true in
-    (omega (arith, m), (slice_second _ _ _ _ p.2 m l.invariant.1).1, left_next _ _ _ _ _ _ _ _ _ (slice_two _ _ _ _ p.2 m _ _ c.IsPlace-in.ensures.0 c.place_in.ensures.0) c.put.ensures l.invariant.2)
+    (omega (arith, m), (slice_second _ _ _ _ p.2 m l.invariant.1).1, left_next _ _ _ _ _ _ _ _ _ (slice_two _ _ _ _ p.2 m _ _ c.place_in-high.ensures.0 c.place_in.ensures.0) c.put.ensures l.invariant.2)
 
 pub place_in-requires-then-i-to : goal.place_in-requires-then-i-to
 place_in-requires-then-i-to c = slice_first _ _ _ _ c.requires.2 c.loop-i.invariant.1 c.if-i-to.true

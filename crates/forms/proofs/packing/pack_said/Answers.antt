@@ -2,14 +2,12 @@
 -- Assumes nothing.
 use borrow.Author.Rules.{rules}
 use native.Mathlib.Omega.{arith}
-use mathlib.Core.Path.{◌≡◌, refl}
-use mathlib.Core.Bool.{true}
-use lib.ListN.{length}
-use Rattle.forms.specs.Packing.{alphabet, all_letters, packed_by}
-use Rattle.forms.specs.Streams.{ahead, Fine}
+use mathlib.Core.Path.{refl}
+use Rattle.forms.specs.Packing.{alphabet}
+use Rattle.forms.specs.Streams.{ahead}
 use Rattle.forms.proofs.Forms.{packed-length}
 use Rattle.forms.proofs.Streams.{gave, shorter, ended}
-use Rattle.forms.proofs.Puts.{Left, left_done, left_next, left-place, left-kept}
+use Rattle.forms.proofs.Puts.{left_done, left_next, left-place, left-kept}
 use Rattle.forms.proofs.Packs.{pack_none, letter_first, pack_one, pack_two}
 use Rattle.forms.proofs.packing.pack_said.Goals as goal
 
@@ -58,7 +56,7 @@ shape_of-out-in-Done c =
     let l = c.loop-o in
     let g = gave a.s.now l.u c.next.result c.next.ensures _ _ c.in-Octet.is in
     let e = ended a.s.now _ c.next-in-loop-o.result c.next-in-loop-o.ensures c.in-Done.is in
-    let s = left_next _ _ _ _ _ _ _ _ _ (pack_one (alphabet a.letters) _ _ _ g.0 _ c.IsPlace-in.ensures.0 e) c.put.ensures l.invariant.2 in
+    let s = left_next _ _ _ _ _ _ _ _ _ (pack_one (alphabet a.letters) _ _ _ g.0 _ c.place_in-high.ensures.0 e) c.put.ensures l.invariant.2 in
     left-kept _ _ _ _ _ _ s
 
 pub returns-in-Done : goal.returns-in-Done
@@ -67,7 +65,7 @@ returns-in-Done c =
     let l = c.loop-o in
     let g = gave a.s.now l.u c.next.result c.next.ensures _ _ c.in-Octet.is in
     let e = ended a.s.now _ c.next-in-loop-o.result c.next-in-loop-o.ensures c.in-Done.is in
-    let s = left_next _ _ _ _ _ _ _ _ _ (pack_one (alphabet a.letters) _ _ _ g.0 _ c.IsPlace-in.ensures.0 e) c.put.ensures l.invariant.2 in
+    let s = left_next _ _ _ _ _ _ _ _ _ (pack_one (alphabet a.letters) _ _ _ g.0 _ c.place_in-high.ensures.0 e) c.put.ensures l.invariant.2 in
     left_done _ _ _ _ _ _ refl s
 
 pub place_in-requires : goal.place_in-requires
@@ -102,4 +100,4 @@ loop-o-preserved c =
     let g = gave a.s.now l.u c.next.result c.next.ensures _ _ c.in-Octet.is in
     let k = gave a.s.now _ c.next-in-loop-o.result c.next-in-loop-o.ensures _ _ c.in-Octet-next.is in
     let ls = alphabet a.letters in
-    (k.1, (letter_first ls _ _ _ k.0 (letter_first ls _ _ _ g.0 l.invariant.1).1).1, left_next _ _ _ _ _ _ _ _ _ (pack_two ls _ _ _ g.0 _ c.IsPlace-in.ensures.0 _ _ _ k.0 c.place_in.ensures.0) c.put-in-Octet-next.ensures l.invariant.2)
+    (k.1, (letter_first ls _ _ _ k.0 (letter_first ls _ _ _ g.0 l.invariant.1).1).1, left_next _ _ _ _ _ _ _ _ _ (pack_two ls _ _ _ g.0 _ c.place_in-high.ensures.0 _ _ _ k.0 c.place_in.ensures.0) c.put-in-Octet-next.ensures l.invariant.2)

@@ -1,16 +1,11 @@
 -- `pack_said` meets its contract: two octets that the stream gives are put in one, behind those before.
 -- Assumes nothing.
-use borrow.Author.Rules.{rules}
-use native.Mathlib.Omega.{arith}
-use mathlib.Core.Path.{◌≡◌, refl}
+use mathlib.Core.Path.{◌≡◌}
 use mathlib.Core.Bool.{true}
 use lib.ListN.{length}
 use Rattle.forms.specs.Packing.{alphabet, all_letters, packed_by}
 use Rattle.forms.specs.Streams.{ahead, Fine}
-use Rattle.forms.proofs.Forms.{packed-length}
-use Rattle.forms.proofs.Streams.{gave, shorter, ended}
-use Rattle.forms.proofs.Puts.{Left, left_done, left_next, left-place, left-kept}
-use Rattle.forms.proofs.Packs.{pack_none, letter_first, pack_one, pack_two}
+use Rattle.forms.proofs.Puts.{Left}
 use Rattle.forms.proofs.packing.pack_said.Given as goal
 
 abbrev pub invariant-loop-o : goal.invariant-loop-o

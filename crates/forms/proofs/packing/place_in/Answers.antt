@@ -1,14 +1,17 @@
 -- `place_in` meets its contract: letters that are no digits one by one, by their places in both alphabets.
 -- Assumes nothing.
-use mathlib.Core.Path.{refl}
+use borrow.Author.Rules.{rules}
+use mathlib.Core.Path.{◌≡◌, refl}
 use Rattle.format.specs.Forms.{numeric, dates}
-use Rattle.fields.proofs.Characters.{◌also◌}
+use Rattle.format.specs.Characters.{All}
 use Rattle.forms.specs.Packing.{is_letter, place_in}
-use Rattle.forms.proofs.Packs.{known-place, rest_place}
+use Rattle.forms.proofs.Packs.{others, known-place, rest_place}
 use Rattle.forms.proofs.packing.place_in.Goals as goal
 
 pub overflow_sub-result : goal.overflow_sub-result
-overflow_sub-result c = let r = c.in_default.in_default-own.rest in (rest_place _ (r.0.0.0.0.0.0.0.1 also r.0.0.0.0.0.0.1 also r.0.0.0.0.0.1 also r.0.0.0.0.1 also r.0.0.0.1 also r.0.0.1 also r.0.1 also r.1 also tt) c.args.form c.requires).0
+overflow_sub-result c =
+    let n : All (λ k. c.args.o ≡ k → ⊥) others = search rules in
+    (rest_place _ n c.args.form c.requires).0
 
 pub returns-in-45 : goal.returns-in-45
 returns-in-45 c = known-place 0x2D 10 (unfold numeric dates is_letter place_in in refl) c.args.form _ c.in-45.is c.requires
@@ -35,4 +38,7 @@ pub returns-in-32 : goal.returns-in-32
 returns-in-32 c = known-place 0x20 14 (unfold numeric dates is_letter place_in in refl) c.args.form _ c.in-32.is c.requires
 
 pub returns-in_default : goal.returns-in_default
-returns-in_default c = let r = c.in_default.in_default-own.rest in let p = rest_place _ (r.0.0.0.0.0.0.0.1 also r.0.0.0.0.0.0.1 also r.0.0.0.0.0.1 also r.0.0.0.0.1 also r.0.0.0.1 also r.0.0.1 also r.0.1 also r.1 also tt) c.args.form c.requires in (p.1, p.2)
+returns-in_default c =
+    let n : All (λ k. c.args.o ≡ k → ⊥) others = search rules in
+    let p = rest_place _ n c.args.form c.requires in
+    (p.1, p.2)

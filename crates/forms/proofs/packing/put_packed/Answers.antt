@@ -1,6 +1,5 @@
 -- `put_packed` meets its contract: UTF-8 is packed as it stands, another form as it is given.
 -- Assumes nothing.
-use borrow.Author.Rules.{rules}
 use native.Mathlib.Omega.{arith}
 use Rattle.fields.proofs.Puts.{puts_kept}
 use Rattle.forms.proofs.Forms.{said-utf8}
