@@ -1,5 +1,6 @@
-// The C boundary: any octets, and words that the caller lends. A slice is a pointer and a length.
-// May depend on all crates but read_rows, write_rows, listing, writing and theorems.
+// The operations of the boundary to C: any octets, and words that the caller lends. A slice is a pointer and a length. Programs call these;
+// the crate lomphachit_c exports them.
+// May depend on all crates but read_rows, write_rows, listing, writing, lomphachit_c and theorems.
 #![tactic(auto)]
 
 ghost use Rattle.std.specs.Prelude.{◌≡◌, length};
@@ -10,8 +11,7 @@ ghost use Rattle.writer.specs.Words.{leaving as written, write_words, measured, 
 
 // 0 for a document of the link, else the place times 32 plus the refusal's number.
 // No octets: 1, which is SIZE at place 0; 0 would be wrong. E0 00 00 01 00 and nothing behind it: 162, which is TRUNCATED at place 5; 2, without the place, would be wrong.
-#[unsafe(no_mangle)]
-pub extern "C" fn lomphachit_check(octets: &[u8]) -> u32
+pub fn lomphachit_check(octets: &[u8]) -> u32
     ensures { result ≡ check_of link octets.now }
 {
     reader::check(octets)
@@ -20,8 +20,7 @@ pub extern "C" fn lomphachit_check(octets: &[u8]) -> u32
 // The events, tables and counts of a document into lent words; the answer has the event count above its low 32 bits, and in them 0,
 // or the place times 32 plus the refusal's number.
 // Wrong would be: on a refusal, a word that is left of an event before the fault; on acceptance, a word behind the last event that stood there before the call.
-#[unsafe(no_mangle)]
-pub extern "C" fn lomphachit_read(
+pub fn lomphachit_read(
     octets: &[u8],
     records: &mut [u32],
     tables: &mut [u32],
@@ -37,8 +36,7 @@ pub extern "C" fn lomphachit_read(
 // Wrong would be: on acceptance, an octet behind the document that stood there before the call; ROOM with the number of the event behind the one that does not fit;
 // FULL (12) for given tables that have too many local names and one of them twice, which is REPEAT (11); ROOM (14) at event 0 for given tables whose strings are no
 // text and whose head does not fit, which is TEXT (9).
-#[unsafe(no_mangle)]
-pub extern "C" fn lomphachit_write(
+pub fn lomphachit_write(
     given: &[u32],
     records: &[u32],
     text: &[u8],
@@ -55,8 +53,7 @@ pub extern "C" fn lomphachit_write(
 // its low 32 bits, and in them 0 or the event's number times 32 plus the refusal's. ROOM by size is refused for more than 16,384 octets only.
 // Wrong would be: a count that leaves out the last octet, where the document's end fills only half of it; ROOM (14) for events that make exactly 16,384 octets; on a
 // refusal, counts that are left of an earlier call.
-#[unsafe(no_mangle)]
-pub extern "C" fn lomphachit_measure(
+pub fn lomphachit_measure(
     given: &[u32],
     records: &[u32],
     text: &[u8],
