@@ -59,7 +59,7 @@ triple-requires c =
     let second = rw c.in-Got-second.is at c.optional-second.ensures in
     let third = rw c.in-Got-third.is at c.id-third.ensures in (
       addable _ _ _ _ third.1.0.tidy _ c.requires.2 c.requires.3 _ (strings_ranged _ _ _ _ _ _ _ _ _ first.1.1 second.1.1 third.1.1 second.1.0.grown third.1.0.grown third.2),
-      λ h. local_new _ _ _ _ c.id-third.new.1.1.0 c.id-third.new.1.0 _ _ _ second.1.0.tidy third.0 (name_table_of c.args.table) ? ? h,
+      λ h. local_new _ _ _ _ c.id-third.new.counts c.id-third.new.t _ _ _ second.1.0.tidy third.0 (name_table_of c.args.table) c.in-Got.p c.in-Got-second.n h,
     )
 
 pub shape_of-t : goal.shape_of-t

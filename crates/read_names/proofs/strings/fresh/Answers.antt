@@ -2,6 +2,7 @@
 -- Assumes nothing.
 use native.Mathlib.Omega.{arith}
 use borrow.Author.Rules.{rules}
+use borrow.Author.Tests.{not-true, not-false}
 use Rattle.read_names.proofs.StringLaws.{length-read, begins, table_small, table_inside, table_indexed, fresh_refused, fresh_past, fresh_bad, new_known, new_full, new_done}
 use Rattle.read_names.proofs.strings.fresh.Goals as goal
 
@@ -21,7 +22,7 @@ mark-m-requires c =
 pub returns-then-not-m : goal.returns-then-not-m
 returns-then-not-m c =
     let b = begins _ _ _ _ c.in-Got.is (length-read _ _ 2 _ c.length.ensures) in
-    fresh_bad _ _ _ _ _ _ c.requires.0 (let l = c.requires.1 in omega arith) c.requires.2 _ c.length.ensures _ _ c.in-Got.is _ (omega arith) c.mark-m.ensures.2 c.if-not-m.true
+    fresh_bad _ _ _ _ _ _ c.requires.0 (let l = c.requires.1 in omega arith) c.requires.2 _ c.length.ensures _ _ c.in-Got.is _ (omega arith) c.mark-m.ensures.2 (not-true _ c.if-not-m.true)
 
 pub add_new-requires : goal.add_new-requires
 add_new-requires c =
@@ -57,14 +58,14 @@ returns-in-Refused c =
 pub returns-in-Known : goal.returns-in-Known
 returns-in-Known c =
     let b = begins _ _ _ _ c.in-Got.is (length-read _ _ 2 _ c.length.ensures) in
-    new_known _ _ _ _ _ _ c.requires.0 (let l = c.requires.1 in omega arith) c.requires.2 _ c.length.ensures _ _ c.in-Got.is _ (omega arith) c.mark-m.ensures.2 c.if-not-m.false _ _ (rw c.in-Known.is at c.add_new.ensures)
+    new_known _ _ _ _ _ _ c.requires.0 (let l = c.requires.1 in omega arith) c.requires.2 _ c.length.ensures _ _ c.in-Got.is _ (omega arith) c.mark-m.ensures.2 (not-false _ c.if-not-m.false) _ _ (rw c.in-Known.is at c.add_new.ensures)
 
 pub returns-in-Full : goal.returns-in-Full
 returns-in-Full c =
     let b = begins _ _ _ _ c.in-Got.is (length-read _ _ 2 _ c.length.ensures) in
-    new_full _ _ _ _ _ _ c.requires.0 (let l = c.requires.1 in omega arith) c.requires.2 _ c.length.ensures _ _ c.in-Got.is _ (omega arith) c.mark-m.ensures.2 c.if-not-m.false _ _ (rw c.in-Full.is at c.add_new.ensures)
+    new_full _ _ _ _ _ _ c.requires.0 (let l = c.requires.1 in omega arith) c.requires.2 _ c.length.ensures _ _ c.in-Got.is _ (omega arith) c.mark-m.ensures.2 (not-false _ c.if-not-m.false) _ _ (rw c.in-Full.is at c.add_new.ensures)
 
 pub returns-in-Done : goal.returns-in-Done
 returns-in-Done c =
     let b = begins _ _ _ _ c.in-Got.is (length-read _ _ 2 _ c.length.ensures) in
-    new_done _ _ _ _ _ _ c.requires.0 (let l = c.requires.1 in omega arith) c.requires.2 _ c.length.ensures _ _ c.in-Got.is _ (omega arith) c.mark-m.ensures.2 c.if-not-m.false _ _ (rw c.in-Done.is at c.add_new.ensures)
+    new_done _ _ _ _ _ _ c.requires.0 (let l = c.requires.1 in omega arith) c.requires.2 _ c.length.ensures _ _ c.in-Got.is _ (omega arith) c.mark-m.ensures.2 (not-false _ c.if-not-m.false) _ _ (rw c.in-Done.is at c.add_new.ensures)
