@@ -50,7 +50,7 @@ use Rattle.read_names.specs.StringContracts.{held_of}
 use Rattle.read_names.specs.NameContracts.{new_name, seen_number, NewRow, Addable, AddsName}
 use Rattle.index.proofs.Counted.{count_at, one_more_lem, one_more-words}
 use Rattle.index.proofs.Ordered.{ordered_name}
-use Rattle.read_names.proofs.Grown.{searched_name, grown_none, grown_on, grown-stored, string_stays, InRange, name_at, name_ranged}
+use Rattle.read_names.proofs.Grown.{searched_name, grown_none, grown_on, grown-stored, string_stays, InRange, name_at as name_in_table, name_ranged}
 use Rattle.read_names.proofs.StringLaws.{tests, ranged_kept}
 
 -- ---- a table's layout
@@ -119,7 +119,7 @@ number_held s c w x t k tidy low high r is a ea = rw (ea, ← is) (by r is)
         rw (layout_table t low high, length-names (unlisted c) w t low high)
         (case (count_of (unlisted c) t) n
         (λ l. rw (lt-leb _ _ l) (refl, (tidy.ten, tidy.room)))
-        (λ l. rw (le-leb _ _ l, name_at s c w x tidy t n low high g.0 l) (
+        (λ l. rw (le-leb _ _ l, name_in_table s c w x tidy t n low high g.0 l) (
           ap (λ (z : Parts). S.got z i.at (vocabulary (unlisted c) w)) (name_is c w (triple_at w (768 * t + 3 * (n - 1))) (name_ranged s c w x tidy t n low high g.0 l)),
           (record { tidy = tidy; within = g.3; grown = grown_none c w }, l),
         )))
@@ -135,11 +135,11 @@ ranged_adding : (c : Counts) (v : Vocabulary Located) (x : Triple) → Ranged c 
 unfolding one_more count_of name_table_of adding_name names
 ranged_adding c v x q r =
     eight_nine (λ (t : ℕ). (u : NameTable) → Ranged (one_more c t) (names (adding_name v (name_table_of t) x) u))
-    (λ u. elim u [
+    (λ u. elim u as (λ k. Ranged (one_more c 8) (names (adding_name v (name_table_of 8) x) k)) [
       | ELEMENT_NAME ↦ ranged_more c (one_more c 8) (omega arith) (omega arith) (omega arith) v.elements x (r ELEMENT_NAME) q
       | ATTRIBUTE_NAME ↦ ranged_kept c (one_more c 8) (omega arith) (omega arith) (omega arith) v.attributes (r ATTRIBUTE_NAME)
     ])
-    (λ u. elim u [
+    (λ u. elim u as (λ k. Ranged (one_more c 9) (names (adding_name v (name_table_of 9) x) k)) [
       | ELEMENT_NAME ↦ ranged_kept c (one_more c 9) (omega arith) (omega arith) (omega arith) v.elements (r ELEMENT_NAME)
       | ATTRIBUTE_NAME ↦ ranged_more c (one_more c 9) (omega arith) (omega arith) (omega arith) v.attributes x (r ATTRIBUTE_NAME) q
     ])

@@ -1,6 +1,6 @@
 // Strings: C.13, C.14, C.15. Each function reads one string from octet `at` on.
 ghost use Rattle.std.specs.Prelude.{◌≡◌, suc, ◌+◌, ◌-◌, ◌*◌, ◌%◌, ◌^◌, ◌<◌, ◌≤◌, length, get_or};
-ghost use Rattle.format.specs.Tables.{link, CONTENT_CHARACTER_CHUNK};
+ghost use Rattle.format.specs.Tables.{link, CONTENT_CHARACTER_CHUNK as CHUNKS};
 ghost use Rattle.format.specs.Strings.{c15};
 ghost use Rattle.tables.specs.Counts.{table_words};
 ghost use Rattle.tables.specs.Rows.{table_of, string_at};
@@ -370,7 +370,7 @@ pub fn value(s: &[u8], t: &mut [u32], counts: &mut [u32], table: usize, at: usiz
 // C.15: a chunk, whose first octet starts with 10.
 pub fn chunk(s: &[u8], t: &mut [u32], counts: &mut [u32], at: usize) -> Field
     requires { (length t.old ≡ table_words) × (length counts.old ≡ 10) × (length s.now ≤ 16384) × (at ≤ length s.now) × (count_of (unlisted counts.old) 6 ≤ 256) × (0x80 ≤ get_or s.now at 0) × (get_or s.now at 0 < 0xC0) }
-    ensures { ReadsField s.now counts.old t.old result counts.new t.new (literal_at link c15 s.now CONTENT_CHARACTER_CHUNK at) }
+    ensures { ReadsField s.now counts.old t.old result counts.new t.new (literal_at link c15 s.now CHUNKS at) }
 {
     let o = octet(s, at);
     if bits(o, 3, 3) == 1 {

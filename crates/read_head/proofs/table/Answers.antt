@@ -1,13 +1,12 @@
 -- `table` meets its contract: absent, or how many entries it lists, and these.
 -- Assumes nothing.
 use borrow.Author.Rules.{rules}
-use borrow.Author.Tests.{not-true, not-false}
 use Rattle.read_head.proofs.HeadLaws.{count_within, table_absent, table_refused, table_read}
 use Rattle.read_head.proofs.table.Goals as goal
 
 pub returns-then-not-present : goal.returns-then-not-present
 returns-then-not-present c =
-    table_absent c.args.s.now c.args.counts.now c.args.t.now _ _ _ _ c.present.ensures c.args.index.now c.requires.0 c.requires.1 (not-true _ c.if-not-present.true)
+    table_absent c.args.s.now c.args.counts.now c.args.t.now _ _ _ _ c.present.ensures c.args.index.now c.requires.0 c.requires.1 c.if-not-present.true
 
 pub entries-requires : goal.entries-requires
 entries-requires c =
@@ -15,8 +14,8 @@ entries-requires c =
 
 pub returns-in-Refused : goal.returns-in-Refused
 returns-in-Refused c =
-    table_refused c.args.s.now c.args.counts.now c.args.t.now _ _ _ _ c.present.ensures (not-false _ c.if-not-present.false) _ c.count.ensures c.args.index.now _ _ c.requires.1 c.in-Refused.is
+    table_refused c.args.s.now c.args.counts.now c.args.t.now _ _ _ _ c.present.ensures c.if-not-present.false _ c.count.ensures c.args.index.now _ _ c.requires.1 c.in-Refused.is
 
 pub returns-in-Got : goal.returns-in-Got
 returns-in-Got c =
-    (table_read c.args.s.now c.args.counts.now c.args.t.now _ _ _ _ c.present.ensures (not-false _ c.if-not-present.false) _ c.count.ensures _ _ c.in-Got.is _ c.entries.ensures.0, c.entries.ensures.1)
+    (table_read c.args.s.now c.args.counts.now c.args.t.now _ _ _ _ c.present.ensures c.if-not-present.false _ c.count.ensures _ _ c.in-Got.is _ c.entries.ensures.0, c.entries.ensures.1)

@@ -45,9 +45,8 @@ triple-requires c =
 
 pub returns : goal.returns
 returns c =
-    let at-start = c.before in
     let first = rw c.in-Got.is at c.part-first.ensures in
     let second = rw c.in-Got-second.is at c.part-second.ensures in
     let third = rw c.in-Got-third.is at c.part-third.ensures in
     let t = c.triple.ensures in
-    name_added _ _ _ _ _ at-start.requires.1 _ at-start.requires.4 at-start.requires.5 at-start.requires.6 _ c.bits.ensures _ _ (first.0 at-start.args.t.now) first.1.1 _ _ (second.0 at-start.args.t.now) second.1.1 _ _ (third.0 at-start.args.t.now) third.1.1 c.triple.result _ _ _ t.0 (t.1 _ at-start.requires.0 third.1.1) _ c.behind_entry-2.ensures
+    name_added _ _ _ _ _ c.requires.1 _ c.requires.4 c.requires.5 c.requires.6 _ c.bits.ensures _ _ (first.0 c.args.t.now) first.1.1 _ _ (second.0 c.args.t.now) second.1.1 _ _ (third.0 c.args.t.now) third.1.1 c.triple.result _ _ _ t.0 (t.1 _ c.requires.0 third.1.1) _ c.behind_entry-2.ensures

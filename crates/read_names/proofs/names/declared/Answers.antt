@@ -36,20 +36,16 @@ returns-in-Refused c =
 
 pub returns-in-Refused-optional : goal.returns-in-Refused-optional
 returns-in-Refused-optional c =
-    let at-if2 = c.before in
-    let at-if1 = at-if2.before.before in
     let first = rw c.in-Got.is at c.optional.ensures in
     let f = rw c.in-Refused-optional.is at c.optional-in-Got.ensures in (
-      declared_namespace _ _ _ at-if1.if1.false (let z = at-if2.if2.false in let y = c.if-b-gt240.false in omega arith) _ c.bits.ensures c.if-bits-ne51.false _ c.bits-2.ensures _ c.bits-in-Got.ensures _ _ _ first.0 _ _ f.0,
+      declared_namespace _ _ _ c.if-s-at.false (let z = c.if-b.false in let y = c.if-b-gt240.false in omega arith) _ c.bits.ensures c.if-bits-ne51.false _ c.bits-2.ensures _ c.bits-in-Got.ensures _ _ _ first.0 _ _ f.0,
       f.1,
     )
 
 pub returns-in-Got-optional : goal.returns-in-Got-optional
 returns-in-Got-optional c =
-    let at-if2 = c.before in
-    let at-if1 = at-if2.before.before in
     let first = rw c.in-Got.is at c.optional.ensures in
     let second = rw c.in-Got-optional.is at c.optional-in-Got.ensures in (
-      rw (string_stays _ _ _ _ second.1.0.grown 0 _ (omega arith) first.1.1) (declared_read _ _ _ at-if1.if1.false (let z = at-if2.if2.false in let y = c.if-b-gt240.false in omega arith) _ c.bits.ensures c.if-bits-ne51.false _ c.bits-2.ensures _ c.bits-in-Got.ensures _ _ _ first.0 _ _ _ second.0),
+      rw (string_stays _ _ _ _ second.1.0.grown 0 _ (omega arith) first.1.1) (declared_read _ _ _ c.if-s-at.false (let z = c.if-b.false in let y = c.if-b-gt240.false in omega arith) _ c.bits.ensures c.if-bits-ne51.false _ c.bits-2.ensures _ c.bits-in-Got.ensures _ _ _ first.0 _ _ _ second.0),
       declared_left _ _ _ _ _ _ _ _ _ _ _ _ _ first.1 second.1,
     )

@@ -59,7 +59,7 @@ triple-requires c =
     let second = rw c.in-Got-second.is at c.optional-second.ensures in
     let third = rw c.in-Got-third.is at c.id-third.ensures in (
       addable _ _ _ _ third.1.0.tidy _ c.requires.2 c.requires.3 _ (strings_ranged _ _ _ _ _ _ _ _ _ first.1.1 second.1.1 third.1.1 second.1.0.grown third.1.0.grown third.2),
-      λ h. local_new _ _ _ _ c.id-third.new.1.1.0 c.id-third.new.1.0 _ _ _ second.1.0.tidy third.0 (name_table_of c.args.table) c.first-1.given.0.0 c.second-1.given.0.0 h,
+      λ h. local_new _ _ _ _ c.id-third.new.counts c.id-third.new.t _ _ _ second.1.0.tidy third.0 (name_table_of c.args.table) c.in-Got.p c.in-Got-second.n h,
     )
 
 pub shape_of-t : goal.shape_of-t
@@ -76,15 +76,12 @@ shape_of-index c =
 
 pub returns : goal.returns
 returns c =
-    let at-if1 = c.before in
-    let at_bits = at-if1.before in
-    let at-start = at_bits.before.before.before.before.before in
     let first = rw c.in-Got.is at c.optional-first.ensures in
     let second = rw c.in-Got-second.is at c.optional-second.ensures in
     let third = rw c.in-Got-third.is at c.id-third.ensures in
     let t = c.triple.ensures in
     let left = t.1 _ third.1.0.tidy third.1.0.within in (
-      parts-read _ _ _ _ _ _ at_bits.bits.ensures at-if1.if1.false _ c.bits.ensures _ _ _ first.0 _ _ _ second.0 _ _ _ third.0 _ (layout_table _ at-start.requires.2 at-start.requires.3) c.triple.result _ _ t.0 (new_says _ _ _ _ _ _ _ _ _ first.1.1 second.1.1 third.1.1 second.1.0.grown third.1.0.grown _ _ _ _ _ c.triple.result left t.2),
+      parts-read _ _ _ _ _ _ c.bits-pn.ensures c.if-pn-eq2.false _ c.bits.ensures _ _ _ first.0 _ _ _ second.0 _ _ _ third.0 _ (layout_table _ c.requires.2 c.requires.3) c.triple.result _ _ t.0 (new_says _ _ _ _ _ _ _ _ _ first.1.1 second.1.1 third.1.1 second.1.0.grown third.1.0.grown _ _ _ _ _ c.triple.result left t.2),
       left_on _ _ _ _ _ _ _ _ _ c.triple.result (grown_on _ _ _ _ _ _ first.1.0.grown (grown_on _ _ _ _ _ _ second.1.0.grown third.1.0.grown)) left,
       positive _ _ _ c.triple.result t.2,
     )

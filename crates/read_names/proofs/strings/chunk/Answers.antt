@@ -32,6 +32,5 @@ formed-requires c =
 pub returns : goal.returns
 unfolding table_of
 returns c =
-    let at-start = c.before in
-    λ x tidy. chunk_spelled _ _ _ x 6 _ tidy (omega arith) _ c.octet-o.ensures (rw c.octet-o.ensures at-start.requires.5) (rw c.octet-o.ensures at-start.requires.6) _ c.bits.ensures c.if-bits-eq1.false _ c.bits-add.ensures c.formed.result _ _
+    λ x tidy. chunk_spelled _ _ _ x 6 _ tidy (omega arith) _ c.octet-o.ensures (rw c.octet-o.ensures c.requires.5) (rw c.octet-o.ensures c.requires.6) _ c.bits.ensures c.if-bits-eq1.false _ c.bits-add.ensures c.formed.result _ _
     (spelled_utf8 _ _ _ x 6 _ tidy (omega arith) 7 _ (omega arith) _ _ c.octet-o.ensures c.bits-2.ensures _ c.formed.result _ _ c.if-bits-ne0.false c.length-r.ensures (c.formed.ensures x tidy (omega arith)))
