@@ -3,13 +3,13 @@
 use borrow.Author.Rules.{rules}
 use native.Mathlib.Omega.{arith}
 use mathlib.Core.Path.{sym, ◌∙◌}
-use borrow.Author.Tests.{not-true, ltb-false, eqb-true}
+use borrow.Author.Tests.{ltb-false, eqb-true}
 use Rattle.events.proofs.Kept.{kept_not}
 use Rattle.reader.proofs.LaneLaws.{local_there, local-alone}
 use Rattle.reader.proofs.lane.keep_start.Goals as goal
 
 pub returns-then-not-has_record : goal.returns-then-not-has_record
-returns-then-not-has_record c = kept_not _ _ _ _ (ltb-false _ _ (sym c.has_record.ensures ∙ not-true _ c.if-not-has_record.true))
+returns-then-not-has_record c = kept_not _ _ _ _ (ltb-false _ _ (sym c.has_record.ensures ∙ c.if-not-has_record.true))
 
 pub overflow_sub-x : goal.overflow_sub-x
 overflow_sub-x c =
