@@ -27,7 +27,7 @@ keep-requires c = c.requires.0
 pub returns-then-y-ne0 : goal.returns-then-y-ne0
 returns-then-y-ne0 c =
     let l = local_there _ _ _ c.entry-x.ensures c.requires.1 c.requires.2 in
-    rw (← c.start-e.ensures ∙ local-alone _ _ _ c.entry-x.ensures _ c.if-x-eq0.true (eqb-true _ _ c.if-x-eq0-2.true) l.0 c.entry-y.ensures c.if-y-ne0.true) c.keep.ensures
+    rw (← c.start-e.ensures ∙ local-alone _ _ _ c.entry-x.ensures _ c.if-x-eq0.true c.if-x-eq0-2.true l.0 c.entry-y.ensures c.if-y-ne0.true) c.keep.ensures
 
 pub returns : goal.returns
 returns c = rw (← c.strings_of-z.ensures, ← c.start-e-2.ensures) c.keep-2.ensures

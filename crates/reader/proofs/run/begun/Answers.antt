@@ -1,7 +1,7 @@
 -- `begun` meets its contract: what the header says, with tables that are clear, and what a head leaves.
 -- Assumes nothing.
 use mathlib.Core.Path.{ap, ◌∙◌}
-use borrow.Author.Rules.{rules}
+use borrow.Author.Tests.{not-true, not-false}
 use Rattle.tables.specs.Kept.{listed}
 use Rattle.reader.proofs.RunLaws.{tidy_start, front_within, starts_body, starts_halt, starts_head}
 use Rattle.reader.proofs.run.begun.Goals as goal
@@ -15,7 +15,7 @@ returns-then-not-front c =
     let counts = c.put_counts.ensures ∙ ap listed c.start.ensures in
     let opened = c.opened.ensures in
     let front = c.in-Onward.is in
-    starts_body _ _ _ _ pre.0 counts pre.2 opened front c.if-not-front.true
+    starts_body _ _ _ _ pre.0 counts pre.2 opened front (not-true _ c.if-not-front.true)
 
 pub head-requires : goal.head-requires
 head-requires c =
@@ -39,4 +39,4 @@ returns-else-not-front c =
     let counts = c.put_counts.ensures ∙ ap listed c.start.ensures in
     let opened = c.opened.ensures in
     let front = c.in-Onward.is in
-    starts_head _ _ _ _ pre.0 counts pre.2 opened front c.if-not-front.false c.head.ensures
+    starts_head _ _ _ _ pre.0 counts pre.2 opened front (not-false _ c.if-not-front.false) c.head.ensures

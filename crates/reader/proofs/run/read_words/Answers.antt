@@ -51,15 +51,14 @@ returns-in_default c =
     let if3 = c.if-counts-ne-TABLES.false in
     let sized = c.sized in
     let reading = c.reading-a in
-    let records = c.records-1.given in
-    let tables = c.tables-1.given in
-    let counts = c.counts-1.given in
-    let enum_told = c.enum_told-1 in
+    let records = c.clear.auto.t in
+    let tables = c.clear-2.auto.t in
+    let counts = c.clear-3.auto.t in
     let clear4 = c.clear-in_default in
-    words_refused _ (length args.records.now) (length args.tables.now) (length args.counts.now) (sym if1.false ∙ sized.ensures) (omega (arith, tables, if2)) (omega (arith, counts, if3)) reading.ensures enum_told.given.1 c.number.ensures
-    (zeroed _ (length reading.new.1.1.1.0) (length args.records.now) clear4.ensures (omega (arith, records)))
-    (zeroed _ (length reading.new.1.0) (length args.tables.now) c.clear-in_default-2.ensures (omega (arith, tables)))
-    (zeroed _ (length reading.new.1.1.0) (length args.counts.now) c.clear-in_default-3.ensures (omega (arith, counts)))
+    words_refused _ (length args.records.now) (length args.tables.now) (length args.counts.now) (sym if1.false ∙ sized.ensures) (omega (arith, tables, if2)) (omega (arith, counts, if3)) reading.ensures c.in_default.is c.number.ensures
+    (zeroed _ (length reading.new.records) (length args.records.now) clear4.ensures (omega (arith, records)))
+    (zeroed _ (length reading.new.t) (length args.tables.now) c.clear-in_default-2.ensures (omega (arith, tables)))
+    (zeroed _ (length reading.new.counts) (length args.counts.now) c.clear-in_default-3.ensures (omega (arith, counts)))
 
 pub returns : goal.returns
 returns c =
