@@ -35,9 +35,6 @@ reading-a-requires c =
     let clear2 = c.clear-2 in
     (zeroed _ (length args.tables.now) 7680 clear2.ensures (omega arith), omega arith)
 
-pub enum_told-1 : goal.enum_told-1
-enum_told-1 c = search rules
-
 pub number-requires : goal.number-requires
 number-requires c =
     let reading = c.reading-a in
