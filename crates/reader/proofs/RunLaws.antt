@@ -8,7 +8,7 @@ use native.Mathlib.Omega.{arith}
 use native.Mathlib.Numerals.{add-one}
 use borrow.Author.Tests.{lt-ltb, le-ltb, le-leb, lt-leb, eq-eqb, ne_eqb, leb-true}
 use lib.Dec.{eqb, leb, lit<}
-use lib.ListN.{length, get_or, take, drop, replicate, get_or-replicate, length-replicate}
+use lib.ListN.{length, get_or, take, drop, set, replicate, get_or-replicate, length-replicate}
 use lib.Seq.{drop-cons, sets}
 use Rattle.format.specs.Tables.{NameTable, ELEMENT_NAME, ATTRIBUTE_NAME, names, starting, same, link}
 use Rattle.format.specs.Document.{beginning}
@@ -149,7 +149,7 @@ module _ (go : ℕ → Stand → Result) (m : Stand) (n : ℕ) where
 
   sets_append : (w : List ℕ) (at : ℕ) (a b : List ℕ) → sets w at (a ++ b) ≡ sets (sets w at a) (at + length a) b
   sets_append w at [] b = let z : at + 0 ≡ at = omega arith in rw z
-  sets_append w at (x ∷ a) b = let z : at + suc (length a) ≡ suc at + length a = omega arith in rw (z, sets_append _ (suc at) a b)
+  sets_append w at (x ∷ a) b = let z : at + suc (length a) ≡ suc at + length a = omega arith in rw z (sets_append (set w at x) (suc at) a b)
 
   plus-kept : (w : List ℕ) (e : EventRead) (x : Result) → n < length w / 14 → kept_from w n (plus e x) ≡ kept_from (kept w n e.place (record_of e.item.event)) (n + 1) x
   unfolding event_words kept

@@ -1,6 +1,5 @@
 -- `lies_in` meets its contract: each way out is a case of the definition.
 -- Assumes nothing.
-use borrow.Author.Rules.{rules}
 use Rattle.events.proofs.Stretches.{stretch_empty, stretch_longer, stretch_fits}
 use Rattle.events.proofs.lies_in.Goals as goal
 

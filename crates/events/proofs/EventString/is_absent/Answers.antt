@@ -2,7 +2,6 @@
 -- Assumes nothing.
 use mathlib.Core.Path.{◌≡◌, refl}
 use mathlib.Core.Bool.{false}
-use borrow.Author.Rules.{rules}
 use lib.Dec.{eqb}
 use Rattle.format.specs.declared.StringForm.{StringForm}
 use Rattle.format.specs.declared.StringForm.TheVariants.{Utf8, Utf16, Numeric, Dates, Short, Int, Long}
@@ -25,7 +24,7 @@ pub returns-in-Empty : goal.returns-in-Empty
 returns-in-Empty c = rw c.in-Empty.is
 
 pub returns-in-Stretch : goal.returns-in-Stretch
-returns-in-Stretch c = rw c.in-Stretch.is (there c.enum_told-in-Stretch-1.given.0.0)
+returns-in-Stretch c = rw c.in-Stretch.is (there c.in-Stretch.field-0)
 
 pub returns-in-XmlPrefix : goal.returns-in-XmlPrefix
 returns-in-XmlPrefix c = rw c.in-XmlPrefix.is

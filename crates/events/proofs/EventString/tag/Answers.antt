@@ -2,7 +2,6 @@
 -- Assumes nothing.
 use mathlib.Core.Path.{◌≡◌, refl, sym, ap, ◌∙◌}
 use Prim.Native.Nat.{ℕ, ◌+◌}
-use borrow.Author.Rules.{rules}
 use native.Mathlib.Omega.{arith}
 use Rattle.format.specs.Forms.{form_number}
 use Rattle.format.specs.declared.StringForm.{StringForm}
@@ -42,4 +41,4 @@ pub returns-in-Stretch : goal.returns-in-Stretch
 returns-in-Stretch c =
     let f : form_number (string_form c.args.self) ≡ 0 =
     sym (c.number-other.ensures.0 ∙ ap form_number c.form-form.ensures) ∙ omega arith in
-    rw c.in-Stretch.is (plain c.enum_told-in-Stretch-1.given.0.0 (rw c.in-Stretch.is at f))
+    rw c.in-Stretch.is (plain c.in-Stretch.field-0 (rw c.in-Stretch.is at f))

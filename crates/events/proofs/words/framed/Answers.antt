@@ -1,7 +1,6 @@
 -- `words::framed` meets its contract: each way out is a clause of the definition.
 -- Assumes nothing.
 use mathlib.Core.Path.{◌∙◌}
-use borrow.Author.Rules.{rules}
 use Rattle.events.proofs.words.framed.Goals as goal
 
 pub returns-in_default : goal.returns-in_default

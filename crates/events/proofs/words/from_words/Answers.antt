@@ -3,13 +3,12 @@
 use mathlib.Core.Path.{◌∙◌}
 use mathlib.Core.Logic.{⊎_elim}
 use native.Mathlib.Omega.{arith}
-use borrow.Author.Rules.{rules}
-use borrow.Author.Tests.{ltb-true, ltb-false}
+use borrow.Author.Tests.{ltb-false}
 use Rattle.events.proofs.WordLaws.{record_low, record_high, record_framed}
 use Rattle.events.proofs.words.from_words.Goals as goal
 
 pub returns-then-number-lt-NAMESPACE : goal.returns-then-number-lt-NAMESPACE
-returns-then-number-lt-NAMESPACE c = c.blank.ensures ∙ ⊎_elim (λ x. record_low _ _ (omega arith)) (λ x. record_high _ _ (omega arith) (omega (arith, ltb-true))) c.then-number-lt-NAMESPACE.branch
+returns-then-number-lt-NAMESPACE c = c.blank.ensures ∙ ⊎_elim (λ x. record_low _ _ x) (λ x. record_high _ _ x.0 x.1) c.then-number-lt-NAMESPACE.either
 
 pub returns : goal.returns
 returns c =

@@ -1,6 +1,5 @@
 -- `words::is_kind` meets its contract: a law for each way out.
 -- Assumes nothing.
-use borrow.Author.Rules.{rules}
 use native.Mathlib.Omega.{arith}
 use Rattle.events.proofs.KindLaws.{none_begins, same_begins, other_begins}
 use Rattle.events.proofs.words.is_kind.Goals as goal

@@ -2,7 +2,6 @@
 -- Assumes nothing.
 use mathlib.Core.Path.{ap, ◌∙◌}
 use native.Mathlib.Omega.{arith}
-use borrow.Author.Rules.{rules}
 use borrow.Author.Tests.{ne_eqb}
 use Rattle.events.specs.FromWords.{is_said}
 use Rattle.events.proofs.WordLaws.{told_stretch, plain-said, placed-said, formed_said}

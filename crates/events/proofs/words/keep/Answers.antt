@@ -2,7 +2,6 @@
 -- Assumes nothing.
 use Prim.Native.Nat.{◌+◌, ◌*◌}
 use native.Mathlib.Omega.{arith}
-use borrow.Author.Rules.{rules}
 use lib.ListN.{length-set}
 use Rattle.events.proofs.Kept.{kept_not, kept_all}
 use Rattle.events.proofs.words.keep.Goals as goal
@@ -30,7 +29,7 @@ bounds-w-at-2 c =
 pub shape_of-w : goal.shape_of-w
 shape_of-w c =
     let start = c.args in
-    omega (arith, length-set start.w.now (14 * start.n) c.number.result, length-set c.put_string-4.new.0 (14 * start.n + 13) start.place)
+    omega (arith, length-set start.w.now (14 * start.n) c.number.result, length-set c.put_string-4.new.w (14 * start.n + 13) start.place)
 
 pub returns : goal.returns
 returns c =

@@ -2,7 +2,6 @@
 -- Assumes nothing.
 use native.Mathlib.Omega.{arith}
 use native.Mathlib.Numerals.{add-one, add-two}
-use borrow.Author.Rules.{rules}
 use lib.ListN.{length-set}
 use Rattle.events.proofs.words.put_string.Goals as goal
 

@@ -11,8 +11,8 @@ returns-then-s-k c = half_none _ _ (omega arith)
 
 pub returns-then-at-eq0 : goal.returns-then-at-eq0
 returns-then-at-eq0 c =
-    half_high _ _ (omega arith) _ (omega (arith, c.shared_slice_known-then-at-eq0-1.given (c.args.at / 2))) (omega arith) c.bits.ensures
+    half_high _ _ (omega arith) _ (omega (arith, c.type_inv.s (c.args.at / 2))) (omega arith) c.bits.ensures
 
 pub returns : goal.returns
 returns c =
-    half_low _ _ (omega arith) _ (omega (arith, c.shared_slice_known-2-1.given (c.args.at / 2))) (omega arith) c.bits-2.ensures
+    half_low _ _ (omega arith) _ (omega (arith, c.type_inv.s (c.args.at / 2))) (omega arith) c.bits-2.ensures

@@ -16,14 +16,14 @@ returns-then-s-k c =
 pub returns-then-bits-ne0 : goal.returns-then-bits-ne0
 returns-then-bits-ne0 c =
     let a = c.args in
-    λ st. tells_stop 5 _ c.refusal-then-bits-ne0.ensures (λ w. attribute_bit _ _ (state_of st w) (omega arith) (omega (arith, c.shared_slice_known-2-1.given a.k)) (omega arith))
+    λ st. tells_stop 5 _ c.refusal-then-bits-ne0.ensures (λ w. attribute_bit _ _ (state_of st w) (omega arith) (omega (arith, c.type_inv.s a.k)) (omega arith))
 
 pub returns-then-bits-eq31 : goal.returns-then-bits-eq31
 returns-then-bits-eq31 c =
     let a = c.args in
-    λ st. tells_stop 6 _ c.refusal-then-bits-eq31.ensures (λ w. attribute_padding _ _ (state_of st w) (omega arith) (omega (arith, c.shared_slice_known-2-1.given a.k)) (omega arith) (omega arith))
+    λ st. tells_stop 6 _ c.refusal-then-bits-eq31.ensures (λ w. attribute_padding _ _ (state_of st w) (omega arith) (omega (arith, c.type_inv.s a.k)) (omega arith) (omega arith))
 
 pub returns : goal.returns
 returns c =
     let a = c.args in
-    λ st. tells_attribute _ _ c.name_head.ensures (omega arith) refl (λ w. attribute_named _ _ (state_of st w) (omega arith) (omega (arith, c.shared_slice_known-2-1.given a.k)) (omega arith) (omega arith))
+    λ st. tells_attribute _ _ c.name_head.ensures (omega arith) refl (λ w. attribute_named _ _ (state_of st w) (omega arith) (omega (arith, c.type_inv.s a.k)) (omega arith) (omega arith))

@@ -11,19 +11,19 @@ returns-then-s-k c = rw c.stop.ensures.0 (refuse_here c.requires.0 c.stop.ensure
 
 pub returns-then-st-eq0 : goal.returns-then-st-eq0
 returns-then-st-eq0 c =
-    let known = c.shared_slice_known-2-1.given c.args.k in
+    let known = c.type_inv.s c.args.k in
     let b = c.bits.ensures in
     rw c.stop-then-st-eq0.ensures.0 (refuse_here c.requires.0 c.stop-then-st-eq0.ensures.1 (child_text_outside _ _ _ (omega arith) (omega arith) (omega arith) (omega arith)))
 
 pub chunk_at-requires : goal.chunk_at-requires
 chunk_at-requires c =
-    let known = c.shared_slice_known-2-1.given c.args.k in
+    let known = c.type_inv.s c.args.k in
     let b = c.bits.ensures in
     (c.requires.0, omega arith, omega arith, omega arith)
 
 pub returns-then-bits-eq2 : goal.returns-then-bits-eq2
 returns-then-bits-eq2 c =
-    let known = c.shared_slice_known-2-1.given c.args.k in
+    let known = c.type_inv.s c.args.k in
     let b = c.bits.ensures in
     let i = c.if-s-k.false in
     let j = c.if-bits-eq2.true in
@@ -47,7 +47,7 @@ returns-then-o-2 c =
 
 pub returns : goal.returns
 returns c =
-    let known = c.shared_slice_known-2-1.given c.args.k in
+    let known = c.type_inv.s c.args.k in
     let b = c.bits.ensures in
     let high = c.requires.2 (omega arith) in
     rw c.other_at.ensures (met_by (other c.requires.0 _) (child_other _ _ _ (omega arith) (omega arith) (omega arith) (omega arith) (omega arith)))

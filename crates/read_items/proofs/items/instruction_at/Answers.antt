@@ -51,7 +51,7 @@ returns-in-Refused-value c =
     let there = rw c.in-Got.is at c.id.ensures.1 in
     let said = c.value.ensures _ there.0.tidy in
     rw c.stop-in-Refused-value.ensures.0
-    (instruction_refused _ (lent c.id.new.1.0 c.id.new.1.1.0 c.id.new.1.1.1.0 c.args.records.now)
+    (instruction_refused _ (lent c.id.new.t c.id.new.counts c.id.new.index c.args.records.now)
     c.in-Got.is c.id.ensures.0 c.id.ensures.1 said c.in-Refused-value.is c.stop-in-Refused-value.ensures.1 refl)
 
 pub shape_of-t-in-Got-value : goal.shape_of-t-in-Got-value
@@ -72,6 +72,6 @@ returns-in-Got-value c =
     let there = rw c.in-Got.is at c.id.ensures.1 in
     let said = c.value.ensures _ there.0.tidy in
     rw c.moved.ensures
-    (instruction_more _ (lent c.id.new.1.0 c.id.new.1.1.0 c.id.new.1.1.1.0 c.args.records.now)
+    (instruction_more _ (lent c.id.new.t c.id.new.counts c.id.new.index c.args.records.now)
     c.in-Got.is c.id.ensures.0 c.id.ensures.1 said c.in-Got-value.is c.requires.0
     c.keep.ensures (rw (← c.string_at.ensures) c.instruction-e.ensures))

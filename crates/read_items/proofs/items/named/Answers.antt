@@ -18,25 +18,25 @@ name-read-requires c =
 pub start_of-requires : goal.start_of-requires
 start_of-requires c =
     let a = c.args in
-    let last = c.name-read.new.1 in
-    let read = name_element a.s.now a.counts.now a.t.now _ _ _ c.name-read.result last.1.0 last.0 last.1.1.0 c.if-x-eq-ELEMENT_NAME.true c.name-read.ensures in
+    let last = c.name-read.new in
+    let read = name_element a.s.now a.counts.now a.t.now _ _ _ c.name-read.result last.counts last.t last.index c.if-x-eq-ELEMENT_NAME.true c.name-read.ensures in
     let size = c.requires.0.tidy.size in
     let inside = c.requires.1.inside in
-    (entry_named a.s.now a.counts.now a.t.now last.1.0 last.0 last.1.1.0 8 c.name-read.result (omega arith) (omega arith) read.1 read.2, omega arith)
+    (entry_named a.s.now a.counts.now a.t.now last.counts last.t last.index 8 c.name-read.result (omega arith) (omega arith) read.1 read.2, omega arith)
 
 pub returns-then-x-eq-ELEMENT_NAME : goal.returns-then-x-eq-ELEMENT_NAME
 returns-then-x-eq-ELEMENT_NAME c =
     let a = c.args in
-    let last = c.name-read.new.1 in
-    let read = name_element a.s.now a.counts.now a.t.now _ _ _ c.name-read.result last.1.0 last.0 last.1.1.0 c.if-x-eq-ELEMENT_NAME.true c.name-read.ensures in
+    let last = c.name-read.new in
+    let read = name_element a.s.now a.counts.now a.t.now _ _ _ c.name-read.result last.counts last.t last.index c.if-x-eq-ELEMENT_NAME.true c.name-read.ensures in
     start_met _ _ _ c.name-read.result read.0 read.1 c.start_of.ensures (named_element _ a.x _ c.if-x-eq-ELEMENT_NAME.true)
 
 pub value-requires : goal.value-requires
 value-requires c =
     let a = c.args in
-    let last = c.name-read.new.1 in
+    let last = c.name-read.new in
     let nine = attribute_table _ _ c.requires.1 c.if-x-eq-ELEMENT_NAME.false in
-    let read = name_attribute a.s.now a.counts.now a.t.now _ _ _ c.name-read.result last.1.0 last.0 last.1.1.0 nine (c.requires.1.octet nine) c.name-read.ensures in
+    let read = name_attribute a.s.now a.counts.now a.t.now _ _ _ c.name-read.result last.counts last.t last.index nine (c.requires.1.octet nine) c.name-read.ensures in
     let there = rw c.in-Got.is at read.1 in
     let tidy = there.0.tidy in
     (tidy.room, tidy.ten, tidy.size, there.0.within, omega arith, omega arith, tidy.counted 5)
@@ -44,24 +44,24 @@ value-requires c =
 pub keep_named-requires : goal.keep_named-requires
 keep_named-requires c =
     let a = c.args in
-    let last = c.name-read.new.1 in
+    let last = c.name-read.new in
     let nine = attribute_table _ _ c.requires.1 c.if-x-eq-ELEMENT_NAME.false in
-    let read = name_attribute a.s.now a.counts.now a.t.now _ _ _ c.name-read.result last.1.0 last.0 last.1.1.0 nine (c.requires.1.octet nine) c.name-read.ensures in
+    let read = name_attribute a.s.now a.counts.now a.t.now _ _ _ c.name-read.result last.counts last.t last.index nine (c.requires.1.octet nine) c.name-read.ensures in
     let there = rw c.in-Got.is at read.1 in
     let said = c.value.ensures _ there.0.tidy in
     let size = c.requires.0.tidy.size in
     let inside = c.requires.1.inside in (
-      attribute_there a.s.now (lent a.t.now a.counts.now a.index.now a.records.now) (lent last.0 last.1.0 last.1.1.0 a.records.now)
-          (lent c.value.new.1.0 c.value.new.1.1.0 last.1.1.0 a.records.now) c.in-Got.is read.1 read.2 c.in-Got-value.is said.1,
+      attribute_there a.s.now (lent a.t.now a.counts.now a.index.now a.records.now) (lent last.t last.counts last.index a.records.now)
+          (lent c.value.new.t c.value.new.counts last.index a.records.now) c.in-Got.is read.1 read.2 c.in-Got-value.is said.1,
       omega arith,
     )
 
 pub moved-requires : goal.moved-requires
 moved-requires c =
     let a = c.args in
-    let last = c.name-read.new.1 in
+    let last = c.name-read.new in
     let nine = attribute_table _ _ c.requires.1 c.if-x-eq-ELEMENT_NAME.false in
-    let read = name_attribute a.s.now a.counts.now a.t.now _ _ _ c.name-read.result last.1.0 last.0 last.1.1.0 nine (c.requires.1.octet nine) c.name-read.ensures in
+    let read = name_attribute a.s.now a.counts.now a.t.now _ _ _ c.name-read.result last.counts last.t last.index nine (c.requires.1.octet nine) c.name-read.ensures in
     let there = rw c.in-Got.is at read.1 in
     let said = c.value.ensures _ there.0.tidy in
     let left = rw c.in-Got-value.is at said.1 in
@@ -70,28 +70,28 @@ moved-requires c =
 pub returns-in-Refused : goal.returns-in-Refused
 returns-in-Refused c =
     let a = c.args in
-    let last = c.name-read.new.1 in
+    let last = c.name-read.new in
     let nine = attribute_table _ _ c.requires.1 c.if-x-eq-ELEMENT_NAME.false in
-    let read = name_attribute a.s.now a.counts.now a.t.now _ _ _ c.name-read.result last.1.0 last.0 last.1.1.0 nine (c.requires.1.octet nine) c.name-read.ensures in
+    let read = name_attribute a.s.now a.counts.now a.t.now _ _ _ c.name-read.result last.counts last.t last.index nine (c.requires.1.octet nine) c.name-read.ensures in
     rw c.stop.ensures.0 (attribute_refused _ (named_attribute _ a.x _ nine) c.in-Refused.is c.stop.ensures.1 refl read.0 read.1)
 
 pub returns-in-Refused-value : goal.returns-in-Refused-value
 unfolding table_of
 returns-in-Refused-value c =
     let a = c.args in
-    let last = c.name-read.new.1 in
+    let last = c.name-read.new in
     let nine = attribute_table _ _ c.requires.1 c.if-x-eq-ELEMENT_NAME.false in
-    let read = name_attribute a.s.now a.counts.now a.t.now _ _ _ c.name-read.result last.1.0 last.0 last.1.1.0 nine (c.requires.1.octet nine) c.name-read.ensures in
+    let read = name_attribute a.s.now a.counts.now a.t.now _ _ _ c.name-read.result last.counts last.t last.index nine (c.requires.1.octet nine) c.name-read.ensures in
     let there = rw c.in-Got.is at read.1 in
     let said = c.value.ensures _ there.0.tidy in
-    rw c.stop-in-Refused-value.ensures.0 (value_refused _ (named_attribute _ a.x _ nine) (lent last.0 last.1.0 last.1.1.0 a.records.now) c.in-Got.is read.0 read.1 read.2 said c.in-Refused-value.is c.stop-in-Refused-value.ensures.1 refl)
+    rw c.stop-in-Refused-value.ensures.0 (value_refused _ (named_attribute _ a.x _ nine) (lent last.t last.counts last.index a.records.now) c.in-Got.is read.0 read.1 read.2 said c.in-Refused-value.is c.stop-in-Refused-value.ensures.1 refl)
 
 pub shape_of-t-in-Got-value : goal.shape_of-t-in-Got-value
 shape_of-t-in-Got-value c =
     let a = c.args in
-    let last = c.name-read.new.1 in
+    let last = c.name-read.new in
     let nine = attribute_table _ _ c.requires.1 c.if-x-eq-ELEMENT_NAME.false in
-    let read = name_attribute a.s.now a.counts.now a.t.now _ _ _ c.name-read.result last.1.0 last.0 last.1.1.0 nine (c.requires.1.octet nine) c.name-read.ensures in
+    let read = name_attribute a.s.now a.counts.now a.t.now _ _ _ c.name-read.result last.counts last.t last.index nine (c.requires.1.octet nine) c.name-read.ensures in
     let there = rw c.in-Got.is at read.1 in
     let said = c.value.ensures _ there.0.tidy in
     let left = rw c.in-Got-value.is at said.1 in
@@ -101,9 +101,9 @@ pub returns-in-Got-value : goal.returns-in-Got-value
 unfolding table_of
 returns-in-Got-value c =
     let a = c.args in
-    let last = c.name-read.new.1 in
+    let last = c.name-read.new in
     let nine = attribute_table _ _ c.requires.1 c.if-x-eq-ELEMENT_NAME.false in
-    let read = name_attribute a.s.now a.counts.now a.t.now _ _ _ c.name-read.result last.1.0 last.0 last.1.1.0 nine (c.requires.1.octet nine) c.name-read.ensures in
+    let read = name_attribute a.s.now a.counts.now a.t.now _ _ _ c.name-read.result last.counts last.t last.index nine (c.requires.1.octet nine) c.name-read.ensures in
     let there = rw c.in-Got.is at read.1 in
     let said = c.value.ensures _ there.0.tidy in
-    rw c.moved.ensures (attribute_more _ (named_attribute _ a.x _ nine) (lent last.0 last.1.0 last.1.1.0 a.records.now) c.in-Got.is read.0 read.1 read.2 said c.in-Got-value.is c.requires.0 c.keep_named.ensures)
+    rw c.moved.ensures (attribute_more _ (named_attribute _ a.x _ nine) (lent last.t last.counts last.index a.records.now) c.in-Got.is read.0 read.1 read.2 said c.in-Got-value.is c.requires.0 c.keep_named.ensures)

@@ -21,19 +21,19 @@ returns-then-bits-eq14 c =
 pub returns-then-bits-ne0 : goal.returns-then-bits-ne0
 returns-then-bits-ne0 c =
     let a = c.args in
-    λ st l. tells_stop 6 _ c.refusal-then-bits-ne0.ensures (λ w. named_bits _ _ _ (state_of st w) (omega arith) (omega arith) (omega (arith, c.shared_slice_known-2-1.given a.k)))
+    λ st l. tells_stop 6 _ c.refusal-then-bits-ne0.ensures (λ w. named_bits _ _ _ (state_of st w) (omega arith) (omega arith) (omega (arith, c.type_inv.s a.k)))
 
 pub name_padding-requires : goal.name_padding-requires
 name_padding-requires c =
     let a = c.args in
-    omega (arith, c.shared_slice_known-2-1.given a.k)
+    omega (arith, c.type_inv.s a.k)
 
 pub returns-then-name_padding : goal.returns-then-name_padding
 returns-then-name_padding c =
     let a = c.args in
-    λ st l. tells_stop 6 _ c.refusal-then-name_padding.ensures (λ w. named_padding _ _ _ (state_of st w) (omega arith) (omega arith) (omega (arith, c.shared_slice_known-2-1.given a.k)) (sym c.if-name_padding.true ∙ c.name_padding.ensures))
+    λ st l. tells_stop 6 _ c.refusal-then-name_padding.ensures (λ w. named_padding _ _ _ (state_of st w) (omega arith) (omega arith) (omega (arith, c.type_inv.s a.k)) (sym c.if-name_padding.true ∙ c.name_padding.ensures))
 
 pub returns : goal.returns
 returns c =
     let a = c.args in
-    λ st l. tells_element _ _ _ c.name_head.ensures (omega arith) (λ w. named_start _ _ _ (state_of st w) (omega arith) (omega arith) (omega (arith, c.shared_slice_known-2-1.given a.k)) (sym c.if-name_padding.false ∙ c.name_padding.ensures) l)
+    λ st l. tells_element _ _ _ c.name_head.ensures (omega arith) (λ w. named_start _ _ _ (state_of st w) (omega arith) (omega arith) (omega (arith, c.type_inv.s a.k)) (sym c.if-name_padding.false ∙ c.name_padding.ensures) l)

@@ -3,7 +3,6 @@
 use native.Mathlib.Omega.{arith}
 use borrow.Author.Rules.{rules}
 use mathlib.Core.Path.{sym, ◌∙◌}
-use borrow.Author.Tests.{not-true, not-false}
 use Rattle.read_items.proofs.StepLaws.{met_by, refuse_here}
 use Rattle.read_items.proofs.EndLaws.{ends_low, ends_within}
 use Rattle.read_items.proofs.ItemLaws.{step_end, step_padding, step_item}
@@ -28,7 +27,7 @@ returns-then-not-pads_at c =
     rw c.stop.ensures.0
     (refuse_here c.requires c.stop.ensures.1 (step_padding _ _
     (sym c.if-ends_here.false ∙ c.ends_here.ensures)
-    (sym (not-true _ c.if-not-pads_at.true) ∙ c.pads_at.ensures)))
+    (sym c.if-not-pads_at.true ∙ c.pads_at.ensures)))
 
 pub item_at-requires : goal.item_at-requires
 item_at-requires c =
@@ -37,4 +36,4 @@ item_at-requires c =
 pub returns : goal.returns
 returns c =
     met_by c.item_at.ensures (step_item _ _ (sym c.if-ends_here.false ∙ c.ends_here.ensures)
-    (sym (not-false _ c.if-not-pads_at.false) ∙ c.pads_at.ensures))
+    (sym c.if-not-pads_at.false ∙ c.pads_at.ensures))

@@ -2,7 +2,6 @@
 -- Assumes nothing.
 use native.Mathlib.Omega.{arith}
 use borrow.Author.Rules.{rules}
-use borrow.Author.Tests.{not-true, not-false}
 use Rattle.reader.proofs.LaneLaws.{takes_none, takes_left, takes_chunk, chunk_in_row}
 use Rattle.reader.proofs.lane.chunk.Goals as goal
 
@@ -14,8 +13,8 @@ keep_chunk-requires c = chunk_in_row c.requires.0 _ (omega arith)
 
 pub returns-then-not-keep_chunk : goal.returns-then-not-keep_chunk
 returns-then-not-keep_chunk c =
-    takes_left c.requires.0 (rw (not-true c.keep_chunk.result c.if-not-keep_chunk.true) at c.keep_chunk.ensures)
+    takes_left c.requires.0 (rw c.if-not-keep_chunk.true at c.keep_chunk.ensures)
 
 pub returns : goal.returns
 returns c =
-    takes_chunk c.requires.0 (omega arith) _ c.requires.1 _ c.requires.2 c.requires.3 c.row_at-x.ensures (omega arith) (rw (not-false c.keep_chunk.result c.if-not-keep_chunk.false) at c.keep_chunk.ensures)
+    takes_chunk c.requires.0 (omega arith) _ c.requires.1 _ c.requires.2 c.requires.3 c.row_at-x.ensures (omega arith) (rw c.if-not-keep_chunk.false at c.keep_chunk.ensures)

@@ -20,7 +20,7 @@ overflow_add-lane c =
 
 pub item-lane-requires : goal.item-lane-requires
 item-lane-requires c =
-    let h : c.loop-lane.lane.n < c.args.full = ltb-true _ _ c.if-lane-full.true in
+    let h : c.loop-lane.lane.n < c.args.full = c.if-lane-full.true in
     let few : c.loop-lane.lane.n < 65536 = omega arith in
     record { tidied = c.loop-lane.invariant.3.onward.tidied; more = c.loop-lane-test.true; inside = c.loop-lane.invariant.3.inside; few = few }
 
@@ -35,18 +35,18 @@ shape_of-records-then-lane-n c = omega arith
 
 pub returns-then-lane-n : goal.returns-then-lane-n
 returns-then-lane-n c =
-    skims_then c.loop-lane.invariant.3 (ltb-true _ _ c.if-lane-full.true) c.item-lane.ensures
+    skims_then c.loop-lane.invariant.3 c.if-lane-full.true c.item-lane.ensures
 
 pub loop-lane-smaller : goal.loop-lane-smaller
 loop-lane-smaller c =
-    let h : c.loop-lane.lane.n < c.args.full = ltb-true _ _ c.if-lane-full.true in
+    let h : c.loop-lane.lane.n < c.args.full = c.if-lane-full.true in
     let l = c.item-lane.ensures.onward.less in
     let m = c.item-lane.ensures.onward.most in
     omega arith
 
 pub loop-lane-preserved : goal.loop-lane-preserved
 loop-lane-preserved c =
-    (omega arith, omega arith, omega arith, skims_then c.loop-lane.invariant.3 (ltb-true _ _ c.if-lane-full.true) c.item-lane.ensures)
+    (omega arith, omega arith, omega arith, skims_then c.loop-lane.invariant.3 c.if-lane-full.true c.item-lane.ensures)
 
 pub shape_of-t-else-lane-full : goal.shape_of-t-else-lane-full
 shape_of-t-else-lane-full c = omega arith

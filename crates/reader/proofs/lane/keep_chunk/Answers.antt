@@ -2,13 +2,13 @@
 -- Assumes nothing.
 use mathlib.Core.Path.{sym, ◌∙◌}
 use borrow.Author.Rules.{rules}
-use borrow.Author.Tests.{not-true, ltb-false}
+use borrow.Author.Tests.{ltb-false}
 use Rattle.events.proofs.Kept.{kept_not}
 use Rattle.reader.proofs.LaneLaws.{chunk_plain}
 use Rattle.reader.proofs.lane.keep_chunk.Goals as goal
 
 pub returns-then-not-has_record : goal.returns-then-not-has_record
-returns-then-not-has_record c = kept_not _ _ _ _ (ltb-false _ _ (sym c.has_record.ensures ∙ not-true _ c.if-not-has_record.true))
+returns-then-not-has_record c = kept_not _ _ _ _ (ltb-false _ _ (sym c.has_record.ensures ∙ c.if-not-has_record.true))
 
 pub returns : goal.returns
 returns c =

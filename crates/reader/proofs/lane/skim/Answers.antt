@@ -3,7 +3,6 @@
 use borrow.Author.Rules.{rules}
 use native.Mathlib.Omega.{arith}
 use mathlib.Core.Path.{sym, ◌∙◌}
-use borrow.Author.Tests.{not-false}
 use Rattle.reader.proofs.LaneLaws.{enters_is, advances_none, advances_lane}
 use Rattle.reader.proofs.lane.skim.Goals as goal
 
@@ -18,7 +17,7 @@ overflow_sub-n c = omega arith
 
 pub items-to-requires : goal.items-to-requires
 items-to-requires c =
-    (c.requires.0, (enters_is _ (sym (not-false _ c.if-not-enters.false) ∙ c.enters.ensures)).0, omega arith, c.least.ensures.2 _ c.requires.3 (omega arith), omega arith)
+    (c.requires.0, (enters_is _ (sym c.if-not-enters.false ∙ c.enters.ensures)).0, omega arith, c.least.ensures.2 _ c.requires.3 (omega arith), omega arith)
 
 pub overflow_mul-state : goal.overflow_mul-state
 overflow_mul-state c =
@@ -29,4 +28,4 @@ pub returns : goal.returns
 returns c =
     let h = c.requires.1 in
     let l = c.least.ensures.1 in
-    advances_lane _ _ (sym (not-false _ c.if-not-enters.false) ∙ c.enters.ensures) c.least.ensures.0 (omega arith) c.items-to.ensures
+    advances_lane _ _ (sym c.if-not-enters.false ∙ c.enters.ensures) c.least.ensures.0 (omega arith) c.items-to.ensures

@@ -3,7 +3,6 @@
 use borrow.Author.Rules.{rules}
 use native.Mathlib.Omega.{arith}
 use mathlib.Core.Path.{sym, ◌∙◌}
-use borrow.Author.Tests.{not-true, not-false}
 use Rattle.fields.proofs.Bounds.{field_got}
 use Rattle.reader.proofs.LaneLaws.{takes_none, takes_full, takes_spelled, place-fits}
 use Rattle.reader.proofs.lane.spelled.Goals as goal
@@ -46,7 +45,7 @@ overflow_cast-place c =
 
 pub returns-then-not-added : goal.returns-then-not-added
 returns-then-not-added c =
-    takes_full c.requires.0 (rw (not-true c.added.result c.if-not-added.true) at c.added.ensures)
+    takes_full c.requires.0 (rw c.if-not-added.true at c.added.ensures)
 
 pub overflow_cast-place-2 : goal.overflow_cast-place-2
 overflow_cast-place-2 c =
@@ -70,10 +69,6 @@ overflow_add-result-2 c =
 
 pub returns : goal.returns
 returns c =
-    let at-if2 = c.before in
-    let at_bits = at-if2.before in
-    let at-if1 = at_bits.before in
-    let at-start = at-if1.before.before.before.before.before in
     let g = field_got _ _ _ _ _ (sym c.length.ensures ∙ c.in-Got.is) in
-    let z = at-start.requires.0.tidied.tidy.size in
-    takes_spelled at-start.requires.0 (omega (arith, c.keep.auto)) _ at-start.requires.1 (omega (arith, at-if1.if1.false)) at-start.requires.2 at_bits.bits.ensures at-if2.if2.false c.length.ensures c.in-Got.is (omega (arith, c.if-s-place.false)) (c.is_text.ensures (not-false _ c.if-not-is_text.false)) c.bits-2.ensures (rw (not-false c.added.result c.if-not-added.false) at c.added.ensures) c.keep.ensures c.chunk-e.ensures
+    let z = c.requires.0.tidied.tidy.size in
+    takes_spelled c.requires.0 (omega (arith, c.keep.auto)) _ c.requires.1 (omega (arith, c.if-o-lt128.false)) c.requires.2 c.bits.ensures c.if-bits-ne0.false c.length.ensures c.in-Got.is (omega (arith, c.if-s-place.false)) (c.is_text.ensures c.if-not-is_text.false) c.bits-2.ensures (rw c.if-not-added.false at c.added.ensures) c.keep.ensures c.chunk-e.ensures

@@ -1,7 +1,6 @@
 -- `begun` meets its contract: what the header says, with tables that are clear, and what a head leaves.
 -- Assumes nothing.
 use mathlib.Core.Path.{ap, ◌∙◌}
-use borrow.Author.Rules.{rules}
 use borrow.Author.Tests.{not-true, not-false}
 use Rattle.tables.specs.Kept.{listed}
 use Rattle.reader.proofs.RunLaws.{tidy_start, front_within, starts_body, starts_halt, starts_head}

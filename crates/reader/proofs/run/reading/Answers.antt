@@ -25,5 +25,4 @@ returns-in-Refused c =
 pub returns-in-Behind : goal.returns-in-Behind
 returns-in-Behind c =
     let begun = c.begun in
-    let body = c.body-1 in
-    ran_onward begun.ensures body.given.1 c.steps.ensures
+    ran_onward begun.ensures c.in-Behind.is c.steps.ensures
