@@ -126,12 +126,12 @@ module _ (x : Octets) where
     with_size : (lead : ℕ) (y : Octets) (n : ℕ) → length y ≡ n → length (with_length (lengths bit) lead y) ≡ size bit n
     with_size lead y n e = length-append (spell (lengths bit) lead (length y)) y ∙ rw (e, lead_free (lengths bit) lead n)
 
-    pub field_size : (form : StringForm) (lead : ℕ) (y : Octets) → length y ≡ octets_in form → length (in_format bit form lead y) ≡ field_size form
+    pub field_size_lem : (form : StringForm) (lead : ℕ) (y : Octets) → length y ≡ octets_in form → length (in_format bit form lead y) ≡ field_size form
     unfolding in_format
-    field_size Utf8 lead y e = with_size lead y _ e
-    field_size Utf16 lead y e = with_size _ y _ e
-    field_size Numeric lead y e = ap suc (with_size _ y _ e)
-    field_size Dates lead y e = ap suc (with_size _ y _ e)
-    field_size Short lead y e = ap suc (with_size _ y _ e)
-    field_size Int lead y e = ap suc (with_size _ y _ e)
-    field_size Long lead y e = ap suc (with_size _ y _ e)
+    field_size_lem Utf8 lead y e = with_size lead y _ e
+    field_size_lem Utf16 lead y e = with_size _ y _ e
+    field_size_lem Numeric lead y e = ap suc (with_size _ y _ e)
+    field_size_lem Dates lead y e = ap suc (with_size _ y _ e)
+    field_size_lem Short lead y e = ap suc (with_size _ y _ e)
+    field_size_lem Int lead y e = ap suc (with_size _ y _ e)
+    field_size_lem Long lead y e = ap suc (with_size _ y _ e)
