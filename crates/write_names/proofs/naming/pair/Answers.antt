@@ -26,4 +26,4 @@ returns c =
     let stands = rw (c.in-Put.is, c.requires.2) at c.optional.ensures in
     let then = rw c.requires.3 at c.optional-2.ensures in
     let last = c.optional-2.new in
-    pair-behind _ _ c.args.x.first _ _ c.args.out.now c.args.at _ c.put.ensures stands c.optional-2.result last.1.1.1.1.0 last.1.1.0 last.1.0 last.1.1.1.0 then
+    pair-behind _ _ c.args.x.first _ _ c.args.out.now c.args.at _ c.put.ensures stands c.optional-2.result last.out last.counts last.t last.index then
