@@ -1,11 +1,9 @@
 -- `literal` meets its contract: a string that is spelled is a stretch; whether it is added is told by two tests, and its lead by what they come to.
 -- Assumes nothing.
-use borrow.Author.Rules.{rules}
-use borrow.Author.Tests.{ltb-true, ltb-false, lt-leb, not-true, not-false}
+use borrow.Author.Tests.{ltb-true, ltb-false, lt-leb}
 use native.Mathlib.Omega.{arith}
 use mathlib.Core.Path.{◌≡◌, sym, ◌∙◌}
 use mathlib.Core.Bool.{true, false, true≢false}
-use mathlib.Core.Logic.{⊎_elim}
 use Prim.Native.Nat.{◌+◌, ◌-◌, ◌<◌, ◌≤◌}
 use lib.ListN.{get_or}
 use lib.Pow.{pow_pos}

@@ -1,7 +1,5 @@
 -- `number_said` meets its contract: a string that is spelled is a stretch, and is looked for.
 -- Assumes nothing.
-use borrow.Author.Rules.{rules}
-use native.Mathlib.Omega.{arith}
 use Rattle.write_names.proofs.Stretches.{as_given, no_stretch}
 use Rattle.write_names.proofs.StringLaws.{find_said_ready, held_stretch}
 use Rattle.write_names.proofs.number_said.Goals as goal

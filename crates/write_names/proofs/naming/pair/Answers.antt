@@ -1,6 +1,5 @@
 -- `pair` meets its contract: the namespace's number is the same once the prefix is written, and what is full then stays so.
 -- Assumes nothing.
-use borrow.Author.Rules.{rules}
 use native.Mathlib.Omega.{arith}
 use Rattle.write_names.proofs.NameLaws.{pair_full, pair_looked, pair-behind}
 use Rattle.write_names.proofs.naming.pair.Goals as goal

@@ -1,6 +1,5 @@
 -- `parts` meets its contract: the local name's number is the same once the prefix and the namespace are written, and what is full then stays so.
 -- Assumes nothing.
-use borrow.Author.Rules.{rules}
 use native.Mathlib.Omega.{arith}
 use mathlib.Core.Path.{refl}
 use Rattle.tables.specs.Rows.{table_of}
