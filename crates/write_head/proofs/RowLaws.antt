@@ -406,8 +406,8 @@ module _ (text g : List ℕ) where
       unfolding keeps keeps_table keeps_row text_row
       text_here k = rw (lt-ltb t 8 k) at (below_at (keeps_row 9 text g t) (get_or g t 0) i (below_at (keeps_table 9 text g) 10 t texts ten) h)
 
-      pub right_row : t < 8 → IsRow text g t here
-      right_row k =
+      pub right_row_lem : t < 8 → IsRow text g t here
+      right_row_lem k =
           let l = right_lies k in
           let e = octets_stretch text (form_given (get_or g here 0)) (get_or g (here + 1) 0) (get_or g (here + 2) 0) in
           (l.0, l.1, text_sound (form_given (get_or g here 0)) _ (rw e at (text_here k)), right_tag)
@@ -436,7 +436,7 @@ module _ (text g : List ℕ) where
         let a : 1 + get_or g 0 0 ≤ 256 = few_at g 0 few (omega arith) in
         let b : 1 + get_or g 1 0 ≤ 256 = few_at g 1 few (omega arith) in
         let d : 0 + get_or g 2 0 ≤ 256 = few_at g 2 few (omega arith) in
-        (right_row texts, λ k. let n = right_numbers k in (omega arith, omega arith, omega arith))
+        (right_row_lem texts, λ k. let n = right_numbers k in (omega arith, omega arith, omega arith))
 
 pub few_more : (g : List ℕ) (t b n : ℕ) → below (few_table g) t ≡ true → b ≡ start_count t → n ≡ get_or g t 0 → b + n ≤ 256 → below (few_table g) (t + 1) ≡ true
 unfolding few_table

@@ -27,7 +27,7 @@ use Rattle.forms.specs.Packing.{is_letter, all_letters, alphabet_for, integers_f
 use Rattle.forms.proofs.Lists.{all_letters_lem}
 use Rattle.forms.proofs.Forms.{by_integers, packed-length, integers_length, alphabet_by, found_by}
 use Rattle.forms.proofs.Scanned.{width-most}
-use Rattle.forms.proofs.FieldSizes.{size, Sized, one, two, five, none, sized, octets_in, field_size, field_size}
+use Rattle.forms.proofs.FieldSizes.{size, Sized, one, two, five, none, sized, octets_in, field_size, field_size_lem}
 use Rattle.forms.proofs.Streams.{part_cons}
 use Rattle.tables.specs.Located.{octets_of}
 use Rattle.tables.proofs.FormLaws.{form_zero}
@@ -144,7 +144,7 @@ module _ (bit : ℕ) (x : Octets) where
 
   in_size : (f : StringForm) → length (in_form f x) ≡ octets_in x f → length (field_in bit f 0 x) ≡ field_size x bit f
   unfolding field_in
-  in_size f e = field_size x bit f 0 (in_form f x) e
+  in_size f e = field_size_lem x bit f 0 (in_form f x) e
 
   utf8-size : length (field_in bit Utf8 0 x) ≡ size bit (length x)
   utf8-size = in_size Utf8 refl

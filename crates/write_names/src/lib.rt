@@ -6,7 +6,7 @@ mod naming;
 
 ghost use Rattle.std.specs.Prelude.{◌≡◌, ◌+◌, ◌*◌, ◌^◌, ◌-◌, ◌<◌, ◌≤◌, length};
 ghost use Rattle.format.specs.Numbers.{lengths, spell};
-ghost use Rattle.format.specs.Tables.{link, CONTENT_CHARACTER_CHUNK};
+ghost use Rattle.format.specs.Tables.{link, CONTENT_CHARACTER_CHUNK as CHUNKS};
 ghost use Rattle.format.specs.Strings.{with_length, c15};
 ghost use Rattle.format.specs.Names.{has};
 ghost use Rattle.format.specs.declared.StringForm.TheVariants.{Utf8};
@@ -573,7 +573,7 @@ pub fn chunk(
     x: EventString,
 ) -> usize
     requires { InOrder text.now counts.old t.old index.old × (at ≤ last_place) × Spells text.now x }
-    ensures { Stands text.now out.old at value_most result out.new counts.new t.new index.new (write_literal link c15 text.now CONTENT_CHARACTER_CHUNK (tables_in counts.old t.old) (located_of x)) }
+    ensures { Stands text.now out.old at value_most result out.new counts.new t.new index.new (write_literal link c15 text.now CHUNKS (tables_in counts.old t.old) (located_of x)) }
 {
     let table = CONTENT_CHARACTER_CHUNK;
     let k = number_said(text, t, counts, index, table, x);

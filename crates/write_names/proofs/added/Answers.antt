@@ -1,6 +1,5 @@
 -- `added` meets its contract: the row is entered, and counted.
 -- Assumes nothing.
-use borrow.Author.Rules.{rules}
 use mathlib.Core.Path.{refl}
 use Rattle.write_names.proofs.added.Goals as goal
 

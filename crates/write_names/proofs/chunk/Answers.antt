@@ -1,6 +1,5 @@
 -- `chunk` meets its contract: a law for each way out.
 -- Assumes nothing.
-use borrow.Author.Rules.{rules}
 use native.Mathlib.Omega.{arith}
 use Rattle.write_names.specs.Promises.{at_bit_7}
 use Rattle.write_names.proofs.StringLaws.{chunk_numbered, chunk_spelled}

@@ -1,6 +1,5 @@
 -- `has` meets its contract: a law for each way out.
 -- Assumes nothing.
-use borrow.Author.Rules.{rules}
 use borrow.Author.Tests.{eqb-true, eqb-false}
 use mathlib.Core.Path.{sym, ◌∙◌}
 use Rattle.write_names.proofs.StringLaws.{has_none, has_one}

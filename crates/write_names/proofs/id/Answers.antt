@@ -1,6 +1,5 @@
 -- `id` meets its contract: a law for each way out.
 -- Assumes nothing.
-use borrow.Author.Rules.{rules}
 use native.Mathlib.Omega.{arith}
 use mathlib.Core.Path.{refl}
 use Rattle.format.specs.declared.StringForm.TheVariants.{Utf8}

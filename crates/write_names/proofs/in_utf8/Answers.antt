@@ -1,6 +1,5 @@
 -- `in_utf8` meets its contract: a law for each way out.
 -- Assumes nothing.
-use borrow.Author.Rules.{rules}
 use native.Mathlib.Omega.{arith}
 use mathlib.Core.Path.{sym, ◌∙◌}
 use Rattle.write_names.proofs.Stretches.{stretched, part_sound, said-length}

@@ -1,6 +1,5 @@
 -- `letters_in` meets its contract: by the last octet.
 -- Assumes nothing.
-use borrow.Author.Rules.{rules}
 use Rattle.write_names.proofs.Stretches.{letters_odd, letters_even}
 use Rattle.write_names.proofs.letters_in.Goals as goal
 

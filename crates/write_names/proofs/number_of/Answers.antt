@@ -1,6 +1,5 @@
 -- `number_of` meets its contract: a law for each way out.
 -- Assumes nothing.
-use borrow.Author.Rules.{rules}
 use native.Mathlib.Omega.{arith}
 use Rattle.write_names.proofs.StringLaws.{held_absent, held_empty, held_stretch, held_prefix, held_namespace, suits_utf8, find_ready}
 use Rattle.write_names.proofs.number_of.Goals as goal

@@ -1,15 +1,12 @@
 -- `number_said` meets its contract: a string that is spelled is a stretch, and is looked for.
 -- Assumes nothing.
-use borrow.Author.Rules.{rules}
-use native.Mathlib.Omega.{arith}
-use mathlib.Core.Logic.{⊎_elim}
 use Rattle.write_names.proofs.Stretches.{as_given, no_stretch}
 use Rattle.write_names.proofs.StringLaws.{find_said_ready, held_stretch}
 use Rattle.write_names.proofs.number_said.Goals as goal
 
 pub returns-in_default : goal.returns-in_default
 returns-in_default c =
-    absurd (no_stretch _ c.args.x c.requires.3 λ f p n q. ⊎_elim (λ e. omega arith) (⊎_elim (λ e. omega arith) (⊎_elim (λ e. omega arith) (λ e. omega arith))) (rw q at c.in_default.is))
+    absurd (no_stretch _ c.args.x c.requires.3 c.in_default.not-Stretch)
 
 pub find_said-requires : goal.find_said-requires
 find_said-requires c =

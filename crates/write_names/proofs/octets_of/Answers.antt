@@ -1,6 +1,5 @@
 -- `octets_of` meets its contract: a law for each way out.
 -- Assumes nothing.
-use borrow.Author.Rules.{rules}
 use native.Mathlib.Omega.{arith}
 use mathlib.Core.Path.{refl, sym, ◌∙◌}
 use Rattle.write_names.proofs.Stretches.{stretched, part_sound, octets-plain, octets-letters, octets_put}

@@ -1,6 +1,5 @@
 -- `or_integers` meets its contract: a law for each way out.
 -- Assumes nothing.
-use borrow.Author.Rules.{rules}
 use native.Mathlib.Omega.{arith}
 use Rattle.write_names.proofs.FormLaws.{few_octets, less_integers, more_integers, none_found}
 use Rattle.write_names.proofs.or_integers.Goals as goal

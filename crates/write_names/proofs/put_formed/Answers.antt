@@ -1,6 +1,5 @@
 -- `put_formed` meets its contract: a law for each way out.
 -- Assumes nothing.
-use borrow.Author.Rules.{rules}
 use mathlib.Core.Path.{sym, ◌∙◌}
 use Rattle.format.specs.declared.StringForm.TheVariants.{Utf8}
 use Rattle.tables.proofs.FormLaws.{form_zero}

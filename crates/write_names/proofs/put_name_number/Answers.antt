@@ -1,6 +1,5 @@
 -- `put_name_number` meets its contract: a law for each way out.
 -- Assumes nothing.
-use borrow.Author.Rules.{rules}
 use native.Mathlib.Omega.{arith}
 use Rattle.write_names.proofs.StringLaws.{element_forms, attribute_forms}
 use Rattle.write_names.proofs.put_name_number.Goals as goal

@@ -1,6 +1,5 @@
 -- `put_string` meets its contract: by all characters, or, where the first octet is a letter of no alphabet, as it stands.
 -- Assumes nothing.
-use borrow.Author.Rules.{rules}
 use native.Mathlib.Omega.{arith}
 use mathlib.Core.Path.{◌≡◌, refl, sym, ◌∙◌}
 use Rattle.format.specs.Forms.{form_number}

@@ -1,6 +1,5 @@
 -- `spelled` meets its contract: a law for each way out.
 -- Assumes nothing.
-use borrow.Author.Rules.{rules}
 use native.Mathlib.Omega.{arith}
 use Rattle.write_names.proofs.StringLaws.{puts_spelled}
 use Rattle.write_names.proofs.spelled.Goals as goal

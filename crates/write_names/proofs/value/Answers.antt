@@ -1,6 +1,5 @@
 -- `value` meets its contract: a law for each way out.
 -- Assumes nothing.
-use borrow.Author.Rules.{rules}
 use native.Mathlib.Omega.{arith}
 use Rattle.write_names.specs.Promises.{at_bit_5}
 use Rattle.write_names.proofs.StringLaws.{fills_spells, value_empty, value_numbered, value_spelled}

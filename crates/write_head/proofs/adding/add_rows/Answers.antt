@@ -1,70 +1,29 @@
 -- `add_rows` meets its contract: the rows before are added.
 -- Assumes nothing.
-use borrow.Author.Rules.{rules}
-use borrow.Author.Tests.{not-true, not-false}
 use native.Mathlib.Omega.{arith}
 use mathlib.Core.Path.{◌≡◌, sym, ◌∙◌}
 use mathlib.Core.Bool.{true}
-use Prim.Native.Nat.{◌-◌, ◌≤◌}
 use lib.ListN.{get_or}
 use Rattle.tables.proofs.Found.{clash}
-use Rattle.write_names.specs.Promises.{tables_in}
-use Rattle.write_head.specs.Given.{rows_of}
-use Rattle.write_head.specs.RowContracts.{below, keeps_row, add_rows, Grown}
-use Rattle.write_head.proofs.RowLaws.{right_row, below_none, below_more, table_keeps, table_breaks}
+use Rattle.write_head.proofs.RowLaws.{right_row_lem, below_none, below_more, table_keeps, table_breaks}
 use Rattle.write_head.proofs.AddLaws.{rows_none, rows_more}
 use Rattle.write_head.proofs.NewLaws.{row_told}
-use Rattle.write_head.proofs.adding.add_rows.Reads as reads
-use Rattle.write_head.proofs.adding.add_rows.Lts as lts
-use Rattle.write_head.proofs.adding.add_row.Reads as add-row-reads
-use Rattle.write_head.proofs.given.rows_of.Reads as rows-of-reads
-use Rattle.write_head.proofs.given.wide.Reads as wide-reads
 use Rattle.write_head.proofs.adding.add_rows.Goals as goal
 
 pub rows_of-rows-requires : goal.rows_of-rows-requires
 rows_of-rows-requires c = (c.requires.2, c.requires.1)
 
-pub offset_bounds-given-table : goal.offset_bounds-given-table
-offset_bounds-given-table c = search rules
-
-pub bounds-given-table : goal.bounds-given-table
-bounds-given-table c = search rules
-
-pub wide-n-requires : goal.wide-n-requires
-wide-n-requires c = search rules
-
 pub loop-i-init : goal.loop-i-init
 loop-i-init c = (rows_none _ _ _ _ _ c.requires.0, omega arith, c.wide-n.ensures.0, c.rows_of-rows.ensures.0, below_none _)
 
-pub overflow_mul-i : goal.overflow_mul-i
-overflow_mul-i c = search rules
-
-pub overflow_add-rows : goal.overflow_add-rows
-overflow_add-rows c = search rules
-
 pub add_row-requires : goal.add_row-requires
-add_row-requires c = let l = c.loop-i in let e = l.invariant.3 in let h = l.invariant.0.here in (l.invariant.0.order, c.requires.1, omega arith, omega arith, λ k. rw e (right_row _ _ c.requires.3 _ _ c.requires.1 (omega arith) c.requires.6 k))
-
-pub shape_of-t-then-not-add_row : goal.shape_of-t-then-not-add_row
-shape_of-t-then-not-add_row c = search rules
-
-pub shape_of-counts-then-not-add_row : goal.shape_of-counts-then-not-add_row
-shape_of-counts-then-not-add_row c = search rules
-
-pub shape_of-index-then-not-add_row : goal.shape_of-index-then-not-add_row
-shape_of-index-then-not-add_row c = search rules
+add_row-requires c = let l = c.loop-i in let e = l.invariant.3 in let h = l.invariant.0.here in (l.invariant.0.order, c.requires.1, omega arith, omega arith, λ k. rw e (right_row_lem _ _ c.requires.3 _ _ c.requires.1 (omega arith) c.requires.6 k))
 
 pub returns-then-not-add_row : goal.returns-then-not-add_row
-returns-then-not-add_row c = let l = c.loop-i in (table_breaks _ _ _ _ _ _ l.invariant.2 (omega arith) (sym (not-true _ c.if-not-add_row.true) ∙ row_told _ _ c.requires.3 _ _ (omega arith) c.requires.1 _ _ _ _ l.invariant.3 l.invariant.0.tables c.requires.5 c.add_row.ensures.1), λ e. clash e)
-
-pub overflow_add-i : goal.overflow_add-i
-overflow_add-i c = search rules
-
-pub loop-i-smaller : goal.loop-i-smaller
-loop-i-smaller c = search rules
+returns-then-not-add_row c = let l = c.loop-i in (table_breaks _ _ _ _ _ _ l.invariant.2 (omega arith) (sym c.if-not-add_row.true ∙ row_told _ _ c.requires.3 _ _ (omega arith) c.requires.1 _ _ _ _ l.invariant.3 l.invariant.0.tables c.requires.5 c.add_row.ensures.1), λ e. clash e)
 
 pub loop-i-preserved : goal.loop-i-preserved
-loop-i-preserved c = let l = c.loop-i in (rows_more _ _ _ _ _ _ _ l.invariant.3 l.invariant.0 c.add_row.ensures.0, omega arith, l.invariant.2, l.invariant.3, below_more _ _ l.invariant.4 (sym (row_told _ _ c.requires.3 _ _ (omega arith) c.requires.1 _ _ _ _ l.invariant.3 l.invariant.0.tables c.requires.5 c.add_row.ensures.1) ∙ not-false _ c.if-not-add_row.false))
+loop-i-preserved c = let l = c.loop-i in (rows_more _ _ _ _ _ _ _ l.invariant.3 l.invariant.0 c.add_row.ensures.0, omega arith, l.invariant.2, l.invariant.3, below_more _ _ l.invariant.4 (sym (row_told _ _ c.requires.3 _ _ (omega arith) c.requires.1 _ _ _ _ l.invariant.3 l.invariant.0.tables c.requires.5 c.add_row.ensures.1) ∙ c.if-not-add_row.false))
 
 pub shape_of-t : goal.shape_of-t
 shape_of-t c = c.loop-i.invariant.0.order.room ∙ sym c.requires.0.room

@@ -1,24 +1,12 @@
 -- `add_rows` meets its contract: the rows before are added.
 -- Assumes nothing.
-use borrow.Author.Rules.{rules}
-use borrow.Author.Tests.{not-true, not-false}
-use native.Mathlib.Omega.{arith}
-use mathlib.Core.Path.{◌≡◌, sym, ◌∙◌}
+use mathlib.Core.Path.{◌≡◌}
 use mathlib.Core.Bool.{true}
 use Prim.Native.Nat.{◌-◌, ◌≤◌}
 use lib.ListN.{get_or}
-use Rattle.tables.proofs.Found.{clash}
 use Rattle.write_names.specs.Promises.{tables_in}
 use Rattle.write_head.specs.Given.{rows_of}
 use Rattle.write_head.specs.RowContracts.{below, keeps_row, add_rows, Grown}
-use Rattle.write_head.proofs.RowLaws.{right_row, below_none, below_more, table_keeps, table_breaks}
-use Rattle.write_head.proofs.AddLaws.{rows_none, rows_more}
-use Rattle.write_head.proofs.NewLaws.{row_told}
-use Rattle.write_head.proofs.adding.add_rows.Reads as reads
-use Rattle.write_head.proofs.adding.add_rows.Lts as lts
-use Rattle.write_head.proofs.adding.add_row.Reads as add-row-reads
-use Rattle.write_head.proofs.given.rows_of.Reads as rows-of-reads
-use Rattle.write_head.proofs.given.wide.Reads as wide-reads
 use Rattle.write_head.proofs.adding.add_rows.Given as goal
 
 abbrev pub invariant-loop-i : goal.invariant-loop-i

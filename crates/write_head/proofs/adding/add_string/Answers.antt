@@ -1,6 +1,5 @@
 -- `add_string` meets its contract: the index says where it is.
 -- Assumes nothing.
-use borrow.Author.Rules.{rules}
 use native.Mathlib.Omega.{arith}
 use Rattle.write_head.proofs.RowLaws.{row_utf8, row_sound, row_spells}
 use Rattle.write_head.proofs.AddLaws.{row_ready, grown_string, string_new, string_known}

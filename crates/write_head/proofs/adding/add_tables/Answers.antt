@@ -1,18 +1,11 @@
 -- `add_tables` meets its contract: the tables before are added.
 -- Assumes nothing.
-use borrow.Author.Rules.{rules}
-use borrow.Author.Tests.{not-true, not-false}
 use native.Mathlib.Omega.{arith}
 use mathlib.Core.Path.{◌≡◌, sym, ◌∙◌}
 use mathlib.Core.Bool.{true}
-use Prim.Native.Nat.{◌-◌, ◌≤◌}
 use Rattle.tables.proofs.Found.{clash}
-use Rattle.write_head.specs.RowContracts.{below, keeps_table}
 use Rattle.write_head.proofs.RowLaws.{few_at, below_none, below_more, all_keep, one_breaks}
-use Rattle.write_head.proofs.AddLaws.{Added, tables_more}
-use Rattle.write_head.proofs.adding.add_tables.Reads as reads
-use Rattle.write_head.proofs.adding.add_tables.Lts as lts
-use Rattle.write_head.proofs.adding.add_rows.Reads as add-rows-reads
+use Rattle.write_head.proofs.AddLaws.{tables_more}
 use Rattle.write_head.proofs.adding.add_tables.Goals as goal
 
 pub loop-table-init : goal.loop-table-init
@@ -21,26 +14,11 @@ loop-table-init c = (record { order = c.requires.0; tables = c.requires.4; fresh
 pub add_rows-requires : goal.add_rows-requires
 add_rows-requires c = let l = c.loop-table in let f = l.invariant.0.fresh l.table (omega arith) in let k = few_at c.args.given.now l.table c.requires.3 (omega arith) in (l.invariant.0.order, omega arith, c.requires.1, c.requires.2, omega arith, l.invariant.0.tables, c.requires.6)
 
-pub shape_of-t-then-not-add_rows : goal.shape_of-t-then-not-add_rows
-shape_of-t-then-not-add_rows c = search rules
-
-pub shape_of-counts-then-not-add_rows : goal.shape_of-counts-then-not-add_rows
-shape_of-counts-then-not-add_rows c = search rules
-
-pub shape_of-index-then-not-add_rows : goal.shape_of-index-then-not-add_rows
-shape_of-index-then-not-add_rows c = search rules
-
 pub returns-then-not-add_rows : goal.returns-then-not-add_rows
-returns-then-not-add_rows c = (one_breaks _ _ _ _ (omega arith) (sym (not-true _ c.if-not-add_rows.true) ∙ c.add_rows.ensures.0), λ e. clash e)
-
-pub overflow_add-table : goal.overflow_add-table
-overflow_add-table c = search rules
-
-pub loop-table-smaller : goal.loop-table-smaller
-loop-table-smaller c = search rules
+returns-then-not-add_rows c = (one_breaks _ _ _ _ (omega arith) (sym c.if-not-add_rows.true ∙ c.add_rows.ensures.0), λ e. clash e)
 
 pub loop-table-preserved : goal.loop-table-preserved
-loop-table-preserved c = let l = c.loop-table in (tables_more _ _ _ l.invariant.0 (c.add_rows.ensures.1 (not-false _ c.if-not-add_rows.false)), omega arith, below_more _ _ l.invariant.2 (sym c.add_rows.ensures.0 ∙ not-false _ c.if-not-add_rows.false))
+loop-table-preserved c = let l = c.loop-table in (tables_more _ _ _ l.invariant.0 (c.add_rows.ensures.1 c.if-not-add_rows.false), omega arith, below_more _ _ l.invariant.2 (sym c.add_rows.ensures.0 ∙ c.if-not-add_rows.false))
 
 pub shape_of-t : goal.shape_of-t
 shape_of-t c = c.loop-table.invariant.0.order.room ∙ sym c.requires.0.room

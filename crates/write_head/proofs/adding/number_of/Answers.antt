@@ -1,6 +1,5 @@
 -- `number_of` meets its contract: by the kind of its table.
 -- Assumes nothing.
-use borrow.Author.Rules.{rules}
 use native.Mathlib.Omega.{arith}
 use Rattle.write_head.proofs.AddLaws.{spells_suits}
 use Rattle.write_head.proofs.adding.number_of.Goals as goal

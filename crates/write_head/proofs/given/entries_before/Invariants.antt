@@ -1,14 +1,8 @@
 -- `entries_before` meets its contract: the counts of the tables before are summed.
 -- Assumes nothing.
-use borrow.Author.Rules.{rules}
-use native.Mathlib.Omega.{arith}
 use Prim.Native.Nat.{◌-◌, ◌*◌, ◌≤◌}
 use mathlib.Core.Path.{◌≡◌}
 use Rattle.write_head.specs.Given.{entries_before}
-use Rattle.write_head.proofs.RowLaws.{before_none, before_more}
-use Rattle.write_head.proofs.given.entries_before.Reads as reads
-use Rattle.write_head.proofs.given.entries_before.Lts as lts
-use Rattle.write_head.proofs.given.wide.Reads as wide-reads
 use Rattle.write_head.proofs.given.entries_before.Given as goal
 
 abbrev pub invariant-loop-i : goal.invariant-loop-i

@@ -1,6 +1,5 @@
 -- `form_given` meets its contract: the lower tags are those of utf-8 and of no form.
 -- Assumes nothing.
-use borrow.Author.Rules.{rules}
 use native.Mathlib.Omega.{arith}
 use Rattle.write_head.specs.RowContracts.{form_given}
 use Rattle.write_head.proofs.RowLaws.{form_low}

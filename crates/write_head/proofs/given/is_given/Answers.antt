@@ -1,11 +1,7 @@
 -- `is_given` meets its contract: a law for each way out.
 -- Assumes nothing.
-use borrow.Author.Rules.{rules}
 use native.Mathlib.Omega.{arith}
 use Rattle.write_head.proofs.RowLaws.{given_none, given_short, given_laid}
-use Rattle.write_head.proofs.given.is_given.Reads as reads
-use Rattle.write_head.proofs.given.is_given.Lts as lts
-use Rattle.write_head.proofs.given.entries_before.Reads as entries-before-reads
 use Rattle.write_head.proofs.given.is_given.Goals as goal
 
 pub returns-then-n-eq0 : goal.returns-then-n-eq0
@@ -13,15 +9,6 @@ returns-then-n-eq0 c = given_none _ (omega arith)
 
 pub returns-then-n-lt-TABLES : goal.returns-then-n-lt-TABLES
 returns-then-n-lt-TABLES c = given_short _ (omega arith) (omega arith)
-
-pub entries_before-requires : goal.entries_before-requires
-entries_before-requires c = search rules
-
-pub overflow_mul-result : goal.overflow_mul-result
-overflow_mul-result c = search rules
-
-pub overflow_add-result : goal.overflow_add-result
-overflow_add-result c = search rules
 
 pub returns : goal.returns
 returns c = given_laid _ (omega arith) _ c.entries_before.ensures.0

@@ -2,8 +2,6 @@
 -- Assumes nothing.
 use native.Mathlib.Omega.{arith}
 use Rattle.write_head.proofs.RowLaws.{starts_one, starts_none}
-use Rattle.write_head.proofs.judge.built_in.Reads as reads
-use Rattle.write_head.proofs.judge.built_in.Lts as lts
 use Rattle.write_head.proofs.judge.built_in.Goals as goal
 
 pub returns-then-table-lt-LOCAL_NAME : goal.returns-then-table-lt-LOCAL_NAME

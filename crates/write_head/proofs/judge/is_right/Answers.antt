@@ -1,6 +1,5 @@
 -- `is_right` meets its contract: by the kind of its table.
 -- Assumes nothing.
-use borrow.Author.Rules.{rules}
 use native.Mathlib.Omega.{arith}
 use Rattle.write_head.proofs.RowLaws.{right_identifying, right_string, right_name}
 use Rattle.write_head.proofs.judge.is_right.Goals as goal

@@ -1,6 +1,5 @@
 -- `is_text` meets its contract: names have none.
 -- Assumes nothing.
-use borrow.Author.Rules.{rules}
 use native.Mathlib.Omega.{arith}
 use Rattle.write_head.proofs.RowLaws.{text_name, text_string}
 use Rattle.write_head.proofs.judge.is_text.Goals as goal

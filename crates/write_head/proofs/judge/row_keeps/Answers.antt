@@ -1,27 +1,8 @@
 -- `row_keeps` meets its contract: by the rule.
 -- Assumes nothing.
-use borrow.Author.Rules.{rules}
 use native.Mathlib.Omega.{arith}
 use Rattle.write_head.proofs.RowLaws.{right_lies, keeps_right, keeps_text, keeps_new}
-use Rattle.write_head.proofs.judge.row_keeps.Reads as reads
-use Rattle.write_head.proofs.judge.row_keeps.Lts as lts
-use Rattle.write_head.proofs.given.rows_of.Reads as rows-of-reads
-use Rattle.write_head.proofs.judge.is_right.Reads as is-right-reads
-use Rattle.write_head.proofs.judge.is_text.Reads as is-text-reads
-use Rattle.write_head.proofs.repeats.is_new.Reads as is-new-reads
 use Rattle.write_head.proofs.judge.row_keeps.Goals as goal
-
-pub rows_of-requires : goal.rows_of-requires
-rows_of-requires c = search rules
-
-pub overflow_mul-at : goal.overflow_mul-at
-overflow_mul-at c = search rules
-
-pub overflow_add-at : goal.overflow_add-at
-overflow_add-at c = search rules
-
-pub is_right-requires : goal.is_right-requires
-is_right-requires c = search rules
 
 pub returns-then-rule-eq-EVENT : goal.returns-then-rule-eq-EVENT
 returns-then-rule-eq-EVENT c = let e = c.rows_of.ensures.0 in keeps_right _ _ _ _ _ (omega arith) _ (rw (← e) c.is_right.ensures)

@@ -2,8 +2,6 @@
 -- Assumes nothing.
 use native.Mathlib.Omega.{arith}
 use Rattle.write_head.proofs.OctetLaws.{parts_are, some_zero, some_one}
-use Rattle.write_head.proofs.octets.parts.Reads as reads
-use Rattle.write_head.proofs.octets.parts.Lts as lts
 use Rattle.write_head.proofs.octets.parts.Goals as goal
 
 pub returns-then-prefix-eq0 : goal.returns-then-prefix-eq0

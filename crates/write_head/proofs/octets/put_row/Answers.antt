@@ -1,6 +1,5 @@
 -- `put_row` meets its contract: by the kind of its table.
 -- Assumes nothing.
-use borrow.Author.Rules.{rules}
 use native.Mathlib.Omega.{arith}
 use Rattle.tables.specs.Rows.{triple_at}
 use Rattle.write_head.proofs.RowLaws.{row_utf8, row_spells}

@@ -1,34 +1,12 @@
 -- `put_rows` meets its contract: the rows before are put.
 -- Assumes nothing.
-use borrow.Author.Rules.{rules}
 use native.Mathlib.Omega.{arith}
 use mathlib.Core.Path.{◌≡◌}
-use Prim.Native.Nat.{◌+◌, ◌-◌, ◌*◌, ◌≤◌}
 use lib.ListN.{get_or}
-use Rattle.fields.specs.PutContracts.{Puts}
 use Rattle.fields.proofs.Puts.{puts_kept}
-use Rattle.write_head.specs.Given.{rows_of}
-use Rattle.write_head.specs.RowContracts.{rows_octets, row_most}
 use Rattle.write_head.proofs.RowLaws.{right_fits, few_at}
 use Rattle.write_head.proofs.OctetLaws.{rows_none, rows_more}
-use Rattle.write_head.proofs.octets.put_rows.Reads as reads
-use Rattle.write_head.proofs.octets.put_rows.Lts as lts
-use Rattle.write_head.proofs.given.rows_of.Reads as rows-of-reads
-use Rattle.write_head.proofs.given.wide.Reads as wide-reads
-use Rattle.write_head.proofs.octets.put_row.Reads as put-row-reads
 use Rattle.write_head.proofs.octets.put_rows.Goals as goal
-
-pub rows_of-rows-requires : goal.rows_of-rows-requires
-rows_of-rows-requires c = search rules
-
-pub offset_bounds-given-table : goal.offset_bounds-given-table
-offset_bounds-given-table c = search rules
-
-pub bounds-given-table : goal.bounds-given-table
-bounds-given-table c = search rules
-
-pub wide-n-requires : goal.wide-n-requires
-wide-n-requires c = search rules
 
 pub loop-i-init : goal.loop-i-init
 loop-i-init c = let f = few_at c.args.given.now c.args.table c.requires.4 c.requires.1 in (rows_none _ _ _, omega arith, omega arith, c.wide-n.ensures.0, omega arith, c.rows_of-rows.ensures.0)

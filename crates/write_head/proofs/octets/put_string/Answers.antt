@@ -1,6 +1,5 @@
 -- `put_string` meets its contract: an identifying string by its length and its octets, another in its form.
 -- Assumes nothing.
-use borrow.Author.Rules.{rules}
 use native.Mathlib.Omega.{arith}
 use mathlib.Core.Path.{refl, ap, ◌∙◌}
 use Rattle.format.specs.Forms.{form_number}

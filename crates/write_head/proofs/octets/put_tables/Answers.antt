@@ -1,16 +1,9 @@
 -- `put_tables` meets its contract: the tables before are put.
 -- Assumes nothing.
-use borrow.Author.Rules.{rules}
 use native.Mathlib.Omega.{arith}
 use mathlib.Core.Path.{◌≡◌}
-use Prim.Native.Nat.{◌+◌, ◌-◌, ◌*◌, ◌≤◌}
-use Rattle.fields.specs.PutContracts.{Puts}
 use Rattle.fields.proofs.Puts.{puts_kept}
-use Rattle.write_head.specs.RowContracts.{join_below, table_octets_of, table_most}
 use Rattle.write_head.proofs.OctetLaws.{joins_none, joins_more}
-use Rattle.write_head.proofs.octets.put_tables.Reads as reads
-use Rattle.write_head.proofs.octets.put_tables.Lts as lts
-use Rattle.write_head.proofs.octets.put_table.Reads as put-table-reads
 use Rattle.write_head.proofs.octets.put_tables.Goals as goal
 
 pub loop-table-init : goal.loop-table-init
@@ -18,12 +11,6 @@ loop-table-init c = (joins_none _, omega arith, omega arith)
 
 pub put_table-at-requires : goal.put_table-at-requires
 put_table-at-requires c = (omega arith, omega arith, c.requires.1, c.requires.2, c.requires.3, c.requires.4, c.requires.5)
-
-pub overflow_add-table : goal.overflow_add-table
-overflow_add-table c = search rules
-
-pub loop-table-smaller : goal.loop-table-smaller
-loop-table-smaller c = search rules
 
 pub loop-table-preserved : goal.loop-table-preserved
 loop-table-preserved c = let l = c.loop-table in let p = c.put_table-at.ensures in (joins_more _ _ l.invariant.0 p.0, omega arith, omega arith)

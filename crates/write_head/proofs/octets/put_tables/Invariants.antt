@@ -1,16 +1,8 @@
 -- `put_tables` meets its contract: the tables before are put.
 -- Assumes nothing.
-use borrow.Author.Rules.{rules}
-use native.Mathlib.Omega.{arith}
-use mathlib.Core.Path.{◌≡◌}
 use Prim.Native.Nat.{◌+◌, ◌-◌, ◌*◌, ◌≤◌}
 use Rattle.fields.specs.PutContracts.{Puts}
-use Rattle.fields.proofs.Puts.{puts_kept}
 use Rattle.write_head.specs.RowContracts.{join_below, table_octets_of, table_most}
-use Rattle.write_head.proofs.OctetLaws.{joins_none, joins_more}
-use Rattle.write_head.proofs.octets.put_tables.Reads as reads
-use Rattle.write_head.proofs.octets.put_tables.Lts as lts
-use Rattle.write_head.proofs.octets.put_table.Reads as put-table-reads
 use Rattle.write_head.proofs.octets.put_tables.Given as goal
 
 abbrev pub invariant-loop-table : goal.invariant-loop-table

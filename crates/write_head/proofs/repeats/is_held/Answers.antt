@@ -1,28 +1,10 @@
 -- `is_held` meets its contract: none of the rows before is the same.
 -- Assumes nothing.
-use borrow.Author.Rules.{rules}
 use native.Mathlib.Omega.{arith}
-use mathlib.Core.Path.{◌≡◌, sym, ◌∙◌}
+use mathlib.Core.Path.{sym, ◌∙◌}
 use mathlib.Core.Bool.{false}
-use Prim.Native.Nat.{ℕ, ◌+◌, ◌-◌, ◌*◌, ◌≤◌}
-use Rattle.write_head.specs.RowContracts.{some_below, same_row, starts_row}
-use Rattle.write_head.specs.Given.{rows_of}
 use Rattle.write_head.proofs.RowLaws.{some_none, some_more, held_start, held_before, held_not, right_tag, right_lies}
-use Rattle.write_head.proofs.repeats.is_held.Reads as reads
-use Rattle.write_head.proofs.repeats.is_held.Lts as lts
-use Rattle.write_head.proofs.given.rows_of.Reads as rows-of-reads
-use Rattle.write_head.proofs.repeats.is_built_in.Reads as is-built-in-reads
-use Rattle.write_head.proofs.repeats.is_same.Reads as is-same-reads
 use Rattle.write_head.proofs.repeats.is_held.Goals as goal
-
-pub rows_of-rows-requires : goal.rows_of-rows-requires
-rows_of-rows-requires c = search rules
-
-pub overflow_mul-i : goal.overflow_mul-i
-overflow_mul-i c = search rules
-
-pub overflow_add-rows : goal.overflow_add-rows
-overflow_add-rows c = search rules
 
 pub is_built_in-requires : goal.is_built_in-requires
 is_built_in-requires c = let e = c.rows_of-rows.ensures.0 in (omega arith, λ k. rw e (right_tag _ _ c.requires.3 _ _ c.requires.1 c.requires.2 (c.requires.4 k), (right_lies _ _ c.requires.3 _ _ c.requires.1 c.requires.2 k).1))
@@ -33,29 +15,11 @@ returns-then-is_built_in c = let e = c.rows_of-rows.ensures.0 in held_start _ _ 
 pub loop-j-init : goal.loop-j-init
 loop-j-init c = let e = c.rows_of-rows.ensures.0 in (some_none _, omega arith, rw (← e) (sym c.if-is_built_in.false ∙ c.is_built_in.ensures))
 
-pub overflow_mul-j : goal.overflow_mul-j
-overflow_mul-j c = search rules
-
-pub overflow_add-rows-in-loop-j : goal.overflow_add-rows-in-loop-j
-overflow_add-rows-in-loop-j c = search rules
-
-pub overflow_mul-i-in-loop-j : goal.overflow_mul-i-in-loop-j
-overflow_mul-i-in-loop-j c = search rules
-
-pub overflow_add-rows-in-loop-j-2 : goal.overflow_add-rows-in-loop-j-2
-overflow_add-rows-in-loop-j-2 c = search rules
-
 pub is_same-requires : goal.is_same-requires
 is_same-requires c = let l = c.loop-j in let e = c.rows_of-rows.ensures.0 in (omega arith, omega arith, λ k. rw e (right_tag _ _ c.requires.3 _ l.j c.requires.1 (omega arith) (c.requires.4 k), (right_lies _ _ c.requires.3 _ l.j c.requires.1 (omega arith) k).1, right_tag _ _ c.requires.3 _ _ c.requires.1 c.requires.2 (c.requires.4 k), (right_lies _ _ c.requires.3 _ _ c.requires.1 c.requires.2 k).1))
 
 pub returns-then-is_same : goal.returns-then-is_same
 returns-then-is_same c = let e = c.rows_of-rows.ensures.0 in held_before _ _ _ _ c.loop-j.j (omega arith) (rw (← e) (sym c.if-is_same.true ∙ c.is_same.ensures))
-
-pub overflow_add-j : goal.overflow_add-j
-overflow_add-j c = search rules
-
-pub loop-j-smaller : goal.loop-j-smaller
-loop-j-smaller c = search rules
 
 pub loop-j-preserved : goal.loop-j-preserved
 loop-j-preserved c = let e = c.rows_of-rows.ensures.0 in let l = c.loop-j in (some_more _ _ l.invariant.0 (rw (← e) (sym c.is_same.ensures ∙ c.if-is_same.false)), omega arith, l.invariant.2)

@@ -1,18 +1,10 @@
 -- `is_held` meets its contract: none of the rows before is the same.
 -- Assumes nothing.
-use borrow.Author.Rules.{rules}
-use native.Mathlib.Omega.{arith}
-use mathlib.Core.Path.{◌≡◌, sym, ◌∙◌}
+use mathlib.Core.Path.{◌≡◌}
 use mathlib.Core.Bool.{false}
 use Prim.Native.Nat.{ℕ, ◌+◌, ◌-◌, ◌*◌, ◌≤◌}
 use Rattle.write_head.specs.RowContracts.{some_below, same_row, starts_row}
 use Rattle.write_head.specs.Given.{rows_of}
-use Rattle.write_head.proofs.RowLaws.{some_none, some_more, held_start, held_before, held_not, right_tag, right_lies}
-use Rattle.write_head.proofs.repeats.is_held.Reads as reads
-use Rattle.write_head.proofs.repeats.is_held.Lts as lts
-use Rattle.write_head.proofs.given.rows_of.Reads as rows-of-reads
-use Rattle.write_head.proofs.repeats.is_built_in.Reads as is-built-in-reads
-use Rattle.write_head.proofs.repeats.is_same.Reads as is-same-reads
 use Rattle.write_head.proofs.repeats.is_held.Given as goal
 
 abbrev pub invariant-loop-j : goal.invariant-loop-j

@@ -1,6 +1,5 @@
 -- `declared` meets its contract: a prefix and a namespace behind their octet.
 -- Assumes nothing.
-use borrow.Author.Rules.{rules}
 use native.Mathlib.Omega.{arith}
 use mathlib.Core.Path.{refl}
 use Rattle.tables.specs.Rows.{table_of}

@@ -1,6 +1,5 @@
 -- `name` meets its contract: the numbers that are looked up are those that the definition looks up.
 -- Assumes nothing.
-use borrow.Author.Rules.{rules}
 use native.Mathlib.Omega.{arith}
 use Rattle.write_names.proofs.Order.{counted_at}
 use Rattle.write_names.proofs.NameLaws.{names_ready, name_found, name_few, name_new, name_numbered}

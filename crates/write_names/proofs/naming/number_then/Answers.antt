@@ -1,6 +1,5 @@
 -- `number_then` meets its contract: the number that the string has, none, or the next one of its table.
 -- Assumes nothing.
-use borrow.Author.Rules.{rules}
 use native.Mathlib.Omega.{arith}
 use borrow.Author.Tests.{eqb-true, eqb-false}
 use mathlib.Core.Path.{sym, ◌∙◌}

@@ -1,6 +1,5 @@
 -- `pair` meets its contract: the namespace's number is the same once the prefix is written, and what is full then stays so.
 -- Assumes nothing.
-use borrow.Author.Rules.{rules}
 use native.Mathlib.Omega.{arith}
 use Rattle.write_names.proofs.NameLaws.{pair_full, pair_looked, pair-behind}
 use Rattle.write_names.proofs.naming.pair.Goals as goal
@@ -26,4 +25,4 @@ returns c =
     let stands = rw (c.in-Put.is, c.requires.2) at c.optional.ensures in
     let then = rw c.requires.3 at c.optional-2.ensures in
     let last = c.optional-2.new in
-    pair-behind _ _ c.args.x.first _ _ c.args.out.now c.args.at _ c.put.ensures stands c.optional-2.result last.1.1.1.1.0 last.1.1.0 last.1.0 last.1.1.1.0 then
+    pair-behind _ _ c.args.x.first _ _ c.args.out.now c.args.at _ c.put.ensures stands c.optional-2.result last.out last.counts last.t last.index then

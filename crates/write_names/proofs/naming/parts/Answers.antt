@@ -1,6 +1,5 @@
 -- `parts` meets its contract: the local name's number is the same once the prefix and the namespace are written, and what is full then stays so.
 -- Assumes nothing.
-use borrow.Author.Rules.{rules}
 use native.Mathlib.Omega.{arith}
 use mathlib.Core.Path.{refl}
 use Rattle.tables.specs.Rows.{table_of}
@@ -38,30 +37,13 @@ triple-requires c =
     let proper = c.requires.3 in
     (then.order.room, then.order.ten, then.order.indexed.size, proper.0, proper.1, triple_new _ _ _ c.args.name c.args.k c.requires.2 stands proper then)
 
-pub shape_of-t : goal.shape_of-t
-shape_of-t c =
-    omega (arith, c.triple.auto, c.id.auto, c.pair.auto)
-
-pub shape_of-counts : goal.shape_of-counts
-shape_of-counts c =
-    omega (arith, c.triple.auto, c.id.auto, c.pair.auto)
-
-pub shape_of-index : goal.shape_of-index
-shape_of-index c =
-    omega (arith, c.triple.auto, c.id.auto, c.pair.auto)
-
-pub shape_of-out : goal.shape_of-out
-shape_of-out c =
-    omega (arith, c.triple.auto, c.id.auto, c.pair.auto)
-
 pub returns : goal.returns
 returns c =
-    let at-start = c.before in
     let stands = rw c.in-Put.is at c.pair.ensures in
     let then = rw c.in-Put-id.is at c.id.ensures in
-    let proper = at-start.requires.3 in
+    let proper = c.requires.3 in
     let i = c.parts_bits.ensures in
     let a = c.has.ensures in
     let b = c.has-2.ensures in
     let last = c.triple.new in
-    parts-behind _ _ _ at-start.args.name at-start.args.k at-start.requires.2 stands proper then (omega arith) c.triple.result last.1.0 last.0 last.1.1.0 c.triple.ensures
+    parts-behind _ _ _ c.args.name c.args.k c.requires.2 stands proper then (omega arith) c.triple.result last.counts last.t last.index c.triple.ensures
