@@ -5,7 +5,6 @@ use mathlib.Core.Bool.{Bool, true, false, not, ◌&&◌}
 use mathlib.Core.List.{List}
 use Prim.Native.Nat.{ℕ, suc, ◌+◌, ◌≤◌}
 use native.Mathlib.Omega.{arith}
-use borrow.Author.Tests.{not-true, not-false}
 use lib.Dec.{leb}
 use lib.ListN.{length}
 use Rattle.format.specs.Numbers.{pick}
@@ -95,10 +94,3 @@ module _ (text : List ℕ) (v : State Located) (e : Event) where
         pub fault_free : (opens v.mode (event_of e.kind e) && leb link.depth v.level) ≡ false → 0 ≡ fault_of text v e
         unfolding fault_of
         fault_free o = rw (m, g, t, o)
-
--- ---- a guard, by what the call that it tests answered
-pub passes : {r t : Bool} → r ≡ t → not r ≡ false → t ≡ true
-passes {r} p q = sym p ∙ not-false r q
-
-pub fails : {r t : Bool} → r ≡ t → not r ≡ true → t ≡ false
-fails {r} p q = sym p ∙ not-true r q

@@ -13,7 +13,14 @@ use Rattle.write_items.specs.Steps.{is_attribute, attribute_next}
 
 -- A fact of each kind is one of every kind.
 by_kind : (P : Kind → Type 0) → P Blank → P Namespace → P Start → P Attribute → P Chunk → P Comment → P Instruction → P End → (k : Kind) → P k
-by_kind P b n s a t c i e k = elim k [ Blank ↦ b | Namespace ↦ n | Start ↦ s | Attribute ↦ a | Chunk ↦ t | Comment ↦ c | Instruction ↦ i | End ↦ e ]
+by_kind P b n s a t c i e Blank = b
+by_kind P b n s a t c i e Namespace = n
+by_kind P b n s a t c i e Start = s
+by_kind P b n s a t c i e Attribute = a
+by_kind P b n s a t c i e Chunk = t
+by_kind P b n s a t c i e Comment = c
+by_kind P b n s a t c i e Instruction = i
+by_kind P b n s a t c i e End = e
 
 pub attribute_number : (e : Event) (k : Kind) → eqb (kind_number k) 3 ≡ is_attribute (event_of k e)
 unfolding event_of

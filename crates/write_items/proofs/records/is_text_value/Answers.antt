@@ -1,7 +1,6 @@
 -- `is_text_value` meets its contract: only a stretch has to be looked at, and one in utf-8 as it stands.
 -- Assumes nothing.
 use mathlib.Core.Path.{◌∙◌, sym}
-use mathlib.Core.Logic.{⊎_elim}
 use native.Mathlib.Omega.{arith}
 use borrow.Author.Rules.{rules}
 use Rattle.format.specs.declared.StringForm.TheVariants.{Utf8}
@@ -16,7 +15,7 @@ is_text-requires c =
 
 pub returns-then-number-eq0 : goal.returns-then-number-eq0
 returns-then-number-eq0 c =
-    let z = form_zero c.x-1.given.0.0 (sym c.number.ensures.0 ∙ c.if-number-eq0.true) in
+    let z = form_zero c.in-Stretch.form (sym c.number.ensures.0 ∙ c.if-number-eq0.true) in
     c.is_text.ensures ∙ rw (c.in-Stretch.is, z) (stretch_text _ Utf8 _ _)
 
 pub is_text-requires-in-Stretch : goal.is_text-requires-in-Stretch
@@ -28,4 +27,4 @@ pub returns-else-number-eq0 : goal.returns-else-number-eq0
 returns-else-number-eq0 c = c.is_text-in-Stretch.ensures.0 ∙ rw c.in-Stretch.is (stretch_text _ _ _ _)
 
 pub returns-in_default : goal.returns-in_default
-returns-in_default c = other_text _ c.args.x λ f p n q. ⊎_elim (λ e. omega arith) (⊎_elim (λ e. omega arith) (⊎_elim (λ e. omega arith) (λ e. omega arith))) (rw q at c.in_default.is)
+returns-in_default c = other_text _ c.args.x c.in_default.not-Stretch

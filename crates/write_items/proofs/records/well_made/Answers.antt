@@ -11,15 +11,12 @@ returns-in-Blank c = rw c.in-Blank.is
 pub returns-then-is_absent : goal.returns-then-is_absent
 unfolding well_made
 returns-then-is_absent c =
-    let enum-told2 = c.enum_told-in-Namespace-1 in
-    let is_prefix_lem = c.is_prefix in
-    rw (enum-told2.given.1, ← is_prefix_lem.ensures, c.if-is_prefix.true, ← c.is_namespace.ensures, c.if-is_namespace.true, ← c.is_absent.ensures, c.if-is_absent.true, ← c.is_absent-then-is_absent.ensures)
+    rw (c.in-Namespace.is, ← c.is_prefix.ensures, c.if-is_prefix.true, ← c.is_namespace.ensures, c.if-is_namespace.true, ← c.is_absent.ensures, c.if-is_absent.true, ← c.is_absent-then-is_absent.ensures)
 
 pub returns-else-is_absent : goal.returns-else-is_absent
 unfolding well_made
 returns-else-is_absent c =
-    let enum-told2 = c.enum_told-in-Namespace-1 in
-    rw (enum-told2.given.1, ← c.is_prefix.ensures, c.if-is_prefix.true, ← c.is_namespace.ensures, c.if-is_namespace.true, ← c.is_absent.ensures, c.if-is_absent.false)
+    rw (c.in-Namespace.is, ← c.is_prefix.ensures, c.if-is_prefix.true, ← c.is_namespace.ensures, c.if-is_namespace.true, ← c.is_absent.ensures, c.if-is_absent.false)
 
 pub returns-else-is_namespace : goal.returns-else-is_namespace
 unfolding well_made
