@@ -156,7 +156,7 @@ length-pick false x y = refl
 spell-size : (fs : List Form) (lead lead' n : ℕ) → length (spell fs lead n) ≡ length (spell fs lead' n)
 unfolding spell
 spell-size [] lead lead' n = refl
-spell-size (form code zeros bits low ∷ fs) lead lead' n = simp (length-pick, spell-size fs lead lead' n)
+spell-size (form _ _ _ _ ∷ fs) lead lead' n = simp (length-pick, spell-size fs lead lead' n)
 
 module _ {ver : Version} where
   -- and so are a name's

@@ -179,7 +179,7 @@ module _ {ver : Version} where
       from (with_head heads any u) without_head e = absurd (let z = nothing_present Listed in let some = rw e at any in omega arith)
       from {h} {w = w} (with_head heads any u) (with_head {h = g} {o = p} heads₁ any₁ y) e =
           ap (λ (l : Octets). ver.identification ++ (0x20 ∷ presence h ten_tables / 256 ∷ presence h ten_tables % 256 ∷ l))
-            (one_listed u (subst (λ (f : Head). TablesListed ver f ten_tables (started ver) p w) (sym e) y))
+          (one_listed u (subst (λ (f : Head). TablesListed ver f ten_tables (started ver) p w) (sym e) y))
           ∙ ap (λ (f : Head). ver.identification ++ (0x20 ∷ presence f ten_tables / 256 ∷ presence f ten_tables % 256 ∷ p)) e
 
 -- There are some.
