@@ -33,7 +33,7 @@ both : {S : Type 0} (a b : List (Act S)) {m n : List ℕ} → used a ≡ m → u
 both a b p q = used_append a b ∙ ap₂ (λ (x y : List ℕ). x ++ y) p q
 
 module _ {S : Type 0} {d : S} {Spelt : StringTable → S → Type 0} where
-  id_numbers : {t : StringTable} {v w : Vocabulary S} {x : S} {h : How} {n : ℕ} → IdDone d Spelt t v x h n w → used (of_string t x h) ≡ number_in h
+  id_numbers : {t : StringTable} {v : Vocabulary S} {x : S} {h : How} {n : ℕ} {w : Vocabulary S} → IdDone d Spelt t v x h n w → used (of_string t x h) ≡ number_in h
   id_numbers (id_made sp) = refl
   id_numbers (id_used en) = refl
 
@@ -41,7 +41,7 @@ module _ {S : Type 0} {d : S} {Spelt : StringTable → S → Type 0} where
   part-numbers no_part = refl
   part-numbers (a_part u) = id_numbers u
 
-  string_numbers : {t : StringTable} {v w : Vocabulary S} {x : S} {h : How} → StringDone d Spelt t v x h w → used (of_string t x h) ≡ number_in h
+  string_numbers : {t : StringTable} {v : Vocabulary S} {x : S} {h : How} {w : Vocabulary S} → StringDone d Spelt t v x h w → used (of_string t x h) ≡ number_in h
   string_numbers (string_made true sp) = refl
   string_numbers (string_made false sp) = refl
   string_numbers (string_used en) = refl

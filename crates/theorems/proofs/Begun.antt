@@ -156,7 +156,7 @@ length-pick false x y = refl
 spell-size : (fs : List Form) (lead lead' n : ℕ) → length (spell fs lead n) ≡ length (spell fs lead' n)
 unfolding spell
 spell-size [] lead lead' n = refl
-spell-size (form code zeros bits low ∷ fs) lead lead' n = simp (length-pick, spell-size fs lead lead' n)
+spell-size (form _ _ _ _ ∷ fs) lead lead' n = simp (length-pick, spell-size fs lead lead' n)
 
 module _ {ver : Version} where
   -- and so are a name's
@@ -252,7 +252,7 @@ module _ {ver : Version} where
         few_names = λ u. rw (names-adding_name v t x u) (extended_few (same_names t u) ver.entries (names v u) x (f.few_names u) (λ e. rw (← (same_name_table t u e)) room));
       }
 
-  identifying_fits : {t : StringTable} {v w : Vocabulary Octets} {x : Octets} {h : How} {n : ℕ} {o : Octets} → Identifying ver t v x h n o w → InLimits ver v → InLimits ver w
+  identifying_fits : {t : StringTable} {v : Vocabulary Octets} {x : Octets} {h : How} {n : ℕ} {o : Octets} {w : Vocabulary Octets} → Identifying ver t v x h n o w → InLimits ver v → InLimits ver w
   identifying_fits {t} (id_spelled {x = x} sp new room) f = adding-fits t x room f
   identifying_fits (id_numbered small en) f = f
 

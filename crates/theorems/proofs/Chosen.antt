@@ -82,7 +82,7 @@ keeping-more : (b : Bool) {t : StringTable} {v : Vocabulary Octets} (x : Octets)
 keeping-more true x = one_more_lem x
 keeping-more false x = as_was
 
-pub id_more : {t : StringTable} {v w : Vocabulary Octets} {x : Octets} {h : How} {n : ℕ} → PermitsId t v x h n w → More t v w
+pub id_more : {t : StringTable} {v : Vocabulary Octets} {x : Octets} {h : How} {n : ℕ} {w : Vocabulary Octets} → PermitsId t v x h n w → More t v w
 id_more (id_entry en) = as_was
 id_more {x = x} (id_new h) = one_more_lem x
 
@@ -144,7 +144,7 @@ module _ (t : StringTable) (v : Vocabulary Octets) (x : Octets) where
   id_case = id_from (number_in (strings v t) x) refl
 
 module _ (ver : Version) (small : ver.entries ≤ top) where
-  pub id_rule : {t : StringTable} {v w : Vocabulary Octets} {x : Octets} {h : How} {n : ℕ} → Spelling Utf8 x x → InLimits ver w → PermitsId t v x h n w → Identifying ver t v x h n (id_octets x h) w
+  pub id_rule : {t : StringTable} {v : Vocabulary Octets} {x : Octets} {h : How} {n : ℕ} {w : Vocabulary Octets} → Spelling Utf8 x x → InLimits ver w → PermitsId t v x h n w → Identifying ver t v x h n (id_octets x h) w
   id_rule {t} {v} sp f (id_entry {k = j} en) = let a = f.few t in let h = entry_made en in id_numbered {k = j} (omega arith) en
   id_rule {t} {v} {x = x} sp f (id_new h) = let o = one_longer v t x in let a = f.few t in id_spelled sp h (omega arith)
 
@@ -298,6 +298,7 @@ more_ranged m r t k x e = in_range_on (more_grows m) (r t k x (rw (more-names m 
 of_extended : {A : Type 0} {P : A → Type 0} (b : Bool) (l : List A) (x : A) → ((k : ℕ) (y : A) → Entry l k y → P y) → P x → (k : ℕ) (y : A) → Entry (extended b l x) k y → P y
 of_extended false l x f p k y e = f k y e
 of_extended true [] x f p k y first = p
+of_extended true [] x f p _ y (later {k = j} e) = elim e [ ]
 of_extended true (z ∷ l) x f p k y first = f 0 z first
 of_extended true (z ∷ l) x f p k y (later {k = j} e) = of_extended true l x (λ i w u. f (suc i) w (later u)) p j y e
 
@@ -313,7 +314,7 @@ same-names-longer ELEMENT_NAME l x = let y = length-append l (x ∷ []) in omega
 same-names-longer ATTRIBUTE_NAME l x = let y = length-append l (x ∷ []) in omega arith
 
 -- the number is in range of the table then
-id_number : {t : StringTable} {v w : Vocabulary Octets} {x : Octets} {h : How} {n : ℕ} → PermitsId t v x h n w → n ≤ length (strings w t)
+id_number : {t : StringTable} {v : Vocabulary Octets} {x : Octets} {h : How} {n : ℕ} {w : Vocabulary Octets} → PermitsId t v x h n w → n ≤ length (strings w t)
 id_number (id_entry en) = entry_made en
 id_number {t} {v} {x = x} (id_new h) = let o = one_longer v t x in omega arith
 
@@ -321,12 +322,12 @@ optional_number : {t : StringTable} {v w : Vocabulary Octets} {x : Option Octets
 optional_number not_there = omega arith
 optional_number (there c) = id_number c
 
-id_some : {t : StringTable} {v w : Vocabulary Octets} {x : Octets} {h : How} {n : ℕ} → PermitsId t v x h n w → 0 < n
+id_some : {t : StringTable} {v : Vocabulary Octets} {x : Octets} {h : How} {n : ℕ} {w : Vocabulary Octets} → PermitsId t v x h n w → 0 < n
 id_some (id_entry en) = omega arith
 id_some (id_new h) = omega arith
 
 -- a number of the table before is that of a string which was held
-id_was : {t : StringTable} {v w : Vocabulary Octets} {x : Octets} {h : How} {n : ℕ} → PermitsId t v x h n w → n ≤ length (strings v t) → (w ≡ v) × Behind (strings v t) n (some x)
+id_was : {t : StringTable} {v : Vocabulary Octets} {x : Octets} {h : How} {n : ℕ} {w : Vocabulary Octets} → PermitsId t v x h n w → n ≤ length (strings v t) → (w ≡ v) × Behind (strings v t) n (some x)
 id_was (id_entry en) r = (refl, an_entry en)
 id_was (id_new h) r = absurd (omega arith)
 

@@ -123,19 +123,19 @@ module _ (ver : Version) (ok : Bounded ver) (given records : Words) (text : Octe
         elim (ℕ_discrete c 10) [
           | yes h ↦
               let w = write_worded ver given records text r t c h in
-              WordsRefusedBy.as-records h ((d.refuses n p).0 (row_refused (rows_written ver given records text r t) (write_answers ver ok given es text r t) n p low high (rw w.answer at e)))
+              WordsRefusedBy.as_records h ((d.refuses n p).0 (row_refused (rows_written ver given records text r t) (write_answers ver ok given es text r t) n p low high (rw w.answer at e)))
           | no h ↦
               write_zeros ver given records text r t c h (λ w. w.answer ≡ p * 32 + n → WordsRefusedBy ver given es text r t c n p)
-              (λ l q. let a : n ≡ 1 = omega arith in let b : p ≡ 0 = omega arith in rw (a, b) (WordsRefusedBy.text-too-long l))
-              (λ l q. let a : n ≡ 14 = omega arith in let b : p ≡ 0 = omega arith in rw (a, b) (WordsRefusedBy.wrong-count-room l h))
+              (λ l q. let a : n ≡ 1 = omega arith in let b : p ≡ 0 = omega arith in rw (a, b) (WordsRefusedBy.text_too_long l))
+              (λ l q. let a : n ≡ 14 = omega arith in let b : p ≡ 0 = omega arith in rw (a, b) (WordsRefusedBy.wrong_count_room l h))
               e
         ]
 
     refuses_so : {n p : ℕ} → WordsRefusedBy ver given es text r t c n p → left.answer ≡ p * 32 + n
     unfolding WriteWords.write_words
-    refuses_so (WordsRefusedBy.text-too-long l) = rw (lt-leb _ _ l)
-    refuses_so (WordsRefusedBy.wrong-count-room l h) = rw (le-leb _ _ l, ne_eqb _ _ h)
-    refuses_so {n} {p} (WordsRefusedBy.as-records h f) = let w = write_worded ver given records text r t c h in let e = w.answer ∙ ap whole_word ((d.refuses n p).1 f) in omega arith
+    refuses_so (WordsRefusedBy.text_too_long l) = rw (lt-leb _ _ l)
+    refuses_so (WordsRefusedBy.wrong_count_room l h) = rw (le-leb _ _ l, ne_eqb _ _ h)
+    refuses_so {n} {p} (WordsRefusedBy.as_records h f) = let w = write_worded ver given records text r t c h in let e = w.answer ∙ ap whole_word ((d.refuses n p).1 f) in omega arith
 
     -- DEMAND 2 of `lomphachit_write`
     pub write_words_exactly : WritesExactlyInWords ver given es text r t c left

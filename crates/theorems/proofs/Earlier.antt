@@ -33,6 +33,7 @@ module _ {S : Type 0} where
   all_extended false m r = r
 
   all_entry : {v : Vocabulary S} {l : List Triple} {n : List (Name S)} {k : ℕ} {x : Triple} (d : S) → AllMean v l n → Entry l k x → Entry n k (name_of v d x)
+  all_entry {v = v} {k = k} d no_triple_lem e = elim e [ ]
   all_entry d (a_triple m r) first = rw (means_is d m) first
   all_entry d (a_triple m r) (later e) = later (all_entry d r e)
 
@@ -124,7 +125,7 @@ module _ {S : Type 0} where
       }
 
 module _ {S : Type 0} {d : S} {Spelt : StringTable → S → Type 0} where
-  id_does : {t : StringTable} {v w : Vocabulary S} {x : S} {h : How} {n : ℕ} → IdDone d Spelt t v x h n w → Does v (of_string t x h) w
+  id_does : {t : StringTable} {v : Vocabulary S} {x : S} {h : How} {n : ℕ} {w : Vocabulary S} → IdDone d Spelt t v x h n w → Does v (of_string t x h) w
   id_does {t} {v} (id_made {x = x} sp) = makes_string v t x
   id_does (id_used en) = uses_string en
 
@@ -132,7 +133,7 @@ module _ {S : Type 0} {d : S} {Spelt : StringTable → S → Type 0} where
   part_does no_part = none_done
   part_does (a_part u) = id_does u
 
-  string_does : {t : StringTable} {v w : Vocabulary S} {x : S} {h : How} → StringDone d Spelt t v x h w → Does v (of_string t x h) w
+  string_does : {t : StringTable} {v : Vocabulary S} {x : S} {h : How} {w : Vocabulary S} → StringDone d Spelt t v x h w → Does v (of_string t x h) w
   string_does {t} {v} (string_made {x = x} true sp) = makes_string v t x
   string_does (string_made false sp) = none_done
   string_does (string_used en) = uses_string en

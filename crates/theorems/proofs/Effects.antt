@@ -69,7 +69,7 @@ abbrev pub OfTable : StringTable → Octets → Type 0
 OfTable t x = Said x
 
 module _ {ver : Version} where
-  id_done : {t : StringTable} {v w : Vocabulary Octets} {x : Octets} {h : How} {n : ℕ} {o : Octets} → Identifying ver t v x h n o w → IdDone [] OfTable t v x h n w
+  id_done : {t : StringTable} {v : Vocabulary Octets} {x : Octets} {h : How} {n : ℕ} {w : Vocabulary Octets} {o : Octets} → Identifying ver t v x h n o w → IdDone [] OfTable t v x h n w
   id_done (id_spelled sp new room) = id_made (sp.some, sp.formed.0)
   id_done (id_numbered small en) = id_used en
 

@@ -126,7 +126,7 @@ module _ {X : Type 0} (n : ℕ) where
       check ATTRIBUTE_VALUE λ g.
       check CONTENT_CHARACTER_CHUNK λ h.
       check OTHER_STRING λ i.
-      kept (λ t. elim t [ PREFIX ↦ a | NAMESPACE_NAME ↦ b | LOCAL_NAME ↦ c | OTHER_NCNAME ↦ d | OTHER_URI ↦ e | ATTRIBUTE_VALUE ↦ g | CONTENT_CHARACTER_CHUNK ↦ h | OTHER_STRING ↦ i ])
+      kept (λ t. elim t as (λ u. f u ≤ n) [ PREFIX ↦ a | NAMESPACE_NAME ↦ b | LOCAL_NAME ↦ c | OTHER_NCNAME ↦ d | OTHER_URI ↦ e | ATTRIBUTE_VALUE ↦ g | CONTENT_CHARACTER_CHUNK ↦ h | OTHER_STRING ↦ i ])
     where
       check : (t : StringTable) → (f t ≤ n → X) → X
       check t k = case n (f t) (passed t) k
@@ -135,7 +135,7 @@ module _ {X : Type 0} (n : ℕ) where
   of_names_lem f kept passed =
       case n (f ELEMENT_NAME) (passed ELEMENT_NAME) λ a.
       case n (f ATTRIBUTE_NAME) (passed ATTRIBUTE_NAME) λ b.
-      kept (λ t. elim t [ ELEMENT_NAME ↦ a | ATTRIBUTE_NAME ↦ b ])
+      kept (λ t. elim t as (λ u. f u ≤ n) [ ELEMENT_NAME ↦ a | ATTRIBUTE_NAME ↦ b ])
 
 pub in_limits : (ver : Version) (v : Vocabulary Octets) → Dec (InLimits ver v)
 in_limits ver v =

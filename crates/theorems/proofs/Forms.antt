@@ -21,7 +21,7 @@ use Rattle.decimal.specs.Words.{shape, word_count}
 use Rattle.forms.specs.Packing.{all_letters, alphabet_for, integers_for, in_form}
 use Rattle.forms.proofs.Forms as F
 use Rattle.forms.proofs.Forms.{IsAlphabet, packed_spelled, spelled_letters, integers_spelled, spelled_integers}
-use Rattle.forms.proofs.FieldSizes.{size_doubles, less_fits, octets_in, spelled_octets, field_size, field_size}
+use Rattle.forms.proofs.FieldSizes.{size_doubles, less_fits, octets_in, spelled_octets, field_size, field_size_lem}
 use Rattle.write_names.specs.Choices.{field_in, shorter, form_for}
 use Rattle.events.specs.declared.EventString.TheVariants.{Stretch}
 use Rattle.events.specs.Words.{form_tag}
@@ -78,7 +78,7 @@ module _ (bit : ℕ) (x : Octets) where
     second : Beats c g
 
   own_size : (f : StringForm) → Has f → length (in_format bit f 0 (in_form f x)) ≡ field_size x bit f
-  own_size f h = field_size x bit f 0 (in_form f x) (spelled_octets x f (in_form f x) h.0 h.1)
+  own_size f h = field_size_lem x bit f 0 (in_form f x) (spelled_octets x f (in_form f x) h.0 h.1)
 
   better : (f g : StringForm) → Has f → Has g → (field_size x bit f ≡ field_size x bit g → form_number f ≤ form_number g) → Better f g (shorter bit f g x)
   unfolding shorter field_in
@@ -190,14 +190,14 @@ module _ (bit : ℕ) (x : Octets) where
     best Long y n s = beats_then chosen.second (integers_beat Long y (omega arith) s)
 
     own_field : (lead : ℕ) → length (in_format bit (form_for bit x) lead (in_form (form_for bit x) x)) ≡ field_size x bit (form_for bit x)
-    own_field lead = let h = chosen.has in field_size x bit (form_for bit x) lead _ (spelled_octets x (form_for bit x) _ h.0 h.1)
+    own_field lead = let h = chosen.has in field_size_lem x bit (form_for bit x) lead _ (spelled_octets x (form_for bit x) _ h.0 h.1)
 
     least : (other : StringForm) (y : Octets) (lead : ℕ) → (other ≡ Utf16 → ⊥) → Spelled other x y
         → (length (in_format bit (form_for bit x) lead (in_form (form_for bit x) x)) ≤ length (in_format bit other lead y))
         × (length (in_format bit (form_for bit x) lead (in_form (form_for bit x) x)) ≡ length (in_format bit other lead y) → form_number (form_for bit x) ≤ form_number other)
     least other y lead n s =
         let b = best other y n s in
-        rw (own_field lead, field_size x bit other lead y (spelled_octets x other y n s)) (b.fewer, b.lower)
+        rw (own_field lead, field_size_lem x bit other lead y (spelled_octets x other y n s)) (b.fewer, b.lower)
 
     -- it has no more octets than a length can say, if it has none more in utf-8
     chosen_fits : length x ≤ longest → length (in_form (form_for bit x) x) ≤ longest

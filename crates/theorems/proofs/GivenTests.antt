@@ -61,7 +61,7 @@ in_strings_lem f = (from, λ a. both (a PREFIX) (both (a NAMESPACE_NAME) (both (
 
 pub in_names_lem : (f : NameTable → Bool) → (in_names f ≡ true) ↔ ((t : NameTable) → f t ≡ true)
 unfolding in_names
-in_names_lem f = (λ e t. let a = both_true (f ELEMENT_NAME) (f ATTRIBUTE_NAME) e in elim t [ ELEMENT_NAME ↦ a.0 | ATTRIBUTE_NAME ↦ a.1 ], λ a. both (a ELEMENT_NAME) (a ATTRIBUTE_NAME))
+in_names_lem f = (λ e t. let a = both_true (f ELEMENT_NAME) (f ATTRIBUTE_NAME) e in elim t as (λ u. f u ≡ true) [ ELEMENT_NAME ↦ a.0 | ATTRIBUTE_NAME ↦ a.1 ], λ a. both (a ELEMENT_NAME) (a ATTRIBUTE_NAME))
 
 -- ---- the strings of a table: stretches of the text area, in utf-8 if they are identifying
 module _ (t : StringTable) (text : Octets) where

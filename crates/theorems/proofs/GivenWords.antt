@@ -48,7 +48,7 @@ module _ {A : Type 0} (readAt : Words → ℕ → A) (words : A → Words) (thre
       let e : before ++ ((words x ++ rows_of words l) ++ rest) ≡ (before ++ words x) ++ (rows_of words l ++ rest) = ap (λ (w : Words). before ++ w) (append_assoc (words x) (rows_of words l) rest) ∙ sym (append_assoc before (words x) (rows_of words l ++ rest)) in
       let n : length before + 3 ≡ length (before ++ words x) = let k = three x in let l = length-append before (words x) in omega arith in
       let f : readAt (before ++ ((words x ++ rows_of words l) ++ rest)) (length before) ≡ x = ap (λ (w : Words). readAt (before ++ w) (length before)) (append_assoc (words x) (rows_of words l) rest) ∙ back before x (rows_of words l ++ rest) in
-      ap₂ ◌∷◌ f (rw (e, n) (rows_back (before ++ words x) l rest))
+      ap₂ ◌∷◌ f (ap₂ (λ (w : Words) (k : ℕ). entries (readAt w) k (length l)) e n ∙ rows_back (before ++ words x) l rest)
 
 -- ---- the ten tables: behind the counts and n entries, the words are these
 record Behind (w : Words) (n : ℕ) (rest : Words) : Type 0 where

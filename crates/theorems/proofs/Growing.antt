@@ -71,7 +71,7 @@ module _ {S : Type 0} where
 
 -- ---- what is done with a string
 module _ {S : Type 0} {d : S} {Spelt : StringTable → S → Type 0} where
-  id_keeps : {t : StringTable} {v w : Vocabulary S} {x : S} {h : How} {n : ℕ} → IdDone d Spelt t v x h n w → Keeps v w
+  id_keeps : {t : StringTable} {v : Vocabulary S} {x : S} {h : How} {n : ℕ} {w : Vocabulary S} → IdDone d Spelt t v x h n w → Keeps v w
   id_keeps {t} {v} (id_made {x = x} sp) = keeps-adding v t x
   id_keeps (id_used en) = record { kept = λ t k x e. e }
 
@@ -79,7 +79,7 @@ module _ {S : Type 0} {d : S} {Spelt : StringTable → S → Type 0} where
   part-keeps no_part = record { kept = λ t k x e. e }
   part-keeps (a_part u) = id_keeps u
 
-  id_behind : {t : StringTable} {v w : Vocabulary S} {x : S} {h : How} {n : ℕ} → IdDone d Spelt t v x h n w → Behind (strings w t) n (some x)
+  id_behind : {t : StringTable} {v : Vocabulary S} {x : S} {h : How} {n : ℕ} {w : Vocabulary S} → IdDone d Spelt t v x h n w → Behind (strings w t) n (some x)
   id_behind {t} {v} (id_made {x = x} sp) = rw (strings-adding v t x t, eq-eqb (place t) (place t) refl) (an_entry (entry_last (strings v t) x))
   id_behind (id_used en) = an_entry en
 

@@ -61,7 +61,7 @@ AtPlace (of_names t) x y k o = Unit {0}
 
 module _ (ver : Version) where
   -- there the rules list it
-  string_placed : {t : StringTable} {v w : Vocabulary Octets} {x : Listed} {o : Octets} (k : ℕ) (r : StringListed ver t v x o w) (y : Located) → AtEnd x y k o → in_entry k r ≡ y ∷ []
+  string_placed : {t : StringTable} {v : Vocabulary Octets} {x : Listed} {o : Octets} {w : Vocabulary Octets} (k : ℕ) (r : StringListed ver t v x o w) (y : Located) → AtEnd x y k o → in_entry k r ≡ y ∷ []
   string_placed {o = o} k (an_identifying i u) y e =
       ap (λ (z : Octets). stretch Utf8 (k + length o - length z) (length z) ∷ []) (sym e.spells.1) ∙ ap (λ (z : Located). z ∷ []) e.is
   string_placed {o = o} k (another i (literal_spelled {x = x} {y = z} {form = form} sp room)) y e =
@@ -254,7 +254,7 @@ module _ (ver : Version) (s : Octets) where
     pub here : drop k s ≡ octets ++ drop next s
     pub next_is : next ≡ k + length octets
     pub inside : next ≤ length s
-    pub added : w ≡ add_all v t list
+    pub added : w ≡ add_all t v list
     pub placed : in_each t k rule ≡ located t list
 
   abbrev pub EntriesOk : Table → ℕ → ℕ → Vocabulary Located → Passed → Type 0
@@ -275,7 +275,7 @@ module _ (ver : Version) (s : Octets) where
         here = r.here ∙ ap (λ (l : Octets). r.octets ++ l) q.here ∙ sym (append_assoc r.octets q.octets (drop end s));
         next_is = omega arith;
         inside = q.inside;
-        added = q.added ∙ ap (λ (u : Vocabulary Located). add_all u t q.list) r.added;
+        added = q.added ∙ ap (λ (u : Vocabulary Located). add_all t u q.list) r.added;
         placed =
             more-placed ver t k (plain_tables s v) (map_entry (listed_as s) t r.entry) r.octets r.rule q.rule r.entry q.list r.placed (ap (λ (m : ℕ). in_each t m q.rule) (sym i) ∙ q.placed);
       }

@@ -38,19 +38,19 @@ module _ (ver : Version) where
   listed_is (of_strings t) v x o w (another i (literal_spelled sp room)) = refl
   listed_is (of_names t) v x o w (a_surrogate paired has up un ul new room) = refl
 
-  each_is : (t : Table) {v w : Vocabulary Octets} {xs : List (EntryOf Listed t)} {o : Octets} → Each ver (EntryListed ver t) v xs o w → w ≡ add_all v t (map (map_entry says t) xs)
+  each_is : (t : Table) {v w : Vocabulary Octets} {xs : List (EntryOf Listed t)} {o : Octets} → Each ver (EntryListed ver t) v xs o w → w ≡ add_all t v (map (map_entry says t) xs)
   each_is t no_entry = refl
-  each_is t (an_entry {v = v} {u = u} {x = x} {xs = xs} {o = o} r q) = each_is t q ∙ ap (λ (z : Vocabulary Octets). add_all z t (map (map_entry says t) xs)) (listed_is t v x o u r)
+  each_is t (an_entry {v = v} {u = u} {x = x} {xs = xs} {o = o} r q) = each_is t q ∙ ap (λ (z : Vocabulary Octets). add_all t z (map (map_entry says t) xs)) (listed_is t v x o u r)
 
   -- the entries that a head lists for a table, behind those that it had
-  table_is : (h : Head) (t : Table) {v w : Vocabulary Octets} {o : Octets} → Each ver (EntryListed ver t) v (list_of h t) o w → w ≡ add_all v t (list_of (plain_head h) t)
-  table_is h t {v} y = each_is t y ∙ ap (add_all v t) (sym (list_map says h t))
+  table_is : (h : Head) (t : Table) {v w : Vocabulary Octets} {o : Octets} → Each ver (EntryListed ver t) v (list_of h t) o w → w ≡ add_all t v (list_of (plain_head h) t)
+  table_is h t {v} y = each_is t y ∙ ap (add_all t v) (sym (list_map says h t))
 
   pub tables_are : {h : Head} {ts : List Table} {v w : Vocabulary Octets} {o : Octets} → TablesListed ver h ts v o w → w ≡ behind v ts (pieces (plain_head h) ts)
   tables_are no_table = refl
   tables_are {h} (absent {t = t} {ts = ts} {v = v} e r) =
       tables_are r
-      ∙ ap (λ (l : List (EntryOf Octets t)). behind (add_all v t l) ts (pieces (plain_head h) ts)) (sym (no_list (list_of (plain_head h) t) (size-map says h t ∙ e)))
+      ∙ ap (λ (l : List (EntryOf Octets t)). behind (add_all t v l) ts (pieces (plain_head h) ts)) (sym (no_list (list_of (plain_head h) t) (size-map says h t ∙ e)))
   tables_are {h} (present {t = of_strings t} {ts = ts} o any few y r) = tables_are r ∙ ap (λ (z : Vocabulary Octets). behind z ts (pieces (plain_head h) ts)) (table_is h (of_strings t) y)
   tables_are {h} (present {t = of_names t} {ts = ts} o any few y r) = tables_are r ∙ ap (λ (z : Vocabulary Octets). behind z ts (pieces (plain_head h) ts)) (table_is h (of_names t) y)
 
@@ -70,7 +70,7 @@ module _ (ver : Version) where
     opens_keep (with_head heads any u) p = tables_keep u p
 
   -- every string that a head lists can be listed so
-  string_can : {t : StringTable} {v w : Vocabulary Octets} {x : Listed} {o : Octets} → StringListed ver t v x o w → CanBeListed t x
+  string_can : {t : StringTable} {v : Vocabulary Octets} {x : Listed} {o : Octets} {w : Vocabulary Octets} → StringListed ver t v x o w → CanBeListed t x
   string_can (an_identifying {x = x} i (id_spelled sp new room)) = record { octets = x; spelled = sp; plain = λ e. refl }
   string_can (another i (literal_spelled {y = y} sp room)) = record { octets = y; spelled = sp; plain = λ e. clash (sym i ∙ e) }
 
@@ -78,7 +78,7 @@ module _ (ver : Version) where
   each_can no_entry = tt
   each_can (an_entry r q) = (string_can r, each_can q)
 
-  tables_can : {h : Head} {ts : List Table} {v w : Vocabulary Octets} {o : Octets} (t : StringTable) → In (of_strings t) ts → TablesListed ver h ts v o w → All (CanBeListed t) (strings h t)
+  tables_can : {h : Head} (t : StringTable) {ts : List Table} {v : Vocabulary Octets} {o : Octets} {w : Vocabulary Octets} → In (of_strings t) ts → TablesListed ver h ts v o w → All (CanBeListed t) (strings h t)
   unfolding size_of
   tables_can {h} t here (absent e r) = subst (All (CanBeListed t)) (sym (no_list (strings h t) e)) tt
   tables_can t here (present o any few y r) = each_can y
@@ -110,7 +110,7 @@ unfolding strings names is_identifying
 distinct_exact v = (
   λ d. (
     by_table_lem _ (λ i. d.prefixes) (λ i. d.namespaces) (λ i. d.locals) (λ i. d.ncnames) (λ i. d.uris) (λ i. clash i) (λ i. clash i) (λ i. clash i),
-    λ t. elim t [ ELEMENT_NAME ↦ d.elements | ATTRIBUTE_NAME ↦ d.attributes ],
+    λ t. elim t as (λ u. Distinct (names v u)) [ ELEMENT_NAME ↦ d.elements | ATTRIBUTE_NAME ↦ d.attributes ],
   ),
   λ d. record {
     prefixes = d.0 PREFIX refl;

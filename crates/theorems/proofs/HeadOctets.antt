@@ -1,6 +1,6 @@
 -- The octets that the rules write before the body: each head has one run of them, and a head without utf-16 those of the writer's definition. And a head without a presence bit lists nothing.
 use Prim.Native.Nat.{ℕ, zero, suc, ◌/◌, ◌%◌, ◌<◌}
-use mathlib.Core.Path.{◌≡◌, refl, sym, ap, ap₂, ◌∙◌}
+use mathlib.Core.Path.{◌≡◌, refl, sym, ap, ap₂, ◌∙◌, subst}
 use mathlib.Core.Bool.{Bool, true, false}
 use mathlib.Core.List.{List, [], ◌∷◌, ◌++◌, append_assoc}
 use native.Mathlib.Omega.{arith}
@@ -14,7 +14,7 @@ use Rattle.format.specs.Forms.{Spelled}
 use Rattle.format.specs.declared.StringForm.{StringForm}
 use Rattle.format.specs.declared.StringForm.TheVariants.{Utf8, Utf16, Numeric, Dates, Short, Int, Long}
 use Rattle.format.specs.Head.{Listed, Head, Table, of_strings, of_names, ten_tables, is_identifying, c19, size_of, some?, presence, StringListed, an_identifying, another, PartListed, no_part, a_part, NameListed, a_surrogate}
-use Rattle.format.specs.Head.{Each, no_entry, an_entry, Entries, TablesListed, no_table, absent, present, Opens, without_head, with_head}
+use Rattle.format.specs.Head.{Each, no_entry, an_entry, Entries, TablesListed, no_table, absent, present, Opens, without_head, with_head, started}
 use Rattle.format.specs.Allowed.{All}
 use Rattle.forms.specs.Packing.{in_form}
 use Rattle.forms.proofs.Forms.{one_spelling, spelled_letters, spelled_integers}
@@ -101,7 +101,7 @@ own_field false x o n f = f.2 ∙ ap (in_format c19.length_bit x.form 0) (in_for
 
 module _ {ver : Version} where
   -- ---- an entry
-  string_field : {t : StringTable} {v w : Vocabulary Octets} {x : Listed} {o : Octets} → StringListed ver t v x o w → (b : Bool) → is_identifying t ≡ b → FieldOf b x o
+  string_field : {t : StringTable} {v : Vocabulary Octets} {x : Listed} {o : Octets} {w : Vocabulary Octets} → StringListed ver t v x o w → (b : Bool) → is_identifying t ≡ b → FieldOf b x o
   unfolding c19
   string_field (an_identifying i (id_spelled s n f)) true e = refl
   string_field (an_identifying i (id_spelled s n f)) false e = clash (sym e ∙ i)
@@ -171,11 +171,16 @@ module _ {ver : Version} where
   opens-octets {h} n (with_head v some r) = rw (ne_eqb (presence h ten_tables) 0 (λ e. omega arith), listed-octets n r)
 
   pub one_opening : {h : Head} {o p : Octets} {v w : Vocabulary Octets} → Opens ver h o v → Opens ver h p w → o ≡ p
-  one_opening without_head without_head = refl
-  one_opening without_head (with_head heads any u) = absurd (let z = nothing_present Listed in omega arith)
-  one_opening (with_head heads any u) without_head = absurd (let z = nothing_present Listed in omega arith)
-  one_opening {h} (with_head heads any u) (with_head heads₁ any₁ y) =
-      ap (λ (l : Octets). ver.identification ++ (0x20 ∷ presence h ten_tables / 256 ∷ presence h ten_tables % 256 ∷ l)) (one_listed u y)
+  one_opening a b = from a b refl
+    where
+      from : {h g : Head} {o p : Octets} {v w : Vocabulary Octets} → Opens ver h o v → Opens ver g p w → h ≡ g → o ≡ p
+      from without_head without_head e = refl
+      from without_head (with_head heads any u) e = absurd (let z = nothing_present Listed in let some = rw (← e) at any in omega arith)
+      from (with_head heads any u) without_head e = absurd (let z = nothing_present Listed in let some = rw e at any in omega arith)
+      from {h} {w = w} (with_head heads any u) (with_head {h = g} {o = p} heads₁ any₁ y) e =
+          ap (λ (l : Octets). ver.identification ++ (0x20 ∷ presence h ten_tables / 256 ∷ presence h ten_tables % 256 ∷ l))
+          (one_listed u (subst (λ (f : Head). TablesListed ver f ten_tables (started ver) p w) (sym e) y))
+          ∙ ap (λ (f : Head). ver.identification ++ (0x20 ∷ presence f ten_tables / 256 ∷ presence f ten_tables % 256 ∷ p)) e
 
 -- There are some.
 pub octets_some : (ver : Version) (h : Head) → 0 < length (octets_before ver h)

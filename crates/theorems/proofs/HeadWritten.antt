@@ -150,9 +150,9 @@ module _ (ver : Version) (s : Octets) where
   -- ---- entries; p is where their strings are listed, and z are the tables as the rules have them before
   record EntriesHit (t : Table) (k : ℕ) (v : Vocabulary Located) (xs : List (EntryOf Listed t)) (o : Octets) (w : Vocabulary Octets) (p : List Located) (g : Passed) : Type 0 where
     list : List (EntryOf Located t)
-    goes : g ≡ got tt (k + length o) (add_all v t list)
+    goes : g ≡ got tt (k + length o) (add_all t v list)
     are : map (map_entry (listed_as s) t) list ≡ xs
-    state : plain_tables s (add_all v t list) ≡ w
+    state : plain_tables s (add_all t v list) ≡ w
     placed : p ≡ located t list
 
   entries_complete : (t : Table) (k : ℕ) (v : Vocabulary Located) {z : Vocabulary Octets} {xs : List (EntryOf Listed t)} {o : Octets} {w : Vocabulary Octets} (rest : Octets) → plain_tables s v ≡ z
@@ -167,7 +167,7 @@ module _ (ver : Version) (s : Octets) where
       let la = length-append o os in
       record {
         list = i.entry ∷ j.list;
-        goes = rw i.goes (j.goes ∙ ap (λ (n : ℕ). got tt n (add_all (add_to v t i.entry) t j.list)) (omega arith));
+        goes = rw i.goes (j.goes ∙ ap (λ (n : ℕ). got tt n (add_all t (add_to v t i.entry) j.list)) (omega arith));
         are = ap₂ (λ (y : EntryOf Listed t) (ys : List (EntryOf Listed t)). y ∷ ys) i.is j.are;
         state = j.state;
         placed = more-placed ver t k z x o r q i.entry j.list i.placed j.placed;
@@ -232,7 +232,7 @@ module _ (ver : Version) (s : Octets) where
   past_present : (t : Table) (ts : List Table) (xs : List (EntryOf Listed t)) (l : Lists Listed ts) (b k : ℕ) (v : Vocabulary Located) (o os : Octets) (u w : Vocabulary Octets) (rest : Octets) (p q : List Located)
       → 0 < length xs → length xs ≤ top → b / 2 ^ length ts % 2 ≡ some? (length xs) → drop k s ≡ spell c21 0 (length xs) ++ rest
       → (e : EntriesHit ver s t (k + length (spell c21 0 (length xs))) v xs o u p (entries_at ver t s (length xs) (k + length (spell c21 0 (length xs))) v))
-      → TablesHit ts l (k + length (spell c21 0 (length xs)) + length o) (add_all v t e.list) os w q (tables_at ver ts b s (k + length (spell c21 0 (length xs)) + length o) (add_all v t e.list))
+      → TablesHit ts l (k + length (spell c21 0 (length xs)) + length o) (add_all t v e.list) os w q (tables_at ver ts b s (k + length (spell c21 0 (length xs)) + length o) (add_all t v e.list))
       → TablesHit (t ∷ ts) (xs, l) k v (spell c21 0 (length xs) ++ (o ++ os)) w (p ++ q) (tables_at ver (t ∷ ts) b s k v)
   unfolding tables_at rooms_in share_of behind_first sizes c21
   past_present t ts xs l b k v o os u w rest p q any few bit d e r =
@@ -242,7 +242,7 @@ module _ (ver : Version) (s : Octets) where
       let one : b / 2 ^ length ts % 2 ≡ 1 = bit ∙ some_is (length xs) any in
       record {
         lists = (e.list, r.lists);
-        goes = rw (eq-eqb (b / 2 ^ length ts % 2) 1 one, n, e.goes, r.goes) (ap (λ (j : ℕ). got tt j (behind (add_all v t e.list) ts r.lists)) (omega arith));
+        goes = rw (eq-eqb (b / 2 ^ length ts % 2) 1 one, n, e.goes, r.goes) (ap (λ (j : ℕ). got tt j (behind (add_all t v e.list) ts r.lists)) (omega arith));
         are = λ i. (e.are i, r.are i);
         state = r.state;
         placed = ap₂ (λ (x y : List Located). x ++ y) e.placed r.placed;
@@ -266,7 +266,7 @@ module _ (ver : Version) (s : Octets) where
       let d2 : drop (k + n) s ≡ o ++ (os ++ rest) = drop_past s k (spell c21 0 (length xs)) (o ++ (os ++ rest)) d1 in
       let i = entries_complete ver s (of_strings t) (k + n) v (os ++ rest) e y d2 in
       past_present (of_strings t) ts xs (pieces h ts) b k v o os z₁ w (o ++ (os ++ rest)) (in_entries (k + n) y) (in_tables (k + n + length o) r) any few c.0 d1 i
-      (tables_complete h b (k + n + length o) (add_all v (of_strings t) i.list) rest i.state r c.1 (drop_past s (k + n) o (os ++ rest) d2))
+      (tables_complete h b (k + n + length o) (add_all (of_strings t) v i.list) rest i.state r c.1 (drop_past s (k + n) o (os ++ rest) d2))
   tables_complete h b k v rest e (present {t = of_names t} {ts = ts} {u = z₁} {w = w} o {os = os} any few y r) bits d =
       let xs : List Triple = names h t in
       let n : ℕ = length (spell c21 0 (length xs)) in
@@ -275,7 +275,7 @@ module _ (ver : Version) (s : Octets) where
       let d2 : drop (k + n) s ≡ o ++ (os ++ rest) = drop_past s k (spell c21 0 (length xs)) (o ++ (os ++ rest)) d1 in
       let i = entries_complete ver s (of_names t) (k + n) v (os ++ rest) e y d2 in
       past_present (of_names t) ts xs (pieces h ts) b k v o os z₁ w (o ++ (os ++ rest)) [] (in_tables (k + n + length o) r) any few c.0 d1 i
-      (tables_complete h b (k + n + length o) (add_all v (of_names t) i.list) rest i.state r c.1 (drop_past s (k + n) o (os ++ rest) d2))
+      (tables_complete h b (k + n + length o) (add_all (of_names t) v i.list) rest i.state r c.1 (drop_past s (k + n) o (os ++ rest) d2))
 
   -- ---- a head
   pub record HeadHit (h : Head) (k : ℕ) (v : Vocabulary Located) (o : Octets) (w : Vocabulary Octets) (p : List Located) : Type 0 where

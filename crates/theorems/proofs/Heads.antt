@@ -151,7 +151,7 @@ same-strings d v = by_table_lem _ refl refl refl refl refl refl refl refl
 pub holds_begins : {S : Type 0} (d : S) (v : Vocabulary S) → Ranged v → Holds v (begins d v)
 unfolding names begins
 holds_begins d v r =
-    record { strings_are_lem = same-strings d v; names_are_lem = λ t. elim t [ ELEMENT_NAME ↦ all_mean d v v.elements (r ELEMENT_NAME) | ATTRIBUTE_NAME ↦ all_mean d v v.attributes (r ATTRIBUTE_NAME) ] }
+    record { strings_are_lem = same-strings d v; names_are_lem = λ t. elim t as (λ u. AllMean v (names v u) (names (begins d v) u)) [ ELEMENT_NAME ↦ all_mean d v v.elements (r ELEMENT_NAME) | ATTRIBUTE_NAME ↦ all_mean d v v.attributes (r ATTRIBUTE_NAME) ] }
 
 -- ---- every head that is allowed is listed
 -- a string that can be listed in utf-8 is listed as itself
@@ -170,7 +170,7 @@ module _ (ver : Version) where
   more-behind t v x xs = sym (append_assoc (list_of v t) (x ∷ []) xs) ∙ ap (λ (l : List (EntryOf Octets t)). l ++ xs) (sym (list_own v t x))
 
   list_strings : (t : StringTable) (v : Vocabulary Octets) (xs : List Listed) → All (CanBeListed t) xs → (is_identifying t ≡ true → Distinct (strings v t ++ map says xs))
-      → length (strings v t ++ map says xs) ≤ ver.entries → (o : Octets) × Each ver (StringListed ver t) v xs o (add_all v (of_strings t) (map says xs))
+      → length (strings v t ++ map says xs) ≤ ver.entries → (o : Octets) × Each ver (StringListed ver t) v xs o (add_all (of_strings t) v (map says xs))
   list_strings t v [] sp new few = ([], no_entry)
   list_strings t v (x ∷ xs) sp new few =
       let l = length-append (strings v t) (x.says ∷ map says xs) in
@@ -185,7 +185,7 @@ module _ (ver : Version) where
 
   -- z are tables with the same strings
   list_names : (t : NameTable) (v z : Vocabulary Octets) (xs : List Triple) → ((u : StringTable) → strings v u ≡ strings z u) → ((u : StringTable) → length (strings z u) ≤ top) → All (NamesParts z) xs
-      → Distinct (names v t ++ xs) → length (names v t ++ xs) ≤ ver.entries → (o : Octets) × Each ver (NameListed ver t) v xs o (add_all v (of_names t) xs)
+      → Distinct (names v t ++ xs) → length (names v t ++ xs) ≤ ver.entries → (o : Octets) × Each ver (NameListed ver t) v xs o (add_all (of_names t) v xs)
   unfolding strings
   list_names t v z [] same small k new few = ([], no_entry)
   list_names t v z (x ∷ xs) same small k new few =
@@ -218,20 +218,20 @@ module _ (ver : Version) where
     few_all (of_strings t) = a.in_limits.few t
     few_all (of_names t) = a.in_limits.few_names t
 
-    list_table : (t : Table) (ts : List Table) (v : Vocabulary Octets) → size_of h t ≤ top → (o : Octets) × Each ver (EntryListed ver t) v (list_of h t) o (add_all v t (list_of plain t))
-        → (os : Octets) × TablesListed ver h ts (add_all v t (list_of plain t)) os (headed ver h) → (o : Octets) × TablesListed ver h (t ∷ ts) v o (headed ver h)
+    list_table : (t : Table) (ts : List Table) (v : Vocabulary Octets) → size_of h t ≤ top → (o : Octets) × Each ver (EntryListed ver t) v (list_of h t) o (add_all t v (list_of plain t))
+        → (os : Octets) × TablesListed ver h ts (add_all t v (list_of plain t)) os (headed ver h) → (o : Octets) × TablesListed ver h (t ∷ ts) v o (headed ver h)
     list_table t ts v few e r =
         case 0 (size_of h t) (λ any. (_, present e.0 any few (entries_are t e) r.1))
         (λ none. let z : size_of h t ≡ 0 = omega arith in
-        (r.0, absent z (subst (λ (l : List (EntryOf Octets t)). TablesListed ver h ts (add_all v t l) r.0 (headed ver h)) (no_list (list_of plain t) (size-map says h t ∙ z)) r.1)))
+        (r.0, absent z (subst (λ (l : List (EntryOf Octets t)). TablesListed ver h ts (add_all t v l) r.0 (headed ver h)) (no_list (list_of plain t) (size-map says h t ∙ z)) r.1)))
       where
-        entries_are : (t : Table) (e : (o : Octets) × Each ver (EntryListed ver t) v (list_of h t) o (add_all v t (list_of plain t))) → Entries ver h t v e.0 (add_all v t (list_of plain t))
+        entries_are : (t : Table) (e : (o : Octets) × Each ver (EntryListed ver t) v (list_of h t) o (add_all t v (list_of plain t))) → Entries ver h t v e.0 (add_all t v (list_of plain t))
         entries_are (of_strings t) e = e.1
         entries_are (of_names t) e = e.1
 
     strings-first : (u : StringTable) (t : NameTable) → place u < code (of_names t)
     unfolding place
-    strings-first u t = elim t [ ELEMENT_NAME ↦ below u | ATTRIBUTE_NAME ↦ (let b = below u in omega arith) ]
+    strings-first u t = elim t as (λ k. place u < code (of_names k)) [ ELEMENT_NAME ↦ below u | ATTRIBUTE_NAME ↦ (let b = below u in omega arith) ]
       where
         below : (u : StringTable) → place u < 8
         below = by_table_lem _ (omega arith) (omega arith) (omega arith) (omega arith) (omega arith) (omega arith) (omega arith) (omega arith)
@@ -245,10 +245,10 @@ module _ (ver : Version) where
         let m = ap length is in
         let k = size-map says h t in
         let many = ok.few_entries in
-        list_table t ts v (omega arith) (entries_of_lem t ts v e up is (omega arith)) (list_tables ts (add_all v t (list_of plain t)) e (above_ascending (code t) ts up))
+        list_table t ts v (omega arith) (entries_of_lem t ts v e up is (omega arith)) (list_tables ts (add_all t v (list_of plain t)) e (above_ascending (code t) ts up))
       where
         entries_of_lem : (t : Table) (ts : List Table) (v : Vocabulary Octets) → behind v (t ∷ ts) (pieces plain (t ∷ ts)) ≡ headed ver h → Above (code t) ts → list_of (headed ver h) t ≡ list_of v t ++ list_of plain t
-            → length (list_of v t ++ list_of plain t) ≤ ver.entries → (o : Octets) × Each ver (EntryListed ver t) v (list_of h t) o (add_all v t (list_of plain t))
+            → length (list_of v t ++ list_of plain t) ≤ ver.entries → (o : Octets) × Each ver (EntryListed ver t) v (list_of h t) o (add_all t v (list_of plain t))
         entries_of_lem (of_strings t) ts v e up is few =
             let same = strings-map says h t in
             rw same

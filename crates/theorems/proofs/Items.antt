@@ -309,8 +309,8 @@ module _ (ver : Version) (s : Octets) where
     what : NameQ ver s x h p name
     state : plain_tables s tables ≡ w
 
-  start_of : (a : Bool) (k : ℕ) (v : State Located) {x : Name Octets} {h : NameHow} {os : Octets} {w : Vocabulary Octets} {p : List Located} (g : Got NameRead) → Hit s (NameQ ver s x h p) (k + length os) w g → StartHit a k v x h os w p (start_of ver k a v g)
-  start_of a k v g h = record { name = h.b; tables = h.v; goes = rw h.goes; what = h.what; state = h.state }
+  start_hit : (a : Bool) (k : ℕ) (v : State Located) {x : Name Octets} {h : NameHow} {os : Octets} {w : Vocabulary Octets} {p : List Located} (g : Got NameRead) → Hit s (NameQ ver s x h p) (k + length os) w g → StartHit a k v x h os w p (start_of ver k a v g)
+  start_hit a k v g h = record { name = h.b; tables = h.v; goes = rw h.goes; what = h.what; state = h.state }
 
   element_hit : (a : Bool) (k : ℕ) (v : State Located) {x : Name Octets} {h : NameHow} {os : Octets} {w : Vocabulary Octets} {p : List Located} → may_start v ≡ true → v.level < ver.depth → k < length s
       → NameHit ver s of_element (64 * bit a) k v.tables x h os w p → StartHit a k v x h os w p (child_at ver s k v)
@@ -339,10 +339,10 @@ module _ (ver : Version) (s : Octets) where
   unfolding named_at name_at of_element rooms_in share_of behind_first numbers
   named_hit a k v l (hit_numbered o oc hi n c e hit) =
       let q : get_or s k 0 ≡ o = omega arith in
-      rw (lt-ltb k (length s) l, q, ne_eqb (o % 64 / 4) 14 (omega arith), lt-ltb o 0x40 (omega arith), number_unpadded s k o n c e (omega arith) hi, lt-ltb o 0x3C (omega arith)) (start_of a k v _ hit)
+      rw (lt-ltb k (length s) l, q, ne_eqb (o % 64 / 4) 14 (omega arith), lt-ltb o 0x40 (omega arith), number_unpadded s k o n c e (omega arith) hi, lt-ltb o 0x3C (omega arith)) (start_hit a k v _ hit)
   named_hit a k v l (hit_parts o oc lo hi lone hit) =
       let q : get_or s k 0 ≡ o = omega arith in
-      rw (lt-ltb k (length s) l, q, ne_eqb (o % 64 / 4) 14 (omega arith), lt-ltb o 0x40 hi, parts_unpadded o lo hi, le-ltb o 0x3C lo) (start_of a k v _ hit)
+      rw (lt-ltb k (length s) l, q, ne_eqb (o % 64 / 4) 14 (omega arith), lt-ltb o 0x40 hi, parts_unpadded o lo hi, le-ltb o 0x3C lo) (start_hit a k v _ hit)
 
   -- an attribute's name
   attribute_hit : (k : ℕ) (v : Vocabulary Located) {x : Name Octets} {h : NameHow} {os : Octets} {w : Vocabulary Octets} {p : List Located} → NameHit ver s of_attribute 0 k v x h os w p
@@ -390,7 +390,7 @@ module _ (ver : Version) (s : Octets) where
           first = first;
         }
 
-  pub item_complete : (k : ℕ) (v : State Located) {i : ItemMut Octets} {o : Octets} {w : State Octets} (rest : Octets) (u : ItemWrittenAs ver (plain_state s v) i o w) → drop k s ≡ o ++ rest → ItemHit k v i o w (in_item k u) (event_at k u)
+  pub item_complete : (k : ℕ) (v : State Located) {i : Item Octets} {o : Octets} {w : State Octets} (rest : Octets) (u : ItemWrittenAs ver (plain_state s v) i o w) → drop k s ≡ o ++ rest → ItemHit k v i o w (in_item k u) (event_at k u)
   unfolding item_at declaring_at namespace_at element_at attribute_at chunk_at comment_at instruction_at event_map may_start of_element of_attribute
   item_complete k v rest (o_start a {o = os} md may deep u) d =
       let c = name_complete ver s of_element element_shape (bit a) (64 * bit a) k (omega arith) v.tables rest u d in

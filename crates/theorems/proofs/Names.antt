@@ -29,7 +29,7 @@ use Rattle.read_names.specs.Strings.{Got, refused, id_at, optional_at}
 use Rattle.read_names.specs.Names.{NameRead, DeclaredRead, prefix_bit, namespace_bit, lone_prefix, name_bit, name_of, no_triple, parts_at, numbered_at, name_at, declared_at}
 use Rattle.theorems.specs.Places.{option_spelled, name_spelled, in_name, in_declared}
 use Rattle.theorems.proofs.Lists.{fault, test_lt, test_le, test_not, test_ge, either_lt, either_eq, drop_head, drop_past}
-use Rattle.theorems.proofs.Words.{names-map, adding-name-map, name_map}
+use Rattle.theorems.proofs.Words.{names-map, adding-name-map, name_map_lem}
 use Rattle.theorems.proofs.Triples.{means_is, means_at}
 use Rattle.theorems.proofs.Chosen.{Ranged}
 use Rattle.theorems.proofs.Numbers.{num_sound, num_complete, num_first}
@@ -111,7 +111,7 @@ module _ (ver : Version) (s : Octets) (bytes : (i : ℕ) → get_or s i 0 < 256)
       let i = ranged q.table r.v x en in
       record {
         octets = spell q.number_forms lead n;
-        rule = subst₂ (λ (m : ℕ) (y : Name Octets). Named ver q lead (plain_tables s v) y (by_number m) (spell q.number_forms lead m) (plain_tables s v)) (sym y) (sym (name_map (octets_of s) v empty x))
+        rule = subst₂ (λ (m : ℕ) (y : Name Octets). Named ver q lead (plain_tables s v) y (by_number m) (spell q.number_forms lead m) (plain_tables s v)) (sym y) (sym (name_map_lem (octets_of s) v empty x))
             (by_number_lem (omega arith) r.small en (means_at [] (plain_tables s v) x i.prefix i.namespace i.some_local i.local));
         here = r.here;
         next_is = r.next_is;
@@ -236,7 +236,7 @@ module _ (ver : Version) (s : Octets) where
               v = v;
               goes = refl;
               state = refl;
-              what = (name_map (octets_of s) v empty _ ∙ ap (λ (y : Triple). name_of (plain_tables s v) [] y) (ap (λ (u : ℕ). get_or (names v q.table) u no_triple) z ∙ entry_is no_triple here) ∙ means_is [] m, refl, refl);
+              what = (name_map_lem (octets_of s) v empty _ ∙ ap (λ (y : Triple). name_of (plain_tables s v) [] y) (ap (λ (u : ℕ). get_or (names v q.table) u no_triple) z ∙ entry_is no_triple here) ∙ means_is [] m, refl, refl);
             })),
         some_first q.number_forms lead (suc j) g.numbers_ok (omega arith) fits,
         f.2,

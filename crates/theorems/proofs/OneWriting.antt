@@ -91,7 +91,7 @@ halves_one (x ∷ a) (y ∷ b) e = ap₂ (λ (z : ℕ) (l : Octets). z ∷ l) (o
 
 module _ {ver : Version} where
   -- strings: the octets, the number and the tables
-  pub identifying_one : {t : StringTable} {v w w' : Vocabulary Octets} {x : Octets} {h : How} {n n' : ℕ} {o o' : Octets}
+  pub identifying_one : {t : StringTable} {v : Vocabulary Octets} {x : Octets} {h : How} {n n' : ℕ} {o : Octets} {w : Vocabulary Octets} {o' : Octets} {w' : Vocabulary Octets}
       → Identifying ver t v x h n o w → Identifying ver t v x h n' o' w' → (o ≡ o') × (n ≡ n') × (w ≡ w')
   identifying_one (id_spelled sp new room) (id_spelled sp' new' room') = (refl, refl, refl)
   identifying_one (id_numbered small en) (id_numbered small' en') = (refl, refl, refl)

@@ -14,7 +14,7 @@ use Rattle.theorems.specs.Permitted.{PermitsName, name_parts, name_entry, Permit
 use Rattle.theorems.proofs.Forms.{spelling-said, has_form}
 
 module _ {ver : Version} where
-  id_may : {t : StringTable} {v w : Vocabulary Octets} {x : Octets} {h : How} {n : ℕ} {o : Octets} → Identifying ver t v x h n o w → PermitsId t v x h n w
+  id_may : {t : StringTable} {v : Vocabulary Octets} {x : Octets} {h : How} {n : ℕ} {o : Octets} {w : Vocabulary Octets} → Identifying ver t v x h n o w → PermitsId t v x h n w
   id_may (id_spelled sp new room) = id_new new
   id_may (id_numbered small en) = id_entry en
 

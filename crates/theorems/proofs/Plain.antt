@@ -107,7 +107,7 @@ module _ {S : Type 0} (P : StringTable → S → Type 0) (d : S) where
 
   -- P holds of all that can be spelled
   module _ (Spelt : StringTable → S → Type 0) (of-spelt : (t : StringTable) (x : S) → Spelt t x → P t x) where
-    id_holds : {t : StringTable} {v w : Vocabulary S} {x : S} {h : How} {n : ℕ} → IdDone d Spelt t v x h n w → Good v → P t x × Good w
+    id_holds : {t : StringTable} {v : Vocabulary S} {x : S} {h : How} {n : ℕ} {w : Vocabulary S} → IdDone d Spelt t v x h n w → Good v → P t x × Good w
     id_holds {t} {v} (id_made {x = x} sp) g = let p = of-spelt t x sp in (p, good_adding v t x p g)
     id_holds {t} (id_used en) g = (all_entry (P t) (g.of_strings_lem t) en, g)
 
@@ -115,7 +115,7 @@ module _ {S : Type 0} (P : StringTable → S → Type 0) (d : S) where
     part-holds no_part g = (tt, g)
     part-holds (a_part u) g = id_holds u g
 
-    string_holds : {t : StringTable} {v w : Vocabulary S} {x : S} {h : How} → StringDone d Spelt t v x h w → Good v → P t x × Good w
+    string_holds : {t : StringTable} {v : Vocabulary S} {x : S} {h : How} {w : Vocabulary S} → StringDone d Spelt t v x h w → Good v → P t x × Good w
     string_holds {t} {v} (string_made {x = x} true sp) g = let p = of-spelt t x sp in (p, good_adding v t x p g)
     string_holds {t} (string_made {x = x} false sp) g = (of-spelt t x sp, g)
     string_holds {t} (string_used en) g = (all_entry (P t) (g.of_strings_lem t) en, g)

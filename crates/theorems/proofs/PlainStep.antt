@@ -2,7 +2,7 @@
 use mathlib.Core.Path.{◌≡◌, refl, ap, ◌∙◌}
 use mathlib.Core.Bool.{Bool, true, false, not, ◌&&◌, ◌||◌}
 use mathlib.Core.List.{List, ◌∷◌}
-use Prim.Native.Nat.{ℕ}
+use Prim.Native.Nat.{ℕ, ◌≤◌}
 use native.Mathlib.Omega.{arith}
 use borrow.Author.Tests.{leb-true, le-leb}
 use lib.Dec.{leb}
@@ -135,7 +135,7 @@ fits_of ver v e r =
     record {
       few = by_table_lem _ (leb-true _ _ a.0) (leb-true _ _ b.0) (leb-true _ _ c.0) (leb-true _ _ d.0) (r.few OTHER_URI (omega arith)) (r.few ATTRIBUTE_VALUE (omega arith))
           (r.few CONTENT_CHARACTER_CHUNK (omega arith)) (r.few OTHER_STRING (omega arith));
-      few_names = λ t. elim t [ ELEMENT_NAME ↦ leb-true _ _ f.0 | ATTRIBUTE_NAME ↦ leb-true _ _ f.1 ];
+      few_names = λ t. elim t as (λ u. length (names v u) ≤ ver.entries) [ ELEMENT_NAME ↦ leb-true _ _ f.0 | ATTRIBUTE_NAME ↦ leb-true _ _ f.1 ];
     }
 
 pub of_fits : (ver : Version) (v : Vocabulary Octets) → InLimits ver v → within ver v ≡ true

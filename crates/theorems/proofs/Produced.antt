@@ -197,19 +197,19 @@ module _ (C : Version) where
   abbrev pub known_by : Bool → State Octets → Event Octets → State Octets
   known_by a v e = behind a v (choose_for C v.tables e).tables e
 
-pub octets_by : (C : Version) (a : Bool) (v : State Octets) (e : Event Octets) (s : Said e) (r : Ranged v.tables) → octets_as a v.mode (permits_for C v.tables e s r) ≡ octets_by C a v e
+pub octets_by_lem : (C : Version) (a : Bool) (v : State Octets) (e : Event Octets) (s : Said e) (r : Ranged v.tables) → octets_as a v.mode (permits_for C v.tables e s r) ≡ octets_by C a v e
 unfolding octets_as octets_by permits_for choose_for
-octets_by C a v (Namespace p n) s r = refl
-octets_by C a v (Start x) s r = refl
-octets_by C a v (Attribute x y) s r =
+octets_by_lem C a v (Namespace p n) s r = refl
+octets_by_lem C a v (Start x) s r = refl
+octets_by_lem C a v (Attribute x y) s r =
     let w = choose_name ATTRIBUTE_NAME v.tables x in
     ap (λ (o : Octets). name_octets of_attribute 0 x w.how ++ o) (value_permits s.1 (value_case C ATTRIBUTE_VALUE w.tables y)).1
-octets_by C a v (Text y) s r = (literal_permits s (literal_case C c15 CONTENT_CHARACTER_CHUNK v.tables y)).1
-octets_by C a v (Comment y) s r = ap (λ (o : Octets). 0xE2 ∷ o) (value_permits s (value_case C OTHER_STRING v.tables y)).1
-octets_by C a v (Instruction x y) s r =
+octets_by_lem C a v (Text y) s r = (literal_permits s (literal_case C c15 CONTENT_CHARACTER_CHUNK v.tables y)).1
+octets_by_lem C a v (Comment y) s r = ap (λ (o : Octets). 0xE2 ∷ o) (value_permits s (value_case C OTHER_STRING v.tables y)).1
+octets_by_lem C a v (Instruction x y) s r =
     let w = choose_id OTHER_NCNAME v.tables x in
     ap (λ (o : Octets). 0xE1 ∷ (id_octets x w.how ++ o)) (value_permits s.1 (value_case C OTHER_STRING w.tables y)).1
-octets_by C a v End s r = refl
+octets_by_lem C a v End s r = refl
 
 -- A permitted choice is what the rules write.
 module _ (ver : Version) (small : ver.entries ≤ top) where

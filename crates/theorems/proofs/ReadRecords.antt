@@ -51,6 +51,9 @@ module _ (s : Octets) where
     the_namespace : Stands NAMESPACE_NAME built_in_namespace
 
   in_utf8 : (x : Located) → IsString s (event_string x) → form_as x ≡ Utf8 → IsStretch s (event_string x)
+  in_utf8 empty h e = elim h [ ]
+  in_utf8 built_in_prefix h e = elim h [ ]
+  in_utf8 built_in_namespace h e = elim h [ ]
   in_utf8 (stretch form p n) (inside h k) e = subst (λ (f : StringForm). IsStretch s (Stretch f p n)) (sym e) (inside_utf8 h k)
 
   lies_utf8 : (t : StringTable) (x : Located) → is_identifying t ≡ true → Lies s t x → IsStretch s (event_string x)
@@ -132,26 +135,26 @@ module _ (s : Octets) where
   at_end form k x o any long h = inside {place = k + length o - length x} any (omega arith)
 
 module _ (ver : Version) (s : Octets) where
-  entry_lies : (k : ℕ) {t : StringTable} {v w : Vocabulary Octets} {x : Listed} {o : Octets} (u : StringListed ver t v x o w) → k + length o ≤ length s → All (InDocument s) (in_entry k u)
+  entry_lies : (k : ℕ) {t : StringTable} {v : Vocabulary Octets} {x : Listed} {o : Octets} {w : Vocabulary Octets} (u : StringListed ver t v x o w) → k + length o ≤ length s → All (InDocument s) (in_entry k u)
   entry_lies k {o = o} (an_identifying is (id_spelled {x = x} sp new room)) h = (at_end s Utf8 k x o sp.some (let l = length-append (spell (lengths 2) 0 (length x)) x in omega arith) h, tt)
   entry_lies k {o = o} (another is (literal_spelled {y = y} {form = form} sp room)) h = (at_end s form k y o sp.some (field_longer c19.length_bit form (c19.spelled_bits + c19.add_bit * 1) y) h, tt)
 
-  entries_lie : (k : ℕ) {t : StringTable} {v w : Vocabulary Octets} {xs : List Listed} {o : Octets} (e : Each ver (StringListed ver t) v xs o w) → k + length o ≤ length s → All (InDocument s) (in_entries k e)
+  entries_lie : {t : StringTable} (k : ℕ) {v w : Vocabulary Octets} {xs : List Listed} {o : Octets} (e : Each ver (StringListed ver t) v xs o w) → k + length o ≤ length s → All (InDocument s) (in_entries k e)
   entries_lie k no_entry h = tt
   entries_lie k (an_entry {o = o} {os = os} u rest) h =
       let l = length-append o os in
       all_both (InDocument s) (in_entry k u) (in_entries (k + length o) rest) (entry_lies k u (omega arith)) (entries_lie (k + length o) rest (omega arith))
 
-  tables_lie : (k : ℕ) {h : Head} {v w : Vocabulary Octets} {ts : List Table} {o : Octets} (e : TablesListed ver h ts v o w) → k + length o ≤ length s → All (InDocument s) (in_tables k e)
+  tables_lie : {h : Head} (k : ℕ) {v w : Vocabulary Octets} {ts : List Table} {o : Octets} (e : TablesListed ver h ts v o w) → k + length o ≤ length s → All (InDocument s) (in_tables k e)
   unfolding in_tables
   tables_lie k no_table h = tt
   tables_lie k (absent none_listed rest) h = tables_lie k rest h
-  tables_lie k {h = g} (present {t = of_strings t} o {os = os} any few u rest) h =
+  tables_lie {h = g} k (present {t = of_strings t} o {os = os} any few u rest) h =
       let n : Octets = spell c21 0 (size_of g (of_strings t)) in
       let l = length-append n (o ++ os) in
       let m = length-append o os in
       all_both (InDocument s) (in_entries (k + length n) u) (in_tables (k + length n + length o) rest) (entries_lie (k + length n) u (omega arith)) (tables_lie (k + length n + length o) rest (omega arith))
-  tables_lie k {h = g} (present {t = of_names t} o {os = os} any few u rest) h =
+  tables_lie {h = g} k (present {t = of_names t} o {os = os} any few u rest) h =
       let n : Octets = spell c21 0 (size_of g (of_names t)) in
       let l = length-append n (o ++ os) in
       let m = length-append o os in

@@ -1,5 +1,5 @@
 -- Where the rules write the required choices, their tables are the ones that the required choices leave: a choice says what is added. No limit is asked for, so the version of the choices and that of the rules may be any two.
-use Prim.Native.Nat.{ℕ}
+use Prim.Native.Nat.{ℕ, suc}
 use mathlib.Core.Path.{◌≡◌, refl, ap, ◌∙◌}
 use mathlib.Core.Option.{Option}
 use mathlib.Core.List.{List, [], ◌∷◌}
@@ -9,7 +9,7 @@ use Rattle.format.specs.Events.{Name, Event, End, How, NameHow, Item, ◌by◌, 
 use Rattle.format.specs.Tables.{StringTable, PREFIX, NAMESPACE_NAME, LOCAL_NAME, OTHER_NCNAME, ATTRIBUTE_VALUE, CONTENT_CHARACTER_CHUNK, OTHER_STRING, ELEMENT_NAME, ATTRIBUTE_NAME, Vocabulary, adding_name, Version}
 use Rattle.format.specs.Strings.{keeping, Identifying, id_spelled, id_numbered, Optional, absent, present, Layout, c15, Literal, literal_spelled, literal_numbered, Value, value_empty, value}
 use Rattle.format.specs.Names.{NameLayout, of_element, of_attribute, Named, in_parts_lem, by_number_lem, Declared, declared}
-use Rattle.format.specs.Items.{State, ItemWrittenAs, o_start, o_first_namespace, o_namespace, o_named_start, o_attribute, o_text, o_comment, o_instruction}
+use Rattle.format.specs.Items.{State, content, moved, ItemWrittenAs, o_start, o_first_namespace, o_namespace, o_named_start, o_attribute, o_text, o_comment, o_instruction}
 use Rattle.format.specs.Document.{Begun, begun, after_attributes, after_end_lem, after_item}
 use Rattle.write_names.specs.Chosen.{Chose, choose_id, choose_optional, choose_name, choose_for, chosen, tables_after}
 use Rattle.theorems.specs.Permitted.{PermitsId, id_new, id_entry, PermitsIfAny, not_there, there}
@@ -19,7 +19,7 @@ use Rattle.theorems.proofs.Produced.{ranged_for}
 
 module _ {ver : Version} where
   -- ---- strings
-  id_words : {t : StringTable} {v w w' : Vocabulary Octets} {x : Octets} {h h' : How} {n n' : ℕ} {o : Octets}
+  id_words : {t : StringTable} {v : Vocabulary Octets} {x : Octets} {h h' : How} {n n' : ℕ} {w' : Vocabulary Octets} {o : Octets} {w : Vocabulary Octets}
       → Identifying ver t v x h n o w → PermitsId t v x h' n' w' → h ≡ h' → (w ≡ w') × (n ≡ n')
   id_words (id_spelled sp first room) (id_new m) e = (refl, refl)
   id_words (id_spelled sp first room) (id_entry en) e = (cc, cc)
@@ -94,7 +94,8 @@ module _ {ver : Version} where
     from_items [] (after_end_lem md lv b) q r e = cc
     from_items [] (after_item o b) q r e = cc
     from_items (x ∷ es) begun q r e = cc
-    from_items (x ∷ es) (after_attributes md b) q r e = from_items (x ∷ es) b q r e
+    from_items {u = u} (x ∷ es) (after_attributes {at = at} {v = v} {w = w} {i = i} {items = items} {hs = hs} md b) q r e =
+        from_items {at = suc at} {v = moved v v.tables content} {w = w} {u = u} {items = i ∷ items} {hs = hs} (x ∷ es) b q r e
     from_items {u = u} (x ∷ es) (after_end_lem md lv b) q r e =
         let y : (End by for_end) ≡ (x by (choose_for C u x).how) = cc in
         from_items es b (q ∙ ap (λ (i : Item Octets). (choose_for C u i.event).tables) y) (ranged_for C u x r) (cc)

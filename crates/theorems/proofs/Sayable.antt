@@ -358,15 +358,15 @@ module _ (text : Octets) where
   unfolding name_text
   text_name x a = both (text_optional x.prefix a.0) (both (text_optional x.namespace a.1) ((exact x.local).1 a.2))
 
-  pub all_text : (e : E.Event Located) → all_text text e ≡ true → Each IsText (event_map f e)
+  pub all_text_lem : (e : E.Event Located) → all_text text e ≡ true → Each IsText (event_map f e)
   unfolding all_text event_map
-  all_text (E.Namespace p n) t = let a = both_true (optional_text text p) _ t in (optional_text_lem p a.0, optional_text_lem n a.1)
-  all_text (E.Start x) t = name_text_lem x t
-  all_text (E.Attribute x y) t = let a = both_true (name_text text x) _ t in (name_text_lem x a.0, (exact y).0 a.1)
-  all_text (E.Text y) t = (exact y).0 t
-  all_text (E.Comment y) t = (exact y).0 t
-  all_text (E.Instruction x y) t = let a = both_true (is_text (f x)) _ t in ((exact x).0 a.0, (exact y).0 a.1)
-  all_text E.End t = tt
+  all_text_lem (E.Namespace p n) t = let a = both_true (optional_text text p) _ t in (optional_text_lem p a.0, optional_text_lem n a.1)
+  all_text_lem (E.Start x) t = name_text_lem x t
+  all_text_lem (E.Attribute x y) t = let a = both_true (name_text text x) _ t in (name_text_lem x a.0, (exact y).0 a.1)
+  all_text_lem (E.Text y) t = (exact y).0 t
+  all_text_lem (E.Comment y) t = (exact y).0 t
+  all_text_lem (E.Instruction x y) t = let a = both_true (is_text (f x)) _ t in ((exact x).0 a.0, (exact y).0 a.1)
+  all_text_lem E.End t = tt
 
   pub text_all : (e : E.Event Located) → Each IsText (event_map f e) → all_text text e ≡ true
   unfolding all_text event_map

@@ -21,7 +21,7 @@ use Rattle.tables.proofs.Found.{clash, both_true}
 use Rattle.theorems.proofs.Structure.{stepped}
 use Rattle.theorems.specs.Permitted.{Permits, an_end}
 use Rattle.theorems.proofs.Chosen.{Ranged}
-use Rattle.theorems.proofs.Produced.{Where, first_namespace, next_namespace, first-start, named_start, in_list_lem, in_element, comment, instruction, Said, behind, octets_as, octets_by, octets_by, known_by, permits_for, made}
+use Rattle.theorems.proofs.Produced.{Where, first_namespace, next_namespace, first-start, named_start, in_list_lem, in_element, comment, instruction, Said, behind, octets_as, octets_by, octets_by_lem, known_by, permits_for, made}
 
 -- ---- where an event may stand, once the end of an attribute list is behind it
 -- among declarations the attribute bit is the one that the list ahead announces
@@ -180,7 +180,7 @@ module _ (ver : Version) (small : ver.entries ≤ top) where
       let same = words-settled v e in
       let r' = subst (λ (z : Vocabulary Octets). Ranged z) (sym same) r in
       let b = front at a v e ah s go deep (subst (λ (z : Vocabulary Octets). InLimits ver (choose_for C z e).tables) (sym same) i) (permits_for C u.tables e s r') in
-      subst₂ (λ (z : Vocabulary Octets) (os : Octets). Begun ver at v ((e by (choose_for C z e).how) ∷ []) (halves_as at v e os) (next_by C a v e)) same (octets_by C a u e s r') b
+      subst₂ (λ (z : Vocabulary Octets) (os : Octets). Begun ver at v ((e by (choose_for C z e).how) ∷ []) (halves_as at v e os) (next_by C a v e)) same (octets_by_lem C a u e s r') b
 
 -- ---- the place behind an event is that of the structure, with the tables that the choice leaves
 picked : (t : Bool) (v : State Octets) → pick t (moved v v.tables content) v ≡ moved v v.tables (pick t (moved v v.tables content) v).mode
@@ -209,8 +209,8 @@ module _ (a : Bool) (v : State Octets) where
   next_state (E.Instruction x y) {w = w} go u = stays (E.Instruction x y) w refl go
   next_state E.End {w = w} go an_end = ap (λ (y : State Octets). behind a y w E.End) (settled_is v E.End)
 
-  pub next_by : (C : Version) (e : E.Event Octets) → goes_on v e ≡ true → Said e → Ranged v.tables → next_by C a v e ≡ knowing (stepped a v e) (choose_for C v.tables e).tables
-  next_by C e go s r =
+  pub next_by_lem : (C : Version) (e : E.Event Octets) → goes_on v e ≡ true → Said e → Ranged v.tables → next_by C a v e ≡ knowing (stepped a v e) (choose_for C v.tables e).tables
+  next_by_lem C e go s r =
       ap (λ (u : Vocabulary Octets). behind a (settled v e) (choose_for C u e).tables e) (words-settled v e) ∙ next_state e go (permits_for C v.tables e s r)
 
 pub ahead_next : (a b : Bool) (v : State Octets) (e : E.Event Octets) → (is_declaration e ≡ true → a ≡ b) → Ahead (stepped a v e).mode b

@@ -40,9 +40,9 @@ module _ {S : Type 0} where
   add_to v (of_strings t) x = adding v t x
   add_to v (of_names t) x = adding_name v t x
 
-  abbrev pub add_all : Vocabulary S → (t : Table) → List (EntryOf S t) → Vocabulary S
-  add_all v t [] = v
-  add_all v t (x ∷ xs) = add_all (add_to v t x) t xs
+  abbrev pub add_all : (t : Table) → Vocabulary S → List (EntryOf S t) → Vocabulary S
+  add_all t v [] = v
+  add_all t v (x ∷ xs) = add_all t (add_to v t x) xs
 
   pub list_own : (v : Vocabulary S) (t : Table) (x : EntryOf S t) → list_of (add_to v t x) t ≡ list_of v t ++ (x ∷ [])
   unfolding same_names
@@ -60,13 +60,13 @@ module _ {S : Type 0} where
   list_other v (of_names ATTRIBUTE_NAME) (of_names ELEMENT_NAME) x ne = names-adding_name v ATTRIBUTE_NAME x ELEMENT_NAME
   list_other v (of_names ATTRIBUTE_NAME) (of_names ATTRIBUTE_NAME) x ne = absurd (ne refl)
 
-  all_own : (v : Vocabulary S) (t : Table) (xs : List (EntryOf S t)) → list_of (add_all v t xs) t ≡ list_of v t ++ xs
-  all_own v t [] = sym (append-nil (list_of v t))
-  all_own v t (x ∷ xs) = all_own (add_to v t x) t xs ∙ ap (λ (l : List (EntryOf S t)). l ++ xs) (list_own v t x) ∙ append_assoc (list_of v t) (x ∷ []) xs
+  all_own : (t : Table) (v : Vocabulary S) (xs : List (EntryOf S t)) → list_of (add_all t v xs) t ≡ list_of v t ++ xs
+  all_own t v [] = sym (append-nil (list_of v t))
+  all_own t v (x ∷ xs) = all_own t (add_to v t x) xs ∙ ap (λ (l : List (EntryOf S t)). l ++ xs) (list_own v t x) ∙ append_assoc (list_of v t) (x ∷ []) xs
 
-  all_other : (v : Vocabulary S) (t u : Table) (xs : List (EntryOf S t)) → (code t ≡ code u → ⊥) → list_of (add_all v t xs) u ≡ list_of v u
-  all_other v t u [] ne = refl
-  all_other v t u (x ∷ xs) ne = all_other (add_to v t x) t u xs ne ∙ list_other v t u x ne
+  all_other : (t : Table) (v : Vocabulary S) (u : Table) (xs : List (EntryOf S t)) → (code t ≡ code u → ⊥) → list_of (add_all t v xs) u ≡ list_of v u
+  all_other t v u [] ne = refl
+  all_other t v u (x ∷ xs) ne = all_other t (add_to v t x) u xs ne ∙ list_other v t u x ne
 
 -- ---- several tables: a list of entries for each
 abbrev pub Lists : Type 0 → List Table → Type 0
@@ -94,9 +94,9 @@ pub data In (u : Table) : List Table → Type 0 where
   here : {ts : List Table} → In u (u ∷ ts)
   there : {t : Table} {ts : List Table} → In u ts → In u (t ∷ ts)
 
-above_in : {n : ℕ} {ts : List Table} {u : Table} → Above n ts → In u ts → n < code u
+above_in : {u : Table} {n : ℕ} {ts : List Table} → Above n ts → In u ts → n < code u
 above_in a here = a.0
-above_in a (there i) = let h = above_in a.1 i in omega arith
+above_in a (there {t = t} i) = let h = above_in {n = code t} a.1 i in omega arith
 
 pub ten_ascend : Ascending ten_tables
 unfolding ten_tables place
@@ -117,20 +117,20 @@ module _ {S : Type 0} where
 
   abbrev pub behind : Vocabulary S → (ts : List Table) → Lists S ts → Vocabulary S
   behind v [] l = v
-  behind v (t ∷ ts) l = behind (add_all v t l.0) ts l.1
+  behind v (t ∷ ts) l = behind (add_all t v l.0) ts l.1
 
   pub kept : (v : Vocabulary S) (u : Table) (ts : List Table) (l : Lists S ts) → Above (code u) ts → list_of (behind v ts l) u ≡ list_of v u
   kept v u [] l a = refl
-  kept v u (t ∷ ts) l a = kept (add_all v t l.0) u ts l.1 (above_less (code u) (code t) ts (let h = a.0 in omega arith) a.1) ∙ all_other v t u l.0 (λ e. let h = a.0 in omega arith)
+  kept v u (t ∷ ts) l a = kept (add_all t v l.0) u ts l.1 (above_less (code u) (code t) ts (let h = a.0 in omega arith) a.1) ∙ all_other t v u l.0 (λ e. let h = a.0 in omega arith)
 
   pub own : (v : Vocabulary S) (t : Table) (ts : List Table) (l : Lists S (t ∷ ts)) → Above (code t) ts → list_of (behind v (t ∷ ts) l) t ≡ list_of v t ++ l.0
-  own v t ts l a = kept (add_all v t l.0) t ts l.1 a ∙ all_own v t l.0
+  own v t ts l a = kept (add_all t v l.0) t ts l.1 a ∙ all_own t v l.0
 
-  behind_list : (v h : Vocabulary S) {ts : List Table} (u : Table) → In u ts → Ascending ts → list_of (behind v ts (pieces h ts)) u ≡ list_of v u ++ list_of h u
-  behind_list v h u (here {ts = ts}) a = own v u ts (pieces h (u ∷ ts)) a
-  behind_list v h u (there {t = t} {ts = ts} i) a =
-      behind_list (add_all v t (list_of h t)) h u i (above_ascending (code t) ts a)
-      ∙ ap (λ (l : List (EntryOf S u)). l ++ list_of h u) (all_other v t u (list_of h t) (λ e. let b = above_in a i in omega arith))
+  behind_list : (u : Table) (v h : Vocabulary S) {ts : List Table} → In u ts → Ascending ts → list_of (behind v ts (pieces h ts)) u ≡ list_of v u ++ list_of h u
+  behind_list u v h (here {ts = ts}) a = own v u ts (pieces h (u ∷ ts)) a
+  behind_list u v h (there {t = t} {ts = ts} i) a =
+      behind_list u (add_all t v (list_of h t)) h i (above_ascending (code t) ts a)
+      ∙ ap (λ (l : List (EntryOf S u)). l ++ list_of h u) (all_other t v u (list_of h t) (λ e. let b = above_in a i in omega arith))
 
   -- tables with the same entries are the same
   pub same_tables : (v w : Vocabulary S) → ((t : Table) → list_of v t ≡ list_of w t) → v ≡ w
@@ -170,7 +170,7 @@ module _ {S : Type 0} where
 
   -- the ten with the entries of others behind their own
   pub behind_ten : (v h : Vocabulary S) → behind v ten_tables (pieces h ten_tables) ≡ followed_by v h
-  behind_ten v h = same_tables _ _ (λ u. behind_list v h u (every u) ten_ascend ∙ sym (list_followed v h u))
+  behind_ten v h = same_tables _ _ (λ u. behind_list u v h (every u) ten_ascend ∙ sym (list_followed v h u))
 
 -- lists for the ten are tables
 module _ (S : Type 0) where

@@ -12,7 +12,7 @@ use Rattle.format.specs.Items.{State, ItemWrittenAs, o_start, o_first_namespace,
 use Rattle.format.specs.Document.{Written, document_end_lem, attributes_end, element_end, item}
 
 module _ {ver M : Version} (long : ver.octets ≤ M.octets) (many : ver.entries ≤ M.entries) (deep : ver.depth ≤ M.depth) where
-  identifying : {t : StringTable} {v w : Vocabulary Octets} {x : Octets} {h : How} {n : ℕ} {o : Octets}
+  identifying : {t : StringTable} {v : Vocabulary Octets} {x : Octets} {h : How} {n : ℕ} {o : Octets} {w : Vocabulary Octets}
       → Identifying ver t v x h n o w → Identifying M t v x h n o w
   identifying (id_spelled sp new room) = id_spelled sp new (omega arith)
   identifying (id_numbered small en) = id_numbered small en

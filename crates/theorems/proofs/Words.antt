@@ -84,9 +84,9 @@ module _ {S T : Type 0} (f : S → T) where
   part-map l d zero = refl
   part-map l d (suc k) = ap (λ (x : T). some x) (sym (get_or-map f l k d))
 
-  pub name_map : (v : Vocabulary S) (d : S) (x : Triple) → name_map f (name_of v d x) ≡ name_of (vocabulary_map f v) (f d) x
+  pub name_map_lem : (v : Vocabulary S) (d : S) (x : Triple) → name_map f (name_of v d x) ≡ name_of (vocabulary_map f v) (f d) x
   unfolding name_of vocabulary_map
-  name_map v d x =
+  name_map_lem v d x =
       λ i. record { prefix = part-map v.prefixes d x.prefix i; namespace = part-map v.namespaces d x.namespace i; local = sym (get_or-map f v.locals (x.local - 1) d) i }
 
   -- as many entries

@@ -41,8 +41,8 @@ use Rattle.theorems.proofs.Structure as Tree
 use Rattle.theorems.proofs.Structure.{Sane, attribute_first, stepped}
 use Rattle.theorems.proofs.Begun as Begun
 use Rattle.theorems.proofs.Produced.{Order, Said, rest_for, ranged_for}
-use Rattle.theorems.proofs.Sayable.{made_is, is_made, by_kind, in_order, Each, all_text, text_all, said, all_short, made_allowed}
-use Rattle.theorems.proofs.Step.{Ahead, front_by, next_by, ahead_next}
+use Rattle.theorems.proofs.Sayable.{made_is, is_made, by_kind, in_order, Each, all_text_lem, text_all, said, all_short, made_allowed}
+use Rattle.theorems.proofs.Step.{Ahead, front_by, next_by_lem, ahead_next}
 use Rattle.theorems.proofs.PlainStep.{opens_is, next_is, announced-start, announced_on, next_plain, choice_plain, halves-plain, next_words, within-plain, fits_of, of_fits}
 use Rattle.theorems.proofs.Append.{chosen_append, tables_append}
 use Rattle.theorems.proofs.Entries.{chosen_events}
@@ -174,7 +174,7 @@ module _ (ver : Version) (ok : Bounded ver) (text : Octets) (h : Head) (lead : O
       goes_plain = (Tree.same_kind (octets_of text) ev).goes_too (plain_tables text v.tables) v ∙ go
 
       state_then : plain_state text wi.state ≡ knowing (stepped a pv pe) (choose_for ver pv.tables pe).tables
-      state_then = next_plain ver text a v ev ∙ next_by a pv ver pe goes_plain sd st.order.ranged
+      state_then = next_plain ver text a v ev ∙ next_by_lem a pv ver pe goes_plain sd st.order.ranged
 
       next_stands : Stands (plains text (before ++ (e ∷ []))) (at + length hs) wi.state es
       next_stands =
@@ -217,13 +217,13 @@ module _ (ver : Version) (ok : Bounded ver) (text : Octets) (h : Head) (lead : O
         said_from : (b2 b3 b4 b5 : Bool) → all_text text ev ≡ b2 → (opens v.mode ev && leb ver.depth v.level) ≡ b3 → within ver wi.state.tables ≡ b4 → fits ver text room (at + length hs) ≡ b5
             → Verdict (pick b2 (pick b3 13 (pick b4 (pick b5 0 14) 12)) 9)
         said_from false b3 b4 b5 e2 e3 e4 e5 = not_text i (λ t. clash (sym e2 ∙ text_all text ev (by_kind IsText pe t)))
-        said_from true true b4 b5 e2 e3 e4 e5 = too_deep i (in_order IsText pe (all_text text ev e2)) (λ s. clash (sym (from_shallow (opens v.mode ev) refl s) ∙ e3))
+        said_from true true b4 b5 e2 e3 e4 e5 = too_deep i (in_order IsText pe (all_text_lem text ev e2)) (λ s. clash (sym (from_shallow (opens v.mode ev) refl s) ∙ e3))
         said_from true false false b5 e2 e3 e4 e5 =
-            too_many i (in_order IsText pe (all_text text ev e2)) (shallow_from (opens v.mode ev) refl e3) (λ f. clash (sym e4 ∙ if_entries f))
+            too_many i (in_order IsText pe (all_text_lem text ev e2)) (shallow_from (opens v.mode ev) refl e3) (λ f. clash (sym e4 ∙ if_entries f))
         said_from true false true b5 e2 e3 e4 e5 = room_from b5 e5
           where
             t : Each IsText pe
-            t = all_text text ev e2
+            t = all_text_lem text ev e2
 
             few : InLimits ver (choose_for ver pv.tables pe).tables
             few = entries_if e4

@@ -92,17 +92,17 @@ module _ {ver : Version} where
   in_entry k {o = o} (an_identifying {x = x} i u) = in_field k (spelled Utf8 true) x o
   in_entry k (another i u) = in_literal k u
 
-  abbrev pub in_entries : (k : ℕ) {t : StringTable} {v w : Vocabulary Octets} {xs : List Listed} {o : Octets} → Each ver (StringListed ver t) v xs o w → List Located
+  abbrev pub in_entries : {t : StringTable} (k : ℕ) {v w : Vocabulary Octets} {xs : List Listed} {o : Octets} → Each ver (StringListed ver t) v xs o w → List Located
   in_entries k no_entry = []
   in_entries k (an_entry {o = o} u rest) = in_entry k u ++ in_entries (k + length o) rest
 
-  unfoldable pub in_tables : (k : ℕ) {h : Head} {v w : Vocabulary Octets} {ts : List Table} {o : Octets} → TablesListed ver h ts v o w → List Located
+  unfoldable pub in_tables : {h : Head} (k : ℕ) {v w : Vocabulary Octets} {ts : List Table} {o : Octets} → TablesListed ver h ts v o w → List Located
   in_tables k no_table = []
   in_tables k (absent empty rest) = in_tables k rest
-  in_tables k {h} (present {t = of_strings t} o any few u rest) =
+  in_tables {h} k (present {t = of_strings t} o any few u rest) =
       let n : ℕ = length (spell c21 0 (size_of h (of_strings t))) in
       in_entries (k + n) u ++ in_tables (k + n + length o) rest
-  in_tables k {h} (present {t = of_names t} o any few u rest) = in_tables (k + length (spell c21 0 (size_of h (of_names t))) + length o) rest
+  in_tables {h} k (present {t = of_names t} o any few u rest) = in_tables (k + length (spell c21 0 (size_of h (of_names t))) + length o) rest
 
   -- and of a head, whose tables stand behind the identification, the octet 20 and the presence bits
   abbrev pub listed_in : {h : Head} {w : Vocabulary Octets} {o : Octets} → Opens ver h o w → List Located
