@@ -1,12 +1,10 @@
 -- `number_at` meets its contract: what v and the octets left are is what all the octets are.
 -- Assumes nothing.
 use mathlib.Core.Path.{◌≡◌}
-use Prim.Native.Nat.{◌+◌, ◌-◌, ◌^◌, ◌<◌, ◌≤◌}
+use Prim.Native.Nat.{◌+◌, ◌-◌}
 use native.Mathlib.Omega.{arith}
 use borrow.Author.Rules.{rules}
-use lib.ListN.{take, drop}
-use Rattle.decimal.specs.Reading.{number}
-use Rattle.decimal.proofs.Parts.{part, part_all, number_next, number_end, grows, roomy}
+use Rattle.decimal.proofs.Parts.{part_all, number_next, number_end, grows, roomy}
 use Rattle.decimal.proofs.number_at.Goals as goal
 
 pub loop-i-init : goal.loop-i-init
