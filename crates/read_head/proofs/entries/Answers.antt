@@ -1,15 +1,7 @@
 -- `entries` meets its contract: one entry behind the other, and those that are left are read from where the loop stands.
 -- Assumes nothing.
-use borrow.Author.Rules.{rules}
 use native.Mathlib.Omega.{arith}
-use mathlib.Core.Path.{◌≡◌, refl, sym, ◌∙◌}
-use lib.ListN.{length}
-use Rattle.format.specs.Tables.{link}
-use Rattle.tables.specs.Rows.{vocabulary}
-use Rattle.tables.specs.Kept.{unlisted}
-use Rattle.read_names.specs.Promises.{Left}
-use Rattle.read_head.specs.Head.{entries_at}
-use Rattle.read_head.specs.Promises.{table_at}
+use mathlib.Core.Path.{refl, sym, ◌∙◌}
 use Rattle.read_head.proofs.HeadLaws.{left_here, left-then, handed_on, entries_end, entries_next, entries_refused}
 use Rattle.read_head.proofs.entries.Goals as goal
 

@@ -1,6 +1,5 @@
 -- `head` meets its contract: the two octets of presence bits, and then the tables.
 -- Assumes nothing.
-use borrow.Author.Rules.{rules}
 use native.Mathlib.Omega.{arith}
 use Rattle.read_head.proofs.HeadLaws.{head_missing, head_padded, head_other, head_short, head_empty, head_read}
 use Rattle.read_head.proofs.head.Goals as goal

@@ -1,6 +1,5 @@
 -- `table` meets its contract: absent, or how many entries it lists, and these.
 -- Assumes nothing.
-use borrow.Author.Rules.{rules}
 use Rattle.read_head.proofs.HeadLaws.{count_within, table_absent, table_refused, table_read}
 use Rattle.read_head.proofs.table.Goals as goal
 

@@ -1,16 +1,7 @@
 -- `tables` meets its contract: one table behind the other, and those from i on are read from where the loop stands.
 -- Assumes nothing.
-use borrow.Author.Rules.{rules}
 use native.Mathlib.Omega.{arith}
-use mathlib.Core.Path.{◌≡◌, refl, sym, ◌∙◌}
-use Prim.Native.Nat.{◌-◌, ◌≤◌}
-use lib.ListN.{length, drop}
-use Rattle.format.specs.Tables.{link}
-use Rattle.format.specs.Head.{ten_tables}
-use Rattle.tables.specs.Rows.{vocabulary}
-use Rattle.tables.specs.Kept.{unlisted}
-use Rattle.read_names.specs.Promises.{Left}
-use Rattle.read_head.specs.Head.{tables_at}
+use mathlib.Core.Path.{refl, sym, ◌∙◌}
 use Rattle.read_head.proofs.HeadLaws.{left_here, left-then, handed_on, tables_end, tables_next, tables_refused}
 use Rattle.read_head.proofs.tables.Goals as goal
 

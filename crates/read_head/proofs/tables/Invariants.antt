@@ -1,8 +1,6 @@
 -- `tables` meets its contract: one table behind the other, and those from i on are read from where the loop stands.
 -- Assumes nothing.
-use borrow.Author.Rules.{rules}
-use native.Mathlib.Omega.{arith}
-use mathlib.Core.Path.{◌≡◌, refl, sym, ◌∙◌}
+use mathlib.Core.Path.{◌≡◌}
 use Prim.Native.Nat.{◌-◌, ◌≤◌}
 use lib.ListN.{length, drop}
 use Rattle.format.specs.Tables.{link}
@@ -11,7 +9,6 @@ use Rattle.tables.specs.Rows.{vocabulary}
 use Rattle.tables.specs.Kept.{unlisted}
 use Rattle.read_names.specs.Promises.{Left}
 use Rattle.read_head.specs.Head.{tables_at}
-use Rattle.read_head.proofs.HeadLaws.{left_here, left-then, handed_on, tables_end, tables_next, tables_refused}
 use Rattle.read_head.proofs.tables.Given as goal
 
 abbrev pub invariant-loop-i : goal.invariant-loop-i

@@ -2,7 +2,6 @@
 -- Assumes nothing.
 use mathlib.Core.Path.{◌∙◌}
 use native.Mathlib.Omega.{arith}
-use borrow.Author.Rules.{rules}
 use Rattle.read_names.proofs.StringLaws.{length-read, spelled_utf8}
 use Rattle.read_head.proofs.EntryLaws.{another_padded, another-read}
 use Rattle.read_head.proofs.listed.another.Goals as goal

@@ -1,6 +1,5 @@
 -- `behind_entry` meets its contract: the number is left out.
 -- Assumes nothing.
-use borrow.Author.Rules.{rules}
 use mathlib.Core.Path.{sym, ap}
 use Rattle.read_head.specs.Promises.{behind_entry}
 use Rattle.read_head.proofs.listed.behind_entry.Goals as goal

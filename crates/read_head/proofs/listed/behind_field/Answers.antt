@@ -1,6 +1,5 @@
 -- `behind_field` meets its contract: the string is left out.
 -- Assumes nothing.
-use borrow.Author.Rules.{rules}
 use mathlib.Core.Path.{sym, ap}
 use Rattle.read_head.specs.Promises.{behind_field}
 use Rattle.read_head.proofs.listed.behind_field.Goals as goal

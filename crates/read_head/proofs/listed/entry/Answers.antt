@@ -1,6 +1,5 @@
 -- `entry` meets its contract: the table's number says what an entry is.
 -- Assumes nothing.
-use borrow.Author.Rules.{rules}
 use Rattle.read_head.proofs.EntryLaws.{entry_identifying, entry_another, entry_name}
 use Rattle.read_head.proofs.listed.entry.Goals as goal
 

@@ -1,6 +1,5 @@
 -- `identifying` meets its contract: bit 1, and then the string as one that is spelled in the body.
 -- Assumes nothing.
-use borrow.Author.Rules.{rules}
 use native.Mathlib.Omega.{arith}
 use Rattle.read_head.proofs.EntryLaws.{identifying_padded, identifying_read}
 use Rattle.read_head.proofs.listed.identifying.Goals as goal

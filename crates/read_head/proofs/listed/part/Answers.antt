@@ -1,6 +1,5 @@
 -- `part` meets its contract: each way out is a case of the definition.
 -- Assumes nothing.
-use borrow.Author.Rules.{rules}
 use native.Mathlib.Omega.{arith}
 use Rattle.read_head.proofs.EntryLaws.{part_absent, part_code, part_padded, part-read}
 use Rattle.read_head.proofs.listed.part.Goals as goal

@@ -1,6 +1,5 @@
 -- `parts` meets its contract: the parts one behind the other, then the triple; a refusal is handed on where it is found.
 -- Assumes nothing.
-use borrow.Author.Rules.{rules}
 use native.Mathlib.Omega.{arith}
 use mathlib.Core.Path.{refl}
 use Rattle.read_names.proofs.NameLaws.{addable}

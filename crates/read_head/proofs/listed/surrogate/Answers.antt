@@ -1,6 +1,5 @@
 -- `surrogate` meets its contract: the first octet, and then the parts.
 -- Assumes nothing.
-use borrow.Author.Rules.{rules}
 use native.Mathlib.Omega.{arith}
 use mathlib.Core.Path.{refl}
 use Rattle.read_head.proofs.EntryLaws.{surrogate_missing, surrogate_padded, surrogate_lone}

@@ -1,6 +1,5 @@
 -- `triple` meets its contract: the triple is held, has no room, or is added.
 -- Assumes nothing.
-use borrow.Author.Rules.{rules}
 use Rattle.read_names.proofs.NameLaws.{search_asked, adds_held, adds_full, adds_new}
 use Rattle.read_head.proofs.listed.triple.Goals as goal
 

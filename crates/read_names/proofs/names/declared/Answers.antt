@@ -1,6 +1,5 @@
 -- `declared` meets its contract: each first octet is a case of the definition, and a refusal is handed on where it is found.
 -- Assumes nothing.
-use borrow.Author.Rules.{rules}
 use native.Mathlib.Omega.{arith}
 use Rattle.read_names.proofs.NameLaws.{declared_missing, declared_end, declared_padded, declared_other, declared_prefix, declared_namespace, declared_read, declared_left}
 use Rattle.read_names.proofs.Grown.{string_stays}

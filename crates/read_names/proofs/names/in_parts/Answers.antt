@@ -1,6 +1,5 @@
 -- `in_parts` meets its contract: the strings one behind the other, then the triple; a refusal is handed on where it is found.
 -- Assumes nothing.
-use borrow.Author.Rules.{rules}
 use native.Mathlib.Omega.{arith}
 use Rattle.read_names.proofs.NameLaws.{addable, layout_table, parts_lone, parts_prefix, parts_namespace, parts-local, parts-read, handed, positive, strings_ranged, local_new, new_says}
 use Rattle.read_names.proofs.Grown.{grown_on, left_on}

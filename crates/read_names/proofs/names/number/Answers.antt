@@ -1,7 +1,6 @@
 -- `number` meets its contract: the table picks its layout.
 -- Assumes nothing.
 use mathlib.Core.Path.{◌∙◌}
-use borrow.Author.Rules.{rules}
 use Rattle.read_names.proofs.NameLaws.{element_number, attribute_number}
 use Rattle.read_names.proofs.names.number.Goals as goal
 

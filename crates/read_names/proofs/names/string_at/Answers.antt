@@ -1,7 +1,6 @@
 -- `string_at` meets its contract: 0 is none, and entry n - 1 is behind n.
 -- Assumes nothing.
 use native.Mathlib.Omega.{arith}
-use borrow.Author.Rules.{rules}
 use Rattle.read_names.proofs.StringLaws.{string_none, string_there}
 use Rattle.read_names.proofs.names.string_at.Goals as goal
 

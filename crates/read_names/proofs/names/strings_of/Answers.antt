@@ -1,6 +1,5 @@
 -- `strings_of` meets its contract: the name's row has the number of each string.
 -- Assumes nothing.
-use borrow.Author.Rules.{rules}
 use native.Mathlib.Omega.{arith}
 use Rattle.read_names.proofs.NameLaws.{row_is, strings_are_lem}
 use Rattle.read_names.proofs.names.strings_of.Goals as goal

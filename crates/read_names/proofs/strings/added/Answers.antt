@@ -1,7 +1,6 @@
 -- `added` meets its contract: each way out is a case of the definition.
 -- Assumes nothing.
 use native.Mathlib.Omega.{arith}
-use borrow.Author.Rules.{rules}
 use Rattle.read_names.proofs.StringLaws.{added_not, added_full, added_more}
 use Rattle.read_names.proofs.strings.added.Goals as goal
 

@@ -2,7 +2,6 @@
 -- Assumes nothing.
 use mathlib.Core.Path.{◌∙◌}
 use native.Mathlib.Omega.{arith}
-use borrow.Author.Rules.{rules}
 use Rattle.tables.specs.Rows.{table_of}
 use Rattle.read_names.proofs.StringLaws.{length-read, held_positive, spelled_utf8, chunk_held, chunk_spelled}
 use Rattle.read_names.proofs.strings.chunk.Goals as goal

@@ -1,7 +1,6 @@
 -- `fresh` meets its contract: each way out is a case of the definition, and leaves the tables and their index in order.
 -- Assumes nothing.
 use native.Mathlib.Omega.{arith}
-use borrow.Author.Rules.{rules}
 use borrow.Author.Tests.{not-true, not-false}
 use Rattle.read_names.proofs.StringLaws.{length-read, begins, table_small, table_inside, table_indexed, fresh_refused, fresh_past, fresh_bad, new_known, new_full, new_done}
 use Rattle.read_names.proofs.strings.fresh.Goals as goal

@@ -1,7 +1,6 @@
 -- `held` meets its contract: a number beyond the count is that of no entry.
 -- Assumes nothing.
 use native.Mathlib.Omega.{arith}
-use borrow.Author.Rules.{rules}
 use Rattle.read_names.proofs.StringLaws.{held_not, held_beyond, held_entry}
 use Rattle.index.proofs.Counted.{count_at}
 use Rattle.read_names.proofs.strings.held.Goals as goal

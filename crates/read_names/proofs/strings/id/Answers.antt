@@ -1,7 +1,6 @@
 -- `id` meets its contract: bit 1 says whether the string is spelled or numbered.
 -- Assumes nothing.
 use native.Mathlib.Omega.{arith}
-use borrow.Author.Rules.{rules}
 use Rattle.read_names.proofs.StringLaws.{id_held}
 use Rattle.read_names.proofs.strings.id.Goals as goal
 

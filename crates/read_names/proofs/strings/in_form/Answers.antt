@@ -2,7 +2,6 @@
 -- Assumes nothing.
 use mathlib.Core.Path.{sym, ◌∙◌}
 use native.Mathlib.Omega.{arith}
-use borrow.Author.Rules.{rules}
 use Rattle.read_names.specs.Strings.{form_by}
 use Rattle.read_names.proofs.StringLaws.{length-read, spelled_utf16, spelled_method}
 use Rattle.read_names.proofs.MethodLaws.{method_read}

@@ -1,7 +1,6 @@
 -- `method` meets its contract: both parts of the number lie in their octets as the definition says.
 -- Assumes nothing.
 use native.Mathlib.Omega.{arith}
-use borrow.Author.Rules.{rules}
 use Rattle.read_names.proofs.MethodLaws.{low_few, method_is}
 use Rattle.read_names.proofs.strings.method.Goals as goal
 

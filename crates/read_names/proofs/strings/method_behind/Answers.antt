@@ -2,7 +2,6 @@
 -- Assumes nothing.
 use mathlib.Core.Path.{sym, ◌∙◌}
 use native.Mathlib.Omega.{arith}
-use borrow.Author.Rules.{rules}
 use Rattle.read_names.proofs.MethodLaws.{method_past, method_other, method_padding, method_got}
 use Rattle.read_names.proofs.strings.method_behind.Goals as goal
 

@@ -3,7 +3,6 @@
 use mathlib.Core.Path.{refl}
 use Prim.Native.Nat.{◌-◌, ◌*◌, ◌%◌, ◌^◌}
 use native.Mathlib.Omega.{arith}
-use borrow.Author.Rules.{rules}
 use Rattle.read_names.proofs.MethodLaws.{half_few, length_short, length_middle, length_long}
 use Rattle.read_names.proofs.strings.method_length.Goals as goal
 

@@ -1,7 +1,6 @@
 -- `optional` meets its contract: the string is read where it is there.
 -- Assumes nothing.
 use native.Mathlib.Omega.{arith}
-use borrow.Author.Rules.{rules}
 use Rattle.read_names.proofs.StringLaws.{optional_there, optional_absent}
 use Rattle.read_names.proofs.strings.optional.Goals as goal
 

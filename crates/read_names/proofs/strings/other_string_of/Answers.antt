@@ -1,7 +1,6 @@
 -- `other_string_of` meets its contract: an entry with octets is their stretch, in the form that its third word says.
 -- Assumes nothing.
 use native.Mathlib.Omega.{arith}
-use borrow.Author.Rules.{rules}
 use Rattle.read_names.proofs.StringLaws.{entry_formed, entry_built_in, built_in_none}
 use Rattle.read_names.proofs.strings.other_string_of.Goals as goal
 

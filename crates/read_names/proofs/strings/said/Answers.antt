@@ -1,7 +1,6 @@
 -- `said` meets its contract: entry n - 1 is behind the number n.
 -- Assumes nothing.
 use native.Mathlib.Omega.{arith}
-use borrow.Author.Rules.{rules}
 use Rattle.read_names.proofs.StringLaws.{said-number, said_not, said_entry}
 use Rattle.read_names.proofs.strings.said.Goals as goal
 

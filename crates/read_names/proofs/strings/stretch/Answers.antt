@@ -1,7 +1,6 @@
 -- `stretch` meets its contract: each way out is a case of the definition.
 -- Assumes nothing.
 use native.Mathlib.Omega.{arith}
-use borrow.Author.Rules.{rules}
 use Rattle.read_names.proofs.StringLaws.{begins, stretch_not, stretch_past, stretch_bad, stretch_text}
 use Rattle.read_names.proofs.strings.stretch.Goals as goal
 

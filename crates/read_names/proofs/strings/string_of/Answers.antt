@@ -1,7 +1,6 @@
 -- `string_of` meets its contract: an entry with octets is their stretch, one without is what its table has built in.
 -- Assumes nothing.
 use native.Mathlib.Omega.{arith}
-use borrow.Author.Rules.{rules}
 use Rattle.read_names.proofs.StringLaws.{entry_octets, entry_built_in, built_in_prefix_lem, built_in_namespace_lem, built_in_none}
 use Rattle.read_names.proofs.strings.string_of.Goals as goal
 

@@ -1,7 +1,6 @@
 -- `value` meets its contract: the first octet's bits pick the case of the definition.
 -- Assumes nothing.
 use native.Mathlib.Omega.{arith}
-use borrow.Author.Rules.{rules}
 use Rattle.read_names.proofs.StringLaws.{held_positive, value_empty, value_held, value_spelled}
 use Rattle.read_names.proofs.strings.value.Goals as goal
 
