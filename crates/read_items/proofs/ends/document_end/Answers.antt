@@ -1,7 +1,6 @@
 -- `document_end` meets its contract: each way out is a case of the definition.
 -- Assumes nothing.
 use native.Mathlib.Omega.{arith}
-use borrow.Author.Rules.{rules}
 use mathlib.Core.Path.{sym, ◌∙◌}
 use Rattle.read_items.proofs.EndLaws.{document_rootless, document_padding, document_done, document_behind}
 use Rattle.read_items.proofs.ends.document_end.Goals as goal

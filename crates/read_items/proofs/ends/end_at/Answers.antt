@@ -1,7 +1,6 @@
 -- `end_at` meets its contract: what ends is what the mode says.
 -- Assumes nothing.
 use native.Mathlib.Omega.{arith}
-use borrow.Author.Rules.{rules}
 use Rattle.read_items.proofs.EndLaws.{end_listing, end_listed, end_document, end_element}
 use Rattle.read_items.proofs.ends.end_at.Goals as goal
 

@@ -1,7 +1,6 @@
 -- `half` meets its contract: the four high bits, or the four low ones.
 -- Assumes nothing.
 use native.Mathlib.Omega.{arith}
-use borrow.Author.Rules.{rules}
 use Prim.Native.Nat.{◌/◌}
 use Rattle.read_items.proofs.EndLaws.{half_none, half_high, half_low}
 use Rattle.read_items.proofs.ends.half.Goals as goal

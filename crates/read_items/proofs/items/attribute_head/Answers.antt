@@ -1,7 +1,6 @@
 -- `attribute_head` meets its contract, by the first octet.
 -- Assumes nothing.
 use native.Mathlib.Omega.{arith}
-use borrow.Author.Rules.{rules}
 use mathlib.Core.Path.{refl}
 use Rattle.states.specs.States.{state_of}
 use Rattle.read_items.proofs.ItemLaws.{attribute_missing, attribute_bit, attribute_padding, attribute_named}

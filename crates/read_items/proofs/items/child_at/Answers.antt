@@ -1,7 +1,6 @@
 -- `child_at` meets its contract, by the first octet.
 -- Assumes nothing.
 use native.Mathlib.Omega.{arith}
-use borrow.Author.Rules.{rules}
 use Rattle.read_items.proofs.StepLaws.{met_by, refuse_here, other}
 use Rattle.read_items.proofs.ItemLaws.{child_missing, child_text_outside, child_text, child_instruction, child_comment, child_other}
 use Rattle.read_items.proofs.items.child_at.Goals as goal

@@ -1,7 +1,6 @@
 -- `child_head` meets its contract: an element by its bits, or another child.
 -- Assumes nothing.
 use native.Mathlib.Omega.{arith}
-use borrow.Author.Rules.{rules}
 use mathlib.Core.Path.{refl}
 use Rattle.read_items.proofs.ItemLaws.{child_element}
 use Rattle.read_items.proofs.HeadLaws.{tells_by}

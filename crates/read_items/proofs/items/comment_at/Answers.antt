@@ -1,7 +1,6 @@
 -- `comment_at` meets its contract, by the string's answer.
 -- Assumes nothing.
 use native.Mathlib.Omega.{arith}
-use borrow.Author.Rules.{rules}
 use mathlib.Core.Path.{refl}
 use Rattle.tables.specs.Rows.{table_of}
 use Rattle.read_items.proofs.Fields.{near}

@@ -1,7 +1,6 @@
 -- `element_head` meets its contract: each way out is a case of the definition.
 -- Assumes nothing.
 use native.Mathlib.Omega.{arith}
-use borrow.Author.Rules.{rules}
 use mathlib.Core.Path.{sym, ◌∙◌}
 use Rattle.states.specs.States.{state_of}
 use Rattle.read_items.proofs.ItemLaws.{element_padding, element_second, element_lone, element_deep, element_declaring}

@@ -1,7 +1,6 @@
 -- `head_at` meets its contract, by the mode.
 -- Assumes nothing.
 use native.Mathlib.Omega.{arith}
-use borrow.Author.Rules.{rules}
 use mathlib.Core.Path.{◌∙◌}
 use Rattle.read_items.proofs.ItemLaws.{shallow_declaring, item_child, item_attribute, item_declaring, declaring_name, declaring_more}
 use Rattle.read_items.proofs.HeadLaws.{tells_by, tells_declared}

@@ -1,7 +1,6 @@
 -- `instruction_at` meets its contract, by the answers of target and content.
 -- Assumes nothing.
 use native.Mathlib.Omega.{arith}
-use borrow.Author.Rules.{rules}
 use mathlib.Core.Path.{refl}
 use Rattle.tables.specs.Rows.{table_of}
 use Rattle.read_items.specs.Promises.{lent}

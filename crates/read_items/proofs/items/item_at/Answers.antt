@@ -1,6 +1,5 @@
 -- `item_at` meets its contract, by what the first octets say.
 -- Assumes nothing.
-use borrow.Author.Rules.{rules}
 use Rattle.read_items.proofs.StepLaws.{met_by, refuse_here}
 use Rattle.read_items.proofs.items.item_at.Goals as goal
 

@@ -1,6 +1,5 @@
 -- `keep_named` meets its contract: no record, or the name's strings in it.
 -- Assumes nothing.
-use borrow.Author.Rules.{rules}
 use mathlib.Core.Path.{sym, ◌∙◌}
 use borrow.Author.Tests.{ltb-false}
 use Rattle.events.proofs.Kept.{kept_not}

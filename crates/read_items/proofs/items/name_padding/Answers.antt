@@ -1,7 +1,6 @@
 -- `name_padding` meets its contract: each way out is a case of the definition.
 -- Assumes nothing.
 use native.Mathlib.Omega.{arith}
-use borrow.Author.Rules.{rules}
 use Rattle.read_items.proofs.ItemLaws.{padding_longest, padding_in_parts, padding_none}
 use Rattle.read_items.proofs.items.name_padding.Goals as goal
 

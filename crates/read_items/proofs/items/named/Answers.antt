@@ -1,7 +1,6 @@
 -- `named` meets its contract: an element by its name's answer, an attribute by those of name and value.
 -- Assumes nothing.
 use native.Mathlib.Omega.{arith}
-use borrow.Author.Rules.{rules}
 use mathlib.Core.Path.{refl}
 use Rattle.tables.specs.Rows.{table_of}
 use Rattle.read_items.specs.Promises.{lent}

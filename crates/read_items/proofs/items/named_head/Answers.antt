@@ -1,7 +1,6 @@
 -- `named_head` meets its contract: each way out is a case of the definition.
 -- Assumes nothing.
 use native.Mathlib.Omega.{arith}
-use borrow.Author.Rules.{rules}
 use mathlib.Core.Path.{sym, ◌∙◌}
 use Rattle.states.specs.States.{state_of}
 use Rattle.read_items.proofs.ItemLaws.{named_missing, named_code, named_bits, named_padding, named_start}

@@ -1,7 +1,6 @@
 -- `namespace_at` meets its contract, by the declaration's answer.
 -- Assumes nothing.
 use native.Mathlib.Omega.{arith}
-use borrow.Author.Rules.{rules}
 use mathlib.Core.Path.{refl}
 use Rattle.read_items.proofs.Fields.{near}
 use Rattle.read_items.proofs.ItemLaws.{namespace_refused, namespace_more}

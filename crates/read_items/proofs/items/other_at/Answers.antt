@@ -1,7 +1,6 @@
 -- `other_at` meets its contract: an end, another format, or no code.
 -- Assumes nothing.
 use native.Mathlib.Omega.{arith}
-use borrow.Author.Rules.{rules}
 use Rattle.read_items.proofs.StepLaws.{other_end, other_format, other_none}
 use Rattle.read_items.proofs.items.other_at.Goals as goal
 

@@ -1,7 +1,6 @@
 -- `start_of` meets its contract, by the name's answer and the level.
 -- Assumes nothing.
 use native.Mathlib.Omega.{arith}
-use borrow.Author.Rules.{rules}
 use mathlib.Core.Path.{ap}
 use Rattle.read_items.specs.declared.Step.TheVariants.{More}
 use Rattle.read_items.proofs.StepLaws.{start_refused, start_deep, start-opened}

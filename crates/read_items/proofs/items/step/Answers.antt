@@ -1,7 +1,6 @@
 -- `step` meets its contract: an end, padding, or an item.
 -- Assumes nothing.
 use native.Mathlib.Omega.{arith}
-use borrow.Author.Rules.{rules}
 use mathlib.Core.Path.{sym, ◌∙◌}
 use Rattle.read_items.proofs.StepLaws.{met_by, refuse_here}
 use Rattle.read_items.proofs.EndLaws.{ends_low, ends_within}
@@ -9,13 +8,12 @@ use Rattle.read_items.proofs.ItemLaws.{step_end, step_padding, step_item}
 use Rattle.read_items.proofs.items.step.Goals as goal
 
 pub end_at-requires : goal.end_at-requires
-end_at-requires c =
-    (
-      ends_within _ _ _ (sym c.if-ends_here.true ∙ c.ends_here.ensures),
-      c.requires.tidy.size,
-      ends_low _ _
-          (sym c.if-ends_here.true ∙ c.ends_here.ensures),
-    )
+end_at-requires c = (
+  ends_within _ _ _ (sym c.if-ends_here.true ∙ c.ends_here.ensures),
+  c.requires.tidy.size,
+  ends_low _ _
+      (sym c.if-ends_here.true ∙ c.ends_here.ensures),
+)
 
 pub returns-then-ends_here : goal.returns-then-ends_here
 returns-then-ends_here c =

@@ -1,6 +1,5 @@
 -- `added` meets its contract: not to be added, no room, or a row more.
 -- Assumes nothing.
-use borrow.Author.Rules.{rules}
 use native.Mathlib.Omega.{arith}
 use mathlib.Core.Path.{refl}
 use Rattle.read_names.proofs.StringLaws.{added_not, added_more}

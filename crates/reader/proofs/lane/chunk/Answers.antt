@@ -1,7 +1,6 @@
 -- `chunk` meets its contract: a chunk whose number is that of a row is a step.
 -- Assumes nothing.
 use native.Mathlib.Omega.{arith}
-use borrow.Author.Rules.{rules}
 use Rattle.reader.proofs.LaneLaws.{takes_none, takes_left, takes_chunk, chunk_in_row}
 use Rattle.reader.proofs.lane.chunk.Goals as goal
 

@@ -1,6 +1,5 @@
 -- `element` meets its contract: an element whose number is that of a row, not too deep, is a step.
 -- Assumes nothing.
-use borrow.Author.Rules.{rules}
 use native.Mathlib.Omega.{arith}
 use Rattle.reader.proofs.LaneLaws.{takes_none, takes_start, name_in_row}
 use Rattle.reader.proofs.lane.element.Goals as goal

@@ -1,6 +1,5 @@
 -- `end` meets its contract: the end is a step, and so is the item behind its padding.
 -- Assumes nothing.
-use borrow.Author.Rules.{rules}
 use native.Mathlib.Omega.{arith}
 use Rattle.reader.proofs.LaneLaws.{takes_none, takes_end}
 use Rattle.reader.proofs.lane.end.Goals as goal

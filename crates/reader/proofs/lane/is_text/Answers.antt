@@ -1,6 +1,5 @@
 -- `is_text` meets its contract: one or two octets that are plain, or what the fields say.
 -- Assumes nothing.
-use borrow.Author.Rules.{rules}
 use native.Mathlib.Omega.{arith}
 use mathlib.Core.Path.{sym, ◌∙◌}
 use mathlib.Core.Bool.{true≢false}

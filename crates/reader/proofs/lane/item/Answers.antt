@@ -1,6 +1,5 @@
 -- `item` meets its contract, by the first octet.
 -- Assumes nothing.
-use borrow.Author.Rules.{rules}
 use Rattle.reader.proofs.LaneLaws.{takes_none}
 use Rattle.reader.proofs.lane.item.Goals as goal
 

@@ -1,12 +1,9 @@
 -- `items` meets its contract: one item behind the other, and each turn has one event more.
 -- Assumes nothing.
-use native.Mathlib.Omega.{arith}
-use mathlib.Core.Path.{◌≡◌, refl}
-use borrow.Author.Tests.{ltb-true}
-use Prim.Native.Nat.{◌-◌, ◌<◌}
+use mathlib.Core.Path.{◌≡◌}
+use Prim.Native.Nat.{◌-◌}
 use lib.ListN.{length}
 use Rattle.reader.specs.LaneContracts.{Skims}
-use Rattle.reader.proofs.LaneLaws.{onward-same, skims_then}
 use Rattle.reader.proofs.lane.items.Given as goal
 
 abbrev pub invariant-loop-lane : goal.invariant-loop-lane

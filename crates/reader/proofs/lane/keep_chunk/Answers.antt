@@ -1,7 +1,6 @@
 -- `keep_chunk` meets its contract: no record, or the chunk in it, or it is left.
 -- Assumes nothing.
 use mathlib.Core.Path.{sym, ◌∙◌}
-use borrow.Author.Rules.{rules}
 use borrow.Author.Tests.{ltb-false}
 use Rattle.events.proofs.Kept.{kept_not}
 use Rattle.reader.proofs.LaneLaws.{chunk_plain}

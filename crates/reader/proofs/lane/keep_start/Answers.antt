@@ -1,9 +1,8 @@
 -- `keep_start` meets its contract: no record, a local name alone, or all the name's strings.
 -- Assumes nothing.
-use borrow.Author.Rules.{rules}
 use native.Mathlib.Omega.{arith}
 use mathlib.Core.Path.{sym, ◌∙◌}
-use borrow.Author.Tests.{ltb-false, eqb-true}
+use borrow.Author.Tests.{ltb-false}
 use Rattle.events.proofs.Kept.{kept_not}
 use Rattle.reader.proofs.LaneLaws.{local_there, local-alone}
 use Rattle.reader.proofs.lane.keep_start.Goals as goal

@@ -1,6 +1,5 @@
 -- `row_at` meets its contract: one octet, or two.
 -- Assumes nothing.
-use borrow.Author.Rules.{rules}
 use native.Mathlib.Omega.{arith}
 use mathlib.Core.Path.{refl}
 use Rattle.reader.proofs.LaneLaws.{row_one, row_two}

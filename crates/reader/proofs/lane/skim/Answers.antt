@@ -1,6 +1,5 @@
 -- `skim` meets its contract: no item, or those of the lane.
 -- Assumes nothing.
-use borrow.Author.Rules.{rules}
 use native.Mathlib.Omega.{arith}
 use mathlib.Core.Path.{sym, ◌∙◌}
 use Rattle.reader.proofs.LaneLaws.{enters_is, advances_none, advances_lane}

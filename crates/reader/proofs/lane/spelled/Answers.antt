@@ -1,6 +1,5 @@
 -- `spelled` meets its contract: a chunk whose octets are there and are text, with room where it is added, is a step.
 -- Assumes nothing.
-use borrow.Author.Rules.{rules}
 use native.Mathlib.Omega.{arith}
 use mathlib.Core.Path.{sym, ◌∙◌}
 use Rattle.fields.proofs.Bounds.{field_got}

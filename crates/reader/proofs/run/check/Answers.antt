@@ -2,7 +2,6 @@
 -- Assumes nothing.
 use mathlib.Core.Path.{◌∙◌}
 use Rattle.reader.proofs.RunLaws.{check_is}
-use borrow.Author.Rules.{rules}
 use Rattle.reader.proofs.run.check.Goals as goal
 
 pub number-requires : goal.number-requires

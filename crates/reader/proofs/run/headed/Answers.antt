@@ -1,11 +1,7 @@
 -- `headed` meets its contract: what is left to compare tells what the octets of the identification do.
 -- Assumes nothing.
-use mathlib.Core.Path.{◌≡◌}
-use Prim.Native.Nat.{◌-◌, ◌≤◌}
 use native.Mathlib.Omega.{arith}
-use lib.ListN.{length, take}
-use Rattle.format.specs.Tables.{same, link}
-use Rattle.reader.proofs.RunLaws.{headed_from, headed-start, headed_differs, headed_next, headed_end}
+use Rattle.reader.proofs.RunLaws.{headed-start, headed_differs, headed_next, headed_end}
 use Rattle.reader.proofs.run.headed.Goals as goal
 
 pub loop-i-init : goal.loop-i-init

@@ -2,10 +2,9 @@
 -- Assumes nothing.
 use mathlib.Core.Path.{◌≡◌}
 use Prim.Native.Nat.{◌-◌, ◌≤◌}
-use native.Mathlib.Omega.{arith}
 use lib.ListN.{length, take}
 use Rattle.format.specs.Tables.{same, link}
-use Rattle.reader.proofs.RunLaws.{headed_from, headed-start, headed_differs, headed_next, headed_end}
+use Rattle.reader.proofs.RunLaws.{headed_from}
 use Rattle.reader.proofs.run.headed.Given as goal
 
 abbrev pub invariant-loop-i : goal.invariant-loop-i

@@ -2,7 +2,6 @@
 -- Assumes nothing.
 use mathlib.Core.Path.{sym, ap}
 use native.Mathlib.Omega.{arith}
-use borrow.Author.Rules.{rules}
 use Rattle.reader.specs.RunContracts.{answer_number}
 use Rattle.reader.proofs.RunLaws.{small_refused}
 use Rattle.reader.proofs.run.number.Goals as goal

@@ -2,7 +2,6 @@
 -- Assumes nothing.
 use mathlib.Core.Path.{sym, ◌∙◌}
 use native.Mathlib.Omega.{arith}
-use borrow.Author.Rules.{rules}
 use Rattle.reader.proofs.RunLaws.{size-most, open_size, open_short, open_other, open_four, open_padding, open_optional, open_onward, open_headed}
 use Rattle.reader.proofs.run.opened.Goals as goal
 

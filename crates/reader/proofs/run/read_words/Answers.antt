@@ -4,7 +4,6 @@ use mathlib.Core.Path.{sym, ◌∙◌}
 use lib.ListN.{length}
 use Rattle.tables.proofs.Zeros.{zeroed}
 use Rattle.reader.proofs.WordLaws.{words_size, words-tables, words_counts, words_refused, words_accepted}
-use borrow.Author.Rules.{rules}
 use native.Mathlib.Omega.{arith}
 use Rattle.reader.proofs.run.read_words.Goals as goal
 

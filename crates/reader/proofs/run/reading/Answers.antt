@@ -1,7 +1,6 @@
 -- `reading` meets its contract: what stands before the first item is refused, or a run comes to its end.
 -- Assumes nothing.
 use mathlib.Core.Path.{refl}
-use borrow.Author.Rules.{rules}
 use Rattle.reader.proofs.RunLaws.{halt_place, body_start, ran_halt, ran_onward}
 use Rattle.reader.proofs.run.reading.Goals as goal
 

@@ -1,15 +1,8 @@
 -- `steps` meets its contract: the run is underway at each turn, before the lane and behind it, and each way out ends it.
 -- Assumes nothing.
-use borrow.Author.Rules.{rules}
 use native.Mathlib.Omega.{arith}
-use mathlib.Core.Path.{◌≡◌, refl}
-use lib.ListN.{length}
-use Rattle.tables.specs.Rows.{vocabulary}
-use Rattle.tables.specs.Kept.{unlisted}
-use Rattle.read_items.specs.Promises.{lent}
+use mathlib.Core.Path.{refl}
 use Rattle.reader.proofs.RunLaws.{underway_start, underway_quiet, underway_more, more-place, ran_full, ran_done, stop_place, ran_stop, ran_spent}
-use Rattle.reader.specs.Reading.{origin}
-use Rattle.reader.specs.LaneContracts.{Underway}
 use Rattle.reader.proofs.run.steps.Goals as goal
 
 pub begin-st-requires : goal.begin-st-requires
