@@ -50,8 +50,7 @@ added-requires c =
     let s = as_given c.args.text.now c.args.x c.requires.2 c.in-Stretch.is in
     let e = c.if-not-adds.false in
     let room : get_or c.args.counts.now c.args.q.table 0 < 256 =
-    elim c.if-n-le-SHORT.branch [ then-n-le-SHORT w ↦ ltb-true _ 256 (sym w.adds-is ∙ e) | else-n-le-SHORT w ↦ absurd (true≢false (sym e ∙ w.adds-is ∙ lt-leb _ 5 w.if-n-le-SHORT.false)) ] in
-    (
+    elim c.if-n-le-SHORT.branch [ then-n-le-SHORT w ↦ ltb-true _ 256 (sym w.adds-is ∙ e) | else-n-le-SHORT w ↦ absurd (true≢false (sym e ∙ w.adds-is ∙ lt-leb _ 5 w.if-n-le-SHORT.false)) ] in (
       c.requires.0.ten,
       enter_ready _ _ _ _ c.args.q.table _ _ _ c.requires.0 c.requires.4.1 (holds_any _ _ c.requires.4.0) room s.some s.lies _ _ _ (literal_new _ _ _ _ c.requires.0 _ _ _ _ s _ c.requires.3) c.number.ensures.0 c.bucket_said-h.ensures,
     )
