@@ -2,11 +2,9 @@
 -- Assumes nothing.
 use mathlib.Core.Path.{◌≡◌}
 use Prim.Native.Nat.{◌+◌, ◌-◌, ◌^◌, ◌<◌, ◌≤◌}
-use native.Mathlib.Omega.{arith}
-use borrow.Author.Rules.{rules}
 use lib.ListN.{take, drop}
 use Rattle.decimal.specs.Reading.{number}
-use Rattle.decimal.proofs.Parts.{part, part_all, number_next, number_end, grows, roomy}
+use Rattle.decimal.proofs.Parts.{part}
 use Rattle.decimal.proofs.number_at.Given as goal
 
 abbrev pub invariant-loop-i : goal.invariant-loop-i

@@ -1,7 +1,6 @@
 -- `all_alone` meets its contract: of each stretch no octet so far is raised to less than `low`.
 -- Assumes nothing.
-use Rattle.std.proofs.Common.{◌≡◌, ℕ, ◌+◌, ◌-◌, ◌<◌, ◌≤◌, true, List, get_or, arith, rules, leb-true}
-use Rattle.fields.specs.Utf8.{alone}
+use Rattle.std.proofs.Common.{ℕ, ◌+◌, ◌≤◌, List, arith, leb-true}
 use Rattle.fields.proofs.Plain.{one_more_lem, joined}
 use Rattle.fields.proofs.all_alone.Invariants.{Single, Stretch}
 use Rattle.fields.proofs.all_alone.Goals as goal

@@ -1,8 +1,7 @@
 -- `all_alone` meets its contract: of each stretch no octet so far is raised to less than `low`.
 -- Assumes nothing.
-use Rattle.std.proofs.Common.{◌≡◌, ℕ, ◌+◌, ◌-◌, ◌<◌, ◌≤◌, true, List, get_or, arith, rules, leb-true}
+use Rattle.std.proofs.Common.{◌≡◌, ℕ, ◌+◌, ◌-◌, ◌<◌, ◌≤◌, true, List, get_or}
 use Rattle.fields.specs.Utf8.{alone}
-use Rattle.fields.proofs.Plain.{one_more_lem, joined}
 use Rattle.fields.proofs.all_alone.Given as goal
 
 -- where low is a space or more, the octet at j is a character by itself, if it is not high

@@ -1,6 +1,6 @@
 -- `all_plain` meets its contract: `not_plain` tells it of the octets that count.
 -- Assumes nothing.
-use Rattle.std.proofs.Common.{◌≡◌, ℕ, ◌+◌, ◌-◌, ◌*◌, ◌/◌, ◌^◌, sym, ◌∙◌, true≢false, arith, rules, eqb-true}
+use Rattle.std.proofs.Common.{◌≡◌, ℕ, ◌+◌, ◌-◌, ◌*◌, ◌/◌, ◌^◌, sym, true≢false, arith, eqb-true}
 use lib.Bits.{bit_and}
 use Rattle.fields.specs.WeightContracts.{high_bits}
 use Rattle.fields.proofs.Plain.{neither, eight_plain, first_plain, At, joined}

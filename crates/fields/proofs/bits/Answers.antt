@@ -1,6 +1,6 @@
 -- `bits` meets its contract: a mask of k bits is the remainder by 2 ^ k.
 -- Assumes nothing.
-use Rattle.std.proofs.Common.{◌≡◌, ℕ, ◌+◌, ◌-◌, ◌*◌, ◌%◌, ◌^◌, ◌<◌, ◌∙◌, one-mul, arith, lit<, pow_pos, shl_exact, rules}
+use Rattle.std.proofs.Common.{◌≡◌, ℕ, ◌+◌, ◌-◌, ◌*◌, ◌%◌, ◌^◌, ◌<◌, ◌∙◌, one-mul, arith, lit<, pow_pos, shl_exact}
 use lib.Bits.{and_mask}
 use Rattle.fields.proofs.bits.Goals as goal
 

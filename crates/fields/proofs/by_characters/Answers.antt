@@ -1,7 +1,6 @@
 -- `by_characters` meets its contract: character by character, the octets from here on are text where all are.
 -- Assumes nothing.
-use Rattle.std.proofs.Common.{◌≡◌, ◌-◌, ◌≤◌, take, drop, sym, refl, ◌∙◌, arith, rules}
-use Rattle.fields.specs.Utf8.{is_text}
+use Rattle.std.proofs.Common.{sym, refl, ◌∙◌, arith}
 use Rattle.fields.proofs.Utf8.{alone_text, text_character, text_none, text_end}
 use Rattle.fields.proofs.by_characters.Goals as goal
 

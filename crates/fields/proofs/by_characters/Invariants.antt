@@ -1,8 +1,7 @@
 -- `by_characters` meets its contract: character by character, the octets from here on are text where all are.
 -- Assumes nothing.
-use Rattle.std.proofs.Common.{◌≡◌, ◌-◌, ◌≤◌, take, drop, sym, refl, ◌∙◌, arith, rules}
+use Rattle.std.proofs.Common.{◌≡◌, ◌-◌, ◌≤◌, take, drop}
 use Rattle.fields.specs.Utf8.{is_text}
-use Rattle.fields.proofs.Utf8.{alone_text, text_character, text_none, text_end}
 use Rattle.fields.proofs.by_characters.Given as goal
 
 abbrev pub invariant-loop-i : goal.invariant-loop-i

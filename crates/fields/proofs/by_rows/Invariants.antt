@@ -1,8 +1,7 @@
 -- `by_rows` meets its contract: row by row, the octets fit one of the rows from here on where they fit one of all.
 -- Assumes nothing.
-use Rattle.std.proofs.Common.{◌≡◌, ◌-◌, ◌≤◌, take, drop, sym, refl, ◌∙◌, arith, length-drop, length-take, rules}
+use Rattle.std.proofs.Common.{◌≡◌, ◌-◌, ◌≤◌, take, drop}
 use Rattle.fields.specs.Utf8.{by_rows}
-use Rattle.fields.proofs.Utf8.{row_next, no_row}
 use Rattle.fields.proofs.by_rows.Given as goal
 
 abbrev pub invariant-loop-r : goal.invariant-loop-r

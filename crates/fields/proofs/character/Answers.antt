@@ -1,6 +1,6 @@
 -- `character` meets its contract: the rows with which its first octet starts are those of one of UTF8-1 to UTF8-4, and by them it goes.
 -- Assumes nothing.
-use Rattle.std.proofs.Common.{refl, arith, rules}
+use Rattle.std.proofs.Common.{refl, arith}
 use Rattle.fields.specs.Utf8.{rows}
 use Rattle.fields.proofs.Utf8.{apart, by_group}
 use Rattle.fields.proofs.character.Goals as goal

@@ -1,6 +1,6 @@
 -- `eight` meets its contract: it is four octets and four more.
 -- Assumes nothing.
-use Rattle.std.proofs.Common.{arith, rules}
+use Rattle.std.proofs.Common.{arith}
 use Rattle.fields.proofs.Weights.{eight_octets}
 use Rattle.fields.proofs.eight.Goals as goal
 

@@ -1,7 +1,6 @@
 -- `extremes` meets its contract: of each stretch the octets so far; the second starts where the first has ended, or before.
 -- Assumes nothing.
-use Rattle.std.proofs.Common.{ℕ, ◌+◌, ◌-◌, ◌<◌, ◌≤◌, List, get_or, arith, rules}
-use Rattle.fields.proofs.Plain.{one_more_lem, joined}
+use Rattle.std.proofs.Common.{ℕ, ◌+◌, ◌-◌, ◌<◌, ◌≤◌, List, get_or}
 use Rattle.fields.proofs.extremes.Given as goal
 
 -- the octet at j is neither below nor above

@@ -1,8 +1,6 @@
 -- `fits` meets its contract: range by range, the octets from here on fit where all do.
 -- Assumes nothing.
-use Rattle.std.proofs.Common.{◌≡◌, ◌+◌, ◌-◌, ◌≤◌, drop, sym, refl, ◌∙◌, arith, rules}
-use borrow.Author.Tests.{not-true, not-false}
-use Rattle.fields.specs.Utf8.{fits, ranges}
+use Rattle.std.proofs.Common.{◌≡◌, ◌+◌, ◌-◌, sym, refl, ◌∙◌, arith}
 use Rattle.fields.proofs.Utf8.{range_next, no_ranges}
 use Rattle.fields.proofs.fits.Goals as goal
 

@@ -1,9 +1,7 @@
 -- `fits` meets its contract: range by range, the octets from here on fit where all do.
 -- Assumes nothing.
-use Rattle.std.proofs.Common.{◌≡◌, ◌+◌, ◌-◌, ◌≤◌, drop, sym, refl, ◌∙◌, arith, rules}
-use borrow.Author.Tests.{not-true, not-false}
+use Rattle.std.proofs.Common.{◌≡◌, ◌+◌, ◌-◌, ◌≤◌, drop}
 use Rattle.fields.specs.Utf8.{fits, ranges}
-use Rattle.fields.proofs.Utf8.{range_next, no_ranges}
 use Rattle.fields.proofs.fits.Given as goal
 
 abbrev pub invariant-loop-k : goal.invariant-loop-k

@@ -1,6 +1,6 @@
 -- `four` meets its contract: the octets that are read are those that are meant.
 -- Assumes nothing.
-use Rattle.std.proofs.Common.{arith, rules}
+use Rattle.std.proofs.Common.{arith}
 use Rattle.fields.specs.WeightContracts.{weight}
 use Rattle.fields.proofs.Weights.{four_octets}
 use Rattle.fields.proofs.four.Goals as goal

@@ -1,6 +1,6 @@
 -- `is_easy` meets its contract: the lowest and the highest octet are plain, or no octet is high and each was looked at by itself.
 -- Assumes nothing.
-use Rattle.std.proofs.Common.{sym, ◌∙◌, true≢false, arith, rules, le-ltb}
+use Rattle.std.proofs.Common.{sym, ◌∙◌, true≢false, arith, le-ltb}
 use Rattle.fields.proofs.Plain.{between_plain}
 use Rattle.fields.proofs.Utf8.{plain_alones}
 use Rattle.fields.proofs.is_easy.Goals as goal

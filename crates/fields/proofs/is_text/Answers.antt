@@ -1,6 +1,6 @@
 -- `is_text` meets its contract: plain octets are text, and of others it is asked.
 -- Assumes nothing.
-use Rattle.std.proofs.Common.{arith, rules}
+use Rattle.std.proofs.Common.{arith}
 use Rattle.fields.proofs.Utf8.{plain_text}
 use Rattle.fields.proofs.is_text.Goals as goal
 

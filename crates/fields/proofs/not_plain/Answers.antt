@@ -1,6 +1,6 @@
 -- `not_plain` meets its contract: what the library ensures of the wrapping subtraction says the same.
 -- Assumes nothing.
-use Rattle.std.proofs.Common.{◌≡◌, ◌+◌, ◌-◌, ◌%◌, ◌^◌, ap, arith, rules}
+use Rattle.std.proofs.Common.{◌≡◌, ◌+◌, ◌-◌, ◌%◌, ◌^◌, ap, arith}
 use lib.Bits.{bit_or}
 use Rattle.fields.specs.WeightContracts.{not_plain, spaces}
 use Rattle.fields.proofs.not_plain.Goals as goal

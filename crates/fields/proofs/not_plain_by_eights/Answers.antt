@@ -1,8 +1,7 @@
 -- `not_plain_by_eights` meets its contract: the eights that were looked at, from the first octet on, and the last eight, which are looked at first.
 -- Assumes nothing.
-use Rattle.std.proofs.Common.{◌≡◌, ◌+◌, ◌-◌, ◌≤◌, arith, rules}
-use lib.Bits.{bit_and}
-use Rattle.fields.specs.WeightContracts.{high_bits, Plain}
+use Rattle.std.proofs.Common.{◌≡◌, ◌+◌, ◌-◌, arith}
+use Rattle.fields.specs.WeightContracts.{high_bits}
 use Rattle.fields.proofs.Plain.{neither, eight_plain, At, joined}
 use Rattle.fields.proofs.not_plain_by_eights.Goals as goal
 

@@ -1,9 +1,8 @@
 -- `not_plain_by_eights` meets its contract: the eights that were looked at, from the first octet on, and the last eight, which are looked at first.
 -- Assumes nothing.
-use Rattle.std.proofs.Common.{◌≡◌, ◌+◌, ◌-◌, ◌≤◌, arith, rules}
+use Rattle.std.proofs.Common.{◌≡◌, ◌-◌, ◌≤◌}
 use lib.Bits.{bit_and}
 use Rattle.fields.specs.WeightContracts.{high_bits, Plain}
-use Rattle.fields.proofs.Plain.{neither, eight_plain, At, joined}
 use Rattle.fields.proofs.not_plain_by_eights.Given as goal
 
 abbrev pub invariant-loop-i : goal.invariant-loop-i

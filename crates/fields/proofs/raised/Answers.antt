@@ -1,6 +1,6 @@
 -- `raised` meets its contract: what is left below a space is no character by itself.
 -- Assumes nothing.
-use Rattle.std.proofs.Common.{sym, ◌∙◌, arith, rules}
+use Rattle.std.proofs.Common.{sym, ◌∙◌}
 use Rattle.fields.proofs.Utf8.{single, alone_single, plain-alone}
 use Rattle.fields.proofs.raised.Goals as goal
 

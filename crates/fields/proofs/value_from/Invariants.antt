@@ -1,9 +1,7 @@
 -- `value_from` meets its contract: what is left to read behind v is what was to be read behind x.
 -- Assumes nothing.
-use Rattle.std.proofs.Common.{◌≡◌, ◌+◌, ◌-◌, ◌^◌, ◌<◌, ◌≤◌, sym, ◌∙◌, add-zero, arith, rules}
-use native.Mathlib.Nat.{sub-zero}
+use Rattle.std.proofs.Common.{◌≡◌, ◌+◌, ◌-◌, ◌^◌, ◌<◌, ◌≤◌}
 use Rattle.fields.specs.Fields.{value_from}
-use Rattle.fields.proofs.Cases.{value_next, value_end, value_grows, value_small}
 use Rattle.fields.proofs.value_from.Given as goal
 
 abbrev pub invariant-loop-i : goal.invariant-loop-i

@@ -1,6 +1,6 @@
 -- `values` meets its contract: 1 shifted by at most 32 places loses nothing.
 -- Assumes nothing.
-use Rattle.std.proofs.Common.{◌≡◌, ℕ, ◌*◌, ◌%◌, ◌^◌, ◌≤◌, ◌∙◌, one-mul, arith, lit<, pow_mono, shl_exact, rules}
+use Rattle.std.proofs.Common.{◌≡◌, ℕ, ◌*◌, ◌%◌, ◌^◌, ◌≤◌, ◌∙◌, one-mul, arith, lit<, pow_mono, shl_exact}
 use Rattle.fields.proofs.values.Goals as goal
 
 shifted : (k : ℕ) → k ≤ 32 → (1 * 2 ^ k) % 2 ^ 64 ≡ 2 ^ k

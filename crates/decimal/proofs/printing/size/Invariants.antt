@@ -1,9 +1,6 @@
 -- `size` meets its contract: n has k digits where it is the first power of ten above n.
 -- Assumes nothing.
 use Prim.Native.Nat.{◌-◌, ◌^◌, ◌≤◌}
-use native.Mathlib.Omega.{arith}
-use borrow.Author.Rules.{rules}
-use Rattle.decimal.proofs.Tens.{size_is, count_next, count_last}
 use Rattle.decimal.proofs.printing.size.Given as goal
 
 abbrev pub invariant-loop-k : goal.invariant-loop-k

@@ -1,6 +1,6 @@
 -- `Cursor::behind` meets its contract: each way out is a case of the definition.
 -- Assumes nothing.
-use Rattle.std.proofs.Common.{arith, rules}
+use Rattle.std.proofs.Common.{arith}
 use Rattle.fields.proofs.Cases.{behind_short, behind_padding, behind_range, behind_got}
 use Rattle.fields.proofs.Cursor.behind.Goals as goal
 

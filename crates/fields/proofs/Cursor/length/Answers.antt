@@ -1,6 +1,6 @@
 -- `Cursor::length` meets its contract: each code picks its form.
 -- Assumes nothing.
-use Rattle.std.proofs.Common.{◌∙◌, arith, rules}
+use Rattle.std.proofs.Common.{◌∙◌, arith}
 use Rattle.format.specs.Numbers.{lengths}
 use Rattle.fields.proofs.Cases.{field_missing}
 use Rattle.fields.proofs.FirstOctet.{at_least}

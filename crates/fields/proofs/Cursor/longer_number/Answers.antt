@@ -1,6 +1,6 @@
 -- `Cursor::longer_number` meets its contract: each code picks its form.
 -- Assumes nothing.
-use Rattle.std.proofs.Common.{◌∙◌, arith, rules}
+use Rattle.std.proofs.Common.{◌∙◌, arith}
 use Rattle.fields.proofs.Numbers.{number_middle, number_long, number-longest, number_padding, number_code}
 use Rattle.fields.proofs.Cursor.longer_number.Goals as goal
 

@@ -1,6 +1,6 @@
 -- `Cursor::number_at_bit_2` meets its contract: each code picks its form.
 -- Assumes nothing.
-use Rattle.std.proofs.Common.{refl, ◌∙◌, arith, rules}
+use Rattle.std.proofs.Common.{refl, ◌∙◌, arith}
 use Rattle.format.specs.Numbers.{c25}
 use Rattle.fields.proofs.Laws.{sizes_in, rooms_in}
 use Rattle.fields.proofs.Cases.{field_missing, field_code}

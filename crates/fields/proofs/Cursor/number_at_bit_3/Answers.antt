@@ -1,6 +1,6 @@
 -- `Cursor::number_at_bit_3` meets its contract: the octet alone, or a longer number.
 -- Assumes nothing.
-use Rattle.std.proofs.Common.{refl, ◌∙◌, arith, rules}
+use Rattle.std.proofs.Common.{refl, ◌∙◌, arith}
 use Rattle.format.specs.Numbers.{numbers}
 use Rattle.fields.proofs.Cases.{field_missing}
 use Rattle.fields.proofs.FirstOctet.{at_least}

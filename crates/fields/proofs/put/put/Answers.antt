@@ -1,6 +1,6 @@
 -- `put` meets its contract: a store behind the end changes nothing.
 -- Assumes nothing.
-use Rattle.std.proofs.Common.{sym, arith, rules}
+use Rattle.std.proofs.Common.{sym, arith}
 use lib.Seq.{set_out}
 use Rattle.fields.proofs.put.put.Goals as goal
 

@@ -1,6 +1,6 @@
 -- `put_form` meets its contract: the first octet, and the others behind it.
 -- Assumes nothing.
-use Rattle.std.proofs.Common.{◌≡◌, ◌+◌, ◌/◌, ◌^◌, arith, rules}
+use Rattle.std.proofs.Common.{◌≡◌, ◌+◌, ◌/◌, ◌^◌, arith}
 use Rattle.fields.proofs.Puts.{puts_octet, above}
 use Rattle.fields.proofs.put.put_form.Goals as goal
 

@@ -1,6 +1,6 @@
 -- `put_length` meets its contract: each length takes the lowest form that has it.
 -- Assumes nothing.
-use Rattle.std.proofs.Common.{refl, arith, rules}
+use Rattle.std.proofs.Common.{refl, arith}
 use Rattle.format.specs.Numbers.{lengths}
 use Rattle.fields.proofs.Laws.{sizes_in, rooms_in}
 use Rattle.fields.proofs.Lengths.{lengths_are, lengths_ordered}

@@ -1,6 +1,6 @@
 -- `put_number` meets its contract: each number takes the lowest form that has it.
 -- Assumes nothing.
-use Rattle.std.proofs.Common.{ℕ, ◌+◌, ◌/◌, ◌<◌, refl, arith, rules}
+use Rattle.std.proofs.Common.{ℕ, ◌+◌, ◌/◌, ◌<◌, refl, arith}
 use Rattle.format.specs.Numbers.{numbers}
 use Rattle.fields.proofs.Laws.{sizes_in, rooms_in}
 use Rattle.fields.proofs.Numbers.{numbers_are, numbers_ordered, number_values}

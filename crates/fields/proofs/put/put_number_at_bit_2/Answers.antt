@@ -1,6 +1,6 @@
 -- `put_number_at_bit_2` meets its contract: each number takes the lowest form that has it.
 -- Assumes nothing.
-use Rattle.std.proofs.Common.{refl, arith, rules}
+use Rattle.std.proofs.Common.{refl, arith}
 use Rattle.format.specs.Numbers.{c25}
 use Rattle.fields.proofs.Laws.{sizes_in, rooms_in}
 use Rattle.fields.proofs.Numbers.{c25_are, c25_ordered}

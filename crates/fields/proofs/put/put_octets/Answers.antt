@@ -1,8 +1,6 @@
 -- `put_octets` meets its contract: i octets are put, and the rest are left.
 -- Assumes nothing.
-use Rattle.std.proofs.Common.{◌+◌, ◌-◌, ◌≤◌, take, ◌∙◌, arith, rules}
-use Rattle.format.specs.Numbers.{octets}
-use Rattle.fields.specs.PutContracts.{Puts}
+use Rattle.std.proofs.Common.{◌∙◌, arith}
 use Rattle.fields.proofs.Laws.{octets-length}
 use Rattle.fields.proofs.Puts.{puts_nothing, puts_kept, puts_next, puts_all, octet_at}
 use Rattle.fields.proofs.put.put_octets.Goals as goal

@@ -1,10 +1,8 @@
 -- `put_octets` meets its contract: i octets are put, and the rest are left.
 -- Assumes nothing.
-use Rattle.std.proofs.Common.{◌+◌, ◌-◌, ◌≤◌, take, ◌∙◌, arith, rules}
+use Rattle.std.proofs.Common.{◌+◌, ◌-◌, ◌≤◌, take}
 use Rattle.format.specs.Numbers.{octets}
 use Rattle.fields.specs.PutContracts.{Puts}
-use Rattle.fields.proofs.Laws.{octets-length}
-use Rattle.fields.proofs.Puts.{puts_nothing, puts_kept, puts_next, puts_all, octet_at}
 use Rattle.fields.proofs.put.put_octets.Given as goal
 
 abbrev pub invariant-loop-i : goal.invariant-loop-i

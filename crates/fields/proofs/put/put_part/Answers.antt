@@ -1,7 +1,6 @@
 -- `put_part` meets its contract: i octets are put, and for what is left of them behind the last one there is no room.
 -- Assumes nothing.
-use Rattle.std.proofs.Common.{◌≡◌, ◌+◌, ◌-◌, ◌≤◌, min, length, take, drop, refl, arith, rules}
-use Rattle.fields.specs.PutContracts.{Puts}
+use Rattle.std.proofs.Common.{refl, arith}
 use Rattle.fields.proofs.Puts.{puts_nothing, puts_kept, puts_next, puts_fitting, part_length, part_at}
 use Rattle.fields.proofs.put.put_part.Goals as goal
 

@@ -1,8 +1,7 @@
 -- `put_part` meets its contract: i octets are put, and for what is left of them behind the last one there is no room.
 -- Assumes nothing.
-use Rattle.std.proofs.Common.{◌≡◌, ◌+◌, ◌-◌, ◌≤◌, min, length, take, drop, refl, arith, rules}
+use Rattle.std.proofs.Common.{◌≡◌, ◌+◌, ◌-◌, ◌≤◌, min, length, take, drop}
 use Rattle.fields.specs.PutContracts.{Puts}
-use Rattle.fields.proofs.Puts.{puts_nothing, puts_kept, puts_next, puts_fitting, part_length, part_at}
 use Rattle.fields.proofs.put.put_part.Given as goal
 
 abbrev pub invariant-loop-i : goal.invariant-loop-i
