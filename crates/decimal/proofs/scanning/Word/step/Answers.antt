@@ -15,13 +15,13 @@ pub returns-in-48 : goal.returns-in-48
 returns-in-48 c = step_zero _ _ c.in-Empty.is (omega arith)
 
 pub returns-in_default : goal.returns-in_default
-returns-in_default c = let r = c.in_default.in_default-own.rest in step_first _ _ c.in-Empty.is r.0.1 r.1 c.grown-in_default.ensures
+returns-in_default c = step_first _ _ c.in-Empty.is (λ e. omega arith) (λ e. omega arith) c.grown-in_default.ensures
 
 pub returns-in-48-o : goal.returns-in-48-o
 returns-in-48-o c = step_no_zero _ _ c.in-Minus.is (omega arith)
 
 pub returns-in_default-o : goal.returns-in_default-o
-returns-in_default-o c = step_behind_minus _ _ c.in-Minus.is c.in_default-o.in_default-o-own.rest.1 c.grown-in_default-o.ensures
+returns-in_default-o c = step_behind_minus _ _ c.in-Minus.is (λ e. omega arith) c.grown-in_default-o.ensures
 
 pub returns-in-Zero : goal.returns-in-Zero
 unfolding stepped
