@@ -1,10 +1,9 @@
 -- Powers of ten and how many digits a number has, within 64 bits.
 -- Assumes nothing.
 use mathlib.Core.Path.{◌≡◌}
-use Prim.Native.Nat.{ℕ, zero, suc, ◌+◌, ◌-◌, ◌^◌, ◌≤◌, ◌<◌}
+use Prim.Native.Nat.{ℕ, ◌+◌, ◌-◌, ◌^◌, ◌≤◌, ◌<◌}
 use native.Mathlib.Nat.{pow-le-pow_right}
 use native.Mathlib.Omega.{arith}
-use native.Mathlib.Decide.{dec_lt}
 use lib.Dec.{lit<}
 use Rattle.format.specs.Integers.{size}
 use Rattle.fields.proofs.Laws.{case}
@@ -14,15 +13,6 @@ use Rattle.decimal.proofs.Decimals.{size_bounds, size_one}
 
 pub power : (i : ℕ) {k n : ℕ} → n ≡ 10 ^ i → k ≡ i → n ≡ 10 ^ k
 power i e h = rw h e
-
--- k is none of the first i numbers
-abbrev pub Above : (i k : ℕ) → Type 0
-Above zero k = Unit {0}
-Above (suc i) k = Above i k × (k ≡ i → ⊥)
-
-pub above : (i k : ℕ) → Above i k → i ≤ k
-above zero k a = omega arith
-above (suc i) k a = let h = above i k a.0 in elim (dec_lt i k) [ yes l ↦ omega arith | no l ↦ absurd (a.1 (omega arith)) ]
 
 tens_grow : (i j : ℕ) → i ≤ j → 10 ^ i ≤ 10 ^ j
 tens_grow i j h = pow-le-pow_right {n = 10} (lit< tt) {i = i} {j = j} h

@@ -1,16 +1,9 @@
 -- `integer_at` meets its contract: the integer for which the number of the octets stands.
 -- Assumes nothing.
 use mathlib.Core.Path.{◌∙◌, ap}
-use borrow.Author.Rules.{rules}
 use Rattle.decimal.specs.Reading.{signed, integer_of}
 use Rattle.decimal.proofs.Halves.{back}
 use Rattle.decimal.proofs.integer_at.Goals as goal
-
-pub number_at-requires : goal.number_at-requires
-number_at-requires c = search rules
-
-pub signed-requires : goal.signed-requires
-signed-requires c = search rules
 
 pub returns : goal.returns
 unfolding integer_of

@@ -1,14 +1,7 @@
 -- `magnitude` meets its contract: one more than the folded integer where it is negative.
 -- Assumes nothing.
-use borrow.Author.Rules.{rules}
 use Rattle.decimal.proofs.Magnitudes.{magnitude_negative, magnitude_plain}
 use Rattle.decimal.proofs.magnitude.Goals as goal
-
-pub folded-n-requires : goal.folded-n-requires
-folded-n-requires c = search rules
-
-pub overflow_add-result : goal.overflow_add-result
-overflow_add-result c = search rules
 
 pub returns-then-z-lt0 : goal.returns-then-z-lt0
 returns-then-z-lt0 c = magnitude_negative c.args.z c.ranges.z c.if-z-lt0.true c.folded-n.ensures.0

@@ -3,33 +3,17 @@
 use mathlib.Core.Path.{◌≡◌}
 use Prim.Native.Nat.{◌+◌, ◌-◌}
 use native.Mathlib.Omega.{arith}
-use borrow.Author.Rules.{rules}
 use Rattle.decimal.proofs.Parts.{part_all, number_next, number_end, grows, roomy}
 use Rattle.decimal.proofs.number_at.Goals as goal
 
 pub loop-i-init : goal.loop-i-init
 loop-i-init c = let a = c.args in let e : a.at - a.at ≡ 0 = omega arith in (omega arith, omega arith, rw (part_all a.s.now a.at a.w), rw e (omega arith))
 
-pub overflow_add-at : goal.overflow_add-at
-overflow_add-at c = search rules
-
 pub overflow_mul-v : goal.overflow_mul-v
 overflow_mul-v c = let l = c.loop-i in omega (arith, roomy _ l.v l.invariant.3 (omega arith))
 
-pub bounds-s-i : goal.bounds-s-i
-bounds-s-i c = search rules
-
-pub wide-requires : goal.wide-requires
-wide-requires c = search rules
-
 pub overflow_add-v : goal.overflow_add-v
 overflow_add-v c = let l = c.loop-i in omega (arith, roomy _ l.v l.invariant.3 (omega arith))
-
-pub overflow_add-i : goal.overflow_add-i
-overflow_add-i c = search rules
-
-pub loop-i-smaller : goal.loop-i-smaller
-loop-i-smaller c = search rules
 
 pub loop-i-preserved : goal.loop-i-preserved
 loop-i-preserved c =

@@ -1,13 +1,9 @@
 -- `plus` meets its contract: a number below 2 ^ 63 is itself.
 -- Assumes nothing.
 use native.Mathlib.Omega.{arith}
-use borrow.Author.Rules.{rules}
 use mir.Syntax.{w64}
 use mir.ValLaws.{to_z_pos}
 use Rattle.decimal.proofs.plus.Goals as goal
-
-pub overflow_cast-result : goal.overflow_cast-result
-overflow_cast-result c = search rules
 
 pub returns : goal.returns
 returns c = to_z_pos w64 c.args.k (omega arith)

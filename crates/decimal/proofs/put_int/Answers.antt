@@ -1,7 +1,6 @@
 -- `put_int` meets its contract: 32 bits are as many octets.
 -- Assumes nothing.
 use native.Mathlib.Omega.{arith}
-use borrow.Author.Rules.{rules}
 use mir.Syntax.{w32}
 use Rattle.format.specs.Integers.{half}
 use Rattle.decimal.proofs.Halves.{widens, widened, widened_held}
@@ -12,9 +11,6 @@ overflow_cast-z c = widens c.args.z w32 (omega arith) c.ranges.z
 
 pub put_integer-requires : goal.put_integer-requires
 put_integer-requires c = (c.requires, omega arith, omega arith, unfold half in widened_held c.args.z w32 (omega arith) c.ranges.z)
-
-pub shape_of-out : goal.shape_of-out
-shape_of-out c = search rules
 
 pub returns : goal.returns
 returns c = rw (widened c.args.z w32 (omega arith) c.ranges.z) at c.put_integer.ensures

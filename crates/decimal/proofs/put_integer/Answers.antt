@@ -1,20 +1,10 @@
 -- `put_integer` meets its contract: the octets of the number that stands for the integer.
 -- Assumes nothing.
 use mathlib.Core.Path.{◌∙◌, ap}
-use borrow.Author.Rules.{rules}
 use Rattle.format.specs.Integers.{unsigned}
 use Rattle.decimal.proofs.Integers.{octets_by}
 use Rattle.decimal.proofs.Halves.{back}
 use Rattle.decimal.proofs.put_integer.Goals as goal
-
-pub unsigned-v-requires : goal.unsigned-v-requires
-unsigned-v-requires c = search rules
-
-pub put_octets-requires : goal.put_octets-requires
-put_octets-requires c = search rules
-
-pub shape_of-out : goal.shape_of-out
-shape_of-out c = search rules
 
 pub returns : goal.returns
 returns c =

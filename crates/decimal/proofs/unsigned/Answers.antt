@@ -1,15 +1,8 @@
 -- `unsigned` meets its contract: twice the half less the magnitude.
 -- Assumes nothing.
 use native.Mathlib.Omega.{arith}
-use borrow.Author.Rules.{rules}
 use Rattle.decimal.proofs.Magnitudes.{unsigned_negative, unsigned-plain}
 use Rattle.decimal.proofs.unsigned.Goals as goal
-
-pub magnitude-m-requires : goal.magnitude-m-requires
-magnitude-m-requires c = search rules
-
-pub half_of-h-requires : goal.half_of-h-requires
-half_of-h-requires c = search rules
 
 pub overflow_sub-result : goal.overflow_sub-result
 overflow_sub-result c =

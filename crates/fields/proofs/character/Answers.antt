@@ -31,4 +31,4 @@ returns-in_default c =
     let a = c.args in
     let t = c.table-rows in
     by_group a.s.now a.to a.i (omega arith) (omega arith) t.result _ 3 10 13 0xF0 0xFF c.by_rows-in_default.ensures t.ensures.3
-    (unfold apart rows in refl) (unfold apart rows in refl) (omega arith) (omega (arith, c.shared_slice_known-2-1.given a.i))
+    (unfold apart rows in refl) (unfold apart rows in refl) (omega arith) (let k = c.type_inv.s a.i in omega arith)

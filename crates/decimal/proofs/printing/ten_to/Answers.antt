@@ -2,7 +2,7 @@
 -- Assumes nothing.
 use mathlib.Core.Path.{refl}
 use native.Mathlib.Omega.{arith}
-use Rattle.decimal.proofs.Tens.{power, above}
+use Rattle.decimal.proofs.Tens.{power}
 use Rattle.decimal.proofs.printing.ten_to.Goals as goal
 
 pub returns-in-0 : goal.returns-in-0
@@ -63,4 +63,4 @@ pub returns-in-18 : goal.returns-in-18
 returns-in-18 c = power 18 refl c.in-18.is
 
 pub returns-in_default : goal.returns-in_default
-returns-in_default c = let h = above 19 _ c.in_default.in_default-own.rest in power 19 refl (omega arith)
+returns-in_default c = power 19 refl (omega arith)

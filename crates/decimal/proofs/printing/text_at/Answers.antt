@@ -2,15 +2,11 @@
 -- Assumes nothing.
 use mathlib.Core.Path.{◌∙◌, ap}
 use native.Mathlib.Omega.{arith}
-use borrow.Author.Rules.{rules}
 use mir.Syntax.{w16, w32}
 use Rattle.format.specs.Integers.{decimal}
 use Rattle.decimal.proofs.Halves.{back, widens, widened}
 use Rattle.decimal.proofs.Steps.{no_integers}
 use Rattle.decimal.proofs.printing.text_at.Goals as goal
-
-pub enum_told-1 : goal.enum_told-1
-enum_told-1 c = search rules
 
 pub short_at-requires : goal.short_at-requires
 short_at-requires c = rw c.in-Short.is at c.requires.1
@@ -18,32 +14,14 @@ short_at-requires c = rw c.in-Short.is at c.requires.1
 pub overflow_cast-short_at : goal.overflow_cast-short_at
 overflow_cast-short_at c = widens c.short_at.result w16 (omega arith) (record { sfits = c.short_at.type_inv })
 
-pub of-requires : goal.of-requires
-of-requires c = search rules
-
-pub enum_told-in-Int : goal.enum_told-in-Int
-enum_told-in-Int c = search rules
-
 pub int_at-requires : goal.int_at-requires
 int_at-requires c = rw c.in-Int.is at c.requires.1
 
 pub overflow_cast-int_at : goal.overflow_cast-int_at
 overflow_cast-int_at c = widens c.int_at.result w32 (omega arith) (record { sfits = c.int_at.type_inv })
 
-pub of-requires-in-Int : goal.of-requires-in-Int
-of-requires-in-Int c = search rules
-
-pub enum_told-in-Long : goal.enum_told-in-Long
-enum_told-in-Long c = search rules
-
 pub long_at-requires : goal.long_at-requires
 long_at-requires c = rw c.in-Long.is at c.requires.1
-
-pub of-requires-in-Long : goal.of-requires-in-Long
-of-requires-in-Long c = search rules
-
-pub of-requires-in_default : goal.of-requires-in_default
-of-requires-in_default c = search rules
 
 pub returns-in-Short : goal.returns-in-Short
 returns-in-Short c =

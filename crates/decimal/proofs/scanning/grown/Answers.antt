@@ -1,7 +1,6 @@
 -- `grown` meets its contract: a law for each answer.
 -- Assumes nothing.
 use native.Mathlib.Omega.{arith}
-use borrow.Author.Rules.{rules}
 use Rattle.decimal.proofs.Steps.{grown_low, grown_high, grown_over, grown-more}
 use Rattle.decimal.proofs.scanning.grown.Goals as goal
 
@@ -13,15 +12,6 @@ returns-then-o-gt57 c = let a = c.args in grown_high a.minus a.n a.o (omega arit
 
 pub returns-then-n-gt-MOST : goal.returns-then-n-gt-MOST
 returns-then-n-gt-MOST c = let a = c.args in grown_over a.minus a.n a.o (omega arith)
-
-pub overflow_mul-result : goal.overflow_mul-result
-overflow_mul-result c = search rules
-
-pub wide-requires : goal.wide-requires
-wide-requires c = search rules
-
-pub overflow_add-result : goal.overflow_add-result
-overflow_add-result c = search rules
 
 pub returns : goal.returns
 returns c = let a = c.args in grown-more a.minus a.n a.o (omega arith) (omega arith) (omega arith) c.wide.ensures.0

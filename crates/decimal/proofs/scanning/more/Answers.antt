@@ -10,26 +10,11 @@ use Rattle.decimal.proofs.Halves.{back}
 use Rattle.decimal.proofs.Steps.{more_none, more-behind_none, more_one, wider, as_wide}
 use Rattle.decimal.proofs.scanning.more.Goals as goal
 
-pub enum_known-before : goal.enum_known-before
-enum_known-before c = search rules
-
-pub enum_told-1 : goal.enum_told-1
-enum_told-1 c = search rules
-
 pub returns-in_default : goal.returns-in_default
 returns-in_default c = more-behind_none _ _ c.in_default.is
 
-pub enum_known-e : goal.enum_known-e
-enum_known-e c = search rules
-
-pub enum_told-in_default-e : goal.enum_told-in_default-e
-enum_told-in_default-e c = search rules
-
 pub returns-in_default-e : goal.returns-in_default-e
 returns-in_default-e c = more_none _ _ c.in_default-e.is
-
-pub width_of-v-requires : goal.width_of-v-requires
-width_of-v-requires c = search rules
 
 pub overflow_add-result : goal.overflow_add-result
 overflow_add-result c = let h = rw c.in-Integers.is at c.requires in omega arith

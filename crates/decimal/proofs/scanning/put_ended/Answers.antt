@@ -10,20 +10,11 @@ use Rattle.decimal.proofs.Halves.{back}
 use Rattle.decimal.proofs.Steps.{held_is}
 use Rattle.decimal.proofs.scanning.put_ended.Goals as goal
 
-pub enum_known-e : goal.enum_known-e
-enum_known-e c = search rules
-
 pub put_held-requires : goal.put_held-requires
 put_held-requires c =
     let e = c.in-Integer in
     let f : SFits w64 e.z = search rules in
     (c.requires.0, rw (back e.z f.sfits) (held_is _ _ (rw e.is at c.requires.1)))
-
-pub enum_told-1 : goal.enum_told-1
-enum_told-1 c = search rules
-
-pub shape_of-out : goal.shape_of-out
-shape_of-out c = search rules
 
 pub returns-in-Integer : goal.returns-in-Integer
 unfolding ended_octets

@@ -1,56 +1,28 @@
 -- `put_held` meets its contract: an integer that is held is one of the narrower type.
 -- Assumes nothing.
-use borrow.Author.Rules.{rules}
 use mir.Syntax.{w16, w32}
 use Rattle.format.specs.Integers.{half}
 use Rattle.decimal.proofs.Halves.{back, narrows, narrowed}
 use Rattle.decimal.proofs.Steps.{no_integers, held_some}
 use Rattle.decimal.proofs.scanning.put_held.Goals as goal
 
-pub enum_told-1 : goal.enum_told-1
-enum_told-1 c = search rules
-
 pub overflow_cast-z : goal.overflow_cast-z
 overflow_cast-z c =
     narrows c.args.z c.ranges.z.sfits w16 (unfold half in rw c.in-Short.is at c.requires.1)
 
-pub put_short-requires : goal.put_short-requires
-put_short-requires c = search rules
-
-pub enum_told-in-Int : goal.enum_told-in-Int
-enum_told-in-Int c = search rules
-
 pub overflow_cast-z-in-Int : goal.overflow_cast-z-in-Int
 overflow_cast-z-in-Int c =
     narrows c.args.z c.ranges.z.sfits w32 (unfold half in rw c.in-Int.is at c.requires.1)
-
-pub put_int-requires : goal.put_int-requires
-put_int-requires c = search rules
-
-pub enum_told-in-Long : goal.enum_told-in-Long
-enum_told-in-Long c = search rules
-
-pub put_long-requires : goal.put_long-requires
-put_long-requires c = search rules
-
-pub shape_of-out-in-Short : goal.shape_of-out-in-Short
-shape_of-out-in-Short c = search rules
 
 pub returns-in-Short : goal.returns-in-Short
 returns-in-Short c =
     let e = c.in-Short.is in
     rw e (rw (narrowed c.args.z c.ranges.z.sfits w16 (unfold half in rw e at c.requires.1)) at c.put_short.ensures)
 
-pub shape_of-out-in-Int : goal.shape_of-out-in-Int
-shape_of-out-in-Int c = search rules
-
 pub returns-in-Int : goal.returns-in-Int
 returns-in-Int c =
     let e = c.in-Int.is in
     rw e (rw (narrowed c.args.z c.ranges.z.sfits w32 (unfold half in rw e at c.requires.1)) at c.put_int.ensures)
-
-pub shape_of-out-in-Long : goal.shape_of-out-in-Long
-shape_of-out-in-Long c = search rules
 
 pub returns-in-Long : goal.returns-in-Long
 returns-in-Long c = rw c.in-Long.is (rw (back _ c.ranges.z.sfits) at c.put_long.ensures)

@@ -2,15 +2,11 @@
 -- Assumes nothing.
 use mathlib.Core.Path.{◌≡◌, ◌∙◌, ap}
 use native.Mathlib.Omega.{arith}
-use borrow.Author.Rules.{rules}
 use lib.Signed.{mag}
 use Rattle.format.specs.Integers.{half}
 use Rattle.decimal.proofs.Halves.{back}
 use Rattle.decimal.proofs.Steps.{width_short, width_int, width_long}
 use Rattle.decimal.proofs.scanning.width_of.Goals as goal
-
-pub folded-n-requires : goal.folded-n-requires
-folded-n-requires c = search rules
 
 pub returns-then-n-lt32768 : goal.returns-then-n-lt32768
 unfolding half

@@ -34,4 +34,4 @@ pub returns-in-8 : goal.returns-in-8
 returns-in-8 c = one_more_at _ _ _ 8 _ (omega arith) c.of-n.ensures refl
 
 pub returns-in_default : goal.returns-in_default
-returns-in_default c = let h = at_least 9 _ c.in_default.in_default-own.rest in one_more_at _ _ _ 9 _ (omega arith) c.of-n.ensures refl
+returns-in_default c = one_more_at _ _ _ 9 _ (omega arith) c.of-n.ensures refl

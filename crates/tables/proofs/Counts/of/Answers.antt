@@ -1,7 +1,7 @@
 -- `Counts::of` meets its contract: each number picks its count.
 -- Assumes nothing.
 use native.Mathlib.Omega.{arith}
-use Rattle.tables.proofs.ByNumber.{at_least, count_at}
+use Rattle.tables.proofs.ByNumber.{count_at}
 use Rattle.tables.proofs.Counts.of.Goals as goal
 
 pub returns-in-0 : goal.returns-in-0
@@ -32,4 +32,4 @@ pub returns-in-8 : goal.returns-in-8
 returns-in-8 c = count_at _ _ 8 (omega arith)
 
 pub returns-in_default : goal.returns-in_default
-returns-in_default c = let h = at_least 9 _ c.in_default.in_default-own.rest in count_at _ _ 9 (omega arith)
+returns-in_default c = count_at _ _ 9 (omega arith)

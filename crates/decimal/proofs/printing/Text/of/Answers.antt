@@ -1,14 +1,7 @@
 -- `Text::of` meets its contract: the sign, the integer without it, and how many digits it has.
 -- Assumes nothing.
-use borrow.Author.Rules.{rules}
 use Rattle.decimal.proofs.TextsWritten.{text_of}
 use Rattle.decimal.proofs.printing.Text.of.Goals as goal
-
-pub magnitude-n-requires : goal.magnitude-n-requires
-magnitude-n-requires c = search rules
-
-pub size-requires : goal.size-requires
-size-requires c = search rules
 
 pub returns : goal.returns
 returns c = (text_of c.args.z _ _ c.ranges.z c.magnitude-n.ensures c.size.ensures.0, c.size.ensures.1)

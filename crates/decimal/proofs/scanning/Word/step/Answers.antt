@@ -1,34 +1,9 @@
 -- `Word::step` meets its contract: a law for each word and octet.
 -- Assumes nothing.
 use native.Mathlib.Omega.{arith}
-use borrow.Author.Rules.{rules}
 use Rattle.decimal.specs.Machine.{stepped}
 use Rattle.decimal.proofs.Steps.{step_minus, step_zero, step_first, step_no_zero, step_behind_minus, step_digit}
 use Rattle.decimal.proofs.scanning.Word.step.Goals as goal
-
-pub enum_known-self : goal.enum_known-self
-enum_known-self c = search rules
-
-pub grown-requires : goal.grown-requires
-grown-requires c = search rules
-
-pub enum_told-1 : goal.enum_told-1
-enum_told-1 c = search rules
-
-pub grown-requires-in_default : goal.grown-requires-in_default
-grown-requires-in_default c = search rules
-
-pub enum_told-in-Minus : goal.enum_told-in-Minus
-enum_told-in-Minus c = search rules
-
-pub grown-requires-in_default-o : goal.grown-requires-in_default-o
-grown-requires-in_default-o c = search rules
-
-pub enum_told-in-Zero : goal.enum_told-in-Zero
-enum_told-in-Zero c = search rules
-
-pub enum_told-in-NoWord : goal.enum_told-in-NoWord
-enum_told-in-NoWord c = search rules
 
 pub returns-in-Digits : goal.returns-in-Digits
 returns-in-Digits c = step_digit _ _ c.in-Digits.is c.grown.ensures
@@ -40,13 +15,13 @@ pub returns-in-48 : goal.returns-in-48
 returns-in-48 c = step_zero _ _ c.in-Empty.is (omega arith)
 
 pub returns-in_default : goal.returns-in_default
-returns-in_default c = let r = c.in_default.in_default-own.rest in step_first _ _ c.in-Empty.is r.0.1 r.1 c.grown-in_default.ensures
+returns-in_default c = step_first _ _ c.in-Empty.is (λ e. omega arith) (λ e. omega arith) c.grown-in_default.ensures
 
 pub returns-in-48-o : goal.returns-in-48-o
 returns-in-48-o c = step_no_zero _ _ c.in-Minus.is (omega arith)
 
 pub returns-in_default-o : goal.returns-in_default-o
-returns-in_default-o c = step_behind_minus _ _ c.in-Minus.is c.in_default-o.in_default-o-own.rest.1 c.grown-in_default-o.ensures
+returns-in_default-o c = step_behind_minus _ _ c.in-Minus.is (λ e. omega arith) c.grown-in_default-o.ensures
 
 pub returns-in-Zero : goal.returns-in-Zero
 unfolding stepped
