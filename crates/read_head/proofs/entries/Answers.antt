@@ -1,35 +1,9 @@
 -- `entries` meets its contract: one entry behind the other, and those that are left are read from where the loop stands.
 -- Assumes nothing.
 use native.Mathlib.Omega.{arith}
-use mathlib.Core.Path.{refl, sym, ◌∙◌}
-use Rattle.read_head.proofs.HeadLaws.{left_here, left-then, handed_on, entries_end, entries_next, entries_refused}
+use mathlib.Core.Path.{sym, ◌∙◌}
+use Rattle.read_head.proofs.HeadLaws.{left-then, handed_on, entries_end, entries_next, entries_refused}
 use Rattle.read_head.proofs.entries.Goals as goal
-
-pub loop-left-init : goal.loop-left-init
-loop-left-init c =
-    (refl, refl, refl, left_here _ _ _ _ _ c.requires.0 c.requires.1, refl)
-
-pub entry-r-requires : goal.entry-r-requires
-entry-r-requires c =
-    let l = c.loop-left.invariant.3 in (l.tidy, l.within, c.requires.2)
-
-pub shape_of-t-in_default : goal.shape_of-t-in_default
-shape_of-t-in_default c =
-    let i = c.loop-left.invariant.0 in
-    let k = c.entry-r.auto in
-    omega arith
-
-pub shape_of-counts-in_default : goal.shape_of-counts-in_default
-shape_of-counts-in_default c =
-    let i = c.loop-left.invariant.1 in
-    let k = c.entry-r.auto in
-    omega arith
-
-pub shape_of-index-in_default : goal.shape_of-index-in_default
-shape_of-index-in_default c =
-    let i = c.loop-left.invariant.2 in
-    let k = c.entry-r.auto in
-    omega arith
 
 pub returns-in_default : goal.returns-in_default
 returns-in_default c =

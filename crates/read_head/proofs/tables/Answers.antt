@@ -1,35 +1,9 @@
 -- `tables` meets its contract: one table behind the other, and those from i on are read from where the loop stands.
 -- Assumes nothing.
 use native.Mathlib.Omega.{arith}
-use mathlib.Core.Path.{refl, sym, ◌∙◌}
-use Rattle.read_head.proofs.HeadLaws.{left_here, left-then, handed_on, tables_end, tables_next, tables_refused}
+use mathlib.Core.Path.{sym, ◌∙◌}
+use Rattle.read_head.proofs.HeadLaws.{left-then, handed_on, tables_end, tables_next, tables_refused}
 use Rattle.read_head.proofs.tables.Goals as goal
-
-pub loop-i-init : goal.loop-i-init
-loop-i-init c =
-    (refl, refl, refl, left_here _ _ _ _ _ c.requires.0 c.requires.1, omega arith, refl)
-
-pub table-r-requires : goal.table-r-requires
-table-r-requires c =
-    let l = c.loop-i.invariant.3 in (l.tidy, l.within, omega arith)
-
-pub shape_of-t-in_default : goal.shape_of-t-in_default
-shape_of-t-in_default c =
-    let i = c.loop-i.invariant.0 in
-    let k = c.table-r.auto in
-    omega arith
-
-pub shape_of-counts-in_default : goal.shape_of-counts-in_default
-shape_of-counts-in_default c =
-    let i = c.loop-i.invariant.1 in
-    let k = c.table-r.auto in
-    omega arith
-
-pub shape_of-index-in_default : goal.shape_of-index-in_default
-shape_of-index-in_default c =
-    let i = c.loop-i.invariant.2 in
-    let k = c.table-r.auto in
-    omega arith
 
 pub returns-in_default : goal.returns-in_default
 returns-in_default c =

@@ -1,6 +1,5 @@
 -- `another` meets its contract: bits 1 and 2, and then the string as one that is spelled and added in the body.
 -- Assumes nothing.
-use mathlib.Core.Path.{◌∙◌}
 use native.Mathlib.Omega.{arith}
 use Rattle.read_names.proofs.StringLaws.{length-read, spelled_utf8}
 use Rattle.read_head.proofs.EntryLaws.{another_padded, another-read}
@@ -9,10 +8,6 @@ use Rattle.read_head.proofs.listed.another.Goals as goal
 pub returns-then-o-ge64 : goal.returns-then-o-ge64
 returns-then-o-ge64 c =
     λ x tidy. another_padded c.args.s.now c.args.counts.now c.args.t.now _ _ c.requires.3 _ c.octet-o.ensures x (omega arith)
-
-pub in_form-requires : goal.in_form-requires
-in_form-requires c =
-    (c.requires.0, c.requires.1, c.requires.2, c.requires.3, c.requires.5, omega arith, omega arith, λ z. c.if-bits-ne0.true (c.bits.ensures ∙ rw c.octet-o.ensures z))
 
 pub returns-then-bits-ne0 : goal.returns-then-bits-ne0
 returns-then-bits-ne0 c =

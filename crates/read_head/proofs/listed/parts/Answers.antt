@@ -1,33 +1,18 @@
 -- `parts` meets its contract: the parts one behind the other, then the triple; a refusal is handed on where it is found.
 -- Assumes nothing.
-use native.Mathlib.Omega.{arith}
 use mathlib.Core.Path.{refl}
 use Rattle.read_names.proofs.NameLaws.{addable}
 use Rattle.read_head.proofs.EntryLaws.{name_prefix, name_namespace, name_local, name_added, parts_ranged}
 use Rattle.read_head.proofs.listed.parts.Goals as goal
 
-pub part-first-requires : goal.part-first-requires
-part-first-requires c =
-    (c.requires.0.ten, omega arith, c.requires.0.counted 0, omega arith)
-
 pub returns-in_default : goal.returns-in_default
 returns-in_default c =
     name_prefix _ _ _ _ _ c.requires.1 _ c.requires.4 c.requires.5 c.requires.6 _ _ c.part-first.result _ _ c.in_default.is c.behind_entry.ensures (c.part-first.ensures.0 c.args.t.now)
-
-pub part-second-requires : goal.part-second-requires
-part-second-requires c =
-    let first = rw c.in-Got.is at c.part-first.ensures in
-    (c.requires.0.ten, omega arith, c.requires.0.counted 1, first.1.1)
 
 pub returns-in_default-second : goal.returns-in_default-second
 returns-in_default-second c =
     let first = rw c.in-Got.is at c.part-first.ensures in
     name_namespace _ _ _ _ _ c.requires.1 _ c.requires.4 c.requires.5 c.requires.6 _ c.bits.ensures _ _ (first.0 c.args.t.now) first.1.1 _ _ c.part-second.result _ _ c.in_default-second.is c.behind_entry-in_default-second.ensures (c.part-second.ensures.0 c.args.t.now)
-
-pub part-third-requires : goal.part-third-requires
-part-third-requires c =
-    let second = rw c.in-Got-second.is at c.part-second.ensures in
-    (c.requires.0.ten, omega arith, c.requires.0.counted 2, second.1.1)
 
 pub returns-in_default-third : goal.returns-in_default-third
 returns-in_default-third c =

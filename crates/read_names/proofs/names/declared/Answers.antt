@@ -21,11 +21,6 @@ pub returns-then-bits-ne51 : goal.returns-then-bits-ne51
 returns-then-bits-ne51 c =
     (declared_other _ _ _ (omega arith) (omega arith) _ c.bits.ensures (omega arith), (c.requires.0.ten, c.requires.0.room))
 
-pub optional-requires-in-Got : goal.optional-requires-in-Got
-optional-requires-in-Got c =
-    let first = rw c.in-Got.is at c.optional.ensures in
-    (first.1.0.tidy, first.1.0.within, omega arith)
-
 pub returns-in-Refused : goal.returns-in-Refused
 returns-in-Refused c =
     let f = rw c.in-Refused.is at c.optional.ensures in (

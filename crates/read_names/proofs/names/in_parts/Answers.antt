@@ -1,6 +1,5 @@
 -- `in_parts` meets its contract: the strings one behind the other, then the triple; a refusal is handed on where it is found.
 -- Assumes nothing.
-use native.Mathlib.Omega.{arith}
 use Rattle.read_names.proofs.NameLaws.{addable, layout_table, parts_lone, parts_prefix, parts_namespace, parts-local, parts-read, handed, positive, strings_ranged, local_new, new_says}
 use Rattle.read_names.proofs.Grown.{grown_on, left_on}
 use Rattle.tables.specs.Kept.{name_table_of}
@@ -15,35 +14,11 @@ returns-in_default c =
     let f = rw c.in_default.is at c.optional-first.ensures in
     handed _ _ _ _ _ _ _ _ _ _ (parts_prefix _ _ _ _ _ _ c.bits-pn.ensures c.if-pn-eq2.false _ _ f.0) f.1 _ c.in_default.is
 
-pub optional-second-requires : goal.optional-second-requires
-optional-second-requires c =
-    let first = rw c.in-Got.is at c.optional-first.ensures in
-    (first.1.0.tidy, first.1.0.within, omega arith)
-
 pub returns-in_default-second : goal.returns-in_default-second
 returns-in_default-second c =
     let first = rw c.in-Got.is at c.optional-first.ensures in
     let f = rw c.in_default-second.is at c.optional-second.ensures in
     handed _ _ _ _ _ _ _ _ _ _ (parts_namespace _ _ _ _ _ _ c.bits-pn.ensures c.if-pn-eq2.false _ c.bits.ensures _ _ _ first.0 _ _ f.0) f.1 _ c.in_default-second.is
-
-pub bounds-counts-2 : goal.bounds-counts-2
-bounds-counts-2 c =
-    let second = rw c.in-Got-second.is at c.optional-second.ensures in
-    let ten = second.1.0.tidy.ten in
-    omega arith
-
-pub id-third-requires : goal.id-third-requires
-id-third-requires c =
-    let second = rw c.in-Got-second.is at c.optional-second.ensures in
-    (second.1.0.tidy, second.1.0.within, omega arith)
-
-pub shape_of-t-in_default-third : goal.shape_of-t-in_default-third
-shape_of-t-in_default-third c =
-    omega (arith, c.id-third.auto, c.optional-second.auto, c.optional-first.auto)
-
-pub shape_of-counts-in_default-third : goal.shape_of-counts-in_default-third
-shape_of-counts-in_default-third c =
-    omega (arith, c.id-third.auto, c.optional-second.auto, c.optional-first.auto)
 
 pub returns-in_default-third : goal.returns-in_default-third
 returns-in_default-third c =
@@ -60,18 +35,6 @@ triple-requires c =
       addable _ _ _ _ third.1.0.tidy _ c.requires.2 c.requires.3 _ (strings_ranged _ _ _ _ _ _ _ _ _ first.1.1 second.1.1 third.1.1 second.1.0.grown third.1.0.grown third.2),
       λ h. local_new _ _ _ _ c.id-third.new.counts c.id-third.new.t _ _ _ second.1.0.tidy third.0 (name_table_of c.args.table) c.in-Got.p c.in-Got-second.n h,
     )
-
-pub shape_of-t : goal.shape_of-t
-shape_of-t c =
-    omega (arith, c.triple.auto, c.id-third.auto, c.optional-second.auto, c.optional-first.auto)
-
-pub shape_of-counts : goal.shape_of-counts
-shape_of-counts c =
-    omega (arith, c.triple.auto, c.id-third.auto, c.optional-second.auto, c.optional-first.auto)
-
-pub shape_of-index : goal.shape_of-index
-shape_of-index c =
-    omega (arith, c.triple.auto, c.id-third.auto, c.optional-second.auto, c.optional-first.auto)
 
 pub returns : goal.returns
 returns c =

@@ -4,10 +4,6 @@ use native.Mathlib.Omega.{arith}
 use Rattle.read_names.proofs.NameLaws.{name_numbered, name_parts}
 use Rattle.read_names.proofs.names.name.Goals as goal
 
-pub numbered-requires : goal.numbered-requires
-numbered-requires c =
-    (c.requires.0.ten, c.requires.2, c.requires.3, c.requires.0.counted c.args.table)
-
 pub returns-then-b-parts_bits : goal.returns-then-b-parts_bits
 returns-then-b-parts_bits c =
     let e = c.numbered.ensures.0 c.args.t.now c.args.index.now c.requires.0 (omega arith) in

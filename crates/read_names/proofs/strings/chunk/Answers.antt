@@ -1,6 +1,5 @@
 -- `chunk` meets its contract: the first octet's bits pick the case of the definition.
 -- Assumes nothing.
-use mathlib.Core.Path.{◌∙◌}
 use native.Mathlib.Omega.{arith}
 use Rattle.tables.specs.Rows.{table_of}
 use Rattle.read_names.proofs.StringLaws.{length-read, held_positive, spelled_utf8, chunk_held, chunk_spelled}
@@ -14,10 +13,6 @@ pub returns-then-bits-eq1 : goal.returns-then-bits-eq1
 unfolding table_of
 returns-then-bits-eq1 c =
     λ x tidy. chunk_held _ _ _ x 6 _ tidy (omega arith) _ c.octet-o.ensures (rw c.octet-o.ensures c.requires.5) (rw c.octet-o.ensures c.requires.6) _ c.bits.ensures c.if-bits-eq1.true _ c.number_at_bit_4.ensures _ _ c.held.ensures c.said.ensures
-
-pub in_form-requires : goal.in_form-requires
-in_form-requires c =
-    (c.requires.0, c.requires.1, c.requires.2, c.requires.3, omega arith, omega arith, omega arith, λ z. c.if-bits-ne0.true (c.bits-2.ensures ∙ rw c.octet-o.ensures z))
 
 pub returns-then-bits-ne0 : goal.returns-then-bits-ne0
 unfolding table_of

@@ -40,16 +40,6 @@ add_new-requires c =
       omega arith,
     )
 
-pub overflow_add-counts : goal.overflow_add-counts
-overflow_add-counts c =
-    let new = rw c.in-Done.is at c.add_new.ensures in
-    let l = new.1 in omega arith
-
-pub overflow_add-result : goal.overflow_add-result
-overflow_add-result c =
-    let new = rw c.in-Done.is at c.add_new.ensures in
-    let l = new.1 in omega arith
-
 pub returns-in-Refused : goal.returns-in-Refused
 returns-in-Refused c =
     fresh_refused _ _ _ _ _ _ c.requires.0 (let l = c.requires.1 in omega arith) c.requires.2 _ c.length.ensures _ _ c.in-Refused.is

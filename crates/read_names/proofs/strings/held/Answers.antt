@@ -5,18 +5,10 @@ use Rattle.read_names.proofs.StringLaws.{held_not, held_beyond, held_entry}
 use Rattle.index.proofs.Counted.{count_at}
 use Rattle.read_names.proofs.strings.held.Goals as goal
 
-pub overflow_cast-counts : goal.overflow_cast-counts
-overflow_cast-counts c =
-    let m = count_at c.args.counts.now c.requires.0 c.args.table in omega arith
-
 pub returns-then-counts-table : goal.returns-then-counts-table
 returns-then-counts-table c =
     let m = count_at c.args.counts.now c.requires.0 c.args.table in
     held_beyond _ _ _ _ _ c.in-Got.is (omega arith)
-
-pub overflow_cast-result : goal.overflow_cast-result
-overflow_cast-result c =
-    let m = count_at c.args.counts.now c.requires.0 c.args.table in omega arith
 
 pub returns-in-Refused : goal.returns-in-Refused
 returns-in-Refused c = held_not _ _ _ _ _ c.in-Refused.is

@@ -4,10 +4,6 @@ use native.Mathlib.Omega.{arith}
 use Rattle.read_names.proofs.StringLaws.{id_held}
 use Rattle.read_names.proofs.strings.id.Goals as goal
 
-pub held-requires : goal.held-requires
-held-requires c =
-    (c.requires.0.ten, omega arith, c.requires.0.counted c.args.table)
-
 pub returns : goal.returns
 returns c =
     id_held _ _ _ _ _ _ c.requires.0 (omega arith) (omega arith) _ c.number_at_bit_2.ensures _ c.held.ensures

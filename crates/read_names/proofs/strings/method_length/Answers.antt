@@ -1,13 +1,9 @@
 -- `method_length` meets its contract: the length's bits in its first octet pick the case of the definition.
 -- Assumes nothing.
 use mathlib.Core.Path.{refl}
-use Prim.Native.Nat.{◌-◌, ◌*◌, ◌%◌, ◌^◌}
 use native.Mathlib.Omega.{arith}
-use Rattle.read_names.proofs.MethodLaws.{half_few, length_short, length_middle, length_long}
+use Rattle.read_names.proofs.MethodLaws.{length_short, length_middle, length_long}
 use Rattle.read_names.proofs.strings.method_length.Goals as goal
-
-pub overflow_mul-half : goal.overflow_mul-half
-overflow_mul-half c = let h = (half_few c.args.bit c.requires.0 c.requires.1 (1 * 2 ^ (7 - c.args.bit) % 18446744073709551616) refl).2 in omega arith
 
 pub returns-then-b-half : goal.returns-then-b-half
 returns-then-b-half c =

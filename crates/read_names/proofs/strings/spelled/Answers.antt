@@ -1,13 +1,8 @@
 -- `spelled` meets its contract: in utf-8 its length is read and its octets judged; the other forms stand apart.
 -- Assumes nothing.
-use mathlib.Core.Path.{◌∙◌}
 use native.Mathlib.Omega.{arith}
 use Rattle.read_names.proofs.StringLaws.{length-read, spelled_utf8}
 use Rattle.read_names.proofs.strings.spelled.Goals as goal
-
-pub in_form-requires : goal.in_form-requires
-in_form-requires c =
-    (c.requires.0, c.requires.1, c.requires.2, c.requires.3, c.requires.4, omega arith, omega arith, λ z. c.if-bits-ne0.true (c.bits.ensures ∙ rw c.requires.5 z))
 
 pub formed-requires : goal.formed-requires
 formed-requires c =

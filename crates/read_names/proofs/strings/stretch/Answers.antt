@@ -7,18 +7,10 @@ use Rattle.read_names.proofs.strings.stretch.Goals as goal
 pub returns-in_default : goal.returns-in_default
 returns-in_default c = stretch_not _ _ _ _ _ _ c.in_default.is
 
-pub overflow_sub-s : goal.overflow_sub-s
-overflow_sub-s c = (begins _ _ _ _ c.in-Got.is c.requires).1
-
 pub returns-then-s-place : goal.returns-then-s-place
 returns-then-s-place c =
     let w = begins _ _ _ _ c.in-Got.is c.requires in
     stretch_past _ _ _ _ _ _ c.in-Got.is (omega arith)
-
-pub is_text-requires : goal.is_text-requires
-is_text-requires c =
-    let w = begins _ _ _ _ c.in-Got.is c.requires in
-    omega arith
 
 pub returns-then-is_text : goal.returns-then-is_text
 returns-then-is_text c =
