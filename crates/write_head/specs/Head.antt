@@ -1,11 +1,11 @@
 -- The writer's head: what is wrong with the tables that are given, judged as one thing, and the octets before the body.
-use Rattle.std.specs.Prelude.{ℕ, zero, suc, ◌+◌, ◌*◌, ◌/◌, ◌%◌, min, Bool, true, false, not, ◌&&◌, ◌||◌, List, [], ◌∷◌, ◌++◌, map, length, eqb, leb}
+use Rattle.std.specs.Prelude.{ℕ, zero, suc, ◌+◌, ◌*◌, ◌/◌, ◌%◌, min, Bool, true, not, ◌&&◌, ◌||◌, List, [], ◌∷◌, ◌++◌, map, length, eqb, leb}
 use Rattle.format.specs.Octets.{Octets, Words}
 use Rattle.format.specs.Numbers.{pick, spell, lengths, c21, c25}
 use Rattle.format.specs.Tables.{StringTable, PREFIX, NAMESPACE_NAME, LOCAL_NAME, OTHER_NCNAME, OTHER_URI, ATTRIBUTE_VALUE, CONTENT_CHARACTER_CHUNK, OTHER_STRING}
 use Rattle.format.specs.Tables.{NameTable, ELEMENT_NAME, ATTRIBUTE_NAME, Triple, Vocabulary, strings, names, vocabulary_map, followed_by, holds, holds_name, Version}
 use Rattle.format.specs.Strings.{with_length}
-use Rattle.format.specs.Head.{Table, of_strings, of_names, Listed, Head, ten_tables, is_identifying, c19, size_of, some?, presence}
+use Rattle.format.specs.Head.{Table, of_strings, of_names, Listed, Head, ten_tables, is_identifying, c19, some?, presence}
 use Rattle.format.specs.declared.StringForm.TheVariants.{Utf8}
 use Rattle.format.specs.Refusals.{TEXT, REPEAT, FULL, ROOM, EVENT}
 use Rattle.fields.specs.Utf8.{is_text}

@@ -21,7 +21,7 @@ use Rattle.decimal.specs.Machine.{least_in}
 use Rattle.decimal.specs.declared.scanning.Found.{Found}
 use Rattle.decimal.specs.declared.scanning.Found.TheVariants.{Integers, NoIntegers}
 use Rattle.decimal.proofs.Texts.{words_some}
-use Rattle.decimal.proofs.Shapes.{shape_spelled, few_words, letters}
+use Rattle.decimal.proofs.Shapes.{shape_spelled, few_words}
 use Rattle.forms.specs.Streams.{part}
 use Rattle.forms.specs.Packing.{is_letter, all_letters, alphabet_for, integers_for, in_form}
 use Rattle.forms.proofs.Lists.{all_letters_lem}

@@ -54,4 +54,4 @@ returns-in_default c =
     let s = stretched c.args.text.now c.args.x c.requires.0 c.form-given.ensures c.place-from.ensures c.size.ensures in
     let l = said-length s c.requires.1 in
     let letters = c.alphabet_for-letters.ensures ∙ ap alphabet_for (sym (says s)) in
-    choose_dates c.requires.2 _ l.0 l.1 _ c.requires.3 (rw c.plain_most.ensures at c.if-n-plain_most.false) _ letters (λ e. c.in_default.in_default-own.rest.0.1 (c.number.ensures.0 ∙ e)) (λ e. c.in_default.in_default-own.rest.1 (c.number.ensures.0 ∙ e))
+    choose_dates c.requires.2 _ l.0 l.1 _ c.requires.3 (rw c.plain_most.ensures at c.if-n-plain_most.false) _ letters (λ e. omega arith) (λ e. omega arith)

@@ -3,7 +3,7 @@
 use borrow.Author.Tests.{ltb-true, ltb-false, lt-leb}
 use native.Mathlib.Omega.{arith}
 use mathlib.Core.Path.{◌≡◌, sym, ◌∙◌}
-use mathlib.Core.Bool.{true, false, true≢false}
+use mathlib.Core.Bool.{true≢false}
 use Prim.Native.Nat.{◌+◌, ◌-◌, ◌<◌, ◌≤◌}
 use lib.ListN.{get_or}
 use lib.Pow.{pow_pos}

@@ -2,7 +2,6 @@
 -- Assumes nothing.
 use native.Mathlib.Omega.{arith}
 use mathlib.Core.Path.{◌≡◌, sym, ◌∙◌}
-use mathlib.Core.Bool.{true}
 use lib.ListN.{get_or}
 use Rattle.tables.proofs.Found.{clash}
 use Rattle.write_head.proofs.RowLaws.{right_row_lem, below_none, below_more, table_keeps, table_breaks}

@@ -2,7 +2,6 @@
 -- Assumes nothing.
 use native.Mathlib.Omega.{arith}
 use mathlib.Core.Path.{◌≡◌, sym, ◌∙◌}
-use mathlib.Core.Bool.{true}
 use Rattle.tables.proofs.Found.{clash}
 use Rattle.write_head.proofs.RowLaws.{few_at, below_none, below_more, all_keep, one_breaks}
 use Rattle.write_head.proofs.AddLaws.{tables_more}

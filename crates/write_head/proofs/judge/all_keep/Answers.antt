@@ -2,7 +2,6 @@
 -- Assumes nothing.
 use native.Mathlib.Omega.{arith}
 use mathlib.Core.Path.{sym, ◌∙◌}
-use mathlib.Core.Bool.{true}
 use Rattle.write_head.proofs.RowLaws.{below_none, below_more, all_keep, one_breaks}
 use Rattle.write_head.proofs.judge.all_keep.Goals as goal
 

@@ -2,7 +2,6 @@
 -- Assumes nothing.
 use native.Mathlib.Omega.{arith}
 use mathlib.Core.Path.{sym, ◌∙◌}
-use mathlib.Core.Bool.{true}
 use Rattle.write_head.proofs.RowLaws.{below_none, below_more, table_keeps, table_breaks}
 use Rattle.write_head.proofs.judge.table_keeps.Goals as goal
 

@@ -2,7 +2,6 @@
 -- Assumes nothing.
 use native.Mathlib.Omega.{arith}
 use mathlib.Core.Path.{sym, ◌∙◌}
-use mathlib.Core.Bool.{false}
 use Rattle.write_head.proofs.RowLaws.{some_none, some_more, held_start, held_before, held_not, right_tag, right_lies}
 use Rattle.write_head.proofs.repeats.is_held.Goals as goal
 
