@@ -28,5 +28,4 @@ returns-in_default c =
 pub returns : goal.returns
 returns c =
     let written = c.written-a in
-    let a = c.a-1 in
-    words_accepted _ _ _ _ _ _ _ (omega arith) written.result written.ensures (c.number-2.ensures ∙ sym (ap answer_word a.given.1)) a.given.1 c.put_counts.ensures
+    words_accepted _ _ _ _ _ _ _ (omega arith) written.result written.ensures (c.number-2.ensures ∙ sym (ap answer_word c.in-Accepted.is)) c.in-Accepted.is c.put_counts.ensures

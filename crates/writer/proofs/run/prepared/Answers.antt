@@ -10,4 +10,4 @@ pub returns : goal.returns
 returns c =
     let a = c.args in
     let prepared = c.prepared_for in
-    readied_whole a.given.now a.text.now (length a.out.now) (length a.t.now) prepared.result prepared.new.1.1.0 prepared.new.1.1.1.1.0 prepared.new.1.1.1.1.1.0 prepared.ensures (omega (arith, prepared.auto))
+    readied_whole a.given.now a.text.now (length a.out.now) (length a.t.now) prepared.result prepared.new.out prepared.new.t prepared.new.index prepared.ensures (omega (arith, prepared.auto))

@@ -16,7 +16,7 @@ returns-then-t-ne-WORDS c = λ es. going_room _ es _ _ _ _ (omega arith) (omega 
 pub begin-requires : goal.begin-requires
 begin-requires c =
     let clear = c.clear in
-    (omega arith, zeroed _ (length c.args.out.now) (length clear.new.0) clear.ensures (omega arith), zeroed _ (length c.args.t.now) 7680 c.clear-2.ensures (omega arith), omega arith, c.requires)
+    (omega arith, zeroed _ (length c.args.out.now) (length clear.new.out) clear.ensures (omega arith), zeroed _ (length c.args.t.now) 7680 c.clear-2.ensures (omega arith), omega arith, c.requires)
 
 pub begin-requires-in-Body : goal.begin-requires-in-Body
 begin-requires-in-Body c =

@@ -14,7 +14,7 @@ through-q-requires c =
     let a = c.args in
     let prepared = c.prepared_for-p in
     let to = ran_of a.given.now (records_of a.records.now) a.text.now a.room (length a.out.now) (length a.t.now) in
-    record { to = to; going = readied a.given.now a.text.now a.room (length a.t.now) prepared.result prepared.new.1.1.0 prepared.new.1.1.1.1.0 prepared.new.1.1.1.1.1.0 prepared.ensures (length a.out.now) (length prepared.new.1.1.1.1.0) (omega (arith, prepared.auto)) (omega (arith, prepared.auto)) (records_of a.records.now) }
+    record { to = to; going = readied a.given.now a.text.now a.room (length a.t.now) prepared.result prepared.new.out prepared.new.t prepared.new.index prepared.ensures (length a.out.now) (length prepared.new.t) (omega (arith, prepared.auto)) (omega (arith, prepared.auto)) (records_of a.records.now) }
 
 pub settle_for-requires : goal.settle_for-requires
 settle_for-requires c =
@@ -22,8 +22,8 @@ settle_for-requires c =
     let through = c.through-q in
     let prepared = c.prepared_for-p in
     let to = ran_of a.given.now (records_of a.records.now) a.text.now a.room (length a.out.now) (length a.t.now) in
-    let going = readied a.given.now a.text.now a.room (length a.t.now) prepared.result prepared.new.1.1.0 prepared.new.1.1.1.1.0 prepared.new.1.1.1.1.1.0 prepared.ensures (length a.out.now) (length prepared.new.1.1.1.1.0) (omega (arith, prepared.auto)) (omega (arith, prepared.auto)) (records_of a.records.now) in
-    through_bounded to a.records.now a.text.now a.room (length prepared.new.1.1.1.1.0) through.result through.new.1.1.1.0 through.new.1.1.1.1.1.0 through.new.1.1.1.1.1.1.0 (through.ensures to going)
+    let going = readied a.given.now a.text.now a.room (length a.t.now) prepared.result prepared.new.out prepared.new.t prepared.new.index prepared.ensures (length a.out.now) (length prepared.new.t) (omega (arith, prepared.auto)) (omega (arith, prepared.auto)) (records_of a.records.now) in
+    through_bounded to a.records.now a.text.now a.room (length prepared.new.t) through.result through.new.out through.new.t through.new.index (through.ensures to going)
 
 pub shape_of-out : goal.shape_of-out
 shape_of-out c = omega arith
@@ -37,5 +37,5 @@ returns c =
     let through = c.through-q in
     let prepared = c.prepared_for-p in
     let to = ran_of a.given.now (records_of a.records.now) a.text.now a.room (length a.out.now) (length a.t.now) in
-    let going = readied a.given.now a.text.now a.room (length a.t.now) prepared.result prepared.new.1.1.0 prepared.new.1.1.1.1.0 prepared.new.1.1.1.1.1.0 prepared.ensures (length a.out.now) (length prepared.new.1.1.1.1.0) (omega (arith, prepared.auto)) (omega (arith, prepared.auto)) (records_of a.records.now) in
-    through_settled to a.records.now a.text.now a.room (length prepared.new.1.1.1.1.0) through.result through.new.1.1.1.0 through.new.1.1.1.1.1.0 through.new.1.1.1.1.1.1.0 (through.ensures to going) (omega (arith, through.auto)) c.settle_for.result c.settle_for.new.1.0 c.settle_for.new.1.1.1.0 c.settle_for.ensures
+    let going = readied a.given.now a.text.now a.room (length a.t.now) prepared.result prepared.new.out prepared.new.t prepared.new.index prepared.ensures (length a.out.now) (length prepared.new.t) (omega (arith, prepared.auto)) (omega (arith, prepared.auto)) (records_of a.records.now) in
+    through_settled to a.records.now a.text.now a.room (length prepared.new.t) through.result through.new.out through.new.t through.new.index (through.ensures to going) (omega (arith, through.auto)) c.settle_for.result c.settle_for.new.out c.settle_for.new.t c.settle_for.ensures

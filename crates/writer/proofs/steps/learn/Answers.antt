@@ -3,9 +3,8 @@
 use borrow.Author.Rules.{rules}
 use native.Mathlib.Omega.{arith}
 use Rattle.writer.proofs.RideLaws.{learned}
-use borrow.Author.Tests.{not-false}
 use mathlib.Core.Path.{sym, ◌∙◌}
 use Rattle.writer.proofs.steps.learn.Goals as goal
 
 pub returns : goal.returns
-returns c = learned c.args.records.now c.args.i (omega arith) c.args.before c.args.n (omega arith) (sym c.is_kind.ensures ∙ not-false _ c.if-not-is_kind.false) c.remember.ensures
+returns c = learned c.args.records.now c.args.i (omega arith) c.args.before c.args.n (omega arith) (sym c.is_kind.ensures ∙ c.if-not-is_kind.false) c.remember.ensures

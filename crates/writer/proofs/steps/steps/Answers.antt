@@ -3,7 +3,6 @@
 use borrow.Author.Rules.{rules}
 use native.Mathlib.Omega.{arith}
 use mathlib.Core.Path.{◌≡◌, refl}
-use borrow.Author.Tests.{not-true}
 use lib.ListN.{length}
 use Prim.Native.Nat.{◌-◌, ◌/◌}
 use Rattle.writer.proofs.RideLaws.{Stepping, Begins, start_moving, stepping_start, stepping_ready, stepping_small, stepped, step_stopped, stepped_few, stepped_safe, stepped_learned, stepped_filed, stepping_on, stepped_through, misnamed_stopped}
@@ -32,7 +31,7 @@ shape_of-index-then-not-names_in_utf8 c = omega (arith, c.loop-i.invariant.2)
 pub returns-then-not-names_in_utf8 : goal.returns-then-not-names_in_utf8
 returns-then-not-names_in_utf8 c =
     let a = c.args in
-    λ o g. misnamed_stopped c.loop-i.invariant.4 c.loop-i-test.true c.look_from.ensures c.announced_words-a.ensures (c.names_in_utf8.ensures (not-true _ c.if-not-names_in_utf8.true)) o (start_moving a.records.now a.text.now a.room (length a.t.now) a.first a.start _ a.out.now a.t.now a.index.now c.put_counts.ensures o g)
+    λ o g. misnamed_stopped c.loop-i.invariant.4 c.loop-i-test.true c.look_from.ensures c.announced_words-a.ensures (c.names_in_utf8.ensures c.if-not-names_in_utf8.true) o (start_moving a.records.now a.text.now a.room (length a.t.now) a.first a.start _ a.out.now a.t.now a.index.now c.put_counts.ensures o g)
 
 pub from_words-e-requires : goal.from_words-e-requires
 from_words-e-requires c = omega arith
@@ -42,7 +41,7 @@ step-requires c = stepping_ready c.loop-i.invariant.4
 
 pub learn-requires : goal.learn-requires
 learn-requires c =
-    let s = stepped c.loop-i.invariant.4 c.loop-i-test.true c.look_from.ensures c.announced_words-a.ensures c.from_words-e.ensures c.bit-b.ensures c.step.result c.step.new.1.1.1.1.1.0 c.step.new.1.1.1.0 c.step.new.1.1.0 c.step.new.1.1.1.1.0 c.step.ensures c.in-On.is in
+    let s = stepped c.loop-i.invariant.4 c.loop-i-test.true c.look_from.ensures c.announced_words-a.ensures c.from_words-e.ensures c.bit-b.ensures c.step.result c.step.new.out c.step.new.counts c.step.new.t c.step.new.index c.step.ensures c.in-On.is in
     (c.loop-i-test.true, stepping_small c.loop-i.invariant.4, stepped_few s)
 
 pub overflow_add-i : goal.overflow_add-i
@@ -50,8 +49,8 @@ overflow_add-i c = omega (arith, stepping_small c.loop-i.invariant.4)
 
 pub ride-l-requires : goal.ride-l-requires
 ride-l-requires c =
-    let s = stepped c.loop-i.invariant.4 c.loop-i-test.true c.look_from.ensures c.announced_words-a.ensures c.from_words-e.ensures c.bit-b.ensures c.step.result c.step.new.1.1.1.1.1.0 c.step.new.1.1.1.0 c.step.new.1.1.0 c.step.new.1.1.1.1.0 c.step.ensures c.in-On.is in
-    let kept = c.learn.new.0 in
+    let s = stepped c.loop-i.invariant.4 c.loop-i-test.true c.look_from.ensures c.announced_words-a.ensures c.from_words-e.ensures c.bit-b.ensures c.step.result c.step.new.out c.step.new.counts c.step.new.t c.step.new.index c.step.ensures c.in-On.is in
+    let kept = c.learn.new.memory in
     let learned = stepped_learned s kept c.learn.ensures in
     ((stepped_safe s).0, (stepped_safe s).1, stepped_filed s kept learned)
 
@@ -62,8 +61,8 @@ loop-i-smaller c =
 
 pub loop-i-preserved : goal.loop-i-preserved
 loop-i-preserved c =
-    let s = stepped c.loop-i.invariant.4 c.loop-i-test.true c.look_from.ensures c.announced_words-a.ensures c.from_words-e.ensures c.bit-b.ensures c.step.result c.step.new.1.1.1.1.1.0 c.step.new.1.1.1.0 c.step.new.1.1.0 c.step.new.1.1.1.1.0 c.step.ensures c.in-On.is in
-    let kept = c.learn.new.0 in
+    let s = stepped c.loop-i.invariant.4 c.loop-i-test.true c.look_from.ensures c.announced_words-a.ensures c.from_words-e.ensures c.bit-b.ensures c.step.result c.step.new.out c.step.new.counts c.step.new.t c.step.new.index c.step.ensures c.in-On.is in
+    let kept = c.learn.new.memory in
     let learned = stepped_learned s kept c.learn.ensures in
     let far = c.ride-l.auto in
     (omega (arith, c.loop-i.invariant.0, c.step.auto, far), omega (arith, c.loop-i.invariant.1, c.step.auto, far), omega (arith, c.loop-i.invariant.2, c.step.auto, far), omega (arith, c.loop-i.invariant.3, c.step.auto, far), stepping_on s kept learned c.loop-i-test.true c.ride-l.ensures c.arrived-st.ensures)
@@ -83,7 +82,7 @@ shape_of-index-in-Stop c = omega (arith, c.loop-i.invariant.2, c.step.auto)
 pub returns-in-Stop : goal.returns-in-Stop
 returns-in-Stop c =
     let a = c.args in
-    λ o g. step_stopped c.loop-i.invariant.4 c.loop-i-test.true c.look_from.ensures c.announced_words-a.ensures c.from_words-e.ensures c.bit-b.ensures c.step.result c.step.new.1.1.1.1.1.0 c.step.new.1.1.1.0 c.step.new.1.1.0 c.step.new.1.1.1.1.0 c.step.ensures c.in-Stop.is (omega (arith, c.step.auto)) o (start_moving a.records.now a.text.now a.room (length a.t.now) a.first a.start _ a.out.now a.t.now a.index.now c.put_counts.ensures o g)
+    λ o g. step_stopped c.loop-i.invariant.4 c.loop-i-test.true c.look_from.ensures c.announced_words-a.ensures c.from_words-e.ensures c.bit-b.ensures c.step.result c.step.new.out c.step.new.counts c.step.new.t c.step.new.index c.step.ensures c.in-Stop.is (omega (arith, c.step.auto)) o (start_moving a.records.now a.text.now a.room (length a.t.now) a.first a.start _ a.out.now a.t.now a.index.now c.put_counts.ensures o g)
 
 pub shape_of-out : goal.shape_of-out
 shape_of-out c = omega (arith, c.loop-i.invariant.0)

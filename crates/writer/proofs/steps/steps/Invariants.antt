@@ -3,7 +3,6 @@
 use borrow.Author.Rules.{rules}
 use native.Mathlib.Omega.{arith}
 use mathlib.Core.Path.{◌≡◌, refl}
-use borrow.Author.Tests.{not-true}
 use lib.ListN.{length}
 use Prim.Native.Nat.{◌-◌, ◌/◌}
 use Rattle.writer.proofs.RideLaws.{Stepping, Begins, start_moving, stepping_start, stepping_ready, stepping_small, stepped, step_stopped, stepped_few, stepped_safe, stepped_learned, stepped_filed, stepping_on, stepped_through, misnamed_stopped}

@@ -7,19 +7,15 @@ use Rattle.tables.proofs.Zeros.{zeroed}
 use Rattle.writer.proofs.PhaseLaws.{settles_accepted, settles_refused}
 use Rattle.writer.proofs.run.Phase.settle_for.Goals as goal
 
-pub enum_told-1 : goal.enum_told-1
-enum_told-1 c = search rules
-
 pub returns-in_default : goal.returns-in_default
 returns-in_default c =
     let a = c.args in
     let ended = c.ended-a in
-    let enum_told = c.enum_told-1 in
     let clear = c.clear in
-    settles_refused a.room a.i a.self a.out.now a.t.now ended.result ended.new.1.0 ended.ensures enum_told.given.1 (zeroed _ (length ended.new.1.0) (length a.out.now) clear.ensures (omega arith)) c.clear-in_default.ensures
+    settles_refused a.room a.i a.self a.out.now a.t.now ended.result ended.new.out ended.ensures c.in_default.is (zeroed _ (length ended.new.out) (length a.out.now) clear.ensures (omega arith)) c.clear-in_default.ensures
 
 pub returns : goal.returns
 returns c =
     let a = c.args in
     let ended = c.ended-a in
-    settles_accepted a.room a.i a.self a.out.now a.t.now ended.result ended.new.1.0 ended.ensures c.in-Accepted.is
+    settles_accepted a.room a.i a.self a.out.now a.t.now ended.result ended.new.out ended.ensures c.in-Accepted.is

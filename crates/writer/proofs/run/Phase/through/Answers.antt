@@ -15,7 +15,7 @@ pub returns-in-Onward : goal.returns-in-Onward
 returns-in-Onward c =
     let a = c.args in
     let steps = c.steps in
-    through_onward (records_of a.records.now) a.text.now a.room (length a.t.now) a.out.now a.t.now a.index.now c.in-Onward.is steps.result steps.new.1.1.0 steps.new.1.1.1.1.0 steps.new.1.1.1.1.1.0 steps.ensures
+    through_onward (records_of a.records.now) a.text.now a.room (length a.t.now) a.out.now a.t.now a.index.now c.in-Onward.is steps.result steps.new.out steps.new.t steps.new.index steps.ensures
 
 pub returns-in-Halted : goal.returns-in-Halted
 returns-in-Halted c =

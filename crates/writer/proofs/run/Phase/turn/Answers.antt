@@ -20,12 +20,12 @@ overflow_cast-result c =
 pub returns-in-On : goal.returns-in-On
 returns-in-On c =
     let last = c.step.new in
-    turn_on c.args.text.now (length c.args.out.now) (length c.args.t.now) c.args.i c.args.out.now c.args.t.now c.args.index.now c.args.e c.args.a last.1.1.1.1.1.0 last.1.1.0 last.1.1.1.1.0 _ _ c.args.self c.in-Onward.is c.put_counts.ensures _ c.bit.ensures c.step.result last.1.1.1.0 c.step.ensures _ _ c.in-On.is c.counts_in.ensures
+    turn_on c.args.text.now (length c.args.out.now) (length c.args.t.now) c.args.i c.args.out.now c.args.t.now c.args.index.now c.args.e c.args.a last.out last.t last.index _ _ c.args.self c.in-Onward.is c.put_counts.ensures _ c.bit.ensures c.step.result last.counts c.step.ensures _ _ c.in-On.is c.counts_in.ensures
 
 pub returns-in-Stop : goal.returns-in-Stop
 returns-in-Stop c =
     let last = c.step.new in
-    turn_stop c.args.text.now (length c.args.out.now) (length c.args.t.now) c.args.i c.args.out.now c.args.t.now c.args.index.now c.args.e c.args.a last.1.1.1.1.1.0 last.1.1.0 last.1.1.1.1.0 _ _ c.args.self c.in-Onward.is c.put_counts.ensures _ c.bit.ensures c.step.result last.1.1.1.0 c.step.ensures _ c.in-Stop.is (omega (arith, c.step.auto))
+    turn_stop c.args.text.now (length c.args.out.now) (length c.args.t.now) c.args.i c.args.out.now c.args.t.now c.args.index.now c.args.e c.args.a last.out last.t last.index _ _ c.args.self c.in-Onward.is c.put_counts.ensures _ c.bit.ensures c.step.result last.counts c.step.ensures _ c.in-Stop.is (omega (arith, c.step.auto))
 
 pub returns-in-Halted : goal.returns-in-Halted
 returns-in-Halted c =
