@@ -53,8 +53,8 @@ returns c =
     let it = filled a.s.now (length a.events.now) a.front i.p i.counts i.tables i.index i.events i.n i.invariant c.step-a.new.counts c.step-a.new.tables c.step-a.new.index in
     rw c.finish.ensures elim c.match-a.branch [
       | in-Found+else-n-events w ↦
-        let l : length a.events.now ≤ i.n = omega arith in
-        rw w.a-is (it (Found w.in-Found.field-0 w.in-Found.e w.in-Found.next) (rw w.in-Found.is at c.step-a.ensures) l)
+          let l : length a.events.now ≤ i.n = omega arith in
+          rw w.a-is (it (Found w.in-Found.field-0 w.in-Found.e w.in-Found.next) (rw w.in-Found.is at c.step-a.ensures) l)
       | in-Finished w ↦ rw (w.a-is, w.in-Finished.is) (it Finished (rw w.in-Finished.is at c.step-a.ensures) tt)
       | in-Refused w ↦ rw (w.a-is, w.in-Refused.is) (it (Refused w.in-Refused.field-0 w.in-Refused.field-1) (rw w.in-Refused.is at c.step-a.ensures) tt)
     ]

@@ -25,8 +25,8 @@ module _ (s : List ℕ) (n m : ℕ) where
   accepted : (k : ℕ) (d : Counts) (r : Answer) (row : List Event) (tables : List ℕ) → r ≡ Accepted k d → settled n table_words (Accepted k d) row tables ≡ target → Leaves r row tables target
   accepted k d r row tables a e = rw a (ap (λ (x : Outcome). x.answer) e, ap (λ (x : Outcome). x.told) e, ap (λ (x : Outcome). x.row) e, ap (λ (x : Outcome). x.tables) e)
 
-  refused : (k p : ℕ) (r : Answer) (row : List Event) (tables : List ℕ) → r ≡ Refused k p → row ≡ replicate n blank → tables ≡ replicate m 0 → refusing k p n m ≡ target → Leaves r row tables target
-  refused k p r row tables a b c e = rw (a, b, c) (ap (λ (x : Outcome). x.answer) e, ap (λ (x : Outcome). x.told) e, ap (λ (x : Outcome). x.row) e, ap (λ (x : Outcome). x.tables) e)
+  refused : (k p n' m' : ℕ) (r : Answer) (row : List Event) (tables : List ℕ) → r ≡ Refused k p → row ≡ replicate n' blank → tables ≡ replicate m' 0 → refusing k p n' m' ≡ target → Leaves r row tables target
+  refused k p n' m' r row tables a b c e = rw (a, b, c) (ap (λ (x : Outcome). x.answer) e, ap (λ (x : Outcome). x.told) e, ap (λ (x : Outcome). x.row) e, ap (λ (x : Outcome). x.tables) e)
 
 pub read_body-a-requires : goal.read_body-a-requires
 read_body-a-requires c =
@@ -39,7 +39,7 @@ pub returns-in-Halt : goal.returns-in-Halt
 returns-in-Halt c =
     let a = c.args in
     let b : length c.wipe.new.tables ≡ length a.tables.now = omega arith in
-    refused a.octets.now (length a.events.now) (length a.tables.now) c.in-Halt.number c.in-Halt.place _ _ _ c.refused.ensures c.wipe.ensures.0 c.wipe.ensures.1 (rw (← b) (reads_halt _ _ _ _ _ c.in-Halt.ensures))
+    refused a.octets.now (length a.events.now) (length a.tables.now) c.in-Halt.number c.in-Halt.place _ _ _ _ _ c.refused.ensures c.wipe.ensures.0 c.wipe.ensures.1 (rw (← b) (reads_halt _ _ _ _ _ c.in-Halt.ensures))
 
 pub returns-in-Accepted : goal.returns-in-Accepted
 returns-in-Accepted c =
@@ -51,10 +51,7 @@ pub returns-in-Refused : goal.returns-in-Refused
 returns-in-Refused c =
     let a = c.args in
     let w = c.in-Onward.ensures.within in
-    let x : length c.wipe.new.events ≡ length a.events.now = omega arith in
-    let y : length c.read_body-a.new.events ≡ length a.events.now = omega arith in
-    let z : length c.read_body-a.new.tables ≡ length a.tables.now = omega arith in
-    let t : length a.tables.now ≡ table_words = omega arith in
-    let e = front_leads a.octets.now (length a.events.now) (length a.tables.now) (length c.wipe.new.events) (length c.wipe.new.tables) x (omega arith) c.in-Onward.front c.in-Onward.ensures in
-    let h = c.in-Refused.ensures ∙ e in
-    refused a.octets.now (length a.events.now) (length a.tables.now) c.in-Refused.field-0 c.in-Refused.field-1 _ _ _ c.in-Refused.is (rw y at c.wipe-in-Refused.ensures.0) (rw z at c.wipe-in-Refused.ensures.1) (rw (x, ← t) at h)
+    let x : length c.read_body-a.new.events ≡ length c.wipe.new.events = omega arith in
+    let y : length c.read_body-a.new.tables ≡ table_words = omega arith in
+    let e = front_leads a.octets.now (length a.events.now) (length a.tables.now) (length c.wipe.new.events) (length c.wipe.new.tables) (omega arith) (omega arith) c.in-Onward.front c.in-Onward.ensures in
+    refused a.octets.now (length a.events.now) (length a.tables.now) c.in-Refused.field-0 c.in-Refused.field-1 (length c.wipe.new.events) table_words _ _ _ c.in-Refused.is (rw x at c.wipe-in-Refused.ensures.0) (rw y at c.wipe-in-Refused.ensures.1) (c.in-Refused.ensures ∙ e)
