@@ -1,6 +1,5 @@
 -- `add_built_in` meets its contract: known, no room, or in no chain.
 -- Assumes nothing.
-use borrow.Author.Rules.{rules}
 use native.Mathlib.Omega.{arith}
 use mathlib.Core.Path.{refl, sym, ◌∙◌}
 use Rattle.format.specs.declared.StringForm.TheVariants.{Utf8}

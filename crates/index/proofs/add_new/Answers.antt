@@ -1,6 +1,5 @@
 -- `add_new` meets its contract: built in, known, no room, or put in front of its chain.
 -- Assumes nothing.
-use borrow.Author.Rules.{rules}
 use native.Mathlib.Omega.{arith}
 use mathlib.Core.Path.{refl, sym, ◌∙◌}
 use Rattle.format.specs.declared.StringForm.TheVariants.{Utf8}

@@ -1,6 +1,5 @@
 -- `blend` meets its contract: one remainder.
 -- Assumes nothing.
-use borrow.Author.Rules.{rules}
 use native.Mathlib.Omega.{arith}
 use Rattle.index.specs.Hash.{blended}
 use Rattle.index.proofs.blend.Goals as goal

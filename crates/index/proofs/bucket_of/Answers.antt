@@ -1,6 +1,5 @@
 -- `bucket_of` meets its contract: a look tells it.
 -- Assumes nothing.
-use borrow.Author.Rules.{rules}
 use Rattle.index.proofs.bucket_of.Goals as goal
 
 pub returns : goal.returns

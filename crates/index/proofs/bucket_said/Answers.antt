@@ -1,6 +1,5 @@
 -- `bucket_said` meets its contract: by the octets as they stand, or by what they say.
 -- Assumes nothing.
-use borrow.Author.Rules.{rules}
 use mathlib.Core.Path.{sym, ◌∙◌}
 use Rattle.tables.proofs.FormLaws.{form_zero}
 use Rattle.index.proofs.bucket_said.Goals as goal

@@ -1,14 +1,11 @@
 -- `eights` meets its contract: eight octets at a time: what is left from octet i on gives what all that count give, and those before it and the last eight are plain
 -- where no high bit was seen.
 -- Assumes nothing.
-use borrow.Author.Rules.{rules}
-use native.Mathlib.Omega.{arith}
 use mathlib.Core.Path.{◌≡◌}
 use Prim.Native.Nat.{◌-◌, ◌/◌, ◌<◌}
 use Rattle.tables.specs.Located.{stretch, octets_of}
 use Rattle.index.specs.Hash.{rolled}
-use Rattle.index.proofs.Hash.{rolled-start, rolled_next, rolled_end, bucket-counted}
-use Rattle.index.proofs.Plain.{EightsSeen, eights_start, eights_next, eights_end}
+use Rattle.index.proofs.Plain.{EightsSeen}
 use Rattle.format.specs.declared.StringForm.TheVariants.{Utf8}
 use Rattle.index.proofs.eights.Given as goal
 

@@ -1,6 +1,5 @@
 -- `enter_in` meets its contract: known, the last row, built in, or put in front of its chain.
 -- Assumes nothing.
-use borrow.Author.Rules.{rules}
 use native.Mathlib.Omega.{arith}
 use mathlib.Core.Path.{sym, ◌∙◌}
 use Rattle.tables.proofs.FormLaws.{form_in_lem}

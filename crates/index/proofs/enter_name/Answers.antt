@@ -1,6 +1,5 @@
 -- `enter_name` meets its contract: known, the last row, or put in front of its chain.
 -- Assumes nothing.
-use borrow.Author.Rules.{rules}
 use native.Mathlib.Omega.{arith}
 use mathlib.Core.Path.{sym, ◌∙◌}
 use Rattle.index.proofs.Entered.{name_known, name_last, name_entered, name_added}

@@ -1,6 +1,5 @@
 -- `few` meets its contract: its bucket is made of three octets, which are all that a string of up to three has.
 -- Assumes nothing.
-use borrow.Author.Rules.{rules}
 use native.Mathlib.Omega.{arith}
 use Rattle.index.proofs.Hash.{bucket_few}
 use Rattle.index.proofs.Plain.{few_plain}

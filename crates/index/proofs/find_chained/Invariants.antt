@@ -1,13 +1,10 @@
 -- `find_chained` meets its contract: the walk along a chain; the number itself falls.
 -- Assumes nothing.
-use borrow.Author.Rules.{rules}
-use native.Mathlib.Omega.{arith}
-use mathlib.Core.Path.{◌≡◌, refl, sym, ◌∙◌}
+use mathlib.Core.Path.{◌≡◌}
 use Prim.Native.Nat.{◌+◌, ◌-◌, ◌≤◌}
 use lib.ListN.{get_or}
 use Rattle.tables.specs.Located.{stretch, octets_of}
-use Rattle.tables.proofs.Search.{all_at, row_ends, row_identifying}
-use Rattle.index.proofs.Walks.{StringWalk, string_within, string_start, string_hit, string_next, string_falls, string_end}
+use Rattle.index.proofs.Walks.{StringWalk}
 use Rattle.format.specs.declared.StringForm.TheVariants.{Utf8}
 use Rattle.index.proofs.find_chained.Given as goal
 

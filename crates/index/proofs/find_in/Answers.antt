@@ -1,6 +1,5 @@
 -- `find_in` meets its contract: the built-in string is tested apart.
 -- Assumes nothing.
-use borrow.Author.Rules.{rules}
 use mathlib.Core.Path.{sym, ◌∙◌}
 use Rattle.index.proofs.find_in.Goals as goal
 

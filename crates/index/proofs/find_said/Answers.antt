@@ -2,9 +2,8 @@
 -- Assumes nothing.
 use borrow.Author.Rules.{rules}
 use native.Mathlib.Omega.{arith}
-use mathlib.Core.Logic.{⊎_elim}
 use mathlib.Core.Path.{◌≡◌, refl, sym, ◌∙◌}
-use Prim.Native.Nat.{◌≤◌, ◌<◌}
+use Prim.Native.Nat.{◌<◌}
 use Rattle.tables.specs.Located.{stretch, octets_of}
 use Rattle.tables.proofs.FormLaws.{form_zero}
 use Rattle.tables.proofs.Search.{all_at}

@@ -1,6 +1,5 @@
 -- `fours` meets its contract: its bucket is made of the first and the last four octets, which may overlap, and are all.
 -- Assumes nothing.
-use borrow.Author.Rules.{rules}
 use native.Mathlib.Omega.{arith}
 use Rattle.index.proofs.Hash.{bucket_four}
 use Rattle.index.proofs.Plain.{four_plain}

@@ -1,6 +1,5 @@
 -- `is_alike` meets its contract: in one form equal strings have equal octets, and a row without length is none; else by what both say.
 -- Assumes nothing.
-use borrow.Author.Rules.{rules}
 use native.Mathlib.Omega.{arith}
 use native.Mathlib.Decide.{dec_lt}
 use mathlib.Core.Path.{sym, ◌∙◌}

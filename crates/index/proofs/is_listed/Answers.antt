@@ -1,10 +1,7 @@
 -- `is_listed` meets its contract: the walk along a chain, as that of `find_chained`.
 -- Assumes nothing.
-use borrow.Author.Rules.{rules}
 use native.Mathlib.Omega.{arith}
-use mathlib.Core.Path.{◌≡◌, refl, sym, ◌∙◌}
-use Prim.Native.Nat.{◌+◌, ◌-◌, ◌≤◌}
-use lib.ListN.{get_or}
+use mathlib.Core.Path.{refl, sym, ◌∙◌}
 use Rattle.tables.specs.Located.{stretch, octets_of}
 use Rattle.tables.proofs.Search.{all_at, row_ends, row_identifying}
 use Rattle.index.proofs.Walks.{StringWalk, string_within, string_start, string_hit, string_next, string_falls, string_end, string_is}

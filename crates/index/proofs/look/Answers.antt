@@ -1,6 +1,5 @@
 -- `look` meets its contract, by what it takes of the string.
 -- Assumes nothing.
-use borrow.Author.Rules.{rules}
 use mathlib.Core.Path.{sym, ◌∙◌}
 use mathlib.Core.Bool.{true≢false}
 use borrow.Author.Tests.{leb-true, ne_eqb}

@@ -1,6 +1,5 @@
 -- `name_bucket` meets its contract: three numbers, spread.
 -- Assumes nothing.
-use borrow.Author.Rules.{rules}
 use mathlib.Core.Path.{◌∙◌}
 use Rattle.index.specs.Hash.{name_bucket}
 use Rattle.index.proofs.name_bucket.Goals as goal

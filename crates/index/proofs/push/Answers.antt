@@ -1,6 +1,5 @@
 -- `push` meets its contract: two stores.
 -- Assumes nothing.
-use borrow.Author.Rules.{rules}
 use native.Mathlib.Omega.{arith}
 use lib.ListN.{length-set}
 use Rattle.index.specs.Chain.{pushed}

@@ -1,6 +1,5 @@
 -- `spread` meets its contract: a remainder by 128.
 -- Assumes nothing.
-use borrow.Author.Rules.{rules}
 use native.Mathlib.Omega.{arith}
 use Rattle.index.specs.Hash.{spread}
 use Rattle.index.proofs.spread.Goals as goal

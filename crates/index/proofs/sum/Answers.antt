@@ -1,6 +1,5 @@
 -- `sum` meets its contract: three products that fit.
 -- Assumes nothing.
-use borrow.Author.Rules.{rules}
 use mathlib.Core.Path.{refl}
 use Rattle.index.specs.Hash.{summed}
 use Rattle.index.proofs.sum.Goals as goal

@@ -2,7 +2,6 @@
 -- Assumes nothing.
 use native.Mathlib.Omega.{arith}
 use native.Mathlib.Numerals.{add-one, add-two}
-use borrow.Author.Rules.{rules}
 use lib.ListN.{length-set}
 use Rattle.tables.specs.Kept.{stored}
 use Rattle.tables.proofs.add.Goals as goal

@@ -1,11 +1,8 @@
 -- `clear` meets its contract: the words are 0 up to i, and as they were behind it.
 -- Assumes nothing.
-use mathlib.Core.List.{◌++◌}
-use mathlib.Core.Path.{◌≡◌, refl}
-use Prim.Native.Nat.{◌-◌, ◌≤◌}
+use mathlib.Core.Path.{refl}
 use native.Mathlib.Omega.{arith}
-use borrow.Author.Rules.{rules}
-use lib.ListN.{length, drop, replicate, length-set}
+use lib.ListN.{length-set}
 use Rattle.tables.proofs.Zeros.{zeros_next, zeros_all}
 use Rattle.tables.proofs.clear.Goals as goal
 

@@ -1,6 +1,5 @@
 -- `entry` meets its contract: the three words of the row.
 -- Assumes nothing.
-use borrow.Author.Rules.{rules}
 use Rattle.tables.specs.Kept.{row_at}
 use Rattle.tables.proofs.entry.Goals as goal
 

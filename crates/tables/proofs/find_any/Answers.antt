@@ -1,16 +1,8 @@
 -- `find_any` meets its contract: the lowest number among the entries left is that among all.
 -- Assumes nothing.
-use mathlib.Core.List.{List, map}
-use mathlib.Core.Path.{◌≡◌, sym, ◌∙◌}
-use Prim.Native.Nat.{ℕ, ◌*◌, ◌-◌, ◌≤◌}
+use mathlib.Core.Path.{sym, ◌∙◌}
 use native.Mathlib.Omega.{arith}
-use borrow.Author.Rules.{rules}
-use Rattle.format.specs.Tables.{same}
-use Rattle.format.specs.declared.StringForm.TheVariants.{Utf8}
-use Rattle.tables.specs.Search.{number_in}
-use Rattle.tables.specs.Rows.{table_of, string_at, entries}
-use Rattle.tables.specs.Located.{stretch, octets_of}
-use Rattle.tables.proofs.Search.{left, left_next, left_here, left_end, strings-left, all_at}
+use Rattle.tables.proofs.Search.{left_next, left_here, left_end, strings-left, all_at}
 use Rattle.tables.proofs.find_any.Goals as goal
 
 pub loop-i-init : goal.loop-i-init

@@ -1,16 +1,14 @@
 -- `find_any` meets its contract: the lowest number among the entries left is that among all.
 -- Assumes nothing.
 use mathlib.Core.List.{List, map}
-use mathlib.Core.Path.{◌≡◌, sym, ◌∙◌}
+use mathlib.Core.Path.{◌≡◌}
 use Prim.Native.Nat.{ℕ, ◌*◌, ◌-◌, ◌≤◌}
-use native.Mathlib.Omega.{arith}
-use borrow.Author.Rules.{rules}
 use Rattle.format.specs.Tables.{same}
 use Rattle.format.specs.declared.StringForm.TheVariants.{Utf8}
 use Rattle.tables.specs.Search.{number_in}
 use Rattle.tables.specs.Rows.{table_of, string_at, entries}
 use Rattle.tables.specs.Located.{stretch, octets_of}
-use Rattle.tables.proofs.Search.{left, left_next, left_here, left_end, strings-left, all_at}
+use Rattle.tables.proofs.Search.{left}
 use Rattle.tables.proofs.find_any.Given as goal
 
 abbrev pub invariant-loop-i : goal.invariant-loop-i

@@ -2,7 +2,6 @@
 -- Assumes nothing.
 use mathlib.Core.Path.{◌≡◌}
 use native.Mathlib.Omega.{arith}
-use borrow.Author.Rules.{rules}
 use Rattle.format.specs.Tables.{xml_prefix, xml_namespace}
 use Rattle.tables.specs.Rows.{table_of, built_in}
 use Rattle.tables.specs.Located.{octets_of}

@@ -1,7 +1,6 @@
 -- `is_name_lem` meets its contract: each number is compared.
 -- Assumes nothing.
 use mathlib.Core.Bool.{and-false, and-true}
-use borrow.Author.Rules.{rules}
 use borrow.Author.Tests.{eq-eqb, ne_eqb}
 use Rattle.format.specs.Tables.{same_triple}
 use Rattle.tables.specs.Rows.{triple_at}

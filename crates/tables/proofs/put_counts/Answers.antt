@@ -1,11 +1,8 @@
 -- `put_counts` meets its contract: the counts up to i, and the words as they were behind them.
 -- Assumes nothing.
-use mathlib.Core.List.{◌++◌}
-use mathlib.Core.Path.{◌≡◌, refl}
-use Prim.Native.Nat.{◌-◌, ◌≤◌}
+use mathlib.Core.Path.{refl}
 use native.Mathlib.Omega.{arith}
-use borrow.Author.Rules.{rules}
-use lib.ListN.{length, take, drop, length-set}
+use lib.ListN.{length-set}
 use Rattle.tables.specs.Kept.{listed, count_of}
 use Rattle.tables.proofs.Copied.{copied_next, copied_all}
 use Rattle.tables.proofs.put_counts.Goals as goal

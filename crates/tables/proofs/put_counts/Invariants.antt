@@ -1,13 +1,10 @@
 -- `put_counts` meets its contract: the counts up to i, and the words as they were behind them.
 -- Assumes nothing.
 use mathlib.Core.List.{◌++◌}
-use mathlib.Core.Path.{◌≡◌, refl}
+use mathlib.Core.Path.{◌≡◌}
 use Prim.Native.Nat.{◌-◌, ◌≤◌}
-use native.Mathlib.Omega.{arith}
-use borrow.Author.Rules.{rules}
-use lib.ListN.{length, take, drop, length-set}
-use Rattle.tables.specs.Kept.{listed, count_of}
-use Rattle.tables.proofs.Copied.{copied_next, copied_all}
+use lib.ListN.{length, take, drop}
+use Rattle.tables.specs.Kept.{listed}
 use Rattle.tables.proofs.put_counts.Given as goal
 
 abbrev pub invariant-loop-i : goal.invariant-loop-i

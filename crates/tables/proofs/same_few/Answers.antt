@@ -1,12 +1,7 @@
 -- `same_few` meets its contract: what is left to compare tells what the whole does.
 -- Assumes nothing.
-use mathlib.Core.Path.{◌≡◌, refl}
-use Prim.Native.Nat.{◌≤◌}
+use mathlib.Core.Path.{refl}
 use native.Mathlib.Omega.{arith}
-use borrow.Author.Rules.{rules}
-use Rattle.format.specs.Tables.{same}
-use Rattle.format.specs.declared.StringForm.TheVariants.{Utf8}
-use Rattle.tables.specs.Located.{stretch, octets_of}
 use Rattle.tables.proofs.Search.{same-octet, same_before, same_differ, same_none}
 use Rattle.tables.proofs.same_few.Goals as goal
 

@@ -1,14 +1,10 @@
 -- `same_octets` meets its contract: octets of another length differ, and what is left to compare tells what the whole does.
 -- Assumes nothing.
-use mathlib.Core.Path.{◌≡◌, sym, ◌∙◌}
-use Prim.Native.Nat.{◌+◌, ◌-◌, ◌≤◌}
-use native.Mathlib.Omega.{arith}
-use borrow.Author.Rules.{rules}
+use mathlib.Core.Path.{◌≡◌}
+use Prim.Native.Nat.{◌≤◌}
 use Rattle.format.specs.Tables.{same}
 use Rattle.format.specs.declared.StringForm.TheVariants.{Utf8}
 use Rattle.tables.specs.Located.{stretch, octets_of}
-use Rattle.tables.proofs.Search.{other_length, same_before, same_differ, same_between}
-use Rattle.tables.proofs.Weights.{weights}
 use Rattle.tables.proofs.same_octets.Given as goal
 
 abbrev pub invariant-loop-i : goal.invariant-loop-i

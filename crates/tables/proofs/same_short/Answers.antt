@@ -3,7 +3,6 @@
 use mathlib.Core.Path.{refl, sym, ◌∙◌}
 use Prim.Native.Nat.{◌+◌, ◌-◌}
 use native.Mathlib.Omega.{arith}
-use borrow.Author.Rules.{rules}
 use Rattle.tables.proofs.Search.{same_before, same_differ, same_between}
 use Rattle.tables.proofs.Weights.{weights}
 use Rattle.tables.proofs.same_short.Goals as goal

@@ -2,8 +2,7 @@
 -- Assumes nothing.
 use mathlib.Core.Path.{refl}
 use native.Mathlib.Omega.{arith}
-use borrow.Author.Rules.{rules}
-use Rattle.tables.proofs.ByNumber.{at_least, one_more_at}
+use Rattle.tables.proofs.ByNumber.{one_more_at}
 use Rattle.tables.proofs.Counts.more.Goals as goal
 
 pub returns-in-0 : goal.returns-in-0
