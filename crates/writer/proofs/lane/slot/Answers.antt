@@ -6,7 +6,7 @@ use Prim.Native.Nat.{◌+◌, ◌*◌}
 use Rattle.writer.proofs.lane.slot.Goals as goal
 
 pub overflow_cast-place : goal.overflow_cast-place
-overflow_cast-place c = omega (arith, c.shared_slice_known-1.given (14 * c.args.i + 8))
+overflow_cast-place c = omega (arith, c.type_inv.w (14 * c.args.i + 8))
 
 pub overflow_add-result : goal.overflow_add-result
-overflow_add-result c = omega (arith, c.shared_slice_known-1.given (14 * c.args.i + 8))
+overflow_add-result c = omega (arith, c.type_inv.w (14 * c.args.i + 8))
