@@ -40,7 +40,7 @@ module _ (code : List ℕ) (zeros bits m b : ℕ) (e : behind_first code zeros b
 pub sizes_are : (fs : List Form) → sizes fs ≡ sizes_in (shares fs)
 unfolding sizes sizes_in share_of
 sizes_are [] = refl
-sizes_are (form code zeros bits low ∷ fs) = ap (λ (n : ℕ). 2 ^ bits + n) (sizes_are fs)
+sizes_are (form code _ bits low ∷ fs) = ap (λ (n : ℕ). 2 ^ bits + n) (sizes_are fs)
 
 -- behind the code are so many bits of the first octet, and whole octets
 all_bits : (n m : ℕ) → 8 * m ≤ n → 2 ^ n ≡ 2 ^ (n - 8 * m) * 256 ^ m

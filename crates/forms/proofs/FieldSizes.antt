@@ -23,7 +23,7 @@ use Rattle.forms.proofs.Forms.{packed-length, spelled_letters, spelled_integers,
 lead_free : (fs : List Form) (lead n : ℕ) → length (spell fs lead n) ≡ length (spell fs 0 n)
 unfolding spell
 lead_free [] lead n = refl
-lead_free (form code zeros bits low ∷ fs) lead n = told (ltb n (low + 2 ^ bits)) (λ t. rw t) (λ t. rw t (lead_free fs lead n))
+lead_free (form code _ bits low ∷ fs) lead n = told (ltb n (low + 2 ^ bits)) (λ t. rw t) (λ t. rw t (lead_free fs lead n))
 
 -- a length and as many octets
 abbrev pub size : (bit n : ℕ) → ℕ
