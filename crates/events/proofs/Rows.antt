@@ -6,7 +6,7 @@ use mathlib.Core.List.{[], ◌∷◌, List}
 use lib.ListN.{length, get_or, set}
 use lib.Dec.{T}
 use seplogic.Ra.Ura.{Ura}
-use seplogic.Ra.TreeShare.{full_share}
+use base.Fraction.{full_share}
 use mir.Syntax.{Ty, named, mut, ty_ref}
 use mir.Val.{Val, WT, has_ty}
 use base.Fml.{Share, Fml}

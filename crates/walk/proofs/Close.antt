@@ -4,7 +4,7 @@ use seplogic.Ra.Ura.{Ura}
 use mir.Syntax.{Fn}
 use base.Logic.{ent, sep}
 use prog.Model.{Model}
-use prog.Routine.{Name, Env}
+use prog.Routine.{Callee, Env}
 use prog.Wp.{Tables, WpFn, Closed}
 use types.Logic.{Logic}
 use contract.Lifetimes.{Lfts, Shares, AllOutlive}
@@ -19,7 +19,7 @@ use denote.Triple.Spec.{Meets, triple_of}
 use denote.Triple.Table.{entered}
 use denote.Triple.Walked.{Stays, AllGo, walk_of, walked, walk_Meets}
 
-module _ {M : Type 1} {𝓤 : Ura M} (𝓛 : Logic 𝓤) (𝓜 : Model 𝓤 𝓛.H) (𝓡 : Running 𝓤 𝓛.H 𝓜) (env : Env) (name : Name) (f : Fn) (closed : Closed 𝓤 𝓛.H (tables 𝓤 𝓛.H 𝓜 𝓡 env).C (tables 𝓤 𝓛.H 𝓜 𝓡 env).Λ name f)
+module _ {M : Type 1} {𝓤 : Ura M} (𝓛 : Logic 𝓤) (𝓜 : Model 𝓤 𝓛.H) (𝓡 : Running 𝓤 𝓛.H 𝓜) (env : Env) (name : Callee) (f : Fn) (closed : Closed 𝓤 𝓛.H (tables 𝓤 𝓛.H 𝓜 𝓡 env).C (tables 𝓤 𝓛.H 𝓜 𝓡 env).Λ name f)
     (T : Ended) (hs : Stays T.signature.params T.kept) (goes : AllGo 𝓛 T.signature.lifetimes T.signature.params T.kept hs) (c : Clauses 𝓤 T)
     (spelt : (κs : Lfts T.signature.lifetimes) → Spells (types_at T.signature.params κs)) (told : (κs : Lfts T.signature.lifetimes) → Tellss (types_at T.signature.params κs) (Ises (types_at T.signature.params κs)) (spelt κs)) where
   open 𝓛 use {H}
