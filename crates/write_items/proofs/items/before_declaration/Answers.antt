@@ -1,6 +1,5 @@
 -- `before_declaration` meets its contract, by the mode.
 -- Assumes nothing.
-use borrow.Author.Rules.{rules}
 use native.Mathlib.Omega.{arith}
 use mathlib.Core.Path.{refl}
 use Rattle.fields.proofs.Puts.{puts_nothing, puts_one}

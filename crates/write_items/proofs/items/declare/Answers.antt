@@ -1,6 +1,5 @@
 -- `declare` meets its contract: a law for each way out.
 -- Assumes nothing.
-use borrow.Author.Rules.{rules}
 use native.Mathlib.Omega.{arith}
 use Rattle.events.specs.declared.Kind.TheVariants.{Namespace}
 use Rattle.write_names.specs.Promises.{pair_most}

@@ -1,6 +1,5 @@
 -- `held` meets its contract: a law for each way out.
 -- Assumes nothing.
-use borrow.Author.Rules.{rules}
 use native.Mathlib.Omega.{arith}
 use native.Mathlib.Nat.{min-le_left, min-le_right}
 use Rattle.write_items.proofs.ItemLaws.{held_over, held_fitting}

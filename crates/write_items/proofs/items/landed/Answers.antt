@@ -1,6 +1,5 @@
 -- `landed` meets its contract: a law for each way out.
 -- Assumes nothing.
-use borrow.Author.Rules.{rules}
 use native.Mathlib.Omega.{arith}
 use Rattle.write_items.proofs.items.landed.Goals as goal
 

@@ -1,6 +1,5 @@
 -- `opened` meets its contract: a law for each way out.
 -- Assumes nothing.
-use borrow.Author.Rules.{rules}
 use native.Mathlib.Omega.{arith}
 use Rattle.write_items.proofs.items.opened.Goals as goal
 

@@ -1,6 +1,5 @@
 -- `settle` meets its contract: a law for each way out.
 -- Assumes nothing.
-use borrow.Author.Rules.{rules}
 use mathlib.Core.Path.{sym, ◌∙◌}
 use Rattle.write_items.proofs.ItemLaws.{settled_elsewhere, settled_member, settled-behind}
 use Rattle.write_items.proofs.items.settle.Goals as goal

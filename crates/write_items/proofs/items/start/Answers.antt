@@ -1,6 +1,5 @@
 -- `start` meets its contract: a law for each way out.
 -- Assumes nothing.
-use borrow.Author.Rules.{rules}
 use native.Mathlib.Omega.{arith}
 use Rattle.events.specs.declared.Kind.TheVariants.{Start}
 use Rattle.write_names.specs.Promises.{name_most}

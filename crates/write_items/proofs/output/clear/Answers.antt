@@ -1,11 +1,7 @@
 -- `clear` meets its contract: the octets are 0 up to i, and as they were behind it.
 -- Assumes nothing.
-use mathlib.Core.List.{◌++◌}
-use mathlib.Core.Path.{◌≡◌, refl}
-use Prim.Native.Nat.{◌-◌, ◌≤◌}
+use mathlib.Core.Path.{refl}
 use native.Mathlib.Omega.{arith}
-use borrow.Author.Rules.{rules}
-use lib.ListN.{length, drop, replicate}
 use Rattle.tables.proofs.Zeros.{zeros_length, zeros_next, zeros_all}
 use Rattle.write_items.proofs.output.clear.Goals as goal
 

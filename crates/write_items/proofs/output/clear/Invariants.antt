@@ -1,12 +1,9 @@
 -- `clear` meets its contract: the octets are 0 up to i, and as they were behind it.
 -- Assumes nothing.
 use mathlib.Core.List.{◌++◌}
-use mathlib.Core.Path.{◌≡◌, refl}
+use mathlib.Core.Path.{◌≡◌}
 use Prim.Native.Nat.{◌-◌, ◌≤◌}
-use native.Mathlib.Omega.{arith}
-use borrow.Author.Rules.{rules}
 use lib.ListN.{length, drop, replicate}
-use Rattle.tables.proofs.Zeros.{zeros_length, zeros_next, zeros_all}
 use Rattle.write_items.proofs.output.clear.Given as goal
 
 abbrev pub invariant-loop-i : goal.invariant-loop-i

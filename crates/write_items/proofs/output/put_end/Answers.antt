@@ -1,7 +1,6 @@
 -- `put_end` meets its contract: the octet by the half that the end stands in.
 -- Assumes nothing.
 use native.Mathlib.Omega.{arith}
-use borrow.Author.Rules.{rules}
 use Rattle.write_items.proofs.OutputLaws.{end_first, end_second}
 use Rattle.write_items.proofs.output.put_end.Goals as goal
 

@@ -1,6 +1,5 @@
 -- `all_text` meets its contract, by the kind: each way out is a case of the definition.
 -- Assumes nothing.
-use borrow.Author.Rules.{rules}
 use Rattle.write_items.proofs.RecordLaws.{declaration_text}
 use Rattle.write_items.specs.Events.{event_of, all_text}
 use Rattle.write_items.proofs.records.all_text.Goals as goal

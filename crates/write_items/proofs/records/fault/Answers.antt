@@ -1,7 +1,6 @@
 -- `fault` meets its contract: each way out is a case of the definition.
 -- Assumes nothing.
 use mathlib.Core.Path.{sym, ◌∙◌}
-use borrow.Author.Rules.{rules}
 use Rattle.write_items.proofs.Faults.{fault_unmade, fault_misplaced, fault_untext, fault_deep, fault_free}
 use Rattle.write_items.proofs.WellMade.{made_placed}
 use Rattle.write_items.proofs.records.fault.Goals as goal

@@ -1,6 +1,5 @@
 -- `goes_on` meets its contract, by the kind.
 -- Assumes nothing.
-use borrow.Author.Rules.{rules}
 use Rattle.write_items.specs.Events.{event_of, goes_on}
 use Rattle.write_items.proofs.records.goes_on.Goals as goal
 

@@ -1,6 +1,5 @@
 -- `in_element` meets its contract.
 -- Assumes nothing.
-use borrow.Author.Rules.{rules}
 use Rattle.write_items.proofs.records.in_element.Goals as goal
 
 pub returns-then-among_children : goal.returns-then-among_children

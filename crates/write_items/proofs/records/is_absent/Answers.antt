@@ -1,7 +1,6 @@
 -- `is_absent` meets its contract: only an absent string has the tag 0.
 -- Assumes nothing.
 use mathlib.Core.Path.{◌∙◌}
-use borrow.Author.Rules.{rules}
 use Rattle.write_items.proofs.RecordLaws.{tag_absent}
 use Rattle.write_items.proofs.records.is_absent.Goals as goal
 

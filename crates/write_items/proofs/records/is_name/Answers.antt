@@ -1,6 +1,5 @@
 -- `is_name_lem` meets its contract: each way out is a case of the definition.
 -- Assumes nothing.
-use borrow.Author.Rules.{rules}
 use Rattle.write_items.specs.Events.{is_name}
 use Rattle.write_items.proofs.records.is_name.Goals as goal
 

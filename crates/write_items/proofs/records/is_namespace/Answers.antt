@@ -1,7 +1,6 @@
 -- `is_namespace` meets its contract, by the one test.
 -- Assumes nothing.
 use mathlib.Core.Path.{◌∙◌}
-use borrow.Author.Rules.{rules}
 use Rattle.write_items.proofs.RecordLaws.{one_namespace}
 use Rattle.write_items.proofs.records.is_namespace.Goals as goal
 

@@ -1,7 +1,6 @@
 -- `is_one` meets its contract: by the tag.
 -- Assumes nothing.
 use mathlib.Core.Path.{◌∙◌}
-use borrow.Author.Rules.{rules}
 use Rattle.write_items.proofs.RecordLaws.{one_lies, one_first, one_second}
 use Rattle.write_items.proofs.records.is_one.Goals as goal
 

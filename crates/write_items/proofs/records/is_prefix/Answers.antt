@@ -1,7 +1,6 @@
 -- `is_prefix` meets its contract, by the one test.
 -- Assumes nothing.
 use mathlib.Core.Path.{◌∙◌}
-use borrow.Author.Rules.{rules}
 use Rattle.write_items.proofs.RecordLaws.{one_prefix}
 use Rattle.write_items.proofs.records.is_prefix.Goals as goal
 

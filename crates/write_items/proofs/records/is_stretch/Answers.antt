@@ -1,7 +1,6 @@
 -- `is_stretch` meets its contract, by the one test.
 -- Assumes nothing.
 use mathlib.Core.Path.{◌∙◌}
-use borrow.Author.Rules.{rules}
 use Rattle.write_items.proofs.RecordLaws.{one_stretch}
 use Rattle.write_items.proofs.records.is_stretch.Goals as goal
 

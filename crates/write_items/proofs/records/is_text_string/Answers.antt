@@ -2,7 +2,6 @@
 -- Assumes nothing.
 use mathlib.Core.Path.{◌∙◌, sym}
 use native.Mathlib.Omega.{arith}
-use borrow.Author.Rules.{rules}
 use Rattle.write_items.proofs.RecordLaws.{untagged_text, tagged_text, tagged_lies}
 use Rattle.write_items.proofs.records.is_text_string.Goals as goal
 

@@ -2,7 +2,6 @@
 -- Assumes nothing.
 use mathlib.Core.Path.{◌∙◌, sym}
 use native.Mathlib.Omega.{arith}
-use borrow.Author.Rules.{rules}
 use Rattle.format.specs.declared.StringForm.TheVariants.{Utf8}
 use Rattle.tables.proofs.FormLaws.{form_zero}
 use Rattle.write_items.proofs.RecordLaws.{other_text, stretch_text}

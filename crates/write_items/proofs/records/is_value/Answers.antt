@@ -1,7 +1,6 @@
 -- `is_value` meets its contract: each variant is a case of the definition.
 -- Assumes nothing.
 use mathlib.Core.Path.{◌∙◌}
-use borrow.Author.Rules.{rules}
 use Rattle.write_items.proofs.records.is_value.Goals as goal
 
 pub returns-in-Absent : goal.returns-in-Absent

@@ -1,6 +1,5 @@
 -- `name_text` meets its contract: each way out is a case of the definition.
 -- Assumes nothing.
-use borrow.Author.Rules.{rules}
 use Rattle.write_items.proofs.RecordLaws.{name_text_lem}
 use Rattle.write_items.proofs.records.name_text.Goals as goal
 

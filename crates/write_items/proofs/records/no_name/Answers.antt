@@ -1,6 +1,5 @@
 -- `no_name_lem` meets its contract.
 -- Assumes nothing.
-use borrow.Author.Rules.{rules}
 use Rattle.write_items.specs.Events.{no_name}
 use Rattle.write_items.proofs.records.no_name.Goals as goal
 

@@ -1,6 +1,5 @@
 -- `opens` meets its contract, by the kind.
 -- Assumes nothing.
-use borrow.Author.Rules.{rules}
 use Rattle.write_items.specs.Events.{event_of}
 use Rattle.write_items.proofs.records.opens.Goals as goal
 

@@ -1,6 +1,5 @@
 -- `takes_element` meets its contract: each way out is a case of the definition.
 -- Assumes nothing.
-use borrow.Author.Rules.{rules}
 use Rattle.format.specs.Items.{may_start}
 use Rattle.write_items.proofs.records.takes_element.Goals as goal
 

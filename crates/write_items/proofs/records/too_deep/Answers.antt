@@ -1,6 +1,5 @@
 -- `too_deep` meets its contract.
 -- Assumes nothing.
-use borrow.Author.Rules.{rules}
 use Rattle.format.specs.Tables.{link}
 use Rattle.write_items.proofs.records.too_deep.Goals as goal
 

@@ -1,6 +1,5 @@
 -- `well_made` meets its contract, by the kind: each way out is a case of the definition.
 -- Assumes nothing.
-use borrow.Author.Rules.{rules}
 use Rattle.write_items.specs.Events.{well_made, is_name, no_name}
 use Rattle.write_items.proofs.records.well_made.Goals as goal
 

@@ -1,6 +1,5 @@
 -- `is_end` meets its contract: the words of an End.
 -- Assumes nothing.
-use borrow.Author.Rules.{rules}
 use native.Mathlib.Omega.{arith}
 use Rattle.writer.proofs.LaneLaws.{end_words}
 use mathlib.Core.Path.{sym, ◌∙◌}

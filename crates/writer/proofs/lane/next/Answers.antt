@@ -1,6 +1,5 @@
 -- `next` meets its contract: what is next may stand there, and fits.
 -- Assumes nothing.
-use borrow.Author.Rules.{rules}
 use native.Mathlib.Omega.{arith}
 use mathlib.Core.Path.{refl}
 use Rattle.writer.proofs.lane.next.Goals as goal

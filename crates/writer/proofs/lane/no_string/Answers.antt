@@ -1,6 +1,5 @@
 -- `no_string` meets its contract: three words are 0.
 -- Assumes nothing.
-use borrow.Author.Rules.{rules}
 use native.Mathlib.Omega.{arith}
 use borrow.Author.Tests.{eqb-true}
 use Rattle.writer.proofs.lane.no_string.Goals as goal

@@ -1,6 +1,5 @@
 -- `recalled` meets its contract: the slot names a record, and it is the same.
 -- Assumes nothing.
-use borrow.Author.Rules.{rules}
 use native.Mathlib.Omega.{arith}
 use Rattle.events.specs.Records.{unplaced}
 use Rattle.events.specs.FromWords.{record_at}

@@ -1,6 +1,5 @@
 -- `remember` meets its contract: one word is set.
 -- Assumes nothing.
-use borrow.Author.Rules.{rules}
 use mathlib.Core.Path.{refl}
 use Rattle.writer.proofs.lane.remember.Goals as goal
 

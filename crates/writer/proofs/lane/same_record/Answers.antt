@@ -1,6 +1,5 @@
 -- `same_record` meets its contract: all words are the same.
 -- Assumes nothing.
-use borrow.Author.Rules.{rules}
 use native.Mathlib.Omega.{arith}
 use Rattle.writer.proofs.LaneLaws.{same-words}
 use mathlib.Core.Path.{sym, ◌∙◌}

@@ -1,6 +1,5 @@
 -- `same_string` meets its contract: three words are the same.
 -- Assumes nothing.
-use borrow.Author.Rules.{rules}
 use native.Mathlib.Omega.{arith}
 use borrow.Author.Tests.{eqb-true}
 use Rattle.writer.proofs.lane.same_string.Goals as goal

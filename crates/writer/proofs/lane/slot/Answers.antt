@@ -1,6 +1,5 @@
 -- `slot` meets its contract: it is one of the memory.
 -- Assumes nothing.
-use borrow.Author.Rules.{rules}
 use native.Mathlib.Omega.{arith}
 use Prim.Native.Nat.{◌+◌, ◌*◌}
 use Rattle.writer.proofs.lane.slot.Goals as goal

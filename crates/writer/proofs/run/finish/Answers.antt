@@ -1,6 +1,5 @@
 -- `finish` meets its contract: a law for each way out.
 -- Assumes nothing.
-use borrow.Author.Rules.{rules}
 use native.Mathlib.Omega.{arith}
 use mathlib.Core.Path.{sym, ◌∙◌}
 use Rattle.writer.proofs.RunLaws.{finish_owed, finish_full, finish_written}

@@ -1,6 +1,5 @@
 -- `arrived` meets its contract.
 -- Assumes nothing.
-use borrow.Author.Rules.{rules}
 use Rattle.writer.proofs.steps.arrived.Goals as goal
 
 pub returns : goal.returns

@@ -1,6 +1,5 @@
 -- `learn` meets its contract: a law for each way out.
 -- Assumes nothing.
-use borrow.Author.Rules.{rules}
 use native.Mathlib.Omega.{arith}
 use Rattle.writer.proofs.RideLaws.{learned}
 use mathlib.Core.Path.{sym, ◌∙◌}

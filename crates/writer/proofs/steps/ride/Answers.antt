@@ -1,6 +1,5 @@
 -- `ride` meets its contract: a law for each way out.
 -- Assumes nothing.
-use borrow.Author.Rules.{rules}
 use native.Mathlib.Omega.{arith}
 use Rattle.writer.proofs.RideLaws.{rides_not, rides_on}
 use Rattle.writer.proofs.steps.ride.Goals as goal

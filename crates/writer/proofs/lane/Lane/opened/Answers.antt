@@ -1,6 +1,5 @@
 -- `Lane::opened` meets its contract: the name by its number.
 -- Assumes nothing.
-use borrow.Author.Rules.{rules}
 use Rattle.writer.proofs.LaneLaws.{started}
 use mathlib.Core.Path.{refl}
 use Rattle.writer.proofs.lane.Lane.opened.Goals as goal

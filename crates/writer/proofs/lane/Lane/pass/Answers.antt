@@ -1,6 +1,5 @@
 -- `Lane::pass` meets its contract: an End or a Start, as what is next says.
 -- Assumes nothing.
-use borrow.Author.Rules.{rules}
 use native.Mathlib.Omega.{arith}
 use Rattle.writer.proofs.LaneLaws.{passed_end, passed_start}
 use Rattle.writer.proofs.lane.Lane.pass.Goals as goal

@@ -2,10 +2,7 @@
 -- Assumes nothing.
 use native.Mathlib.Omega.{arith}
 use Rattle.writer.proofs.LaneLaws.{ahead_passable, passes_on}
-use Rattle.writer.specs.LaneContracts.{Safe, Passes, Onward, Ahead}
-use lib.ListN.{length}
-use Prim.Native.Nat.{◌-◌, ◌/◌}
-use mathlib.Core.Path.{◌≡◌, refl}
+use mathlib.Core.Path.{refl}
 use Rattle.writer.proofs.lane.Lane.run.Goals as goal
 
 pub next-k-requires : goal.next-k-requires

@@ -1,11 +1,9 @@
 -- `Lane::run` meets its contract: each record that is passed is an event of the run.
 -- Assumes nothing.
-use native.Mathlib.Omega.{arith}
-use Rattle.writer.proofs.LaneLaws.{ahead_passable, passes_on}
 use Rattle.writer.specs.LaneContracts.{Safe, Passes, Onward, Ahead}
 use lib.ListN.{length}
 use Prim.Native.Nat.{◌-◌, ◌/◌}
-use mathlib.Core.Path.{◌≡◌, refl}
+use mathlib.Core.Path.{◌≡◌}
 use Rattle.writer.proofs.lane.Lane.run.Given as goal
 
 abbrev pub invariant-loop-k : goal.invariant-loop-k

@@ -1,6 +1,5 @@
 -- `Phase::ended` meets its contract: a law for each way out.
 -- Assumes nothing.
-use borrow.Author.Rules.{rules}
 use mathlib.Core.Path.{refl}
 use Rattle.writer.proofs.PhaseLaws.{bounded_onward, ends_onward, ends_halted}
 use Rattle.writer.proofs.run.Phase.ended.Goals as goal

@@ -1,6 +1,5 @@
 -- `Phase::look_from` meets its contract: a law for each way out.
 -- Assumes nothing.
-use borrow.Author.Rules.{rules}
 use Rattle.writer.proofs.run.Phase.look_from.Goals as goal
 
 pub returns-in-Onward : goal.returns-in-Onward

@@ -1,6 +1,5 @@
 -- `Phase::settle_for` meets its contract: a law for each way out.
 -- Assumes nothing.
-use borrow.Author.Rules.{rules}
 use native.Mathlib.Omega.{arith}
 use lib.ListN.{length}
 use Rattle.tables.proofs.Zeros.{zeroed}
