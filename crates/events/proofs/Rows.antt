@@ -1,4 +1,4 @@
--- What the walks of this crate share: an event record's machine value, and a record that is taken out of a row and stored over.
+-- For proofs by hand over a lent row of event records: a record's machine value, and a record that is taken out of a row and stored over.
 -- Assumes nothing.
 use mathlib.Core.Path.{◌≡◌, sym}
 use Prim.Native.Nat.{ℕ, ◌<◌, ◌*◌, ◌+◌}
@@ -6,7 +6,7 @@ use mathlib.Core.List.{[], ◌∷◌, List}
 use lib.ListN.{length, get_or, set}
 use lib.Dec.{T}
 use seplogic.Ra.Ura.{Ura}
-use seplogic.Ra.TreeShare.{full_share}
+use base.Fraction.{full_share}
 use mir.Syntax.{Ty, named, mut, ty_ref}
 use mir.Val.{Val, WT, has_ty}
 use base.Fml.{Share, Fml}

@@ -8,9 +8,9 @@ use Prim.Native.Nat.{ℕ, zero, suc}
 use mathlib.Core.Bool.{Bool, not}
 use mathlib.Core.List.{List, [], ◌∷◌}
 use seplogic.Ra.Ura.{Ura}
-use seplogic.Ra.TreeShare.{full_share}
+use base.Fraction.{full_share}
 use lib.Dec.{T}
-use mir.Syntax.{Opd as Operand, int_big, Width, Ty, Body, Arms, seq, assign, block, loop, cond, switch, skip, exit, return, call, arm, default, no_default}
+use mir.Syntax.{Opd as Operand, int_big, Width, Ty, Body, Arms, seq, assign, block, loop, cond, switch, skip, exit, return, call, unreachable, call_v, lend_static, arm, default, no_default}
 use mir.Val.{Val, vbool, vint, Fits}
 use base.Logic.{via, guard_i}
 use base.Fml.{fat, froom, fdies}
@@ -43,6 +43,9 @@ apart (switch c arms) = (switch c arms, switch c arms)
 apart (exit m) = (exit m, exit m)
 apart return = (return, return)
 apart (call f xs d) = (call f xs d, call f xs d)
+apart unreachable = (unreachable, unreachable)
+apart (call_v c s xs d) = (call_v c s xs d, call_v c s xs d)
+apart (lend_static p τ k) = (lend_static p τ k, lend_static p τ k)
 
 abbrev pub heading : Body → Body
 heading b = (apart b).0
@@ -72,6 +75,9 @@ arms_of (cond c a b) = no_default
 arms_of (exit m) = no_default
 arms_of return = no_default
 arms_of (call f xs d) = no_default
+arms_of unreachable = no_default
+arms_of (call_v c s xs d) = no_default
+arms_of (lend_static p τ k) = no_default
 
 -- ---- a local at the block l, as it stands in a context: with the value v, or as room for one; and what frees it
 abbrev pub full : {M : Type 1} {𝓤 : Ura M} → Ty → ℕ → Val → List (Item 𝓤)
