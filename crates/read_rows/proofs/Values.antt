@@ -1,4 +1,4 @@
--- What the walks of `read` share: how counts, a place and answers are spelled in memory, and the types of their locals.
+-- For proofs by hand of reading into a lent row: how counts, a place and answers are spelled in memory, and the types of locals.
 -- Assumes nothing.
 use mathlib.Core.List.{[], ◌∷◌}
 use lib.Dec.{T as Holds}

@@ -3,7 +3,6 @@
 use mathlib.Core.Path.{refl}
 use mathlib.Core.List.{[]}
 use Rattle.read_rows.proofs.Laws.{good_lent, reaches_spent, nearby, reaches_behind, numbered, reaches_by}
-use borrow.Author.Rules.{rules}
 use native.Mathlib.Omega.{arith}
 use Rattle.read_rows.proofs.advance.Goals as goal
 

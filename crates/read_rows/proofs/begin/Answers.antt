@@ -1,6 +1,5 @@
 -- `read::begin` meets its contract: the fresh state, with as many steps as a document of so many octets can take.
 -- Assumes nothing.
-use borrow.Author.Rules.{rules}
 use Rattle.read_rows.proofs.Laws.{first_head, first_item}
 use Rattle.read_rows.proofs.begin.Goals as goal
 

@@ -1,5 +1,5 @@
 -- `read_rows::fill` meets its contract: a turn that finds an event with room for it, or passes an end, keeps the row's invariant; any other is the last.
-use Rattle.std.proofs.Common.{◌≡◌, ◌<◌, ◌≤◌, length, arith, rules}
+use Rattle.std.proofs.Common.{◌<◌, ◌≤◌, length, arith}
 use Rattle.read_rows.specs.declared.Next.TheVariants.{Found, Finished, Refused}
 use Rattle.read_rows.proofs.Laws.{filling_start, filling_found, filling_passed, filled, small}
 use Rattle.read_rows.proofs.fill.Goals as goal

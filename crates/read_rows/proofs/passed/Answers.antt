@@ -1,7 +1,6 @@
 -- `read::passed` meets its contract: by cases on what reading the head answered.
 -- Assumes nothing.
 use mathlib.Core.Path.{ap, ◌∙◌}
-use borrow.Author.Rules.{rules}
 use Rattle.states.specs.declared.State.{State}
 use Rattle.read_rows.specs.declared.Next.TheVariants.{Passed}
 use Rattle.read_rows.specs.Promises.{placed}

@@ -1,5 +1,5 @@
 -- `read_rows::read` meets its contract: the room is blank before anything is read, and again after a refusal.
-use Rattle.std.proofs.Common.{◌≡◌, ℕ, List, length, replicate, ap, ◌∙◌, sym, refl, arith}
+use Rattle.std.proofs.Common.{◌≡◌, ℕ, List, length, replicate, ap, ◌∙◌, arith}
 use Rattle.format.specs.Tables.{link}
 use Rattle.tables.specs.declared.Counts.{Counts}
 use Rattle.tables.specs.Counts.{table_words}
@@ -8,7 +8,7 @@ use Rattle.events.specs.Records.{blank}
 use Rattle.reader.specs.declared.Answer.{Answer}
 use Rattle.reader.specs.declared.Answer.TheVariants.{Accepted, Refused}
 use Rattle.reader.specs.declared.run.Front.{Front}
-use Rattle.reader.specs.declared.run.Opening.TheVariants.{Onward, Halt}
+use Rattle.reader.specs.declared.run.Opening.TheVariants.{Onward}
 use Rattle.reader.specs.Reading.{Outcome, refusing, outcome, Leaves, read_of}
 use Rattle.read_rows.specs.Promises.{settled, read_from, Admitted}
 use Rattle.read_rows.proofs.Laws.{reads_halt, reads_front}

@@ -1,6 +1,5 @@
 -- `before_start` meets its contract, by the kind.
 -- Assumes nothing.
-use borrow.Author.Rules.{rules}
 use Rattle.write_items.specs.Steps.{announced}
 use Rattle.write_rows.specs.AheadContracts.{decided}
 use Rattle.write_rows.proofs.ahead.before_start.Goals as goal

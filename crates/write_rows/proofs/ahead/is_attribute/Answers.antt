@@ -1,6 +1,5 @@
 -- `is_attribute` meets its contract: by the kind's number.
 -- Assumes nothing.
-use borrow.Author.Rules.{rules}
 use Rattle.write_items.proofs.KindLaws.{next_number}
 use Rattle.write_rows.proofs.ahead.is_attribute.Goals as goal
 

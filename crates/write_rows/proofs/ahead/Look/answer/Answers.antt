@@ -1,6 +1,5 @@
 -- `Look::answer` meets its contract, by what is known.
 -- Assumes nothing.
-use borrow.Author.Rules.{rules}
 use Rattle.write_items.specs.Steps.{announced}
 use Rattle.write_rows.specs.AheadContracts.{decided}
 use Rattle.write_rows.proofs.ahead.Look.answer.Goals as goal

@@ -1,6 +1,5 @@
 -- `Look::goes_on` meets its contract, by what is known.
 -- Assumes nothing.
-use borrow.Author.Rules.{rules}
 use Rattle.write_rows.specs.AheadContracts.{onward}
 use Rattle.write_rows.proofs.ahead.Look.goes_on.Goals as goal
 

@@ -1,6 +1,5 @@
 -- `Look::past` meets its contract, by what is known.
 -- Assumes nothing.
-use borrow.Author.Rules.{rules}
 use Rattle.write_rows.specs.AheadContracts.{decided}
 use Rattle.write_rows.proofs.ahead.Look.past.Goals as goal
 
