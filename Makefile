@@ -12,7 +12,7 @@ own = $(to)/libexec/lomphachit
 ARCHIVE = target/staticlib/liblomphachit.a
 BINARIES = target/bin/listing target/bin/writing
 PROGRAMS = programs/fi-to-lines programs/lines-to-fi programs/xml-to-lines programs/lines-to-xml programs/fi-check
-SOURCES := crates.txt $(shell find crates -type f \( -name '*.rt' -o -name '*.antt' \) -not -path 'crates/theorems/*')
+SOURCES := crates.txt $(shell find crates -type f \( -name '*.rt' -o -name '*.antt' \) -not -path 'crates/theorems/*' -not -path '*/out/*')
 
 all: $(ARCHIVE) $(BINARIES) controller
 
