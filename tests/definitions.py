@@ -32,7 +32,7 @@ def declared(text):
 
     def kept(m):
         words = [w.strip() for w in m.group(2).split(',') if w.strip()]
-        # a module may have a function's name: behind a crate's name alone the module is meant
+        # a module may have a function's name: right after a crate's name the module is meant
         words = [w for w in words if w not in FUNCTIONS or w in MODULES and m.group(1).count('::') == 1]
         return '%s{%s};\n' % (m.group(1), ', '.join(words)) if words else ''
     text = re.sub(r'^((?:pub )?use [\w:]*)\{([^{}]*)\};\n', kept, text, flags=re.M)
